@@ -1,0 +1,2 @@
+//! The words of linear algebra modulo a prime: independent columns, rank, products, bases. No code.
+#![tactic(auto)]

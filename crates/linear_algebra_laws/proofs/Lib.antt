@@ -1,0 +1,4 @@
+pub mod Elimination
+pub mod Ranks
+pub mod RankLaws
+pub mod RowOperations

@@ -1,0 +1,219 @@
+-- Products with invertible matrices keep which columns are independent, and so the rank; and a tableau shows the rank.
+use Rattle.std.proofs.Common.{◌≡◌, ℕ, zero, suc, ◌+◌, ◌*◌, ◌%◌, ◌<◌, ◌≢◌, Bool, true, false, cond, ◌&&◌, eqb, ◌⊎◌, inl, inr, refl, ap, sym, subst, ◌∙◌, arith}
+use Rattle.residue_theory.specs.Sets.{without, both, everything, IsWithin}
+use Rattle.linear_algebra.specs.Bases.{IsBase}
+use Rattle.std.proofs.Math.Nat.{zero-mod, mod_self, mod-eq_of_lt}
+use Rattle.std.proofs.lemmas.Bool.Decides.{nat_tests}
+use Rattle.residue_theory.specs.Sums.{sum_on, size_on, sum_below}
+use Rattle.residue_theory.specs.Residues.{IsPrime}
+use Rattle.linear_algebra.specs.Columns.{IsIndependent, IsRank, IsCombination}
+use Rattle.linear_algebra.specs.Products.{product, identity, IsInverse, Agree}
+use Rattle.residue_theory.proofs.SumLaws.{sum_on-add, sum_on-mul, sum_on-ext, sum_on-swap, sum_on-without, sum_on-none, nat_cases, without-member}
+use Rattle.residue_theory.proofs.ResidueLaws.{vanishes-mul, vanishes-sum, vanishes_by, vanishes-rest, agree-add, agree-mul, agree-sum, agree_of, vanishes_factor}
+use Rattle.linear_algebra_laws.proofs.Elimination.{Dichotomy, dichotomy, first_on}
+use Rattle.linear_algebra_laws.proofs.Ranks.{rank_of-basis}
+
+zero_not_prime : IsPrime 0 → ⊥
+zero_not_prime prime = absurd (no_such prime.above_one)
+  where
+    no_such : 1 < 0 → ⊥
+    no_such h = omega arith
+
+both-first : (a b : Bool) → a && b ≡ true → a ≡ true
+both-first a b h = grind arith
+
+both-second : (a b : Bool) → a && b ≡ true → b ≡ true
+both-second a b h = grind arith
+
+not_row : (b : Bool) (r i : ℕ) → b && eqb r i ≡ false → b ≡ true → i ≢ r
+not_row b r i h e = grind (arith, nat_tests)
+
+row_is : (b : Bool) (r i : ℕ) → b && eqb r i ≡ true → r ≡ i
+row_is b r i h = grind (arith, nat_tests)
+
+mod_cases : (x : ℕ) → (x ≡ 0) ⊎ (x ≢ 0)
+mod_cases x = grind arith
+
+-- what the columns of X combine to in a product
+pub sum-product : (k n : ℕ) (S a : ℕ → ℕ → ℕ) (X : ℕ → Bool) (c : ℕ → ℕ) (i : ℕ) →
+    sum_on X n (λ j. c j * product k S a i j) ≡ sum_below k (λ t. S i t * sum_on X n (λ j. c j * a t j))
+sum-product k n S a X c i =
+    sum_on-ext X n (λ j. c j * product k S a i j) (λ j. sum_below k (λ t. c j * (S i t * a t j))) (λ j _ _. sym (sum_on-mul everything k (c j) (λ t. S i t * a t j)))
+    ∙ sum_on-swap X everything n k (λ t j. c j * (S i t * a t j))
+    ∙ sum_on-ext everything k (λ t. sum_on X n (λ j. c j * (S i t * a t j))) (λ t. S i t * sum_on X n (λ j. c j * a t j)) (λ t _ _. one_row t)
+  where
+    one_row : (t : ℕ) → sum_on X n (λ j. c j * (S i t * a t j)) ≡ S i t * sum_on X n (λ j. c j * a t j)
+    one_row t = sum_on-ext X n (λ j. c j * (S i t * a t j)) (λ j. S i t * (c j * a t j)) (λ j _ _. omega arith) ∙ sum_on-mul X n (S i t) (λ j. c j * a t j)
+
+pub product-assoc : (k l : ℕ) (U S a : ℕ → ℕ → ℕ) (i j : ℕ) → product k U (product l S a) i j ≡ product l (product k U S) a i j
+product-assoc k l U S a i j =
+    sum_on-ext everything k (λ t. U i t * product l S a t j) (λ t. sum_below l (λ s. U i t * (S t s * a s j))) (λ t _ _. sym (sum_on-mul everything l (U i t) (λ s. S t s * a s j)))
+    ∙ sum_on-swap everything everything k l (λ s t. U i t * (S t s * a s j))
+    ∙ sum_on-ext everything l (λ s. sum_below k (λ t. U i t * (S t s * a s j))) (λ s. product k U S i s * a s j) (λ s _ _. one s)
+  where
+    one : (s : ℕ) → sum_below k (λ t. U i t * (S t s * a s j)) ≡ product k U S i s * a s j
+    one s = sum_on-ext everything k (λ t. U i t * (S t s * a s j)) (λ t. a s j * (U i t * S t s)) (λ t _ _. omega arith) ∙ sum_on-mul everything k (a s j) (λ t. U i t * S t s) ∙ omega arith
+
+identity-same : (i : ℕ) → identity i i ≡ 1
+identity-same i = grind (arith, nat_tests)
+
+identity-other : (i j : ℕ) → i ≢ j → identity i j ≡ 0
+identity-other i j ne = grind (arith, nat_tests)
+
+-- a product with the identity matrix
+pub sum-identity : (k i : ℕ) (f : ℕ → ℕ) → i < k → sum_below k (λ t. identity i t * f t) ≡ f i
+sum-identity k i f l = sum_on-without everything k i (λ t. identity i t * f t) l refl ∙ ap (λ s. s + identity i i * f i) rest ∙ ap (λ s. 0 + s * f i) (identity-same i) ∙ omega arith
+  where
+    rest : sum_on (without everything i) k (λ t. identity i t * f t) ≡ 0
+    rest = sum_on-ext (without everything i) k (λ t. identity i t * f t) (λ _. 0) (λ t _ h. ap (λ s. s * f t) (identity-other i t (λ q. (without-member everything i t h).1 (sym q))) ∙ omega arith) ∙ sum_on-none (without everything i) k
+
+pub sum-identity_right : (k j : ℕ) (f : ℕ → ℕ) → j < k → sum_below k (λ t. f t * identity t j) ≡ f j
+sum-identity_right k j f l = sum_on-ext everything k (λ t. f t * identity t j) (λ t. identity j t * f t) (λ t _ _. grind (arith, nat_tests)) ∙ sum-identity k j f l
+
+-- entries that agree make the same columns independent
+pub independent-agree : (p m n : ℕ) (a b : ℕ → ℕ → ℕ) (X : ℕ → Bool) → Agree p m n a b → IsIndependent p a m n X → IsIndependent p b m n X
+independent-agree p m n a b X same ind c s = ind c (λ i il. agree-sum p X n (λ j. c j * a i j) (λ j. c j * b i j) (λ j jl _. agree-mul p (c j) (a i j) (b i j) (same i j il jl)) ∙ s i il)
+
+-- columns that are independent in a product are so in its right factor
+pub independent_of-product : (p l m n : ℕ) (S a : ℕ → ℕ → ℕ) (X : ℕ → Bool) → IsIndependent p (product m S a) l n X → IsIndependent p a m n X
+independent_of-product p l m n S a X ind c s = ind c (λ i _.
+    vanishes_by p _ _ (sum-product m n S a X c i) (vanishes-sum p everything m (λ t. S i t * sum_on X n (λ j. c j * a t j)) (λ t tl _. vanishes-mul p (S i t) (sum_on X n (λ j. c j * a t j)) (s t tl))))
+
+-- with an inverse on the left, a product keeps independence
+pub product-independent : (p m n : ℕ) (U S a : ℕ → ℕ → ℕ) (X : ℕ → Bool) → IsInverse p m U S → IsIndependent p a m n X → IsIndependent p (product m S a) m n X
+product-independent p m n U S a X inv ind = independent_of-product p m m n U (product m S a) X (independent-agree p m n a (product m U (product m S a)) X agree ind)
+  where
+    agree : Agree p m n a (product m U (product m S a))
+    agree i j il jl = sym (ap (λ s. s % p) (product-assoc m m U S a i j)
+        ∙ agree-sum p everything m (λ t. product m U S i t * a t j) (λ t. identity i t * a t j) (λ t tl _. ap (λ s. s % p) (omega arith) ∙ agree-mul p (a t j) (product m U S i t) (identity i t) (inv i t il tl) ∙ ap (λ s. s % p) (omega arith))
+        ∙ ap (λ s. s % p) (sum-identity m i (λ t. a t j) il))
+
+pub size-everything : (n : ℕ) → size_on everything n ≡ n
+size-everything zero = refl
+size-everything (suc n) = grind (arith, size-everything n)
+
+-- U with x put beside it as a last column
+beside : ℕ → (ℕ → ℕ → ℕ) → (ℕ → ℕ) → ℕ → ℕ → ℕ
+beside m U x i j = cond (eqb j m) (x i) (U i j)
+
+beside-last : (m : ℕ) (U : ℕ → ℕ → ℕ) (x : ℕ → ℕ) (i : ℕ) → beside m U x i m ≡ x i
+unfolding beside
+beside-last m U x i = grind (arith, nat_tests)
+
+beside-other : (m : ℕ) (U : ℕ → ℕ → ℕ) (x : ℕ → ℕ) (i j : ℕ) → j < m → beside m U x i j ≡ U i j
+unfolding beside
+beside-other m U x i j l = grind (arith, nat_tests)
+
+-- where S * U is the identity, only zero is sent to zero by S
+pub kernel-zero : (p : ℕ) → IsPrime p → (m : ℕ) (S U : ℕ → ℕ → ℕ) → IsInverse p m S U → (x : ℕ → ℕ) →
+    ((i : ℕ) → i < m → sum_below m (λ t. S i t * x t) % p ≡ 0) → (i : ℕ) → i < m → x i % p ≡ 0
+kernel-zero p prime m S U inv x zeros = go (dichotomy p prime everything (suc m) m (beside m U x) everything)
+  where
+    go : Dichotomy p (beside m U x) everything m everything (suc m) → (i : ℕ) → i < m → x i % p ≡ 0
+    go (inl (_, le)) i l = absurd (omega (arith, size-everything m, size-everything (suc m)))
+    go (inr s) i l = vanishes_factor p prime (s.at m) (x i) at_m (vanishes-rest p (sum_below m (λ j. s.at j * U i j)) (s.at m * x i) (row i l)
+        (vanishes-sum p everything m (λ j. s.at j * U i j) (λ j jl _. vanishes_by p _ (U i j * s.at j) (omega arith) (vanishes-mul p (U i j) (s.at j) (at_zero j jl)))))
+      where
+        row : (t : ℕ) → t < m → (sum_below m (λ j. s.at j * U t j) + s.at m * x t) % p ≡ 0
+        row t tl = vanishes_by p _ (sum_below m (λ j. s.at j * beside m U x t j) + s.at m * beside m U x t m)
+            (omega (arith, sum_on-ext everything m (λ j. s.at j * U t j) (λ j. s.at j * beside m U x t j) (λ j jl _. ap (λ y. s.at j * y) (sym (beside-other m U x t j jl))), ap (λ y. s.at m * y) (beside-last m U x t)))
+            (s.solves t tl refl)
+
+        through : (t : ℕ) → sum_below m (λ k. S t k * (sum_below m (λ j. s.at j * U k j) + s.at m * x k)) ≡ sum_below m (λ j. s.at j * product m S U t j) + s.at m * sum_below m (λ k. S t k * x k)
+        through t = sum_on-ext everything m (λ k. S t k * (sum_below m (λ j. s.at j * U k j) + s.at m * x k)) (λ k. S t k * sum_below m (λ j. s.at j * U k j) + s.at m * (S t k * x k)) (λ k _ _. omega arith)
+            ∙ sum_on-add everything m (λ k. S t k * sum_below m (λ j. s.at j * U k j)) (λ k. s.at m * (S t k * x k))
+            ∙ omega (arith, sum-product m m S U everything s.at t, sum_on-mul everything m (s.at m) (λ k. S t k * x k))
+
+        at_zero : (t : ℕ) → t < m → s.at t % p ≡ 0
+        at_zero t tl = sym (ap (λ y. y % p) (sum-identity m t s.at tl)) ∙ sym (agree-sum p everything m (λ j. s.at j * product m S U t j) (λ j. identity t j * s.at j) (λ j jl _. agree-mul p (s.at j) (product m S U t j) (identity t j) (inv t j tl jl) ∙ ap (λ y. y % p) (omega arith)))
+            ∙ vanishes-rest p (s.at m * sum_below m (λ k. S t k * x k)) (sum_below m (λ j. s.at j * product m S U t j))
+            (vanishes_by p _ (sum_below m (λ k. S t k * (sum_below m (λ j. s.at j * U k j) + s.at m * x k))) (omega (arith, through t)) (vanishes-sum p everything m (λ k. S t k * (sum_below m (λ j. s.at j * U k j) + s.at m * x k)) (λ k kl _. vanishes-mul p (S t k) (sum_below m (λ j. s.at j * U k j) + s.at m * x k) (row k kl))))
+            (vanishes-mul p (s.at m) (sum_below m (λ k. S t k * x k)) (zeros t tl))
+
+        at_m : s.at m % p ≢ 0
+        at_m z = elim (nat_cases s.place m) [
+          | inl q ↦ s.non_zero (ap (λ k. s.at k % p) q ∙ z)
+          | inr ne ↦ s.non_zero (at_zero s.place (let b : s.place < suc m = s.below in omega arith))
+        ]
+
+-- an inverse on the right is one on the left
+pub inverse-swap : (p : ℕ) → IsPrime p → (m : ℕ) (S U : ℕ → ℕ → ℕ) → IsInverse p m S U → IsInverse p m U S
+inverse-swap zero prime m S U inv i j il jl = absurd (zero_not_prime prime)
+inverse-swap (suc k) prime m S U inv i j il jl =
+    agree_of (suc k) (product m U S i j) (k * identity i j) (identity i j)
+    (kernel-zero (suc k) prime m S U inv (λ t. product m U S t j + k * identity t j) sent i il)
+    (vanishes_by (suc k) _ (identity i j * suc k) (omega arith) (vanishes-mul (suc k) (identity i j) (suc k) (mod_self (suc k))))
+  where
+    parts : (t : ℕ) → sum_below m (λ s. S t s * (product m U S s j + k * identity s j)) ≡ product m (product m S U) S t j + k * S t j
+    parts t = sum_on-ext everything m (λ s. S t s * (product m U S s j + k * identity s j)) (λ s. S t s * product m U S s j + k * (S t s * identity s j)) (λ s _ _. omega arith)
+        ∙ sum_on-add everything m (λ s. S t s * product m U S s j) (λ s. k * (S t s * identity s j))
+        ∙ omega (arith, product-assoc m m S U S t j, sum_on-mul everything m k (λ s. S t s * identity s j), ap (λ y. k * y) (sum-identity_right m j (λ s. S t s) jl))
+
+    back : (t : ℕ) → t < m → product m (product m S U) S t j % suc k ≡ S t j % suc k
+    back t tl = agree-sum (suc k) everything m (λ s. product m S U t s * S s j) (λ s. identity t s * S s j) (λ s sl _. ap (λ y. y % suc k) (omega arith) ∙ agree-mul (suc k) (S s j) (product m S U t s) (identity t s) (inv t s tl sl) ∙ ap (λ y. y % suc k) (omega arith))
+        ∙ ap (λ y. y % suc k) (sum-identity m t (λ s. S s j) tl)
+
+    sent : (t : ℕ) → t < m → sum_below m (λ s. S t s * (product m U S s j + k * identity s j)) % suc k ≡ 0
+    sent t tl = ap (λ y. y % suc k) (parts t) ∙ agree-add (suc k) (product m (product m S U) S t j) (S t j) (k * S t j) (k * S t j) (back t tl) refl
+        ∙ vanishes_by (suc k) _ (S t j * suc k) (omega arith) (vanishes-mul (suc k) (S t j) (suc k) (mod_self (suc k)))
+
+-- an invertible product keeps the rank of every set of columns
+pub rank_of-product : (p : ℕ) → IsPrime p → (m n : ℕ) (S U a P : ℕ → ℕ → ℕ) (X : ℕ → Bool) (r : ℕ) → IsInverse p m S U → Agree p m n P (product m S a) →
+    IsRank p P m n X r → IsRank p a m n X r
+rank_of-product p prime m n S U a P X r inv same R = record {
+  reached = ((R.reached).0, (R.reached).1, down (R.reached).0 (R.reached).2, (R.reached).3);
+  greatest = λ Y within ind. R.greatest Y within (up Y ind);
+}
+  where
+    down : (Y : ℕ → Bool) → IsIndependent p P m n Y → IsIndependent p a m n Y
+    down Y ind = independent_of-product p m m n S a Y (independent-agree p m n P (product m S a) Y same ind)
+
+    up : (Y : ℕ → Bool) → IsIndependent p a m n Y → IsIndependent p P m n Y
+    up Y ind = independent-agree p m n (product m S a) P Y (λ i j il jl. sym (same i j il jl)) (product-independent p m n U S a Y (inverse-swap p prime m S U inv) ind)
+
+-- ---- a tableau: what the sum over base columns is at one row
+module _ (p : ℕ) (prime : IsPrime p) (P : ℕ → ℕ → ℕ) (m n : ℕ) (B : ℕ → Bool) (row : ℕ → ℕ) (base : IsBase p P m n B row) where
+  -- at the row of b, base columns combine to the coefficient of b
+  pub base-row : (Y : ℕ → Bool) → IsWithin n Y B → (c : ℕ → ℕ) (b : ℕ) → b < n → Y b ≡ true → sum_on Y n (λ j. c j * P (row b) j) % p ≡ c b % p
+  base-row Y within c b bl bh = ap (λ s. s % p) (sum_on-without Y n b (λ j. c j * P (row b) j) bl bh) ∙ agree-add p (sum_on (without Y b) n (λ j. c j * P (row b) j)) 0 (c b * P (row b) b) (c b) others at_b ∙ ap (λ s. s % p) (omega arith)
+    where
+      others : sum_on (without Y b) n (λ j. c j * P (row b) j) % p ≡ 0 % p
+      others = vanishes-sum p (without Y b) n (λ j. c j * P (row b) j) (λ j jl jh. vanishes-mul p (c j) (P (row b) j)
+          (let w : (Y j ≡ true) × (j ≢ b) = without-member Y b j jh in base.zero j (row b) jl (within j jl w.0) (base.row_below b bl (within b bl bh)) (λ q. w.1 (base.distinct j b jl bl (within j jl w.0) (within b bl bh) (sym q)))))
+          ∙ sym (zero-mod p)
+
+      at_b : (c b * P (row b) b) % p ≡ c b % p
+      at_b = agree-mul p (c b) (P (row b) b) 1 (base.one b bl (within b bl bh) ∙ sym (mod-eq_of_lt prime.above_one)) ∙ ap (λ s. s % p) (omega arith)
+
+  -- at a row of none of them, they combine to zero
+  pub base-no_row : (Y : ℕ → Bool) → IsWithin n Y B → (c : ℕ → ℕ) (i : ℕ) → i < m → ((b : ℕ) → b < n → Y b ≡ true → i ≢ row b) → sum_on Y n (λ j. c j * P i j) % p ≡ 0
+  base-no_row Y within c i il none = vanishes-sum p Y n (λ j. c j * P i j) (λ j jl jh. vanishes-mul p (c j) (P i j) (base.zero j i jl (within j jl jh) il (none j jl jh)))
+
+  pub base-independent : (Y : ℕ → Bool) → IsWithin n Y B → IsIndependent p P m n Y
+  base-independent Y within c s j jl jh = sym (base-row Y within c j jl jh) ∙ s (row j) (base.row_below j jl (within j jl jh))
+
+  -- a set whose columns are zero at each row but those of its own base columns has as many columns in its rank as it has base columns
+  pub rank_of-base : (X : ℕ → Bool) → ((j i : ℕ) → j < n → X j ≡ true → i < m → P i j % p ≢ 0 → (b : ℕ) × (b < n) × (both B X b ≡ true) × (row b ≡ i)) → IsRank p P m n X (size_on (both B X) n)
+  rank_of-base X shown = rank_of-basis p prime P m n X (both B X) (λ j l h. both-second (B j) (X j) h) (base-independent (both B X) in_base) spans
+    where
+      in_base : IsWithin n (both B X) B
+      in_base j l h = both-first (B j) (X j) h
+
+      spans : (j : ℕ) → j < n → X j ≡ true → IsCombination p P m n (both B X) j
+      spans j jl jh = ((λ b. P (row b) j), λ i il. at_row i il (mod_cases (P i j % p)))
+        where
+          Found : ℕ → Type 0
+          Found i = (b : ℕ) × (b < n) × (both B X b ≡ true) × (row b ≡ i)
+
+          with_row : (i : ℕ) → i < m → Found i → sum_on (both B X) n (λ b. P (row b) j * P i b) % p ≡ P i j % p
+          with_row i il (b, bl, bh, q) = subst (λ k. sum_on (both B X) n (λ b. P (row b) j * P k b) % p ≡ P k j % p) q (base-row (both B X) in_base (λ b. P (row b) j) b bl bh)
+
+          no_row : (i : ℕ) → i < m → P i j % p ≡ 0 → ((b : ℕ) → b < n → both B X b && eqb (row b) i ≡ false) → sum_on (both B X) n (λ b. P (row b) j * P i b) % p ≡ P i j % p
+          no_row i il z none = base-no_row (both B X) in_base (λ b. P (row b) j) i il (λ b bl bh. not_row (both B X b) (row b) i (none b bl) bh) ∙ sym z
+
+          at_row : (i : ℕ) → i < m → (P i j % p ≡ 0) ⊎ (P i j % p ≢ 0) → sum_on (both B X) n (λ b. P (row b) j * P i b) % p ≡ P i j % p
+          at_row i il (inr ne) = with_row i il (shown j i jl jh il ne)
+          at_row i il (inl z) = elim (first_on (λ b. both B X b && eqb (row b) i) n) [
+            | inl found ↦ with_row i il (found.0, found.1, both-first (both B X found.0) (eqb (row found.0) i) found.2, row_is (both B X found.0) (row found.0) i found.2)
+            | inr none ↦ no_row i il z none
+          ]

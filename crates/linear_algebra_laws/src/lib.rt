@@ -1,0 +1,2 @@
+//! The laws of linear algebra modulo a prime.
+#![tactic(auto)]

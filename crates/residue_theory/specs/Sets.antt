@@ -1,0 +1,34 @@
+-- Sets of numbers. A set is a test, and is looked at below a bound.
+use Rattle.std.specs.Prelude.{ℕ, ◌<◌, ◌≡◌, Bool, ◌&&◌, ◌||◌, not, eqb, true, false}
+
+-- every number
+abbrev pub everything : ℕ → Bool
+everything j = true
+
+-- no number
+abbrev pub nothing : ℕ → Bool
+nothing j = false
+
+-- the one number v
+abbrev pub only : ℕ → ℕ → Bool
+only v j = eqb j v
+
+-- X with v taken out
+abbrev pub without : (ℕ → Bool) → ℕ → ℕ → Bool
+without X v j = X j && not (eqb j v)
+
+-- X with v put in
+abbrev pub with_one : (ℕ → Bool) → ℕ → ℕ → Bool
+with_one X v j = X j || eqb j v
+
+-- the members of both
+abbrev pub both : (ℕ → Bool) → (ℕ → Bool) → ℕ → Bool
+both X Y j = X j && Y j
+
+-- the members of one or the other
+abbrev pub either : (ℕ → Bool) → (ℕ → Bool) → ℕ → Bool
+either X Y j = X j || Y j
+
+-- each member of Y below n is one of X
+abbrev pub IsWithin : ℕ → (ℕ → Bool) → (ℕ → Bool) → Type 0
+IsWithin n Y X = (j : ℕ) → j < n → Y j ≡ true → X j ≡ true
