@@ -1,0 +1,6 @@
+pub mod Numbers
+pub mod Words
+pub mod Certificates
+pub mod Writing
+pub mod Notes
+pub mod Answer
