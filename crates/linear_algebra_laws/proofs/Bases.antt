@@ -1,12 +1,12 @@
 -- A base of unit columns: it is independent, and shows ranks.
 use Rattle.std.proofs.Common.{◌≡◌, ℕ, ◌*◌, ◌%◌, ◌<◌, ◌≢◌, Bool, true, false, ◌&&◌, eqb, ◌⊎◌, inl, inr, ap, sym, subst, ◌∙◌, arith}
 use Rattle.residue_theory.specs.Sets.{without, both, IsWithin}
-use Rattle.linear_algebra.specs.Bases.{IsBase}
+use Rattle.linear_algebra.specs.Bases.{IsBase, HasNoBase}
 use Rattle.std.proofs.Math.Nat.{zero-mod, mod-eq_of_lt}
 use Rattle.std.proofs.lemmas.Bool.Decides.{nat_tests}
 use Rattle.residue_theory.specs.Sums.{sum_on, size_on}
 use Rattle.residue_theory.specs.Residues.{IsPrime}
-use Rattle.linear_algebra.specs.Columns.{IsIndependent, IsRank, IsCombination}
+use Rattle.linear_algebra.specs.Columns.{IsIndependent, IsRank, Combines}
 use Rattle.residue_theory.proofs.SumLaws.{sum_on-without, without-member}
 use Rattle.residue_theory.proofs.ResidueLaws.{vanishes-mul, vanishes-sum, agree-add, agree-mul}
 use Rattle.residue_theory.proofs.SetLaws.{both-first, both-second, first_on, zero_cases}
@@ -48,28 +48,40 @@ module _ (p : ℕ) (prime : IsPrime p) (P : ℕ → ℕ → ℕ) (m n : ℕ) (B 
   pub base-independent : (Y : ℕ → Bool) → IsWithin n Y B → IsIndependent p P m n Y
   base-independent Y within c s j jl jh = sym (base-row Y within c j jl jh) ∙ s (row j) (base.row_below j jl (within j jl jh))
 
-  -- a set whose columns are zero at each row but those of its own base columns has as many columns in its rank as it has base columns
-  pub rank_of-base : (X : ℕ → Bool) → ((j i : ℕ) → j < n → X j ≡ true → i < m → P i j % p ≢ 0 → (b : ℕ) × (b < n) × (both B X b ≡ true) × (row b ≡ i)) → IsRank p P m n X (size_on (both B X) n)
-  rank_of-base X shown = rank_of-basis p prime P m n X (both B X) (λ j l h. both-second (B j) (X j) h) (base-independent (both B X) in_base) spans
+  -- a row has a base, or none
+  pub base_or_none : (i : ℕ) → ((b : ℕ) × (b < n) × (B b ≡ true) × (row b ≡ i)) ⊎ HasNoBase n B row i
+  base_or_none i = elim (first_on (λ b. B b && eqb (row b) i) n) [
+    | inl found ↦ inl (found.0, found.1, both-first (B found.0) (eqb (row found.0) i) found.2, row_is (B found.0) (row found.0) i found.2)
+    | inr none ↦ inr (λ b bl bh q. not_row (B b) (row b) i (none b bl) bh (sym q))
+  ]
+
+  -- what base columns combine to is zero at each row without base
+  pub base-combines : (x : ℕ → ℕ) → Combines p P m n B x → (i : ℕ) → i < m → HasNoBase n B row i → x i % p ≡ 0
+  base-combines x (c, s) i il none = sym (s i il) ∙ base-no_row B (λ j _ h. h) c i il (λ b bl bh q. none b bl bh (sym q))
+
+  -- and they combine to each such column, with its entries at their rows for coefficients
+  pub combines_of-base : (x : ℕ → ℕ) → ((i : ℕ) → i < m → HasNoBase n B row i → x i % p ≡ 0) → Combines p P m n B x
+  combines_of-base x zeros = ((λ b. x (row b)), λ i il. at_row i il (base_or_none i))
     where
-      in_base : IsWithin n (both B X) B
-      in_base j l h = both-first (B j) (X j) h
+      at_row : (i : ℕ) → i < m → ((b : ℕ) × (b < n) × (B b ≡ true) × (row b ≡ i)) ⊎ HasNoBase n B row i → sum_on B n (λ b. x (row b) * P i b) % p ≡ x i % p
+      at_row i il (inl (b, bl, bh, q)) = subst (λ k. sum_on B n (λ c. x (row c) * P k c) % p ≡ x k % p) q (base-row B (λ j _ h. h) (λ c. x (row c)) b bl bh)
+      at_row i il (inr none) = base-no_row B (λ j _ h. h) (λ c. x (row c)) i il (λ b bl bh q. none b bl bh (sym q)) ∙ sym (zeros i il none)
 
-      spans : (j : ℕ) → j < n → X j ≡ true → IsCombination p P m n (both B X) j
-      spans j jl jh = ((λ b. P (row b) j), λ i il. at_row i il (zero_cases (P i j % p)))
-        where
-          Found : ℕ → Type 0
-          Found i = (b : ℕ) × (b < n) × (both B X b ≡ true) × (row b ≡ i)
+-- ---- the rank that a base shows
+module _ (p : ℕ) (prime : IsPrime p) (P : ℕ → ℕ → ℕ) (m n : ℕ) (B : ℕ → Bool) (row : ℕ → ℕ) (base : IsBase p P m n B row) (X : ℕ → Bool) where
+  part_base : IsBase p P m n (both B X) row
+  part_base = base-within p P m n (both B X) B row (λ j _ h. both-first (B j) (X j) h) base
 
-          with_row : (i : ℕ) → i < m → Found i → sum_on (both B X) n (λ b. P (row b) j * P i b) % p ≡ P i j % p
-          with_row i il (b, bl, bh, q) = subst (λ k. sum_on (both B X) n (λ b. P (row b) j * P k b) % p ≡ P k j % p) q (base-row (both B X) in_base (λ b. P (row b) j) b bl bh)
+  -- a set whose columns are zero at each row that none of its own base columns has
+  pub rank_of-base_rows : ((i j : ℕ) → i < m → j < n → X j ≡ true → HasNoBase n (both B X) row i → P i j % p ≡ 0) → IsRank p P m n X (size_on (both B X) n)
+  rank_of-base_rows zeros = rank_of-basis p prime P m n X (both B X) (λ j l h. both-second (B j) (X j) h)
+      (base-independent p prime P m n (both B X) row part_base (both B X) (λ j _ h. h))
+      (λ j jl jh. combines_of-base p prime P m n (both B X) row part_base (λ i. P i j) (λ i il none. zeros i j il jl jh none))
 
-          no_row : (i : ℕ) → i < m → P i j % p ≡ 0 → ((b : ℕ) → b < n → both B X b && eqb (row b) i ≡ false) → sum_on (both B X) n (λ b. P (row b) j * P i b) % p ≡ P i j % p
-          no_row i il z none = base-no_row (both B X) in_base (λ b. P (row b) j) i il (λ b bl bh. not_row (both B X b) (row b) i (none b bl) bh) ∙ sym z
-
-          at_row : (i : ℕ) → i < m → (P i j % p ≡ 0) ⊎ (P i j % p ≢ 0) → sum_on (both B X) n (λ b. P (row b) j * P i b) % p ≡ P i j % p
-          at_row i il (inr ne) = with_row i il (shown j i jl jh il ne)
-          at_row i il (inl z) = elim (first_on (λ b. both B X b && eqb (row b) i) n) [
-            | inl found ↦ with_row i il (found.0, found.1, both-first (both B X found.0) (eqb (row found.0) i) found.2, row_is (both B X found.0) (row found.0) i found.2)
-            | inr none ↦ no_row i il z none
-          ]
+  -- the same, where each entry that is not zero stands in the row of a base column of X
+  pub rank_of-base : ((j i : ℕ) → j < n → X j ≡ true → i < m → P i j % p ≢ 0 → (b : ℕ) × (b < n) × (both B X b ≡ true) × (row b ≡ i)) → IsRank p P m n X (size_on (both B X) n)
+  rank_of-base shown = rank_of-base_rows (λ i j il jl jh none. zero_or i j none (zero_cases (P i j % p)) (shown j i jl jh il))
+    where
+      zero_or : (i j : ℕ) → HasNoBase n (both B X) row i → (P i j % p ≡ 0) ⊎ (P i j % p ≢ 0) → (P i j % p ≢ 0 → (b : ℕ) × (b < n) × (both B X b ≡ true) × (row b ≡ i)) → P i j % p ≡ 0
+      zero_or i j none (inl z) found = z
+      zero_or i j none (inr ne) found = absurd (none (found ne).0 (found ne).1 (found ne).2 (found ne).3)

@@ -6,3 +6,4 @@ pub mod Bases
 pub mod Kernels
 pub mod Pivots
 pub mod Reduction
+pub mod Stacked

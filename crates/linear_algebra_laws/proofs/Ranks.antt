@@ -4,7 +4,7 @@ use Rattle.residue_theory.specs.Sets.{without, with_one, everything, IsWithin}
 use Rattle.std.proofs.lemmas.Bool.Decides.{nat_tests}
 use Rattle.residue_theory.specs.Sums.{sum_on, size_on}
 use Rattle.residue_theory.specs.Residues.{IsPrime}
-use Rattle.linear_algebra.specs.Columns.{IsIndependent, IsRank, IsCombination}
+use Rattle.linear_algebra.specs.Columns.{IsIndependent, IsRank, Combines, IsCombination}
 use Rattle.residue_theory.proofs.SumLaws.{sum_on-mul, sum_on-ext, sum_on-swap, sum_on-within, sum_on-none, sum_on-without, nat_cases, without-member}
 use Rattle.residue_theory.proofs.SetLaws.{differ, lt_cases, with_one-member, with_one-new, with_one-other, choice}
 use Rattle.residue_theory.proofs.CountLaws.{sum-with_one}
@@ -116,6 +116,32 @@ with_one-independent p prime a m n I v l ind never = go (I v) refl
     go : (b : Bool) → I v ≡ b → IsIndependent p a m n (with_one I v)
     go true e = absurd (never (combination-member p a m n I v l e))
     go false e = elim (join_or_combination p prime a m n I v l e ind) [ inl joined ↦ joined | inr comb ↦ absurd (never comb) ]
+
+-- what the columns of X combine to, any set combines to that combines to each of them
+pub combines-through : (p m n : ℕ) (a : ℕ → ℕ → ℕ) (I X : ℕ → Bool) (x : ℕ → ℕ) → ((j : ℕ) → j < n → X j ≡ true → IsCombination p a m n I j) → Combines p a m n X x → Combines p a m n I x
+combines-through p m n a I X x combs (c, s) = go (choice n X (λ j d. (i : ℕ) → i < m → sum_on I n (λ k. d k * a i k) % p ≡ a i j % p) combs)
+  where
+    go : (D : ℕ → ℕ → ℕ) × ((j : ℕ) → j < n → X j ≡ true → (i : ℕ) → i < m → sum_on I n (λ k. D j k * a i k) % p ≡ a i j % p) → Combines p a m n I x
+    go (D, ok) = ((λ k. sum_on X n (λ j. c j * D j k)), λ i il.
+        ap (λ y. y % p) (sum_on-ext I n (λ k. sum_on X n (λ j. c j * D j k) * a i k) (λ k. a i k * sum_on X n (λ j. c j * D j k)) (λ k _ _. omega arith) ∙ sym (regroup p m n a I X c D i))
+        ∙ agree-sum p X n (λ j. c j * sum_on I n (λ k. D j k * a i k)) (λ j. c j * a i j) (λ j jl jh. agree-mul p (c j) (sum_on I n (λ k. D j k * a i k)) (a i j) (ok j jl jh i il))
+        ∙ s i il)
+
+-- a part of X that is as large as its rank, and independent, combines to each column of X
+pub combination_of-largest : (p : ℕ) → IsPrime p → (a : ℕ → ℕ → ℕ) (m n : ℕ) (X I : ℕ → Bool) → IsWithin n I X → IsIndependent p a m n I → IsRank p a m n X (size_on I n) →
+    (v : ℕ) → v < n → X v ≡ true → IsCombination p a m n I v
+combination_of-largest p prime a m n X I within ind R v vl vh = go (I v) refl
+  where
+    joined : I v ≡ false → IsIndependent p a m n (with_one I v) → ⊥
+    joined h free = omega (
+      arith,
+      sum-with_one I n v (λ _. 1) vl h,
+      R.greatest (with_one I v) (λ j jl jh. elim (nat_cases j v) [ inl q ↦ subst (λ k. X k ≡ true) (sym q) vh | inr ne ↦ within j jl (with_one-other I v j jh ne) ]) free,
+    )
+
+    go : (b : Bool) → I v ≡ b → IsCombination p a m n I v
+    go true h = combination-member p a m n I v vl h
+    go false h = elim (join_or_combination p prime a m n I v vl h ind) [ inl free ↦ absurd (joined h free) | inr comb ↦ comb ]
 
 -- ---- each set of columns has a rank
 -- an independent part of X that combines to each of its columns below k, and keeps the members of Z
