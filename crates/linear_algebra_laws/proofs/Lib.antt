@@ -1,4 +1,9 @@
 pub mod Elimination
 pub mod Ranks
 pub mod RankLaws
-pub mod RowOperations
+pub mod Products
+pub mod Bases
+pub mod Kernels
+pub mod Pivots
+pub mod Reduction
+pub mod Stacked
