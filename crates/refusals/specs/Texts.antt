@@ -1,5 +1,5 @@
 -- What places, reasons and refusals print.
-use Rattle.std.specs.Prelude.{ℕ, List, ◌++◌, codes}
+use Rattle.std.specs.Prelude.{ℕ, List, [], ◌∷◌, ◌++◌, Option, Some, None, codes}
 use Rattle.std.specs.Fmt.{decimal}
 use Rattle.refusals.specs.declared.Place.{Place}
 use Rattle.refusals.specs.declared.Place.TheVariants.{Line, Document, Component, Stream, Unit as Unit_of}
@@ -7,13 +7,30 @@ use Rattle.refusals.specs.declared.Why.{Why}
 use Rattle.refusals.specs.declared.Why.TheVariants.{BadByte, BadWord, BadShape, BadName, BadNumber, Vanish, Twice, TooMany, Later}
 use Rattle.refusals.specs.declared.Refused.{Refused}
 
+-- the word for a place
+abbrev pub place_word : Place → List ℕ
+place_word (Line k) = codes "line"
+place_word Document = codes "document"
+place_word (Component k) = codes "component"
+place_word (Stream k) = codes "stream"
+place_word (Unit_of k) = codes "unit"
+
+-- the number of a place, where it has one
+abbrev pub place_number : Place → Option ℕ
+place_number (Line k) = Some k
+place_number Document = None
+place_number (Component k) = Some k
+place_number (Stream k) = Some k
+place_number (Unit_of k) = Some k
+
+-- a number behind a space, where there is one
+abbrev pub number_text : Option ℕ → List ℕ
+number_text None = []
+number_text (Some k) = 32 ∷ decimal k
+
 -- a place, with its number where it has one
 abbrev pub place_text : Place → List ℕ
-place_text (Line k) = codes "line " ++ decimal k
-place_text Document = codes "document"
-place_text (Component k) = codes "component " ++ decimal k
-place_text (Stream k) = codes "stream " ++ decimal k
-place_text (Unit_of k) = codes "unit " ++ decimal k
+place_text place = place_word place ++ number_text (place_number place)
 
 -- the words for a reason
 abbrev pub why_text : Why → List ℕ

@@ -1,6 +1,9 @@
 //! Why an input is refused, and at which place in it.
 #![tactic(auto)]
 
+ghost use Rattle.std.specs.Prelude.{◌≡◌};
+ghost use Rattle.refusals.specs.Texts.{place_word, place_number, why_text};
+
 use std::alloc::{AllocError, AllocFailed};
 use std::fmt;
 use thiserror::Error;
@@ -54,6 +57,34 @@ pub enum ReadModel {
     NoMemory,
 }
 
+impl Place {
+    /// The word for this place.
+    pub fn word(self) -> &'static str
+        ensures { result.now ≡ place_word self }
+    {
+        match self {
+            Place::Line(_) => "line",
+            Place::Document => "document",
+            Place::Component(_) => "component",
+            Place::Stream(_) => "stream",
+            Place::Unit(_) => "unit",
+        }
+    }
+
+    /// The number of this place, where it has one.
+    pub fn number(self) -> Option<u32>
+        ensures { result ≡ place_number self }
+    {
+        match self {
+            Place::Document => None,
+            Place::Line(number)
+            | Place::Component(number)
+            | Place::Stream(number)
+            | Place::Unit(number) => Some(number),
+        }
+    }
+}
+
 impl fmt::Display for Place {
     ghost use Rattle.std.specs.Prelude.{Some};
     ghost use Rattle.refusals.specs.Texts.{place_text};
@@ -61,12 +92,29 @@ impl fmt::Display for Place {
     ghost output = { λ place. Some (place_text place) };
 
     fn fmt<W: fmt::Write>(&self, f: &mut fmt::Formatter<W>) -> fmt::Result {
+        let word = self.word();
+        match self.number() {
+            None => f.write_str(word),
+            Some(number) => write!(f, "{word} {number}"),
+        }
+    }
+}
+
+impl Why {
+    /// The words for this reason.
+    pub fn text(self) -> &'static str
+        ensures { result.now ≡ why_text self }
+    {
         match self {
-            Place::Line(number) => write!(f, "line {number}"),
-            Place::Document => write!(f, "document"),
-            Place::Component(number) => write!(f, "component {number}"),
-            Place::Stream(number) => write!(f, "stream {number}"),
-            Place::Unit(number) => write!(f, "unit {number}"),
+            Why::BadByte => "bad byte",
+            Why::BadWord => "bad word",
+            Why::BadShape => "bad shape",
+            Why::BadName => "bad name",
+            Why::BadNumber => "bad number",
+            Why::Vanish => "vanishes in the field",
+            Why::Twice => "twice",
+            Why::TooMany => "too many",
+            Why::Later => "comes later",
         }
     }
 }
@@ -78,17 +126,7 @@ impl fmt::Display for Why {
     ghost output = { λ why. Some (why_text why) };
 
     fn fmt<W: fmt::Write>(&self, f: &mut fmt::Formatter<W>) -> fmt::Result {
-        match self {
-            Why::BadByte => f.write_str("bad byte"),
-            Why::BadWord => f.write_str("bad word"),
-            Why::BadShape => f.write_str("bad shape"),
-            Why::BadName => f.write_str("bad name"),
-            Why::BadNumber => f.write_str("bad number"),
-            Why::Vanish => f.write_str("vanishes in the field"),
-            Why::Twice => f.write_str("twice"),
-            Why::TooMany => f.write_str("too many"),
-            Why::Later => f.write_str("comes later"),
-        }
+        f.write_str(self.text())
     }
 }
 
