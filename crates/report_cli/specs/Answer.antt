@@ -1,7 +1,7 @@
 -- What a run answers.
 use Rattle.std.specs.Prelude.{◌≡◌, ℕ, ◌+◌, ◌≤◌, ◌<◌, ◌⊎◌, List, [], ◌++◌, length, Option, Some, None}
 use Rattle.port_io.specs.Bytes.{Took, Appended, Ended}
-use Rattle.report_cli.specs.Certificates.{Certificate, certificate_text}
+use Rattle.report_cli.specs.Certificates.{Contents, certificate_text}
 use Rattle.report_cli.specs.Words.{AskForAnalysis}
 use Rattle.report_cli.specs.declared.status.Status.{Status}
 use Rattle.report_cli.specs.declared.status.Status.TheVariants.{Done, Usage, Refused, TooLong, ReadFault, WriteFault, Memory}
@@ -12,7 +12,7 @@ model_limit = 8388608
 
 -- the text of some certificate whose echo is the input
 pub record IsCertified (input text : List ℕ) : Type 0 where
-  pub certificate : Certificate
+  pub certificate : Contents
   pub echo : certificate.echo ≡ input
   pub text_is : text ≡ certificate_text certificate
 

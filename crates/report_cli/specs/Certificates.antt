@@ -1,16 +1,9 @@
--- A certificate: what its text prints, as numbers and lists. Rows and columns are counted from 0 here, and from 1 in the text.
+-- What a certificate contains, and its text. Rows and columns are counted from 0 here, and from 1 in the text.
 use Rattle.std.specs.Prelude.{ℕ, ◌+◌, ◌==◌, List, [], ◌∷◌, ◌++◌, length, codes, decimal, if◌then◌else◌}
+use Rattle.report_cli.specs.declared.shape.Shape.{Shape}
 
--- the numbers of equations, unknowns, rows of constants, rows of symbols, and columns
-pub record Shape : Type 0 where
-  pub equations : ℕ
-  pub unknowns : ℕ
-  pub q_rows : ℕ
-  pub t_rows : ℕ
-  pub columns : ℕ
-
--- base: a row and its base column, each; s, u, p: the rows of the matrices
-pub record Certificate : Type 0 where
+-- echo: the input; base: a row and its base column, each; s, u, p: the rows of the matrices
+pub record Contents : Type 0 where
   pub echo : List ℕ
   pub shape : Shape
   pub base : List (ℕ × ℕ)
@@ -18,26 +11,30 @@ pub record Certificate : Type 0 where
   pub u : List (List ℕ)
   pub p : List (List ℕ)
 
+-- a mark and a number
+abbrev pub marked : ℕ → ℕ → List ℕ
+marked mark number = mark ∷ decimal number
+
 -- a number behind a space
 abbrev pub spaced : ℕ → List ℕ
-spaced n = 32 ∷ decimal n
+spaced number = marked 32 number
 
--- the item `k=v` behind a space
+-- the item `key=value` behind a space
 abbrev pub item : ℕ → ℕ → List ℕ
-item k v = spaced k ++ 61 ∷ decimal v
+item key value = spaced key ++ marked 61 value
 
 -- an entry of a row: its column and its number, and nothing where it is 0
 abbrev pub entry_text : ℕ → ℕ → List ℕ
 entry_text column number = if number == 0 then [] else item column number
 
--- the entries of a row from this column on
+-- the entries of a row, the first of them in this column
 abbrev pub entries_text : ℕ → List ℕ → List ℕ
 entries_text column [] = []
 entries_text column (number ∷ row) = entry_text column number ++ entries_text (column + 1) row
 
 -- the line of a row: a letter, the number of the row, and its entries
 abbrev pub row_text : ℕ → ℕ → List ℕ → List ℕ
-row_text letter number row = letter ∷ spaced number ++ 58 ∷ entries_text 1 row ++ 10 ∷ []
+row_text letter number row = (letter ∷ []) ++ spaced number ++ codes ":" ++ entries_text 1 row ++ codes "\n"
 
 -- the lines of the rows, the first of them with this number
 abbrev pub rows_text : ℕ → ℕ → List (List ℕ) → List ℕ
@@ -53,15 +50,17 @@ abbrev pub shape_text : Shape → List ℕ
 shape_text shape =
     spaced shape.equations ++ spaced shape.unknowns ++ spaced shape.q_rows ++ spaced shape.t_rows ++ spaced shape.columns
 
--- the lines up to the matrices
-abbrev pub head_text : Certificate → List ℕ
-head_text c =
-    codes "mixed-certificate 1\nkind matrix\nlength" ++ spaced (length c.echo) ++ 10 ∷ [] ++ c.echo
-    ++ codes "\nshape" ++ shape_text c.shape
-    ++ codes "\nrank" ++ spaced (length c.base)
-    ++ codes "\nbase" ++ pairs_text c.base
-    ++ codes "\nmatch\n"
+-- the first lines: the kind and the echo
+abbrev pub echo_text : List ℕ → List ℕ
+echo_text echo = codes "mixed-certificate 1\nkind matrix\nlength" ++ spaced (length echo) ++ codes "\n" ++ echo
+
+-- the lines of the shape, the rank, the base and the match, with the end of the line before
+abbrev pub pair_text : Contents → List ℕ
+pair_text c =
+    codes "\nshape" ++ shape_text c.shape ++ codes "\nrank" ++ spaced (length c.base)
+    ++ codes "\nbase" ++ pairs_text c.base ++ codes "\nmatch\n"
 
 -- the text of a certificate
-abbrev pub certificate_text : Certificate → List ℕ
-certificate_text c = head_text c ++ rows_text 83 1 c.s ++ rows_text 85 1 c.u ++ rows_text 80 1 c.p ++ codes "end\n"
+abbrev pub certificate_text : Contents → List ℕ
+certificate_text c =
+    echo_text c.echo ++ pair_text c ++ rows_text 83 1 c.s ++ rows_text 85 1 c.u ++ rows_text 80 1 c.p ++ codes "end\n"
