@@ -1,2 +1,4 @@
-pub mod Digits
+pub mod DigitSteps
+pub mod Pieces
 pub mod Puts
+pub mod Noting
