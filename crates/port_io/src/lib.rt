@@ -9,6 +9,8 @@ mod memory;
 mod ports;
 mod reading;
 mod streams;
+#[cfg(test)]
+mod tests;
 mod writing;
 
 pub use gathering::PieceBuffer;

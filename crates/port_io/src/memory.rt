@@ -1,17 +1,57 @@
 //! A source and a sink in memory, which fail at the calls that they are told.
 
-ghost use Rattle.std.specs.Prelude.{◌≡◌, ℕ, ◌≤◌, ◌↔◌, [], length, false, Some, IfOk, IsTrue, Contains};
+ghost use Rattle.std.specs.Prelude.{◌≡◌, ℕ, ◌≤◌, [], length, false, Some, IfOk, OnOk, OnErr, Contains};
+ghost use Rattle.port_io.specs.Causes.{one_more};
 ghost use Rattle.port_io.specs.Memory.{ReadsMemory, WritesMemory, FlushesMemory, TakesMore};
 
 use crate::ports::{Failed, Sink, Source};
 use std::alloc::{AllocError, Global};
 use std::marker::Model;
 
-/// Whether a call is one of those that fail.
-fn is_listed(fails: &[u64], call: u64) -> bool
-    ensures { IsTrue result ↔ Contains fails.now call }
-{
-    fails.contains(&call)
+/// The calls so far, the numbers of those that fail, and how many failed.
+#[derive(Drop)]
+struct Calls {
+    made: u64,
+    failing: Vec<u64>,
+    faults: u64,
+}
+
+impl Calls {
+    fn new(alloc: Global, failing: &[u64]) -> Result<Calls, AllocError>
+        ensures made { IfOk result (λ calls. calls.made ≡ 0) }
+        ensures failing { IfOk result (λ calls. calls.failing.items ≡ failing.now) }
+        ensures faults { IfOk result (λ calls. calls.faults ≡ 0) }
+    {
+        Ok(Calls {
+            made: 0,
+            failing: failing.to_vec(alloc)?,
+            faults: 0,
+        })
+    }
+
+    /// One call more, which fails where its number is listed.
+    fn count(&mut self) -> Result<(), Failed>
+        ensures made { self.new.made ≡ one_more self.old.made }
+        ensures failing { self.new.failing.items ≡ self.old.failing.items }
+        ensures fine { OnOk result ((¬ Contains self.old.failing.items self.new.made) × (self.new.faults ≡ self.old.faults)) }
+        ensures failed { OnErr result (Contains self.old.failing.items self.new.made × (self.new.faults ≡ one_more self.old.faults)) }
+    {
+        self.made = self.made.saturating_add(1);
+        if self.failing.contains(&self.made) {
+            return Err(self.fail());
+        }
+        Ok(())
+    }
+
+    /// The call fails.
+    fn fail(&mut self) -> Failed
+        ensures made { self.new.made ≡ self.old.made }
+        ensures failing { self.new.failing.items ≡ self.old.failing.items }
+        ensures faults { self.new.faults ≡ one_more self.old.faults }
+    {
+        self.faults = self.faults.saturating_add(1);
+        Failed
+    }
 }
 
 /// Gives these bytes.
@@ -20,9 +60,7 @@ pub struct MemSource {
     bytes: Vec<u8>,
     taken: usize,
     most: usize,
-    calls: u64,
-    fails: Vec<u64>,
-    faults: u64,
+    calls: Calls,
 }
 
 impl Model for MemSource {
@@ -31,7 +69,7 @@ impl Model for MemSource {
 
     ghost Value = { MemorySource };
 
-    ghost view = { λ s. record { left = drop s.taken s.bytes.items; most = s.most; calls = s.calls; fails = s.fails.items; faults = s.faults } };
+    ghost view = { λ s. record { left = drop s.taken s.bytes.items; most = s.most; calls = s.calls.made; fails = s.calls.failing.items; faults = s.calls.faults } };
 
     ghost invariant = { λ s. (s.taken ≤ length s.bytes.items) × (1 ≤ s.most) };
 }
@@ -55,9 +93,7 @@ impl MemSource {
             bytes: bytes.to_vec(alloc)?,
             taken: 0,
             most,
-            calls: 0,
-            fails: fails.to_vec(alloc)?,
-            faults: 0,
+            calls: Calls::new(alloc, fails)?,
         })
     }
 }
@@ -72,11 +108,7 @@ impl Source for MemSource {
     ghost read_gives = { λ before space result after. ReadsMemory before space result after };
 
     fn read(&mut self, buffer: &mut [u8]) -> Result<usize, Failed> {
-        self.calls = self.calls.saturating_add(1);
-        if is_listed(&self.fails, self.calls) {
-            self.faults = self.faults.saturating_add(1);
-            return Err(Failed);
-        }
+        self.calls.count()?;
         let rest = &self.bytes[self.taken..];
         let count = buffer.len().min(self.most).min(rest.len());
         buffer[..count].copy_from_slice(&rest[..count]);
@@ -92,9 +124,7 @@ pub struct MemSink {
     most: usize,
     room: usize,
     flushed: bool,
-    calls: u64,
-    fails: Vec<u64>,
-    faults: u64,
+    calls: Calls,
 }
 
 impl Model for MemSink {
@@ -103,7 +133,7 @@ impl Model for MemSink {
 
     ghost Value = { MemorySink };
 
-    ghost view = { λ s. record { written = s.bytes.items; most = s.most; room = s.room; flushed = s.flushed; calls = s.calls; fails = s.fails.items; faults = s.faults } };
+    ghost view = { λ s. record { written = s.bytes.items; most = s.most; room = s.room; flushed = s.flushed; calls = s.calls.made; fails = s.calls.failing.items; faults = s.calls.faults } };
 
     ghost invariant = { λ s. (length s.bytes.items ≤ s.room) × (s.room ≤ vec_capacity s.bytes) × (1 ≤ s.most) };
 }
@@ -129,9 +159,7 @@ impl MemSink {
             most,
             room,
             flushed: false,
-            calls: 0,
-            fails: fails.to_vec(alloc)?,
-            faults: 0,
+            calls: Calls::new(alloc, fails)?,
         })
     }
 
@@ -158,11 +186,9 @@ impl Sink for MemSink {
     ghost flush_gives = { λ before result after. FlushesMemory before result after };
 
     fn write(&mut self, piece: &[u8]) -> Result<usize, Failed> {
-        self.calls = self.calls.saturating_add(1);
-        let is_full = self.bytes.len() == self.room && !piece.is_empty();
-        if is_full || is_listed(&self.fails, self.calls) {
-            self.faults = self.faults.saturating_add(1);
-            return Err(Failed);
+        self.calls.count()?;
+        if self.bytes.len() == self.room && !piece.is_empty() {
+            return Err(self.calls.fail());
         }
         let count = piece.len().min(self.most).min(self.room - self.bytes.len());
         if self.bytes.extend_from_slice(&piece[..count]).is_err() {
@@ -173,11 +199,7 @@ impl Sink for MemSink {
     }
 
     fn flush(&mut self) -> Result<(), Failed> {
-        self.calls = self.calls.saturating_add(1);
-        if is_listed(&self.fails, self.calls) {
-            self.faults = self.faults.saturating_add(1);
-            return Err(Failed);
-        }
+        self.calls.count()?;
         self.flushed = true;
         Ok(())
     }

@@ -8,7 +8,7 @@ ghost use Rattle.port_io.specs.declared.ports.Failed.{Failed};
 use thiserror::Error;
 
 /// A call that a source or a sink refused.
-#[derive(Debug, Drop, Error)]
+#[derive(Debug, PartialEq, Eq, Drop, Error)]
 #[error("the call failed")]
 pub struct Failed;
 

@@ -1,7 +1,7 @@
 //! The process's own streams. What they give and keep is outside what is proved: they tell no bytes,
 //! and count a fault for each call that the system refused.
 
-ghost use Rattle.std.specs.Prelude.{◌≡◌, ℕ, None, false, IfOk};
+ghost use Rattle.std.specs.Prelude.{◌≡◌, ◌≤◌, ℕ, None, false, IfOk};
 
 use crate::ports::{Failed, Sink, Source};
 use std::io::{Read, Write};
@@ -94,6 +94,103 @@ impl<W: Write + Drop> Sink for StdSink<W> {
             return Err(Failed);
         }
         self.flushed = true;
+        Ok(())
+    }
+}
+
+#[cfg(test)]
+mod tests {
+    use super::*;
+    use std::io;
+    use std::io::ErrorKind;
+    use std::test::Fail;
+
+    /// Fails at its second call, and moves at most two bytes in each other one; from the fifth on
+    /// it moves none.
+    #[derive(Drop)]
+    struct Unsteady {
+        calls: u64,
+    }
+
+    impl Unsteady {
+        fn call(&mut self, bytes: usize) -> io::Result<usize>
+            ensures { IfOk result (λ n. n ≤ bytes) }
+        {
+            self.calls = self.calls.saturating_add(1);
+            match self.calls {
+                2 => Err(io::Error::from(ErrorKind::Other)),
+                0..5 => Ok(bytes.min(2)),
+                _ => Ok(0),
+            }
+        }
+    }
+
+    impl Read for Unsteady {
+        fn read(&mut self, buffer: &mut [u8]) -> io::Result<usize> {
+            let count = self.call(buffer.len())?;
+            buffer[..count].fill(b'a');
+            Ok(count)
+        }
+    }
+
+    impl Write for Unsteady {
+        fn write(&mut self, piece: &[u8]) -> io::Result<usize> {
+            self.call(piece.len())
+        }
+
+        fn flush(&mut self) -> io::Result<()> {
+            self.call(0)?;
+            Ok(())
+        }
+    }
+
+    #[test]
+    fn a_source_counts_its_faults(rt: HostRuntime) -> Result<(), Fail> {
+        let mut source = StdSource::new(Unsteady { calls: 0 });
+        let mut buffer = [0; 3];
+        for (want, faults) in [
+            (Some(2), 0),
+            (None, 1),
+            (Some(2), 1),
+            (Some(2), 1),
+            (Some(0), 1),
+        ] {
+            assert_eq!(rt; source.read(&mut buffer).ok(), want);
+            assert_eq!(rt; source.faults, faults);
+        }
+        assert_eq!(rt; buffer, [b'a', b'a', 0]);
+        Ok(())
+    }
+
+    #[test]
+    fn a_sink_counts_its_faults(rt: HostRuntime) -> Result<(), Fail> {
+        let mut sink = StdSink::new(Unsteady { calls: 0 });
+        for (want, faults) in [
+            (Some(2), 0),
+            (None, 1),
+            (Some(2), 1),
+            (Some(2), 1),
+            (None, 2),
+        ] {
+            assert_eq!(rt; sink.write(b"abc").ok(), want);
+            assert_eq!(rt; sink.faults, faults);
+        }
+        assert!(rt; !sink.flushed);
+        assert!(rt; sink.flush().is_ok());
+        assert!(rt; sink.flushed);
+        assert_eq!(rt; sink.write(b"").ok(), Some(0));
+        assert!(rt; sink.flushed);
+        Ok(())
+    }
+
+    #[test]
+    fn the_real_streams_fit(rt: HostRuntime) -> Result<(), Fail> {
+        let mut source = StdSource::new(rt.stdin());
+        assert_eq!(rt; source.read(&mut []).ok(), Some(0));
+        let mut sink = StdSink::new(rt.stdout());
+        assert!(rt; sink.flush().is_ok());
+        let mut notes = StdSink::new(rt.stderr());
+        assert!(rt; notes.flush().is_ok());
         Ok(())
     }
 }

@@ -8,7 +8,7 @@ use crate::ports::Sink;
 use thiserror::Error;
 
 /// How many bytes were written before the sink failed.
-#[derive(Debug, Drop, Error)]
+#[derive(Debug, PartialEq, Eq, Drop, Error)]
 #[error("the output cannot be written after {written} bytes")]
 pub struct WriteFault {
     pub written: usize,
