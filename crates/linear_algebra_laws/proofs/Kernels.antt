@@ -17,6 +17,9 @@ kernel-trans p m n a b d first second = record {
   back = λ X c s. first.back X c (second.back X c s);
 }
 
+pub kernel-sym : (p m n : ℕ) (a b : ℕ → ℕ → ℕ) → SameKernel p m n a b → SameKernel p m n b a
+kernel-sym p m n a b same = record { forward = same.back; back = same.forward }
+
 pub independent_of-kernel : (p m n : ℕ) (a b : ℕ → ℕ → ℕ) (X : ℕ → Bool) → SameKernel p m n a b → IsIndependent p a m n X → IsIndependent p b m n X
 independent_of-kernel p m n a b X same ind c s = ind c (same.back X c s)
 

@@ -53,14 +53,17 @@ rank-subadditive p prime a m n X Y r s u RX RY RU = go (rank_exists p prime a m 
 
 -- one more column adds at most one
 pub rank-one_more : (p : ℕ) (a : ℕ → ℕ → ℕ) (m n : ℕ) (X : ℕ → Bool) (v r s : ℕ) → v < n → IsRank p a m n X r → IsRank p a m n (with_one X v) s → (r ≤ s) × (s ≤ r + 1)
-rank-one_more p a m n X v r s vl R S = (rank-monotone p a m n X (with_one X v) r s (λ j _ h. with_one-member X v j h) R S, omega (
-  arith,
-  S.reached.3,
-  size-without S.reached.0 n v vl,
-  R.greatest (without S.reached.0 v)
-      (λ j jl jh. let w : (S.reached.0 j ≡ true) × (j ≢ v) = without-member S.reached.0 v j jh in with_one-other X v j (S.reached.1 j jl w.0) w.1)
-      (independent-within p a m n (without S.reached.0 v) S.reached.0 (λ j jl jh. (without-member S.reached.0 v j jh).0) S.reached.2),
-))
+rank-one_more p a m n X v r s vl R S = (
+  rank-monotone p a m n X (with_one X v) r s (λ j _ h. with_one-member X v j h) R S,
+  omega (
+    arith,
+    S.reached.3,
+    size-without S.reached.0 n v vl,
+    R.greatest (without S.reached.0 v)
+        (λ j jl jh. let w : (S.reached.0 j ≡ true) × (j ≢ v) = without-member S.reached.0 v j jh in with_one-other X v j (S.reached.1 j jl w.0) w.1)
+        (independent-within p a m n (without S.reached.0 v) S.reached.0 (λ j jl jh. (without-member S.reached.0 v j jh).0) S.reached.2),
+  ),
+)
 
 -- an independent set grows within X to one of the rank's size
 pub independent-extends : (p : ℕ) → IsPrime p → (a : ℕ → ℕ → ℕ) (m n : ℕ) (X Z : ℕ → Bool) (r : ℕ) → IsWithin n Z X → IsIndependent p a m n Z → IsRank p a m n X r →

@@ -1,0 +1,4 @@
+pub mod RankLaws
+pub mod RowOperationLaws
+pub mod BaseLaws
+pub mod BlockLaws

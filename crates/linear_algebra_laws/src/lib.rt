@@ -1,2 +1,7 @@
 //! The laws of linear algebra modulo a prime.
 #![tactic(auto)]
+
+pub mod base_laws;
+pub mod block_laws;
+pub mod rank_laws;
+pub mod row_operation_laws;
