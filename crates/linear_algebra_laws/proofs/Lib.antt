@@ -7,3 +7,6 @@ pub mod Kernels
 pub mod Pivots
 pub mod Reduction
 pub mod Stacked
+pub mod OneOrTwo
+pub mod PartLaws
+pub mod Triangular
