@@ -10,3 +10,5 @@ pub mod Stacked
 pub mod OneOrTwo
 pub mod PartLaws
 pub mod Triangular
+pub mod SkipLaws
+pub mod RowRemoval
