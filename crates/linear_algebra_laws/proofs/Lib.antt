@@ -12,3 +12,4 @@ pub mod PartLaws
 pub mod Triangular
 pub mod SkipLaws
 pub mod RowRemoval
+pub mod ColumnRemoval

@@ -166,16 +166,22 @@ product-kernel p prime m n S U a P inv same = record {
 -- ---- combinations in a product
 -- what the columns of X combine to, they combine to in P = S * a, with S applied to it
 pub combines-product : (p m n : ℕ) (S a P : ℕ → ℕ → ℕ) (X : ℕ → Bool) (x : ℕ → ℕ) → Agree p m n P (product m S a) → Combines p a m n X x → Combines p P m n X (λ i. sum_below m (λ t. S i t * x t))
-combines-product p m n S a P X x same (c, s) = (c, λ i il.
-    agree-sum p X n (λ j. c j * P i j) (λ j. c j * product m S a i j) (λ j jl _. agree-mul p (c j) (P i j) (product m S a i j) (same i j il jl))
-    ∙ ap (λ y. y % p) (sum-product m n S a X c i)
-    ∙ agree-sum p everything m (λ t. S i t * sum_on X n (λ j. c j * a t j)) (λ t. S i t * x t) (λ t tl _. agree-mul p (S i t) (sum_on X n (λ j. c j * a t j)) (x t) (s t tl)))
+combines-product p m n S a P X x same (c, s) = (
+  c,
+  λ i il.
+      agree-sum p X n (λ j. c j * P i j) (λ j. c j * product m S a i j) (λ j jl _. agree-mul p (c j) (P i j) (product m S a i j) (same i j il jl))
+      ∙ ap (λ y. y % p) (sum-product m n S a X c i)
+      ∙ agree-sum p everything m (λ t. S i t * sum_on X n (λ j. c j * a t j)) (λ t. S i t * x t) (λ t tl _. agree-mul p (S i t) (sum_on X n (λ j. c j * a t j)) (x t) (s t tl)),
+)
 
 -- and back, for an invertible S
 pub combines_of-product : (p : ℕ) → IsPrime p → (m n : ℕ) (S U a P : ℕ → ℕ → ℕ) (X : ℕ → Bool) (x : ℕ → ℕ) → IsInverse p m S U → Agree p m n P (product m S a) →
     Combines p P m n X (λ i. sum_below m (λ t. S i t * x t)) → Combines p a m n X x
-combines_of-product p prime m n S U a P X x inv same (c, s) = (c, λ i il.
-    agree_of p (sum_on X n (λ j. c j * a i j)) ((p - 1) * x i) (x i) (kernel-zero p prime m S U inv (λ t. sum_on X n (λ j. c j * a t j) + (p - 1) * x t) sent i il) (lacks p prime (x i)))
+combines_of-product p prime m n S U a P X x inv same (c, s) = (
+  c,
+  λ i il.
+      agree_of p (sum_on X n (λ j. c j * a i j)) ((p - 1) * x i) (x i) (kernel-zero p prime m S U inv (λ t. sum_on X n (λ j. c j * a t j) + (p - 1) * x t) sent i il) (lacks p prime (x i)),
+)
   where
     -- S sends the difference to zero
     parts : (i : ℕ) → sum_below m (λ t. S i t * (sum_on X n (λ j. c j * a t j) + (p - 1) * x t)) ≡ sum_on X n (λ j. c j * product m S a i j) + (p - 1) * sum_below m (λ t. S i t * x t)

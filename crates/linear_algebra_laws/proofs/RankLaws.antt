@@ -1,5 +1,5 @@
 -- The rank as a function of the set: bounded by the size, monotone and submodular.
-use Rattle.std.proofs.Common.{◌≡◌, ℕ, ◌+◌, ◌*◌, ◌%◌, ◌<◌, ◌≤◌, ◌≢◌, Bool, true, false, zero, suc, inl, inr, refl, ap, ◌∙◌, arith}
+use Rattle.std.proofs.Common.{◌≡◌, ℕ, ◌+◌, ◌*◌, ◌%◌, ◌<◌, ◌≤◌, ◌≢◌, Bool, true, false, zero, suc, inl, inr, refl, ap, sym, ◌∙◌, arith}
 use Rattle.std.proofs.Math.Nat.{zero-mod}
 use Rattle.std.proofs.lemmas.Bool.Decides.{nat_tests}
 use Rattle.linear_algebra.specs.Products.{identity}
@@ -19,6 +19,13 @@ rank-size p a m n X r R = omega (arith, (R.reached).3, size_on-within X (R.reach
 
 pub rank-monotone : (p : ℕ) (a : ℕ → ℕ → ℕ) (m n : ℕ) (X Y : ℕ → Bool) (r s : ℕ) → IsWithin n X Y → IsRank p a m n X r → IsRank p a m n Y s → r ≤ s
 rank-monotone p a m n X Y r s within R S = omega (arith, (R.reached).3, S.greatest (R.reached).0 (λ j l h. within j l ((R.reached).1 j l h)) (R.reached).2)
+
+-- sets with the same members below n have the same rank
+pub rank-same_set : (p : ℕ) (a : ℕ → ℕ → ℕ) (m n : ℕ) (X Y : ℕ → Bool) (r : ℕ) → ((j : ℕ) → j < n → X j ≡ Y j) → IsRank p a m n X r → IsRank p a m n Y r
+rank-same_set p a m n X Y r same R = record {
+  reached = (R.reached.0, (λ j l h. sym (same j l) ∙ R.reached.1 j l h), R.reached.2, R.reached.3);
+  greatest = λ Z within ind. R.greatest Z (λ j l h. same j l ∙ within j l h) ind;
+}
 
 pub rank_of-independent : (p : ℕ) (a : ℕ → ℕ → ℕ) (m n : ℕ) (X : ℕ → Bool) → IsIndependent p a m n X → IsRank p a m n X (size_on X n)
 rank_of-independent p a m n X ind = record { reached = (X, (λ j l h. h), ind, refl); greatest = λ Y within _. size_on-within X Y n within }

@@ -3,23 +3,23 @@ use Rattle.std.proofs.Common.{◌≡◌, ℕ, zero, suc, ◌+◌, ◌-◌, ◌*�
 use Rattle.std.proofs.lemmas.Bool.Decides.{nat_tests}
 use Rattle.std.proofs.Math.Nat.{zero-mod, mod-eq_of_lt}
 use Rattle.residue_theory.specs.Sets.{everything, without, IsWithin}
-use Rattle.residue_theory.specs.Sums.{sum_on, size_on}
+use Rattle.residue_theory.specs.Sums.{sum_on}
 use Rattle.residue_theory.specs.Residues.{IsPrime}
-use Rattle.residue_theory.proofs.SumLaws.{sum_on-mul, sum_on-ext, nat_cases, without-member, member-without}
+use Rattle.residue_theory.proofs.SumLaws.{sum_on-mul, sum_on-ext, nat_cases, member-without}
 use Rattle.residue_theory.proofs.SetLaws.{le_cases, zero_cases, search_below}
 use Rattle.residue_theory.proofs.CountLaws.{size-everything}
-use Rattle.residue_theory.proofs.ResidueLaws.{vanishes-mul, vanishes-sum, agree-sum, agree-mul, inverse, one_non_zero}
-use Rattle.linear_algebra.specs.Columns.{CombinesToZero, IsIndependent, IsRank, Combines, IsCombination}
+use Rattle.residue_theory.proofs.ResidueLaws.{vanishes-mul, vanishes-sum, inverse, one_non_zero}
+use Rattle.linear_algebra.specs.Columns.{CombinesToZero, IsIndependent, IsRank, Combines}
 use Rattle.linear_algebra.specs.Products.{identity, product, IsInverse, Agree}
 use Rattle.linear_algebra.specs.Bases.{IsBase, HasNoBase}
 use Rattle.linear_algebra.specs.Parts.{without_row, above, part}
-use Rattle.linear_algebra_laws.proofs.Elimination.{Dichotomy, dichotomy, NonZeroSolution}
-use Rattle.linear_algebra_laws.proofs.Ranks.{rank_exists, combination_of-largest, combines-through, combines-within, combination-member}
-use Rattle.linear_algebra_laws.proofs.RankLaws.{rank-rows, rank-monotone}
+use Rattle.linear_algebra_laws.proofs.Elimination.{Dichotomy, dichotomy}
+use Rattle.linear_algebra_laws.proofs.Ranks.{rank_exists, combination_of-largest, combines-through, combines-within}
+use Rattle.linear_algebra_laws.proofs.RankLaws.{rank-rows}
 use Rattle.linear_algebra_laws.proofs.Products.{combines-product, combines_of-product, sum-identity_right}
 use Rattle.linear_algebra_laws.proofs.Bases.{base_or_none, base-combines, combines_of-base}
 use Rattle.linear_algebra_laws.proofs.Stacked.{above-size, top-zero, low-zero}
-use Rattle.linear_algebra_laws.proofs.PartLaws.{part-only_zero, part-shown, part-other_row}
+use Rattle.linear_algebra_laws.proofs.PartLaws.{part-shown, part-other_row}
 use Rattle.linear_algebra_laws.proofs.SkipLaws.{skip-other, skip-below, unskip, unskip-below, skip-unskip}
 
 identity-one : (e : ℕ) → identity e e ≡ suc zero

@@ -2,3 +2,5 @@ pub mod RankLaws
 pub mod RowOperationLaws
 pub mod BaseLaws
 pub mod BlockLaws
+pub mod EntryLaws
+pub mod RemovalLaws

@@ -1,10 +1,12 @@
 -- Laws of row operations and of products with an invertible matrix.
-use Rattle.std.specs.Prelude.{ℕ, ◌%◌, ◌<◌, ◌≢◌, ◌↔◌, Bool}
+use Rattle.std.specs.Prelude.{ℕ, ◌%◌, ◌<◌, ◌≢◌, ◌↔◌, Bool, cond, eqb}
 use Rattle.residue_theory.specs.Residues.{IsPrime}
 use Rattle.linear_algebra.specs.Columns.{IsIndependent, IsRank}
 use Rattle.linear_algebra.specs.Kernels.{SameKernel}
-use Rattle.linear_algebra.specs.Products.{product, IsInverse}
-use Rattle.linear_algebra.specs.RowOperations.{IsRowAdded, IsRowScaled}
+use Rattle.linear_algebra.specs.Products.{product, Agree, IsInverse}
+use Rattle.linear_algebra.specs.Bases.{IsBase, HasNoBase}
+use Rattle.residue_theory.specs.Sets.{with_one}
+use Rattle.linear_algebra.specs.RowOperations.{IsRowAdded, IsRowScaled, IsPivoted}
 
 -- for square matrices, S * U = 1 alone shows that U * S = 1
 abbrev pub InverseOnOneSideIsInverse : Type 0
@@ -40,3 +42,14 @@ abbrev pub SameKernelHasTheRank : Type 0
 SameKernelHasTheRank =
     (p m n : ℕ) (a b : ℕ → ℕ → ℕ) → SameKernel p m n a b → (X : ℕ → Bool) (r : ℕ) →
     IsRank p a m n X r ↔ IsRank p b m n X r
+
+-- matrices whose entries agree modulo p have the same kernel
+abbrev pub EntriesDecideTheKernel : Type 0
+EntriesDecideTheKernel = (p m n : ℕ) (a b : ℕ → ℕ → ℕ) → Agree p m n a b → SameKernel p m n a b
+
+-- the pivot's column joins a base as the base column of its row r, where row r had none
+abbrev pub PivotsAddToTheBase : Type 0
+PivotsAddToTheBase =
+    (p : ℕ) (a b : ℕ → ℕ → ℕ) (m n : ℕ) (B : ℕ → Bool) (row : ℕ → ℕ) (r v : ℕ) → v < n → r < m →
+    IsBase p a m n B row → IsPivoted p m n a b r v → HasNoBase n B row r →
+    IsBase p b m n (with_one B v) (λ j. cond (eqb j v) r (row j))

@@ -1,5 +1,5 @@
 //! Row operations, and products with an invertible matrix.
-ghost use Rattle.linear_algebra_laws.specs.RowOperationLaws.{InverseOnOneSideIsInverse, InvertibleProductsKeepIndependence, InvertibleProductsKeepTheRank, AddedRowsKeepTheKernel, ScaledRowsKeepTheKernel, SameKernelHasTheRank};
+ghost use Rattle.linear_algebra_laws.specs.RowOperationLaws.{InverseOnOneSideIsInverse, InvertibleProductsKeepIndependence, InvertibleProductsKeepTheRank, AddedRowsKeepTheKernel, ScaledRowsKeepTheKernel, SameKernelHasTheRank, EntriesDecideTheKernel, PivotsAddToTheBase};
 
 /// For square matrices, `S * U = 1` alone shows that `U * S = 1`.
 pub fn inverse_on_one_side_is_inverse()
@@ -29,4 +29,14 @@ pub fn scaled_rows_keep_the_kernel()
 /// Matrices with the same kernel have the same ranks.
 pub fn same_kernel_has_the_rank()
     ensures { SameKernelHasTheRank }
+{}
+
+/// Matrices whose entries agree have the same kernel.
+pub fn entries_decide_the_kernel()
+    ensures { EntriesDecideTheKernel }
+{}
+
+/// A pivot at a row without base adds its column to the base.
+pub fn pivots_add_to_the_base()
+    ensures { PivotsAddToTheBase }
 {}
