@@ -13,3 +13,4 @@ pub mod Triangular
 pub mod SkipLaws
 pub mod RowRemoval
 pub mod ColumnRemoval
+pub mod ExampleFacts

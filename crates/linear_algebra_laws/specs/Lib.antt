@@ -4,3 +4,4 @@ pub mod BaseLaws
 pub mod BlockLaws
 pub mod EntryLaws
 pub mod RemovalLaws
+pub mod Examples
