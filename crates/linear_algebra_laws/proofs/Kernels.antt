@@ -5,6 +5,7 @@ use Rattle.residue_theory.specs.Residues.{IsPrime}
 use Rattle.linear_algebra.specs.Columns.{CombinesToZero, IsIndependent, IsRank}
 use Rattle.linear_algebra.specs.RowOperations.{IsRowAdded, IsRowScaled}
 use Rattle.linear_algebra.specs.Kernels.{SameKernel}
+use Rattle.linear_algebra.specs.Products.{Agree}
 use Rattle.residue_theory.proofs.SumLaws.{sum_on-add, sum_on-mul, nat_cases}
 use Rattle.residue_theory.proofs.ResidueLaws.{vanishes-add, vanishes-mul, vanishes-rest, agree-mul, agree-sum, vanishes_factor}
 
@@ -15,6 +16,16 @@ pub kernel-trans : (p m n : ℕ) (a b d : ℕ → ℕ → ℕ) → SameKernel p 
 kernel-trans p m n a b d first second = record {
   forward = λ X c s. second.forward X c (first.forward X c s);
   back = λ X c s. first.back X c (second.back X c s);
+}
+
+pub kernel-sym : (p m n : ℕ) (a b : ℕ → ℕ → ℕ) → SameKernel p m n a b → SameKernel p m n b a
+kernel-sym p m n a b same = record { forward = same.back; back = same.forward }
+
+-- entries that agree give the same kernel
+pub kernel_of-agree : (p m n : ℕ) (a b : ℕ → ℕ → ℕ) → Agree p m n a b → SameKernel p m n a b
+kernel_of-agree p m n a b same = record {
+  forward = λ X c z i il. agree-sum p X n (λ j. c j * b i j) (λ j. c j * a i j) (λ j jl _. agree-mul p (c j) (b i j) (a i j) (sym (same i j il jl))) ∙ z i il;
+  back = λ X c z i il. agree-sum p X n (λ j. c j * a i j) (λ j. c j * b i j) (λ j jl _. agree-mul p (c j) (a i j) (b i j) (same i j il jl)) ∙ z i il;
 }
 
 pub independent_of-kernel : (p m n : ℕ) (a b : ℕ → ℕ → ℕ) (X : ℕ → Bool) → SameKernel p m n a b → IsIndependent p a m n X → IsIndependent p b m n X

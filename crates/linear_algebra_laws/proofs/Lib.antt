@@ -7,3 +7,10 @@ pub mod Kernels
 pub mod Pivots
 pub mod Reduction
 pub mod Stacked
+pub mod OneOrTwo
+pub mod PartLaws
+pub mod Triangular
+pub mod SkipLaws
+pub mod RowRemoval
+pub mod ColumnRemoval
+pub mod ExampleFacts

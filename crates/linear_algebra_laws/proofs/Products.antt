@@ -1,14 +1,14 @@
 -- Products with invertible matrices keep which columns are independent, and so the rank.
-use Rattle.std.proofs.Common.{◌≡◌, ℕ, zero, suc, ◌+◌, ◌*◌, ◌%◌, ◌<◌, ◌≢◌, Bool, cond, eqb, inl, inr, refl, ap, sym, ◌∙◌, arith}
+use Rattle.std.proofs.Common.{◌≡◌, ℕ, zero, suc, ◌+◌, ◌-◌, ◌*◌, ◌%◌, ◌<◌, ◌≢◌, Bool, cond, eqb, inl, inr, refl, ap, sym, ◌∙◌, arith}
 use Rattle.residue_theory.specs.Sets.{without, everything}
 use Rattle.std.proofs.Math.Nat.{mod_self}
 use Rattle.std.proofs.lemmas.Bool.Decides.{nat_tests}
 use Rattle.residue_theory.specs.Sums.{sum_on, sum_below}
 use Rattle.residue_theory.specs.Residues.{IsPrime}
-use Rattle.linear_algebra.specs.Columns.{IsIndependent, IsRank}
+use Rattle.linear_algebra.specs.Columns.{IsIndependent, IsRank, Combines}
 use Rattle.linear_algebra.specs.Products.{product, identity, IsInverse, Agree}
 use Rattle.residue_theory.proofs.SumLaws.{sum_on-add, sum_on-mul, sum_on-ext, sum_on-swap, sum_on-without, sum_on-none, nat_cases, without-member}
-use Rattle.residue_theory.proofs.ResidueLaws.{vanishes-mul, vanishes-sum, vanishes_by, vanishes-rest, agree-add, agree-mul, agree-sum, agree_of, vanishes_factor}
+use Rattle.residue_theory.proofs.ResidueLaws.{vanishes-mul, vanishes-sum, vanishes_by, vanishes-rest, agree-add, agree-mul, agree-sum, agree_of, vanishes_factor, lacks}
 use Rattle.residue_theory.proofs.CountLaws.{size-everything}
 use Rattle.linear_algebra.specs.Kernels.{SameKernel}
 use Rattle.linear_algebra_laws.proofs.Elimination.{Dichotomy, dichotomy}
@@ -162,3 +162,41 @@ product-kernel p prime m n S U a P inv same = record {
     through : (X : ℕ → Bool) (c : ℕ → ℕ) (i : ℕ) → i < m → sum_on X n (λ j. c j * P i j) % p ≡ sum_below m (λ t. S i t * sum_on X n (λ j. c j * a t j)) % p
     through X c i il = agree-sum p X n (λ j. c j * P i j) (λ j. c j * product m S a i j) (λ j jl _. agree-mul p (c j) (P i j) (product m S a i j) (same i j il jl))
         ∙ ap (λ s. s % p) (sum-product m n S a X c i)
+
+-- ---- combinations in a product
+-- what the columns of X combine to, they combine to in P = S * a, with S applied to it
+pub combines-product : (p m n : ℕ) (S a P : ℕ → ℕ → ℕ) (X : ℕ → Bool) (x : ℕ → ℕ) → Agree p m n P (product m S a) → Combines p a m n X x → Combines p P m n X (λ i. sum_below m (λ t. S i t * x t))
+combines-product p m n S a P X x same (c, s) = (
+  c,
+  λ i il.
+      agree-sum p X n (λ j. c j * P i j) (λ j. c j * product m S a i j) (λ j jl _. agree-mul p (c j) (P i j) (product m S a i j) (same i j il jl))
+      ∙ ap (λ y. y % p) (sum-product m n S a X c i)
+      ∙ agree-sum p everything m (λ t. S i t * sum_on X n (λ j. c j * a t j)) (λ t. S i t * x t) (λ t tl _. agree-mul p (S i t) (sum_on X n (λ j. c j * a t j)) (x t) (s t tl)),
+)
+
+-- and back, for an invertible S
+pub combines_of-product : (p : ℕ) → IsPrime p → (m n : ℕ) (S U a P : ℕ → ℕ → ℕ) (X : ℕ → Bool) (x : ℕ → ℕ) → IsInverse p m S U → Agree p m n P (product m S a) →
+    Combines p P m n X (λ i. sum_below m (λ t. S i t * x t)) → Combines p a m n X x
+combines_of-product p prime m n S U a P X x inv same (c, s) = (
+  c,
+  λ i il.
+      agree_of p (sum_on X n (λ j. c j * a i j)) ((p - 1) * x i) (x i) (kernel-zero p prime m S U inv (λ t. sum_on X n (λ j. c j * a t j) + (p - 1) * x t) sent i il) (lacks p prime (x i)),
+)
+  where
+    -- S sends the difference to zero
+    parts : (i : ℕ) → sum_below m (λ t. S i t * (sum_on X n (λ j. c j * a t j) + (p - 1) * x t)) ≡ sum_on X n (λ j. c j * product m S a i j) + (p - 1) * sum_below m (λ t. S i t * x t)
+    parts i = sum_on-ext everything m (λ t. S i t * (sum_on X n (λ j. c j * a t j) + (p - 1) * x t)) (λ t. S i t * sum_on X n (λ j. c j * a t j) + (p - 1) * (S i t * x t)) (λ t _ _. spread (S i t) (sum_on X n (λ j. c j * a t j)) (p - 1) (x t))
+        ∙ sum_on-add everything m (λ t. S i t * sum_on X n (λ j. c j * a t j)) (λ t. (p - 1) * (S i t * x t))
+        ∙ ap (λ y. y + sum_below m (λ t. (p - 1) * (S i t * x t))) (sym (sum-product m n S a X c i))
+        ∙ ap (λ y. sum_on X n (λ j. c j * product m S a i j) + y) (sum_on-mul everything m (p - 1) (λ t. S i t * x t))
+      where
+        spread : (u y k z : ℕ) → u * (y + k * z) ≡ u * y + k * (u * z)
+        spread u y k z = omega arith
+
+    at_row : (i : ℕ) → i < m → sum_on X n (λ j. c j * product m S a i j) % p ≡ sum_below m (λ t. S i t * x t) % p
+    at_row i il = agree-sum p X n (λ j. c j * product m S a i j) (λ j. c j * P i j) (λ j jl _. agree-mul p (c j) (product m S a i j) (P i j) (sym (same i j il jl))) ∙ s i il
+
+    sent : (i : ℕ) → i < m → sum_below m (λ t. S i t * (sum_on X n (λ j. c j * a t j) + (p - 1) * x t)) % p ≡ 0
+    sent i il = ap (λ y. y % p) (parts i)
+        ∙ agree-add p (sum_on X n (λ j. c j * product m S a i j)) (sum_below m (λ t. S i t * x t)) ((p - 1) * sum_below m (λ t. S i t * x t)) ((p - 1) * sum_below m (λ t. S i t * x t)) (at_row i il) refl
+        ∙ lacks p prime (sum_below m (λ t. S i t * x t))

@@ -99,14 +99,17 @@ combination-member p a m n I v l h = ((λ j. cond (eqb j v) 1 0), λ i _. ap (λ
     at_v i = grind (arith, nat_tests)
 
 -- a combination of part of a set is one of the set
-pub combination-within : (p : ℕ) (a : ℕ → ℕ → ℕ) (m n : ℕ) (I J : ℕ → Bool) (v : ℕ) → IsWithin n I J → IsCombination p a m n I v → IsCombination p a m n J v
-combination-within p a m n I J v within (c, s) = ((λ j. cond (I j) (c j) 0), λ i l. ap (λ s. s % p) (only_I i) ∙ s i l)
+pub combines-within : (p m n : ℕ) (a : ℕ → ℕ → ℕ) (I J : ℕ → Bool) (x : ℕ → ℕ) → IsWithin n I J → Combines p a m n I x → Combines p a m n J x
+combines-within p m n a I J x within (c, s) = ((λ j. cond (I j) (c j) 0), λ i l. ap (λ s. s % p) (only_I i) ∙ s i l)
   where
     pulled : (b : Bool) (x y : ℕ) → cond b x 0 * y ≡ cond b (x * y) 0
     pulled b x y = grind arith
 
     only_I : (i : ℕ) → sum_on J n (λ j. cond (I j) (c j) 0 * a i j) ≡ sum_on I n (λ j. c j * a i j)
     only_I i = sum_on-ext J n (λ j. cond (I j) (c j) 0 * a i j) (λ j. cond (I j) (c j * a i j) 0) (λ j _ _. pulled (I j) (c j) (a i j)) ∙ sum_on-within J I n (λ j. c j * a i j) within
+
+pub combination-within : (p : ℕ) (a : ℕ → ℕ → ℕ) (m n : ℕ) (I J : ℕ → Bool) (v : ℕ) → IsWithin n I J → IsCombination p a m n I v → IsCombination p a m n J v
+combination-within p a m n I J v within comb = combines-within p m n a I J (λ i. a i v) within comb
 
 -- a column that is no combination of an independent set may join it
 pub with_one-independent : (p : ℕ) → IsPrime p → (a : ℕ → ℕ → ℕ) (m n : ℕ) (I : ℕ → Bool) (v : ℕ) → v < n → IsIndependent p a m n I →
@@ -122,10 +125,13 @@ pub combines-through : (p m n : ℕ) (a : ℕ → ℕ → ℕ) (I X : ℕ → Bo
 combines-through p m n a I X x combs (c, s) = go (choice n X (λ j d. (i : ℕ) → i < m → sum_on I n (λ k. d k * a i k) % p ≡ a i j % p) combs)
   where
     go : (D : ℕ → ℕ → ℕ) × ((j : ℕ) → j < n → X j ≡ true → (i : ℕ) → i < m → sum_on I n (λ k. D j k * a i k) % p ≡ a i j % p) → Combines p a m n I x
-    go (D, ok) = ((λ k. sum_on X n (λ j. c j * D j k)), λ i il.
-        ap (λ y. y % p) (sum_on-ext I n (λ k. sum_on X n (λ j. c j * D j k) * a i k) (λ k. a i k * sum_on X n (λ j. c j * D j k)) (λ k _ _. omega arith) ∙ sym (regroup p m n a I X c D i))
-        ∙ agree-sum p X n (λ j. c j * sum_on I n (λ k. D j k * a i k)) (λ j. c j * a i j) (λ j jl jh. agree-mul p (c j) (sum_on I n (λ k. D j k * a i k)) (a i j) (ok j jl jh i il))
-        ∙ s i il)
+    go (D, ok) = (
+      (λ k. sum_on X n (λ j. c j * D j k)),
+      λ i il.
+          ap (λ y. y % p) (sum_on-ext I n (λ k. sum_on X n (λ j. c j * D j k) * a i k) (λ k. a i k * sum_on X n (λ j. c j * D j k)) (λ k _ _. omega arith) ∙ sym (regroup p m n a I X c D i))
+          ∙ agree-sum p X n (λ j. c j * sum_on I n (λ k. D j k * a i k)) (λ j. c j * a i j) (λ j jl jh. agree-mul p (c j) (sum_on I n (λ k. D j k * a i k)) (a i j) (ok j jl jh i il))
+          ∙ s i il,
+    )
 
 -- a part of X that is as large as its rank, and independent, combines to each column of X
 pub combination_of-largest : (p : ℕ) → IsPrime p → (a : ℕ → ℕ → ℕ) (m n : ℕ) (X I : ℕ → Bool) → IsWithin n I X → IsIndependent p a m n I → IsRank p a m n X (size_on I n) →

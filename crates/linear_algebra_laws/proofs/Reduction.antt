@@ -12,7 +12,7 @@ use Rattle.residue_theory.proofs.SetLaws.{differ, with_one-other, with_one-membe
 use Rattle.residue_theory.proofs.CountLaws.{sum-with_one}
 use Rattle.linear_algebra_laws.proofs.Bases.{rank_of-base}
 use Rattle.residue_theory.proofs.ResidueLaws.{vanishes-add, vanishes-mul}
-use Rattle.linear_algebra_laws.proofs.Kernels.{kernel-refl, kernel-trans, rank_of-kernel, row_added-kernel}
+use Rattle.linear_algebra_laws.proofs.Kernels.{kernel-refl, kernel-trans, kernel-sym, rank_of-kernel, row_added-kernel}
 use Rattle.linear_algebra_laws.proofs.Pivots.{base-pivot, row_set, row_set-same, row_set-other}
 
 -- how far elimination has come: a is a0 after row operations, its first r rows have base columns, and the columns of X below v are zero in the others
@@ -144,7 +144,7 @@ module _ (p m n : ℕ) (a0 a : ℕ → ℕ → ℕ) (X : ℕ → Bool) (v r : �
 -- when each column was seen, the number of rows used is the rank
 pub reduced-rank : (p : ℕ) → IsPrime p → (m n : ℕ) (a0 a : ℕ → ℕ → ℕ) (X : ℕ → Bool) (v r : ℕ) → n ≤ v → IsReduced p m n a0 a X v r → IsRank p a0 m n X r
 reduced-rank p prime m n a0 a X v r all so_far =
-    rank_of-kernel p m n a a0 X r (record { forward = so_far.kernel.back; back = so_far.kernel.forward })
+    rank_of-kernel p m n a a0 X r (kernel-sym p m n a0 a so_far.kernel)
     (subst (λ s. IsRank p a m n X s) (counted ∙ so_far.count) (rank_of-base p prime a m n so_far.B so_far.row so_far.base X shown))
   where
     only_b : (b x : Bool) → (b ≡ true → x ≡ true) → b && x ≡ b

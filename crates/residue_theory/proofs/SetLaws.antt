@@ -126,3 +126,13 @@ choose n K default P each = all (choose_on n everything K default P (λ j l _. e
   where
     all : (f : ℕ → K) × ((j : ℕ) → j < n → everything j ≡ true → P j (f j)) → (f : ℕ → K) × ((j : ℕ) → j < n → P j (f j))
     all (f, ok) = (f, λ j l. ok j l refl)
+
+-- where each number below n has a property or lacks it, one has it or none has
+pub search_below : (n : ℕ) (P : ℕ → Type 0) → ((k : ℕ) → k < n → P k ⊎ (P k → ⊥)) → ((k : ℕ) × (k < n) × P k) ⊎ ((k : ℕ) → k < n → P k → ⊥)
+search_below zero P each = inr (λ k l. absurd (omega arith))
+search_below (suc n) P each = go (each n (omega arith)) (search_below n P (λ k l. each k (omega arith)))
+  where
+    go : P n ⊎ (P n → ⊥) → ((k : ℕ) × (k < n) × P k) ⊎ ((k : ℕ) → k < n → P k → ⊥) → ((k : ℕ) × (k < suc n) × P k) ⊎ ((k : ℕ) → k < suc n → P k → ⊥)
+    go (inl h) before = inl (n, omega arith, h)
+    go (inr no_last) (inl (k, l, h)) = inl (k, omega arith, h)
+    go (inr no_last) (inr none) = inr (λ k l h. elim (nat_cases k n) [ inl q ↦ no_last (subst P q h) | inr ne ↦ none k (omega arith) h ])

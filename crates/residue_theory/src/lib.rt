@@ -1,6 +1,8 @@
 //! Numbers modulo a prime: sets of numbers, sums over a set, residues, and their laws. No code.
 #![tactic(auto)]
 
+pub mod examples;
+
 ghost use Rattle.residue_theory.specs.Residues.{IsPrime};
 ghost use Rattle.residue_theory.specs.Laws.{EachNonZeroHasAnInverse, ProductVanishesOnlyByAFactor};
 
