@@ -124,9 +124,7 @@ impl Field for Res {
         self.value == 0
     }
 
-    fn in_field(self) {
-        let _value = self.value;
-    }
+    fn in_field(self) {}
 }
 
 // Euclid's steps on the modulus and a number: each remainder x is c * number.

@@ -1,0 +1,116 @@
+ghost use Rattle.std.specs.Prelude.{◌≡◌, ℕ, ◌<◌, ◌≤◌, ◌≢◌, map, length, IfOk};
+ghost use Rattle.linear_algebra.specs.RowOperations.{IsRowAdded, IsRowScaled};
+ghost use Rattle.dense_q.specs.Rows.{plus_multiple, multiple};
+ghost use Rattle.dense_q.specs.Tables.{Table, IsMatrix, HasSameSize, IsTableOf, height, row_at, entry, zero_table, with_row, with_entry, with_rows_swapped, with_last_row};
+
+use crate::memory::NoMemory;
+use crate::rows;
+use residue_field::Field;
+use std::alloc::Global;
+use std::marker::Model;
+use std::mem;
+
+/// A matrix with entries in F, at most 8,192 rows and as many columns. Rows and columns are counted from 0.
+#[derive(Drop)]
+pub struct Mat<F: Field> {
+    width: usize,
+    rows: Vec<Vec<F>>,
+}
+
+impl<F: Field> Model for Mat<F> {
+    ghost use Rattle.std.specs.Prelude.{map};
+    ghost use Rattle.dense_q.specs.Storage.{IsStored};
+    ghost use Rattle.dense_q.specs.Tables.{Table};
+
+    ghost Value = { Table };
+
+    ghost view = { λ m. record { width = m.width; rows = map (λ row. map F.number row.items) m.rows.items } };
+
+    ghost invariant = { λ m. IsStored m.width m.rows.items };
+}
+
+impl<F: Field> Mat<F> {
+    /// The matrix of so many rows and columns whose entries are all zero.
+    pub fn zeros(alloc: Global, rows: usize, cols: usize) -> Result<Mat<F>, NoMemory>
+        requires rows { rows ≤ 8192 }
+        requires cols { cols ≤ 8192 }
+        ensures { IfOk result (λ m. m ≡ zero_table rows cols) }
+    {
+        let mut all = Vec::with_capacity(alloc, rows)?;
+        for _row in 0..rows {
+            all.push(rows::zero_row(alloc, cols)?)?;
+        }
+        Ok(Mat {
+            width: cols,
+            rows: all,
+        })
+    }
+
+    /// How many rows there are.
+    pub fn rows(&self) -> usize
+        ensures rows { result ≡ height self.now }
+        ensures matrix { IsMatrix self.now }
+    {
+        self.rows.len()
+    }
+
+    /// How many columns there are.
+    pub fn cols(&self) -> usize
+        ensures cols { result ≡ self.now.width }
+        ensures matrix { IsMatrix self.now }
+    {
+        self.width
+    }
+
+    /// The entry at row i and column j.
+    pub fn get(&self, i: usize, j: usize) -> F
+        requires row { i < height self.now }
+        requires col { j < self.now.width }
+        ensures { F.number result ≡ entry self.now i j }
+    {
+        self.rows[i][j]
+    }
+
+    /// Puts an entry at row i and column j.
+    pub fn set(&mut self, i: usize, j: usize, v: F)
+        requires row { i < height self.old }
+        requires col { j < self.old.width }
+        ensures { self.new ≡ with_entry self.old i j (F.number v) }
+    {
+        self.rows[i][j] = v;
+    }
+
+    /// Multiplies row i by c.
+    pub fn scale_row(&mut self, i: usize, c: F)
+        requires { i < height self.old }
+        ensures row { self.new ≡ with_row self.old i (multiple F.modulus (F.number c) (row_at self.old i)) }
+        ensures scaled { IsRowScaled F.modulus (height self.old) self.old.width (entry self.old) (entry self.new) i (F.number c) }
+        ensures size { HasSameSize self.new self.old }
+    {
+        rows::multiply(&mut self.rows[i], c);
+    }
+
+    /// Puts rows i and j in each other's place. It moves no entry.
+    pub fn swap_rows(&mut self, i: usize, j: usize)
+        requires first { i < height self.old }
+        requires second { j < height self.old }
+        ensures { self.new ≡ with_rows_swapped self.old i j }
+    {
+        self.rows.swap(i, j);
+    }
+
+    /// Adds c times row j to row i.
+    pub fn add_row(&mut self, i: usize, j: usize, c: F)
+        requires target { i < height self.old }
+        requires source { j < height self.old }
+        requires apart { i ≢ j }
+        ensures row { self.new ≡ with_row self.old i (plus_multiple F.modulus (F.number c) (row_at self.old i) (row_at self.old j)) }
+        ensures added { IsRowAdded F.modulus (height self.old) self.old.width (entry self.old) (entry self.new) i j (F.number c) }
+        ensures size { HasSameSize self.new self.old }
+    {
+        let empty = Vec::new(*self.rows.allocator());
+        let mut target = mem::replace(&mut self.rows[i], empty);
+        rows::add_multiple(&mut target, &self.rows[j], c);
+        self.rows[i] = target;
+    }
+}
