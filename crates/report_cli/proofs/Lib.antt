@@ -2,3 +2,4 @@ pub mod DigitSteps
 pub mod Pieces
 pub mod Puts
 pub mod Noting
+pub mod Written

@@ -55,12 +55,19 @@ abbrev pub echo_text : List ℕ → List ℕ
 echo_text echo = codes "mixed-certificate 1\nkind matrix\nlength" ++ spaced (length echo) ++ codes "\n" ++ echo
 
 -- the lines of the shape, the rank, the base and the match, with the end of the line before
-abbrev pub pair_text : Contents → List ℕ
-pair_text c =
-    codes "\nshape" ++ shape_text c.shape ++ codes "\nrank" ++ spaced (length c.base)
-    ++ codes "\nbase" ++ pairs_text c.base ++ codes "\nmatch\n"
+abbrev pub pair_text : Shape → List (ℕ × ℕ) → List ℕ
+pair_text shape base =
+    codes "\nshape" ++ shape_text shape ++ codes "\nrank" ++ spaced (length base)
+    ++ codes "\nbase" ++ pairs_text base ++ codes "\nmatch\n"
+
+-- the lines of the matrices S, U and P, each by its rows
+abbrev pub matrices_text : List (List ℕ) → List (List ℕ) → List (List ℕ) → List ℕ
+matrices_text s u p = rows_text 83 1 s ++ rows_text 85 1 u ++ rows_text 80 1 p
+
+-- the lines of a certificate with these parts
+abbrev pub lines_text : List ℕ → Shape → List (ℕ × ℕ) → List (List ℕ) → List (List ℕ) → List (List ℕ) → List ℕ
+lines_text echo shape base s u p = echo_text echo ++ pair_text shape base ++ matrices_text s u p ++ codes "end\n"
 
 -- the text of a certificate
 abbrev pub certificate_text : Contents → List ℕ
-certificate_text c =
-    echo_text c.echo ++ pair_text c ++ rows_text 83 1 c.s ++ rows_text 85 1 c.u ++ rows_text 80 1 c.p ++ codes "end\n"
+certificate_text c = lines_text c.echo c.shape c.base c.s c.u c.p

@@ -3,4 +3,3 @@ pub mod Words
 pub mod Certificates
 pub mod Writing
 pub mod Notes
-pub mod Answer

@@ -1,6 +1,7 @@
 -- Putting a text into a buffer and a sink. Of each: what was written, what the buffer holds,
 -- the count of faults, and how many more bytes the sink is known to take.
 use Rattle.std.specs.Prelude.{◌≡◌, ℕ, ◌+◌, ◌≤◌, List, ◌++◌, length, Option, Result, Ok, IsOk, OnOk, OnErr}
+use Rattle.port_io.specs.Bytes.{Appended}
 use Rattle.port_io.specs.Causes.{HasCause}
 use Rattle.port_io.specs.Gathering.{Gathering, Gathered, GatheredPart}
 
@@ -20,3 +21,10 @@ pub record IsPutUpTo (written : Option (List ℕ)) (buffer : Gathering) (faults 
   pub done : List ℕ
   pub put : IsPut {E = Unit {0}} written buffer faults takes written' buffer' faults' takes' done (Ok tt)
   pub split : text ≡ done ++ left
+
+-- a part of a text, perhaps all, was written
+pub record PartWritten (written written' : Option (List ℕ)) (text : List ℕ) : Type 0 where
+  pub part : List ℕ
+  pub rest : List ℕ
+  pub appended : Appended written written' part
+  pub prefix : text ≡ part ++ rest

@@ -2,7 +2,7 @@
 
 ghost use Rattle.std.specs.Prelude.{◌≡◌, ℕ, ◌+◌, ◌<◌, ◌^◌};
 ghost use Rattle.std.specs.List.{All};
-ghost use Rattle.report_cli.specs.Certificates.{pairs_text, shape_text, echo_text};
+ghost use Rattle.report_cli.specs.Certificates.{pairs_text, shape_text, pair_text, echo_text};
 ghost use Rattle.report_cli.specs.Writing.{IsPut};
 
 use crate::numbers::{put_item, put_number, put_piece};
@@ -37,6 +37,25 @@ pub fn put_shape<K: Sink>(
     put_number(buffer, out, b' ', shape.q_rows as u64)?;
     put_number(buffer, out, b' ', shape.t_rows as u64)?;
     put_number(buffer, out, b' ', shape.columns as u64)
+}
+
+/// Puts the lines of the shape, the rank, the base and the match.
+pub fn put_pair<K: Sink>(
+    buffer: &mut PieceBuffer,
+    out: &mut K,
+    shape: &Shape,
+    base: &[(usize, usize)],
+) -> Result<(), WriteFault>
+    requires { All (λ pair. (pair.0 < 2 ^ 32) × (pair.1 < 2 ^ 32)) base.now }
+    ensures { IsPut (K.written out.old) buffer.old (K.faults out.old) (K.takes out.old) (K.written out.new) buffer.new (K.faults out.new) (K.takes out.new) (pair_text shape.now base.now) result }
+{
+    put_piece(buffer, out, b"\nshape")?;
+    put_shape(buffer, out, shape)?;
+    put_piece(buffer, out, b"\nrank")?;
+    put_number(buffer, out, b' ', base.len() as u64)?;
+    put_piece(buffer, out, b"\nbase")?;
+    put_pairs(buffer, out, base)?;
+    put_piece(buffer, out, b"\nmatch\n")
 }
 
 /// Puts the first lines: the kind and the echo.

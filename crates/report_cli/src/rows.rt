@@ -2,7 +2,7 @@
 
 ghost use Rattle.std.specs.Prelude.{◌≡◌, ℕ, ◌+◌, ◌<◌};
 ghost use Rattle.dense_q.specs.Tables.{height, row_at};
-ghost use Rattle.report_cli.specs.Certificates.{entry_text, entries_text, row_text, rows_text};
+ghost use Rattle.report_cli.specs.Certificates.{entry_text, entries_text, row_text, rows_text, matrices_text};
 ghost use Rattle.report_cli.specs.Writing.{IsPut};
 
 use crate::numbers::{put_item, put_number, put_piece};
@@ -49,7 +49,8 @@ fn put_row<K: Sink>(
     matrix: &Mat<Res>,
     row: usize,
 ) -> Result<(), WriteFault>
-    requires { row < height matrix.now }
+    requires row { row < height matrix.now }
+    requires few { row < 8192 }
     ensures { IsPut (K.written out.old) buffer.old (K.faults out.old) (K.takes out.old) (K.written out.new) buffer.new (K.faults out.new) (K.takes out.new) (row_text letter (row + 1) (row_at matrix.now row)) result }
 {
     put_piece(buffer, out, &[letter])?;
@@ -60,7 +61,7 @@ fn put_row<K: Sink>(
 }
 
 /// Puts the lines of the rows of a matrix.
-pub fn put_rows<K: Sink>(
+fn put_rows<K: Sink>(
     buffer: &mut PieceBuffer,
     out: &mut K,
     letter: u8,
@@ -72,4 +73,19 @@ pub fn put_rows<K: Sink>(
         put_row(buffer, out, letter, matrix, row)?;
     }
     Ok(())
+}
+
+/// Puts the lines of the matrices S, U and P.
+pub fn put_matrices<K: Sink>(
+    buffer: &mut PieceBuffer,
+    out: &mut K,
+    s: &Mat<Res>,
+    u: &Mat<Res>,
+    p: &Mat<Res>,
+) -> Result<(), WriteFault>
+    ensures { IsPut (K.written out.old) buffer.old (K.faults out.old) (K.takes out.old) (K.written out.new) buffer.new (K.faults out.new) (K.takes out.new) (matrices_text s.now.rows u.now.rows p.now.rows) result }
+{
+    put_rows(buffer, out, b'S', s)?;
+    put_rows(buffer, out, b'U', u)?;
+    put_rows(buffer, out, b'P', p)
 }
