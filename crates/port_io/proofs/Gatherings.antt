@@ -94,13 +94,13 @@ appended_front w after c text h =
     )
 
 -- the same by the count, of a text whose length the count can show
-pub appended_first : (w after : Option (List ℕ)) (c : Gathering) (text : List ℕ) → GatheredPart w nothing_gathered after c text → length text < 2 ^ 64 → c.handed < 2 ^ 64 → (c.handed ≤ length text) × Appended w after (take c.handed text)
-appended_first w after c text h short fits =
+pub appended_first : (w after : Option (List ℕ)) (c : Gathering) (text : List ℕ) (written : ℕ) → GatheredPart w nothing_gathered after c text → written ≡ c.handed → written < 2 ^ 64 → length text < 2 ^ 64 → (written ≤ length text) × Appended w after (take written text)
+appended_first w after c text written h told fits short =
     let f = appended_front w after c text h in
     let long : length text ≡ length f.0 + length f.1 = ap length f.2 ∙ length-append f.0 f.1 in
-    let count : c.handed ≡ length f.0 = (let n = f.4 in omega (arith, n, long)) in
-    let first : take c.handed text ≡ f.0 = ap (λ r. take c.handed r) f.2 ∙ take_at f.0 f.1 c.handed (sym count) in
-    (omega (arith, long, count), appended_is w after f.0 (take c.handed text) (sym first) f.3)
+    let count : written ≡ length f.0 = (let n = f.4 in omega (arith, n, long, told)) in
+    let first : take written text ≡ f.0 = ap (λ r. take written r) f.2 ∙ take_at f.0 f.1 written (sym count) in
+    (omega (arith, long, count), appended_is w after f.0 (take written text) (sym first) f.3)
 
 -- the part of a list from s to e, two ways
 part_as : (xs : List ℕ) (s e : ℕ) → s ≤ e → take (e - s) (drop s xs) ≡ drop s (take e xs)

@@ -1,6 +1,6 @@
 //! Small pieces, gathered on the way to a sink.
 
-ghost use Rattle.std.specs.Prelude.{◌≡◌, ℕ, ◌+◌, [], ◌++◌, length, MatchBool, IsOk, OnOk, IfErr};
+ghost use Rattle.std.specs.Prelude.{◌≡◌, ℕ, ◌+◌, ◌^◌, ◌<◌, [], ◌++◌, length, MatchBool, IsOk, OnOk, IfErr};
 ghost use Rattle.port_io.specs.Causes.{HasCause};
 ghost use Rattle.port_io.specs.Gathering.{Gathered, GatheredPart, nothing_gathered};
 
@@ -52,6 +52,7 @@ impl PieceBuffer {
         ensures all { OnOk result (Gathered (K.written sink.old) self.old (K.written sink.new) self.new piece.now) }
         ensures part { IfErr result (λ _. GatheredPart (K.written sink.old) self.old (K.written sink.new) self.new piece.now) }
         ensures counted { IfErr result (λ fault. fault.written ≡ self.new.handed) }
+        ensures fits { IfErr result (λ fault. fault.written < 2 ^ 64) }
         ensures cause { HasCause (K.faults sink.old) (K.faults sink.new) result }
         ensures steady { (more : ℕ) → K.takes sink.old (length self.old.held + length piece.now + more) → (K.faults sink.new ≡ K.faults sink.old) × IsOk result × K.takes sink.new (length self.new.held + more) }
     {
@@ -72,6 +73,7 @@ impl PieceBuffer {
         ensures order { Gathered (K.written sink.old) self.old (K.written sink.new) self.new [] }
         ensures empty { OnOk result (self.new.held ≡ []) }
         ensures counted { IfErr result (λ fault. fault.written ≡ self.new.handed) }
+        ensures fits { IfErr result (λ fault. fault.written < 2 ^ 64) }
         ensures cause { HasCause (K.faults sink.old) (K.faults sink.new) result }
         ensures steady { (more : ℕ) → K.takes sink.old (length self.old.held + more) → (K.faults sink.new ≡ K.faults sink.old) × IsOk result × K.takes sink.new more }
     {
@@ -108,6 +110,7 @@ impl PieceBuffer {
         ensures part { IfErr result (λ _. GatheredPart (K.written sink.old) self.old (K.written sink.new) self.new piece.now) }
         ensures empty { self.new.held ≡ [] }
         ensures counted { IfErr result (λ fault. fault.written ≡ self.new.handed) }
+        ensures fits { IfErr result (λ fault. fault.written < 2 ^ 64) }
         ensures cause { HasCause (K.faults sink.old) (K.faults sink.new) result }
         ensures steady { (more : ℕ) → K.takes sink.old (length piece.now + more) → (K.faults sink.new ≡ K.faults sink.old) × IsOk result × K.takes sink.new more }
     {

@@ -3,3 +3,5 @@ pub mod Words
 pub mod Certificates
 pub mod Writing
 pub mod Notes
+pub mod Answer
+pub mod Analyses

@@ -1,15 +1,8 @@
-use Rattle.std.proofs.Common.{◌≡◌, ℕ, ◌+◌, List, [], ◌++◌, length, ◌∙◌, arith, ap, refl, subst, Result, Ok, Err, OnOk, OnErr}
+use Rattle.std.proofs.Common.{◌≡◌, ℕ, ◌+◌, List, [], ◌++◌, length, ◌∙◌, arith, ap, refl, subst, Result, Ok, Err, OnErr}
+use Rattle.std.proofs.lemmas.Result.{on_ok_weaker, on_err_weaker}
 use Rattle.port_io.specs.Gathering.{Gathering}
 use Rattle.port_io.proofs.Gatherings.{gathered_held, gathered_more, gathered_after, gathered_front, gathered_part_after, gathered_part_more}
 use Rattle.port_io.proofs.gathering.PieceBuffer.put.Goals as goal
-
-on_ok : {T E : Type 0} (r : Result T E) (P Q : Type 0) → (P → Q) → OnOk r P → OnOk r Q
-on_ok (Ok v) P Q f h = f h
-on_ok (Err e) P Q f h = tt
-
-on_err : {T E : Type 0} (r : Result T E) (P Q : Type 0) → (P → Q) → OnErr r P → OnErr r Q
-on_err (Ok v) P Q f h = tt
-on_err (Err e) P Q f h = f h
 
 at_err : {T E : Type 0} (r : Result T E) (Q : Type 0) → Q → OnErr r Q
 at_err (Ok v) Q q = tt
@@ -48,14 +41,14 @@ returns-then-hold-2-clause-steady g c = λ more h.
 
 pub returns-clause-all : goal.returns-clause-all
 returns-clause-all g c =
-    on_ok c.pass.result _ _ (λ k.
+    on_ok_weaker c.pass.result (λ k.
     gathered_more (g.K.Sink.written c.args.sink.now) (g.K.Sink.written c.hand_on.new.sink) (g.K.Sink.written c.pass.new.sink) c.args.self.now c.hand_on.new.self c.pass.new.self [] c.args.piece.now
     (gathered_after _ _ c.hold.new.self c.args.self.now c.hand_on.new.self [] c.if-hold.ensures c.in_ok-hand_on.ensures.order)
     (gathered_after _ _ c.hold-2.new.self c.hand_on.new.self c.pass.new.self c.args.piece.now c.if-hold-2.ensures k)) c.pass.ensures.all
 
 pub returns-clause-part : goal.returns-clause-part
 returns-clause-part g c =
-    on_err c.pass.result _ _ (λ k.
+    on_err_weaker c.pass.result (λ k.
     gathered_part_more (g.K.Sink.written c.args.sink.now) (g.K.Sink.written c.hand_on.new.sink) (g.K.Sink.written c.pass.new.sink) c.args.self.now c.hand_on.new.self c.pass.new.self [] c.args.piece.now
     (gathered_after _ _ c.hold.new.self c.args.self.now c.hand_on.new.self [] c.if-hold.ensures c.in_ok-hand_on.ensures.order)
     (gathered_part_after _ _ c.hold-2.new.self c.hand_on.new.self c.pass.new.self c.args.piece.now c.if-hold-2.ensures k)) c.pass.ensures.part
