@@ -13,4 +13,5 @@ pub mod Triangular
 pub mod SkipLaws
 pub mod RowRemoval
 pub mod ColumnRemoval
+pub mod ColumnBeside
 pub mod ExampleFacts
