@@ -1,5 +1,5 @@
 -- A base of unit columns: it is independent, and shows ranks.
-use Rattle.std.proofs.Common.{◌≡◌, ℕ, ◌*◌, ◌%◌, ◌<◌, ◌≢◌, Bool, true, false, ◌&&◌, eqb, ◌⊎◌, inl, inr, ap, sym, subst, ◌∙◌, arith}
+use Rattle.std.proofs.Common.{◌≡◌, ℕ, ◌*◌, ◌%◌, ◌<◌, ◌≢◌, Bool, true, ◌&&◌, eqb, ◌⊎◌, inl, inr, ap, sym, subst, ◌∙◌, arith}
 use Rattle.residue_theory.specs.Sets.{without, both, IsWithin}
 use Rattle.linear_algebra.specs.Bases.{IsBase, HasNoBase}
 use Rattle.std.proofs.Math.Nat.{zero-mod, mod-eq_of_lt}

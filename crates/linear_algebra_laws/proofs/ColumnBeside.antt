@@ -1,12 +1,12 @@
 -- A column put beside a matrix: the rank stays exactly where it is a combination of the columns.
-use Rattle.std.proofs.Common.{◌≡◌, ℕ, suc, ◌+◌, ◌-◌, ◌*◌, ◌%◌, ◌<◌, ◌≤◌, cond, ltb, refl, ap, sym, subst, ◌∙◌, arith}
+use Rattle.std.proofs.Common.{◌≡◌, ℕ, suc, ◌+◌, ◌-◌, ◌*◌, ◌%◌, ◌<◌, ◌≤◌, cond, refl, ap, sym, subst, ◌∙◌, arith}
 use Rattle.std.proofs.lemmas.Bool.Decides.{nat_tests}
 use Rattle.residue_theory.specs.Sets.{everything, without}
 use Rattle.residue_theory.specs.Sums.{sum_on, sum_below}
 use Rattle.residue_theory.specs.Residues.{IsPrime}
 use Rattle.residue_theory.proofs.SumLaws.{sum_on-ext, sum_on-same, without-same, without-other}
 use Rattle.linear_algebra.specs.Columns.{IsRank, Combines, IsCombination}
-use Rattle.linear_algebra.specs.Parts.{skip, with_column, without_column}
+use Rattle.linear_algebra.specs.Parts.{with_column, without_column}
 use Rattle.linear_algebra_laws.proofs.Kernels.{kernel_of-agree, rank_of-kernel}
 use Rattle.linear_algebra_laws.proofs.SkipLaws.{skip-first}
 use Rattle.linear_algebra_laws.proofs.ColumnRemoval.{column-stays, stays-column, removed_column-at_most}
