@@ -4,6 +4,7 @@ pub mod RankLaws
 pub mod Products
 pub mod Bases
 pub mod Kernels
+pub mod InverseOperations
 pub mod Pivots
 pub mod Reduction
 pub mod Stacked
