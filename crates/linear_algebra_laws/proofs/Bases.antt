@@ -1,22 +1,15 @@
 -- A base of unit columns: it is independent, and shows ranks.
-use Rattle.std.proofs.Common.{◌≡◌, ℕ, ◌*◌, ◌%◌, ◌<◌, ◌≢◌, Bool, true, false, ◌&&◌, eqb, ◌⊎◌, inl, inr, ap, sym, subst, ◌∙◌, arith}
+use Rattle.std.proofs.Common.{◌≡◌, ℕ, ◌*◌, ◌%◌, ◌<◌, ◌≢◌, Bool, true, ◌&&◌, eqb, ◌⊎◌, inl, inr, ap, sym, subst, ◌∙◌, arith}
 use Rattle.residue_theory.specs.Sets.{without, both, IsWithin}
 use Rattle.linear_algebra.specs.Bases.{IsBase, HasNoBase}
 use Rattle.std.proofs.Math.Nat.{zero-mod, mod-eq_of_lt}
-use Rattle.std.proofs.lemmas.Bool.Decides.{nat_tests}
 use Rattle.residue_theory.specs.Sums.{sum_on, size_on}
 use Rattle.residue_theory.specs.Residues.{IsPrime}
 use Rattle.linear_algebra.specs.Columns.{IsIndependent, IsRank, Combines}
 use Rattle.residue_theory.proofs.SumLaws.{sum_on-without, without-member}
 use Rattle.residue_theory.proofs.ResidueLaws.{vanishes-mul, vanishes-sum, agree-add, agree-mul}
-use Rattle.residue_theory.proofs.SetLaws.{both-first, both-second, first_on, zero_cases}
+use Rattle.residue_theory.proofs.SetLaws.{both-first, both-second, both-refused, eqb_true, eqb_false, first_on, zero_cases}
 use Rattle.linear_algebra_laws.proofs.Ranks.{rank_of-basis}
-
-not_row : (b : Bool) (r i : ℕ) → b && eqb r i ≡ false → b ≡ true → i ≢ r
-not_row b r i h e = grind (arith, nat_tests)
-
-row_is : (b : Bool) (r i : ℕ) → b && eqb r i ≡ true → r ≡ i
-row_is b r i h = grind (arith, nat_tests)
 
 -- part of a base is one
 pub base-within : (p : ℕ) (a : ℕ → ℕ → ℕ) (m n : ℕ) (C B : ℕ → Bool) (row : ℕ → ℕ) → IsWithin n C B → IsBase p a m n B row → IsBase p a m n C row
@@ -51,8 +44,8 @@ module _ (p : ℕ) (prime : IsPrime p) (P : ℕ → ℕ → ℕ) (m n : ℕ) (B 
   -- a row has a base, or none
   pub base_or_none : (i : ℕ) → ((b : ℕ) × (b < n) × (B b ≡ true) × (row b ≡ i)) ⊎ HasNoBase n B row i
   base_or_none i = elim (first_on (λ b. B b && eqb (row b) i) n) [
-    | inl found ↦ inl (found.0, found.1, both-first (B found.0) (eqb (row found.0) i) found.2, row_is (B found.0) (row found.0) i found.2)
-    | inr none ↦ inr (λ b bl bh q. not_row (B b) (row b) i (none b bl) bh (sym q))
+    | inl found ↦ inl (found.0, found.1, both-first (B found.0) (eqb (row found.0) i) found.2, eqb_true (row found.0) i (both-second (B found.0) (eqb (row found.0) i) found.2))
+    | inr none ↦ inr (λ b bl bh. eqb_false (row b) i (both-refused (B b) (eqb (row b) i) (none b bl) bh))
   ]
 
   -- what base columns combine to is zero at each row without base

@@ -37,58 +37,62 @@ rank_of-kernel p m n a b X r same R = record {
   greatest = λ Y within ind. R.greatest Y within (λ c s. ind c (same.forward Y c s));
 }
 
-module _ (p m n : ℕ) (a b : ℕ → ℕ → ℕ) (t s k : ℕ) (added : IsRowAdded p m n a b t s k) (apart : t ≢ s) (tl : t < m) (sl : s < m) where
-  row-other : (X : ℕ → Bool) (c : ℕ → ℕ) (i : ℕ) → i < m → i ≢ t → sum_on X n (λ j. c j * b i j) % p ≡ sum_on X n (λ j. c j * a i j) % p
-  row-other X c i il ne = agree-sum p X n (λ j. c j * b i j) (λ j. c j * a i j) (λ j jl _. agree-mul p (c j) (b i j) (a i j) (added.others i j il jl ne))
+-- ---- k times row s added to row t: what the rows of b combine to
+module _ (p m n : ℕ) (a b : ℕ → ℕ → ℕ) (t s k : ℕ) (added : IsRowAdded p m n a b t s k) where
+  pub row_added-other : (X : ℕ → Bool) (c : ℕ → ℕ) (i : ℕ) → i < m → i ≢ t → sum_on X n (λ j. c j * b i j) % p ≡ sum_on X n (λ j. c j * a i j) % p
+  row_added-other X c i il ne = agree-sum p X n (λ j. c j * b i j) (λ j. c j * a i j) (λ j jl _. agree-mul p (c j) (b i j) (a i j) (added.others i j il jl ne))
 
-  row-changed : (X : ℕ → Bool) (c : ℕ → ℕ) → sum_on X n (λ j. c j * b t j) % p ≡ (sum_on X n (λ j. c j * a t j) + k * sum_on X n (λ j. c j * a s j)) % p
-  row-changed X c =
+  pub row_added-changed : (X : ℕ → Bool) (c : ℕ → ℕ) → sum_on X n (λ j. c j * b t j) % p ≡ (sum_on X n (λ j. c j * a t j) + k * sum_on X n (λ j. c j * a s j)) % p
+  row_added-changed X c =
       agree-sum p X n (λ j. c j * b t j) (λ j. c j * a t j + k * (c j * a s j)) (λ j jl _. agree-mul p (c j) (b t j) (a t j + k * a s j) (added.changed j jl) ∙ ap (λ w. w % p) (omega arith))
       ∙ ap (λ w. w % p) (sum_on-add X n (λ j. c j * a t j) (λ j. k * (c j * a s j)) ∙ ap (λ w. sum_on X n (λ j. c j * a t j) + w) (sum_on-mul X n k (λ j. c j * a s j)))
 
-  pub row_added-kernel : SameKernel p m n a b
-  row_added-kernel = record { forward = forward; back = back }
-    where
-      forward : (X : ℕ → Bool) (c : ℕ → ℕ) → CombinesToZero p a m n X c → CombinesToZero p b m n X c
-      forward X c z i il = elim (nat_cases i t) [
-        | inl q ↦ subst (λ w. sum_on X n (λ j. c j * b w j) % p ≡ 0) (sym q) (row-changed X c ∙ vanishes-add p (sum_on X n (λ j. c j * a t j)) (k * sum_on X n (λ j. c j * a s j)) (z t tl) (vanishes-mul p k (sum_on X n (λ j. c j * a s j)) (z s sl)))
-        | inr ne ↦ row-other X c i il ne ∙ z i il
-      ]
+  module _ (apart : t ≢ s) (tl : t < m) (sl : s < m) where
+    pub row_added-kernel : SameKernel p m n a b
+    row_added-kernel = record { forward = forward; back = back }
+      where
+        forward : (X : ℕ → Bool) (c : ℕ → ℕ) → CombinesToZero p a m n X c → CombinesToZero p b m n X c
+        forward X c z i il = elim (nat_cases i t) [
+          | inl q ↦ subst (λ w. sum_on X n (λ j. c j * b w j) % p ≡ 0) (sym q) (row_added-changed X c ∙ vanishes-add p (sum_on X n (λ j. c j * a t j)) (k * sum_on X n (λ j. c j * a s j)) (z t tl) (vanishes-mul p k (sum_on X n (λ j. c j * a s j)) (z s sl)))
+          | inr ne ↦ row_added-other X c i il ne ∙ z i il
+        ]
 
-      back : (X : ℕ → Bool) (c : ℕ → ℕ) → CombinesToZero p b m n X c → CombinesToZero p a m n X c
-      back X c z i il = elim (nat_cases i t) [
-        | inl q ↦ subst (λ w. sum_on X n (λ j. c j * a w j) % p ≡ 0) (sym q) at_t
-        | inr ne ↦ sym (row-other X c i il ne) ∙ z i il
-      ]
-        where
-          at_s : sum_on X n (λ j. c j * a s j) % p ≡ 0
-          at_s = sym (row-other X c s sl (λ q. apart (sym q))) ∙ z s sl
+        back : (X : ℕ → Bool) (c : ℕ → ℕ) → CombinesToZero p b m n X c → CombinesToZero p a m n X c
+        back X c z i il = elim (nat_cases i t) [
+          | inl q ↦ subst (λ w. sum_on X n (λ j. c j * a w j) % p ≡ 0) (sym q) at_t
+          | inr ne ↦ sym (row_added-other X c i il ne) ∙ z i il
+        ]
+          where
+            at_s : sum_on X n (λ j. c j * a s j) % p ≡ 0
+            at_s = sym (row_added-other X c s sl (λ q. apart (sym q))) ∙ z s sl
 
-          at_t : sum_on X n (λ j. c j * a t j) % p ≡ 0
-          at_t = vanishes-rest p (k * sum_on X n (λ j. c j * a s j)) (sum_on X n (λ j. c j * a t j))
-              (ap (λ w. w % p) (omega arith) ∙ sym (row-changed X c) ∙ z t tl)
-              (vanishes-mul p k (sum_on X n (λ j. c j * a s j)) at_s)
+            at_t : sum_on X n (λ j. c j * a t j) % p ≡ 0
+            at_t = vanishes-rest p (k * sum_on X n (λ j. c j * a s j)) (sum_on X n (λ j. c j * a t j))
+                (ap (λ w. w % p) (omega arith) ∙ sym (row_added-changed X c) ∙ z t tl)
+                (vanishes-mul p k (sum_on X n (λ j. c j * a s j)) at_s)
 
-module _ (p : ℕ) (prime : IsPrime p) (m n : ℕ) (a b : ℕ → ℕ → ℕ) (t k : ℕ) (scaled : IsRowScaled p m n a b t k) (tl : t < m) (ne_zero : k % p ≢ 0) where
-  scaled-other : (X : ℕ → Bool) (c : ℕ → ℕ) (i : ℕ) → i < m → i ≢ t → sum_on X n (λ j. c j * b i j) % p ≡ sum_on X n (λ j. c j * a i j) % p
-  scaled-other X c i il ne = agree-sum p X n (λ j. c j * b i j) (λ j. c j * a i j) (λ j jl _. agree-mul p (c j) (b i j) (a i j) (scaled.others i j il jl ne))
+-- ---- row t multiplied by k
+module _ (p m n : ℕ) (a b : ℕ → ℕ → ℕ) (t k : ℕ) (scaled : IsRowScaled p m n a b t k) where
+  pub row_scaled-other : (X : ℕ → Bool) (c : ℕ → ℕ) (i : ℕ) → i < m → i ≢ t → sum_on X n (λ j. c j * b i j) % p ≡ sum_on X n (λ j. c j * a i j) % p
+  row_scaled-other X c i il ne = agree-sum p X n (λ j. c j * b i j) (λ j. c j * a i j) (λ j jl _. agree-mul p (c j) (b i j) (a i j) (scaled.others i j il jl ne))
 
-  scaled-changed : (X : ℕ → Bool) (c : ℕ → ℕ) → sum_on X n (λ j. c j * b t j) % p ≡ k * sum_on X n (λ j. c j * a t j) % p
-  scaled-changed X c =
+  pub row_scaled-changed : (X : ℕ → Bool) (c : ℕ → ℕ) → sum_on X n (λ j. c j * b t j) % p ≡ k * sum_on X n (λ j. c j * a t j) % p
+  row_scaled-changed X c =
       agree-sum p X n (λ j. c j * b t j) (λ j. k * (c j * a t j)) (λ j jl _. agree-mul p (c j) (b t j) (k * a t j) (scaled.changed j jl) ∙ ap (λ w. w % p) (omega arith))
       ∙ ap (λ w. w % p) (sum_on-mul X n k (λ j. c j * a t j))
 
-  pub row_scaled-kernel : SameKernel p m n a b
-  row_scaled-kernel = record { forward = forward; back = back }
-    where
-      forward : (X : ℕ → Bool) (c : ℕ → ℕ) → CombinesToZero p a m n X c → CombinesToZero p b m n X c
-      forward X c z i il = elim (nat_cases i t) [
-        | inl q ↦ subst (λ w. sum_on X n (λ j. c j * b w j) % p ≡ 0) (sym q) (scaled-changed X c ∙ vanishes-mul p k (sum_on X n (λ j. c j * a t j)) (z t tl))
-        | inr ne ↦ scaled-other X c i il ne ∙ z i il
-      ]
+  module _ (prime : IsPrime p) (tl : t < m) (ne_zero : k % p ≢ 0) where
+    pub row_scaled-kernel : SameKernel p m n a b
+    row_scaled-kernel = record { forward = forward; back = back }
+      where
+        forward : (X : ℕ → Bool) (c : ℕ → ℕ) → CombinesToZero p a m n X c → CombinesToZero p b m n X c
+        forward X c z i il = elim (nat_cases i t) [
+          | inl q ↦ subst (λ w. sum_on X n (λ j. c j * b w j) % p ≡ 0) (sym q) (row_scaled-changed X c ∙ vanishes-mul p k (sum_on X n (λ j. c j * a t j)) (z t tl))
+          | inr ne ↦ row_scaled-other X c i il ne ∙ z i il
+        ]
 
-      back : (X : ℕ → Bool) (c : ℕ → ℕ) → CombinesToZero p b m n X c → CombinesToZero p a m n X c
-      back X c z i il = elim (nat_cases i t) [
-        | inl q ↦ subst (λ w. sum_on X n (λ j. c j * a w j) % p ≡ 0) (sym q) (vanishes_factor p prime k (sum_on X n (λ j. c j * a t j)) ne_zero (sym (scaled-changed X c) ∙ z t tl))
-        | inr ne ↦ sym (scaled-other X c i il ne) ∙ z i il
-      ]
+        back : (X : ℕ → Bool) (c : ℕ → ℕ) → CombinesToZero p b m n X c → CombinesToZero p a m n X c
+        back X c z i il = elim (nat_cases i t) [
+          | inl q ↦ subst (λ w. sum_on X n (λ j. c j * a w j) % p ≡ 0) (sym q) (vanishes_factor p prime k (sum_on X n (λ j. c j * a t j)) ne_zero (sym (row_scaled-changed X c) ∙ z t tl))
+          | inr ne ↦ sym (row_scaled-other X c i il ne) ∙ z i il
+        ]

@@ -4,6 +4,7 @@ pub mod RankLaws
 pub mod Products
 pub mod Bases
 pub mod Kernels
+pub mod InverseOperations
 pub mod Pivots
 pub mod Reduction
 pub mod Stacked
@@ -13,4 +14,5 @@ pub mod Triangular
 pub mod SkipLaws
 pub mod RowRemoval
 pub mod ColumnRemoval
+pub mod ColumnBeside
 pub mod ExampleFacts

@@ -71,7 +71,7 @@ pub record IsPivotedBelow (p m n : ℕ) (a b : ℕ → ℕ → ℕ) (r v i : ℕ
 
 pub pivot-start : (p : ℕ) → IsPrime p → (m n : ℕ) (a b : ℕ → ℕ → ℕ) (r v w : ℕ) → r < m → v < n → w % p ≢ 0 → w * a r v % p ≡ 1 → IsRowScaled p m n a b r w → IsPivotedBelow p m n a b r v 0
 pivot-start p prime m n a b r v w rl vl ne one scaled = record {
-  kernel = row_scaled-kernel p prime m n a b r w scaled rl ne;
+  kernel = row_scaled-kernel p m n a b r w scaled prime rl ne;
   one = scaled.changed v vl ∙ one;
   zero = λ k none. absurd (omega arith);
   keeps = λ j jl z k kl. elim (nat_cases k r) [

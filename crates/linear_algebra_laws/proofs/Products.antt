@@ -39,10 +39,10 @@ product-assoc k l U S a i j =
     one : (s : ℕ) → sum_below k (λ t. U i t * (S t s * a s j)) ≡ product k U S i s * a s j
     one s = sum_on-ext everything k (λ t. U i t * (S t s * a s j)) (λ t. a s j * (U i t * S t s)) (λ t _ _. omega arith) ∙ sum_on-mul everything k (a s j) (λ t. U i t * S t s) ∙ omega arith
 
-identity-same : (i : ℕ) → identity i i ≡ 1
+pub identity-same : (i : ℕ) → identity i i ≡ 1
 identity-same i = grind (arith, nat_tests)
 
-identity-other : (i j : ℕ) → i ≢ j → identity i j ≡ 0
+pub identity-other : (i j : ℕ) → i ≢ j → identity i j ≡ 0
 identity-other i j ne = grind (arith, nat_tests)
 
 -- a product with the identity matrix

@@ -1,7 +1,6 @@
 -- The rank as a function of the set: bounded by the size, monotone and submodular.
-use Rattle.std.proofs.Common.{◌≡◌, ℕ, ◌+◌, ◌*◌, ◌%◌, ◌<◌, ◌≤◌, ◌≢◌, Bool, true, false, zero, suc, inl, inr, refl, ap, sym, ◌∙◌, arith}
+use Rattle.std.proofs.Common.{◌≡◌, ℕ, ◌+◌, ◌*◌, ◌%◌, ◌<◌, ◌≤◌, ◌≢◌, Bool, true, false, inl, inr, refl, ap, sym, ◌∙◌, arith}
 use Rattle.std.proofs.Math.Nat.{zero-mod}
-use Rattle.std.proofs.lemmas.Bool.Decides.{nat_tests}
 use Rattle.linear_algebra.specs.Products.{identity}
 use Rattle.residue_theory.specs.Sets.{both, either, without, with_one, IsWithin}
 use Rattle.residue_theory.specs.Sums.{sum_on, size_on}
@@ -13,6 +12,7 @@ use Rattle.residue_theory.proofs.CountLaws.{size-parts, size-without}
 use Rattle.residue_theory.proofs.ResidueLaws.{vanishes-mul, vanishes-sum, one_non_zero}
 use Rattle.linear_algebra_laws.proofs.Elimination.{dichotomy, NonZeroSolution}
 use Rattle.linear_algebra_laws.proofs.Ranks.{Basis, basis, basis-rank, independent-within, rank-unique, rank_exists}
+use Rattle.linear_algebra_laws.proofs.Products.{identity-same, identity-other}
 
 pub rank-size : (p : ℕ) (a : ℕ → ℕ → ℕ) (m n : ℕ) (X : ℕ → Bool) (r : ℕ) → IsRank p a m n X r → r ≤ size_on X n
 rank-size p a m n X r R = omega (arith, (R.reached).3, size_on-within X (R.reached).0 n (R.reached).1)
@@ -101,19 +101,13 @@ rank-rows p prime a m n R X r zeros K = omega (arith, K.reached.3, independent-r
 
 -- an independent set has no zero column
 pub no_zero_column : (p : ℕ) → IsPrime p → (a : ℕ → ℕ → ℕ) (m n : ℕ) (Y : ℕ → Bool) → IsIndependent p a m n Y → (v : ℕ) → v < n → Y v ≡ true → ((i : ℕ) → i < m → a i v % p ≡ 0) → ⊥
-no_zero_column p prime a m n Y ind v vl vh zeros = one_non_zero p prime (mark v) marked (ind mark (λ i il. vanishes-sum p Y n (λ j. mark j * a i j) (λ j _ _. term i il j)) v vl vh)
+no_zero_column p prime a m n Y ind v vl vh zeros = one_non_zero p prime (mark v) (identity-same v) (ind mark (λ i il. vanishes-sum p Y n (λ j. mark j * a i j) (λ j _ _. term i il j)) v vl vh)
   where
     mark : ℕ → ℕ
     mark j = identity v j
 
-    marked : identity v v ≡ suc zero
-    marked = grind (arith, nat_tests)
-
-    off : (j : ℕ) → j ≢ v → identity v j ≡ 0
-    off j ne = grind (arith, nat_tests)
-
     term : (i : ℕ) → i < m → (j : ℕ) → (mark j * a i j) % p ≡ 0
     term i il j = elim (nat_cases j v) [
       | inl q ↦ vanishes-mul p (mark j) (a i j) (ap (λ k. a i k % p) q ∙ zeros i il)
-      | inr ne ↦ ap (λ y. (y * a i j) % p) (off j ne) ∙ ap (λ y. y % p) (let e : 0 * a i j ≡ 0 = omega arith in e) ∙ zero-mod p
+      | inr ne ↦ ap (λ y. (y * a i j) % p) (identity-other v j (λ q. ne (sym q))) ∙ ap (λ y. y % p) (let e : 0 * a i j ≡ 0 = omega arith in e) ∙ zero-mod p
     ]

@@ -1,4 +1,4 @@
--- The laws of the rank.
+-- Combinations of columns, and the one rank that each set of columns has.
 use Rattle.std.proofs.Common.{◌≡◌, ℕ, zero, suc, ◌+◌, ◌*◌, ◌%◌, ◌<◌, ◌≤◌, ◌≢◌, Bool, true, false, cond, eqb, ◌⊎◌, inl, inr, refl, ap, sym, subst, ◌∙◌, arith}
 use Rattle.residue_theory.specs.Sets.{without, with_one, everything, IsWithin}
 use Rattle.std.proofs.lemmas.Bool.Decides.{nat_tests}

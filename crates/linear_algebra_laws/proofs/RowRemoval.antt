@@ -1,5 +1,5 @@
 -- A matrix with one row less: the rank falls by one exactly where that row's unit column is a combination of the columns.
-use Rattle.std.proofs.Common.{◌≡◌, ℕ, zero, suc, ◌+◌, ◌-◌, ◌*◌, ◌%◌, ◌<◌, ◌≤◌, ◌≢◌, Bool, true, false, ◌⊎◌, inl, inr, refl, ap, sym, subst, ◌∙◌, arith}
+use Rattle.std.proofs.Common.{◌≡◌, ℕ, ◌+◌, ◌-◌, ◌*◌, ◌%◌, ◌<◌, ◌≤◌, ◌≢◌, Bool, true, false, ◌⊎◌, inl, inr, refl, ap, sym, subst, ◌∙◌, arith}
 use Rattle.std.proofs.lemmas.Bool.Decides.{nat_tests}
 use Rattle.std.proofs.Math.Nat.{zero-mod, mod-eq_of_lt}
 use Rattle.residue_theory.specs.Sets.{everything, without, IsWithin}
@@ -16,17 +16,11 @@ use Rattle.linear_algebra.specs.Parts.{without_row, above, part}
 use Rattle.linear_algebra_laws.proofs.Elimination.{Dichotomy, dichotomy}
 use Rattle.linear_algebra_laws.proofs.Ranks.{rank_exists, combination_of-largest, combines-through, combines-within}
 use Rattle.linear_algebra_laws.proofs.RankLaws.{rank-rows}
-use Rattle.linear_algebra_laws.proofs.Products.{combines-product, combines_of-product, sum-identity_right}
+use Rattle.linear_algebra_laws.proofs.Products.{identity-same, identity-other, combines-product, combines_of-product, sum-identity_right}
 use Rattle.linear_algebra_laws.proofs.Bases.{base_or_none, base-combines, combines_of-base}
 use Rattle.linear_algebra_laws.proofs.Stacked.{above-size, top-zero, low-zero}
 use Rattle.linear_algebra_laws.proofs.PartLaws.{part-shown, part-other_row}
 use Rattle.linear_algebra_laws.proofs.SkipLaws.{skip-other, skip-below, unskip, unskip-below, skip-unskip}
-
-identity-one : (e : ℕ) → identity e e ≡ suc zero
-identity-one e = grind (arith, nat_tests)
-
-identity-zero : (i e : ℕ) → i ≢ e → identity i e ≡ 0
-identity-zero i e ne = grind (arith, nat_tests)
 
 -- the k rows of b are those of a but row e, in any order
 pub record IsRowRemoved (p m k n : ℕ) (a b : ℕ → ℕ → ℕ) (e : ℕ) : Type 0 where
@@ -110,8 +104,8 @@ module _ (p : ℕ) (prime : IsPrime p) (m k n : ℕ) (a b : ℕ → ℕ → ℕ)
           (combination_of-largest p prime a m n X Z S.reached.1 (removed-independent Z S.reached.2) (subst (λ u. IsRank p a m n X u) (sym (S.reached.3 ∙ q)) R)) comb
 
       bad : Combines p a m n Z (λ i. identity i e) → ⊥
-      bad (d, t) = one_non_zero p prime (identity e e) (identity-one e) (sym (t e removed.row_below) ∙ vanishes-sum p Z n (λ j. d j * a e j) (λ j jl jh. zero_first j (S.reached.2 d
-          (removed.back Z d (λ i il ne. t i il ∙ ap (λ y. y % p) (identity-zero i e ne) ∙ zero-mod p)) j jl jh)))
+      bad (d, t) = one_non_zero p prime (identity e e) (identity-same e) (sym (t e removed.row_below) ∙ vanishes-sum p Z n (λ j. d j * a e j) (λ j jl jh. zero_first j (S.reached.2 d
+          (removed.back Z d (λ i il ne. t i il ∙ ap (λ y. y % p) (identity-other i e ne) ∙ zero-mod p)) j jl jh)))
         where
           zero_first : (j : ℕ) → d j % p ≡ 0 → (d j * a e j) % p ≡ 0
           zero_first j z = ap (λ y. y % p) (let q : d j * a e j ≡ a e j * d j = omega arith in q) ∙ vanishes-mul p (a e j) (d j) z
@@ -144,8 +138,8 @@ module _ (p : ℕ) (prime : IsPrime p) (m k n : ℕ) (a b : ℕ → ℕ → ℕ)
 
               at_row : (i : ℕ) → i < m → (i ≡ e) ⊎ (i ≢ e) → (y * sum_on Y n (λ j. t.at j * a i j)) % p ≡ identity i e % p
               at_row i il (inl q) = subst (λ l. (y * sum_on Y n (λ j. t.at j * a l j)) % p ≡ identity l e % p) (sym q)
-                  (ap (λ x. x % p) (let g : y * C ≡ C * y = omega arith in g) ∙ h ∙ sym (ap (λ x. x % p) (identity-one e) ∙ mod-eq_of_lt prime.above_one))
-              at_row i il (inr ne) = vanishes-mul p y (sum_on Y n (λ j. t.at j * a i j)) (removed.rows Y t.at zeros i il ne) ∙ sym (ap (λ x. x % p) (identity-zero i e ne) ∙ zero-mod p)
+                  (ap (λ x. x % p) (let g : y * C ≡ C * y = omega arith in g) ∙ h ∙ sym (ap (λ x. x % p) (identity-same e) ∙ mod-eq_of_lt prime.above_one))
+              at_row i il (inr ne) = vanishes-mul p y (sum_on Y n (λ j. t.at j * a i j)) (removed.rows Y t.at zeros i il ne) ∙ sym (ap (λ x. x % p) (identity-other i e ne) ∙ zero-mod p)
 
   pub removed-stays : (X : ℕ → Bool) (r s : ℕ) → IsRank p a m n X r → IsRank p b k n X s → (Combines p a m n X (λ i. identity i e) → ⊥) → s ≡ r
   removed-stays X r s R S never = elim (le_cases s r (removed-at_most X r s R S).0) [ inl q ↦ q | inr less ↦ absurd (never (falls-combines X r s R S less)) ]

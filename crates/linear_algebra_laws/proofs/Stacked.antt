@@ -10,7 +10,8 @@ use Rattle.residue_theory.proofs.SumLaws.{sum_on-ext, sum_on-same}
 use Rattle.residue_theory.proofs.SetLaws.{lt_cases, differ, choice}
 use Rattle.residue_theory.proofs.CountLaws.{sum_on-join}
 use Rattle.linear_algebra_laws.proofs.Elimination.{dichotomy}
-use Rattle.linear_algebra_laws.proofs.Ranks.{Basis, basis, combined, none_independent}
+use Rattle.linear_algebra_laws.proofs.Ranks.{Basis, basis, combined, none_independent, rank_exists}
+use Rattle.linear_algebra_laws.proofs.RankLaws.{rank-rows}
 use Rattle.linear_algebra.specs.Parts.{above}
 
 pub above-top : (m : ℕ) (a b : ℕ → ℕ → ℕ) (i j : ℕ) → i < m → above m a b i j ≡ a i j
@@ -94,3 +95,11 @@ module _ (p : ℕ) (prime : IsPrime p) (m t n : ℕ) (a b : ℕ → ℕ → ℕ)
 
   pub rank-above : (X : ℕ → Bool) (r s u : ℕ) → IsRank p a m n X r → IsRank p b t n X s → IsRank p (above m a b) (m + t) n X u → u ≤ r + s
   rank-above X r s u R S U = omega (arith, U.reached.3, above-size X U.reached.0 r s U.reached.1 U.reached.2 R S)
+
+  -- where b is zero on X outside the rows of R
+  pub above-rows : (R X Y : ℕ → Bool) (r : ℕ) → ((i j : ℕ) → i < t → j < n → R i ≡ false → X j ≡ true → b i j % p ≡ 0) → IsWithin n Y X → IsIndependent p (above m a b) (m + t) n Y → IsRank p a m n X r →
+      size_on Y n ≤ r + size_on R t
+  above-rows R X Y r zeros within ind K = go (rank_exists p prime b t n X)
+    where
+      go : (s : ℕ) × IsRank p b t n X s → size_on Y n ≤ r + size_on R t
+      go (s, T) = omega (arith, above-size X Y r s within ind K T, rank-rows p prime b t n R X s zeros T)

@@ -1,7 +1,7 @@
 -- Laws of matrices that are put together from others.
-use Rattle.std.specs.Prelude.{ℕ, ◌+◌, ◌*◌, ◌%◌, ◌<◌, ◌≤◌, ◌≡◌, ◌↔◌, Bool, true}
-use Rattle.residue_theory.specs.Sets.{everything, IsWithin}
-use Rattle.residue_theory.specs.Sums.{sum_on, sum_below}
+use Rattle.std.specs.Prelude.{ℕ, ◌+◌, ◌*◌, ◌%◌, ◌<◌, ◌≤◌, ◌≡◌, ◌↔◌, Bool, true, false}
+use Rattle.residue_theory.specs.Sets.{both, everything, IsWithin}
+use Rattle.residue_theory.specs.Sums.{sum_on, size_on, sum_below}
 use Rattle.residue_theory.specs.Residues.{IsPrime}
 use Rattle.linear_algebra.specs.Columns.{IsIndependent, IsRank}
 use Rattle.linear_algebra.specs.Parts.{above, part, diagonal, IsBlockTriangular}
@@ -28,3 +28,23 @@ PartsAreTheirRows =
     IsIndependent p (part R X a) m n Y ↔
     ((c : ℕ → ℕ) → ((i : ℕ) → i < m → R i ≡ true → sum_on Y n (λ j. c j * a i j) % p ≡ 0) →
     (j : ℕ) → j < n → Y j ≡ true → c j % p ≡ 0)
+
+-- a part has at most the rank of the whole
+abbrev pub PartsHaveAtMostTheRank : Type 0
+PartsHaveAtMostTheRank =
+    (p : ℕ) → IsPrime p → (m n : ℕ) (a : ℕ → ℕ → ℕ) (R X Y : ℕ → Bool) (r s : ℕ) →
+    IsRank p a m n Y r → IsRank p (part R X a) m n Y s → s ≤ r
+
+-- the part of the columns X has on Y the rank of the columns of both
+abbrev pub ColumnPartsHaveTheirRank : Type 0
+ColumnPartsHaveTheirRank =
+    (p : ℕ) → IsPrime p → (m n : ℕ) (a : ℕ → ℕ → ℕ) (X Y : ℕ → Bool) (r : ℕ) →
+    IsRank p a m n (both Y X) r → IsRank p (part everything X a) m n Y r
+
+-- columns within X that are independent in a above b are at most the rank of a on X,
+-- and as many rows as b has that are not zero on X
+abbrev pub StackedColumnsAreAtMostRankAndRows : Type 0
+StackedColumnsAreAtMostRankAndRows =
+    (p : ℕ) → IsPrime p → (m t n : ℕ) (a b : ℕ → ℕ → ℕ) (R X Y : ℕ → Bool) (r : ℕ) →
+    ((i j : ℕ) → i < t → j < n → R i ≡ false → X j ≡ true → b i j % p ≡ 0) → IsWithin n Y X →
+    IsIndependent p (above m a b) (m + t) n Y → IsRank p a m n X r → size_on Y n ≤ r + size_on R t

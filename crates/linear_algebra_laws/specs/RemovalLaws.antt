@@ -1,11 +1,11 @@
--- Laws of a matrix with one row or one column less.
+-- Laws of a matrix with one row or one column less, or one more.
 use Rattle.std.specs.Prelude.{ℕ, ◌+◌, ◌-◌, ◌%◌, ◌<◌, ◌≤◌, ◌≡◌, ◌≢◌, ◌↔◌, Bool, true}
 use Rattle.residue_theory.specs.Sets.{everything, without, IsWithin}
 use Rattle.residue_theory.specs.Residues.{IsPrime}
 use Rattle.linear_algebra.specs.Columns.{IsRank, Combines, IsCombination}
 use Rattle.linear_algebra.specs.Products.{product, identity, IsInverse, Agree}
 use Rattle.linear_algebra.specs.Bases.{IsBase, HasNoBase}
-use Rattle.linear_algebra.specs.Parts.{without_row, without_column}
+use Rattle.linear_algebra.specs.Parts.{without_row, without_column, with_column}
 
 -- one more row keeps the rank, or adds one
 abbrev pub OneMoreRowAddsAtMostOne : Type 0
@@ -55,3 +55,16 @@ RankStaysWithoutColumn =
     (p : ℕ) → IsPrime p → (a : ℕ → ℕ → ℕ) (m n v r s : ℕ) → v < n →
     IsRank p a m n everything r → IsRank p (without_column v a) m (n - 1) everything s →
     (s ≡ r) ↔ IsCombination p a m n (without everything v) v
+
+-- with a column x beside all columns the rank is the same, or one more
+abbrev pub OneColumnBesideAddsAtMostOne : Type 0
+OneColumnBesideAddsAtMostOne =
+    (p : ℕ) → IsPrime p → (a : ℕ → ℕ → ℕ) (x : ℕ → ℕ) (m n r s : ℕ) →
+    IsRank p a m n everything r → IsRank p (with_column n a x) m (n + 1) everything s → (r ≤ s) × (s ≤ r + 1)
+
+-- and it stays exactly where x is a combination of the columns
+abbrev pub RankStaysWithColumnBeside : Type 0
+RankStaysWithColumnBeside =
+    (p : ℕ) → IsPrime p → (a : ℕ → ℕ → ℕ) (x : ℕ → ℕ) (m n r s : ℕ) →
+    IsRank p a m n everything r → IsRank p (with_column n a x) m (n + 1) everything s →
+    (s ≡ r) ↔ Combines p a m n everything x

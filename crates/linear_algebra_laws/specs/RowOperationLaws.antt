@@ -1,5 +1,5 @@
 -- Laws of row operations and of products with an invertible matrix.
-use Rattle.std.specs.Prelude.{ℕ, ◌%◌, ◌<◌, ◌≢◌, ◌↔◌, Bool, cond, eqb}
+use Rattle.std.specs.Prelude.{ℕ, ◌+◌, ◌*◌, ◌%◌, ◌<◌, ◌≡◌, ◌≢◌, ◌↔◌, Bool, cond, eqb}
 use Rattle.residue_theory.specs.Residues.{IsPrime}
 use Rattle.linear_algebra.specs.Columns.{IsIndependent, IsRank}
 use Rattle.linear_algebra.specs.Kernels.{SameKernel}
@@ -53,3 +53,29 @@ PivotsAddToTheBase =
     (p : ℕ) (a b : ℕ → ℕ → ℕ) (m n : ℕ) (B : ℕ → Bool) (row : ℕ → ℕ) (r v : ℕ) → v < n → r < m →
     IsBase p a m n B row → IsPivoted p m n a b r v → HasNoBase n B row r →
     IsBase p b m n (with_one B v) (λ j. cond (eqb j v) r (row j))
+
+-- a product follows the row operations on its left factor
+abbrev pub ProductsFollowAddedRows : Type 0
+ProductsFollowAddedRows =
+    (p m k n : ℕ) (S T a : ℕ → ℕ → ℕ) (t s f : ℕ) →
+    IsRowAdded p m k S T t s f → IsRowAdded p m n (product k S a) (product k T a) t s f
+
+abbrev pub ProductsFollowScaledRows : Type 0
+ProductsFollowScaledRows =
+    (p m k n : ℕ) (S T a : ℕ → ℕ → ℕ) (t f : ℕ) →
+    IsRowScaled p m k S T t f → IsRowScaled p m n (product k S a) (product k T a) t f
+
+-- with f times row s added to row t of S, and the opposite on the transpose V of its inverse,
+-- -f times row t added to row s, they are inverse again
+abbrev pub AddedRowsKeepTheInverse : Type 0
+AddedRowsKeepTheInverse =
+    (p m : ℕ) (S T V W : ℕ → ℕ → ℕ) (t s f g : ℕ) → IsInverse p m S (λ i j. V j i) →
+    IsRowAdded p m m S T t s f → IsRowAdded p m m V W s t g → t ≢ s → t < m → s < m → (f + g) % p ≡ 0 →
+    IsInverse p m T (λ i j. W j i)
+
+-- and with row t of S multiplied by f, and row t of V by the inverse of f
+abbrev pub ScaledRowsKeepTheInverse : Type 0
+ScaledRowsKeepTheInverse =
+    (p : ℕ) → IsPrime p → (m : ℕ) (S T V W : ℕ → ℕ → ℕ) (t f g : ℕ) → IsInverse p m S (λ i j. V j i) →
+    IsRowScaled p m m S T t f → IsRowScaled p m m V W t g → t < m → (f * g) % p ≡ 1 →
+    IsInverse p m T (λ i j. W j i)

@@ -1,5 +1,5 @@
-//! A matrix with one row or one column less.
-ghost use Rattle.linear_algebra_laws.specs.RemovalLaws.{OneMoreRowAddsAtMostOne, OneRowLessTakesAtMostOne, RankStaysWithoutRow, RankFallsWithoutRow, TableauTellsTheRowsThatMayGo, OneColumnLessTakesAtMostOne, RankStaysWithoutColumn};
+//! A matrix with one row or one column less, or one more.
+ghost use Rattle.linear_algebra_laws.specs.RemovalLaws.{OneMoreRowAddsAtMostOne, OneRowLessTakesAtMostOne, RankStaysWithoutRow, RankFallsWithoutRow, TableauTellsTheRowsThatMayGo, OneColumnLessTakesAtMostOne, RankStaysWithoutColumn, OneColumnBesideAddsAtMostOne, RankStaysWithColumnBeside};
 
 /// One more row keeps the rank or adds one.
 pub fn one_more_row_adds_at_most_one()
@@ -34,4 +34,14 @@ pub fn one_column_less_takes_at_most_one()
 /// Without a column the rank stays exactly where it is a combination of the others.
 pub fn rank_stays_without_column()
     ensures { RankStaysWithoutColumn }
+{}
+
+/// With a column beside the matrix the rank is the same or one more.
+pub fn one_column_beside_adds_at_most_one()
+    ensures { OneColumnBesideAddsAtMostOne }
+{}
+
+/// With a column beside the matrix the rank stays exactly where it is a combination of the columns.
+pub fn rank_stays_with_column_beside()
+    ensures { RankStaysWithColumnBeside }
 {}

@@ -1,5 +1,5 @@
 //! Row operations, and products with an invertible matrix.
-ghost use Rattle.linear_algebra_laws.specs.RowOperationLaws.{InverseOnOneSideIsInverse, InvertibleProductsKeepIndependence, InvertibleProductsKeepTheRank, AddedRowsKeepTheKernel, ScaledRowsKeepTheKernel, SameKernelHasTheRank, EntriesDecideTheKernel, PivotsAddToTheBase};
+ghost use Rattle.linear_algebra_laws.specs.RowOperationLaws.{InverseOnOneSideIsInverse, InvertibleProductsKeepIndependence, InvertibleProductsKeepTheRank, AddedRowsKeepTheKernel, ScaledRowsKeepTheKernel, SameKernelHasTheRank, EntriesDecideTheKernel, PivotsAddToTheBase, ProductsFollowAddedRows, ProductsFollowScaledRows, AddedRowsKeepTheInverse, ScaledRowsKeepTheInverse};
 
 /// For square matrices, `S * U = 1` alone shows that `U * S = 1`.
 pub fn inverse_on_one_side_is_inverse()
@@ -39,4 +39,24 @@ pub fn entries_decide_the_kernel()
 /// A pivot at a row without base adds its column to the base.
 pub fn pivots_add_to_the_base()
     ensures { PivotsAddToTheBase }
+{}
+
+/// A product follows a multiple of a row added to another in its left factor.
+pub fn products_follow_added_rows()
+    ensures { ProductsFollowAddedRows }
+{}
+
+/// A product follows a row multiplied in its left factor.
+pub fn products_follow_scaled_rows()
+    ensures { ProductsFollowScaledRows }
+{}
+
+/// A row added in a matrix, and its opposite in the transpose of the inverse, leave inverses.
+pub fn added_rows_keep_the_inverse()
+    ensures { AddedRowsKeepTheInverse }
+{}
+
+/// A row multiplied in a matrix, and divided in the transpose of the inverse, leave inverses.
+pub fn scaled_rows_keep_the_inverse()
+    ensures { ScaledRowsKeepTheInverse }
 {}

@@ -1,3 +1,4 @@
+-- Numbers read modulo p: what vanishes, what agrees, and inverses modulo a prime.
 use Rattle.std.proofs.Common.{◌≡◌, ℕ, zero, suc, ◌+◌, ◌*◌, ◌%◌, ◌/◌, ◌-◌, ◌<◌, ◌≤◌, ◌≢◌, Bool, true, false, cond, ◌⊎◌, inl, inr, refl, ap, sym, ◌∙◌, arith}
 use Rattle.std.proofs.Math.Nat.{add-mod, mod-add-mod, mod-add-div, zero-mod, zero-add, mul-zero, mod_self, mod-lt, mod-eq_of_lt, mul-mod_right}
 use Rattle.std.proofs.lemmas.Nat.{mul-mod_second, mul-mod_first}
