@@ -3,3 +3,4 @@ pub mod Pieces
 pub mod Puts
 pub mod Noting
 pub mod Written
+pub mod Runs

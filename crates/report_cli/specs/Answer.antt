@@ -61,7 +61,7 @@ pub record CutShort (words : List (List ℕ)) (left left' written written' : Opt
   pub text : List ℕ
   pub took : Took left left' read
   pub ended : Ended left'
-  pub written : PartWritten written written' text
+  pub cut : PartWritten written written' text
   pub answer : IsAnswer words read Done text
 
 -- the input was within the limit, and was read

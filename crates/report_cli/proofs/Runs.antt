@@ -1,0 +1,77 @@
+-- What a run answers, and that nothing else is an answer.
+use Rattle.std.proofs.Common.{◌≡◌, ℕ, ◌+◌, ◌≤◌, ◌<◌, ◌⊎◌, List, [], ◌++◌, length, Option, Some, None, refl, sym, ◌∙◌, ap, subst, arith, inl, inr, append-nil}
+use Rattle.std.proofs.lemmas.List.{length-append}
+use Rattle.port_io.specs.Bytes.{Took, Ended}
+use Rattle.report_cli.specs.declared.status.Status.{Status}
+use Rattle.report_cli.specs.declared.status.Status.TheVariants.{Done, Usage, Refused, TooLong, ReadFault, WriteFault, Memory}
+use Rattle.report_cli.specs.Words.{AskForAnalysis}
+use Rattle.report_cli.specs.Answer.{IsAnswer, IsOfInput, Agrees, Answered, OnlyAnswer, Tells, model_limit}
+
+-- what was taken of a known input is no longer than it
+took_prefix : (input : List ℕ) (after : Option (List ℕ)) (read : List ℕ) → Took (Some input) after read → length read ≤ length input
+took_prefix input None read took = absurd took
+took_prefix input (Some rest) read took = let long : length input ≡ length read + length rest = ap length took ∙ length-append read rest in omega (arith, long)
+
+-- what was taken of a known input, to its end, is that input
+took_whole : (input : List ℕ) (after : Option (List ℕ)) (read : List ℕ) → Took (Some input) after read → Ended after → read ≡ input
+took_whole input None read took ended = absurd took
+took_whole input (Some rest) read took ended = sym (took ∙ ap (λ r. read ++ r) ended ∙ append-nil read)
+
+at_input : (left after : Option (List ℕ)) (input read : List ℕ) → left ≡ Some input → Took left after read → Took (Some input) after read
+at_input left after input read is took = let P : Option (List ℕ) → Type 0 = λ l. Took l after read in subst P is took
+
+pub read_is : (left after : Option (List ℕ)) (input read : List ℕ) → left ≡ Some input → Took left after read → Ended after → read ≡ input
+read_is left after input read is took ended = took_whole input after read (at_input left after input read is took) ended
+
+-- words that ask for nothing have no other answer
+usage_only : (words : List (List ℕ)) (input : List ℕ) (answer : Status) (text : List ℕ) → (AskForAnalysis words → ⊥) → IsAnswer words input answer text → Agrees answer Usage
+usage_only words input Usage text never a = refl
+usage_only words input Done text never a = absurd (never a.0)
+usage_only words input (Refused refused) text never a = absurd (never a.0)
+usage_only words input (TooLong limit) text never a = absurd (never a.0)
+usage_only words input ReadFault text never a = absurd a
+usage_only words input WriteFault text never a = absurd a
+usage_only words input Memory text never a = absurd a
+
+too_long : {A : Type 0} (input : List ℕ) → model_limit < length input → length input ≤ model_limit → A
+too_long {A} input long short = absurd (omega (arith, long, short))
+
+-- an input past the limit has no other answer
+long_only : (words : List (List ℕ)) (input : List ℕ) (limit : ℕ) (answer : Status) (text : List ℕ) → AskForAnalysis words → limit ≡ model_limit → model_limit < length input →
+    IsAnswer words input answer text → Agrees answer (TooLong limit)
+long_only words input limit Usage text asks is long a = absurd (a.0 asks)
+long_only words input limit Done text asks is long a = too_long input long a.1
+long_only words input limit (Refused refused) text asks is long a = too_long input long a.1
+long_only words input limit (TooLong other) text asks is long a = ap TooLong (is ∙ sym a.1)
+long_only words input limit ReadFault text asks is long a = absurd a
+long_only words input limit WriteFault text asks is long a = absurd a
+long_only words input limit Memory text asks is long a = absurd a
+
+-- an input within the limit is answered by a status of the input
+input_only : (words : List (List ℕ)) (input : List ℕ) (status answer : Status) (text : List ℕ) → IsOfInput status → AskForAnalysis words → length input ≤ model_limit →
+    IsAnswer words input answer text → Agrees answer status
+input_only words input status Usage text of_input asks short a = absurd (a.0 asks)
+input_only words input status Done text of_input asks short a = of_input
+input_only words input status (Refused refused) text of_input asks short a = of_input
+input_only words input status (TooLong other) text of_input asks short a = too_long input a.2 short
+input_only words input status ReadFault text of_input asks short a = absurd a
+input_only words input status WriteFault text of_input asks short a = absurd a
+input_only words input status Memory text of_input asks short a = absurd a
+
+-- where no fault came, no other answer than the one given is one
+pub only : (words : List (List ℕ)) (left after written written' : Option (List ℕ)) (status : Status) → Tells status (Answered words left after written written' status) →
+    (status ≡ ReadFault → ⊥) → (status ≡ WriteFault → ⊥) → OnlyAnswer words left status
+only words left after written written' Usage a no_read no_write = λ input answer text is given. inl (usage_only words input answer text a.answer.0 given)
+only words left after written written' (TooLong limit) a no_read no_write = λ input answer text is given.
+    let short : length a.read ≤ length input = took_prefix input after a.read (at_input left after input a.read is a.took) in
+    let long : model_limit < length a.read = a.answer.2 in
+    inl (long_only words input limit answer text a.answer.0 a.answer.1 (omega (arith, short, long)) given)
+only words left after written written' (Refused refused) a no_read no_write = λ input answer text is given.
+    let same : a.read ≡ input = read_is left after input a.read is a.took a.ended in
+    inl (input_only words input (Refused refused) answer text tt a.answer.0 (subst (λ r. length r ≤ model_limit) same a.answer.1) given)
+only words left after written written' Done a no_read no_write = λ input answer text is given.
+    let same : a.read ≡ input = read_is left after input a.read is a.took a.ended in
+    inl (input_only words input Done answer text tt a.answer.0 (subst (λ r. length r ≤ model_limit) same a.answer.1) given)
+only words left after written written' ReadFault a no_read no_write = absurd (no_read refl)
+only words left after written written' WriteFault a no_read no_write = absurd (no_write refl)
+only words left after written written' Memory a no_read no_write = λ input answer text is given. inr refl
