@@ -128,7 +128,7 @@ module _ (arc : ℕ → ℕ → Bool) (n : ℕ) (starts ends : ℕ → Bool) whe
   middle-mutual : (x y : ℕ) → y < n → IsMiddle arc n starts ends x → Mutual arc n x y → IsMiddle arc n starts ends y
   middle-mutual x y yl m r = (yl, (λ f. m.1 (from-reaches arc n starts y x f r.1)), λ t. m.2 (reaches-to arc n ends x y r.0 t))
 
-  -- ---- one block more
+  -- one block more
   module _ (k : ℕ) (placed : ℕ → Bool) (block : ℕ → ℕ) (S : Started k placed block) (r : ℕ) (rl : r < n) (ready : IsReady placed r) (before : (j : ℕ) → j < r → IsReady placed j → ⊥) where
     abbrev Was : ℕ → Type 0
     Was y = (placed y ≡ true) ⊎ ((placed y ≡ false) × Mutual arc n r y)
