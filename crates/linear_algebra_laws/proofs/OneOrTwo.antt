@@ -92,7 +92,9 @@ module _ (p : ℕ) (prime : IsPrime p) (m n : ℕ) (a : ℕ → ℕ → ℕ) (r 
       -- the row of the place
       last : ((A * rest c + B * rest d) + (A * c v + B * d v) * a r v) % p ≡ 0
       last = vanishes-rest p (z + (p - 1) * z) ((A * rest c + B * rest d) + (A * c v + B * d v) * a r v)
-          (vanishes_by p _ ((A * (rest c + c v * x) + B * (rest d + d v * (x + 1))) + (w + (p - 1) * w)) (commute (z + (p - 1) * z) ((A * rest c + B * rest d) + (A * c v + B * d v) * a r v) ∙ row_identity (rest c) (rest d) (c v) (d v) (a r v) (p - 1) x (x + 1))
+          (vanishes_by p _ ((A * (rest c + c v * x) + B * (rest d + d v * (x + 1))) + (w + (p - 1) * w))
+          (commute (z + (p - 1) * z) ((A * rest c + B * rest d) + (A * c v + B * d v) * a r v)
+          ∙ row_identity (rest c) (rest d) (c v) (d v) (a r v) (p - 1) x (x + 1))
           (vanishes-add p (A * (rest c + c v * x) + B * (rest d + d v * (x + 1))) (w + (p - 1) * w)
           (vanishes-add p (A * (rest c + c v * x)) (B * (rest d + d v * (x + 1))) (vanishes-mul p A (rest c + c v * x) c_rest) (vanishes-mul p B (rest d + d v * (x + 1)) d_rest))
           (lacks p prime w)))
@@ -117,7 +119,8 @@ module _ (p : ℕ) (prime : IsPrime p) (m n : ℕ) (a : ℕ → ℕ → ℕ) (r 
 
       factor : (d v * c v) % p ≡ 0
       factor = vanishes-rest p (A * c v + B * d v) (d v * c v)
-          (vanishes_by p _ (multiple * p) (place_identity (c v) (d v) (a r v) (p - 1) x ∙ ap (λ s. multiple * s) (let e : p - 1 + 1 ≡ p = omega (arith, prime.above_one) in e)) (vanishes-mul p multiple p (mod_self p)))
+          (vanishes_by p _ (multiple * p) (place_identity (c v) (d v) (a r v) (p - 1) x
+          ∙ ap (λ s. multiple * s) (let e : p - 1 + 1 ≡ p = omega (arith, prime.above_one) in e)) (vanishes-mul p multiple p (mod_self p)))
           at_v
         where
           multiple : ℕ
@@ -140,9 +143,12 @@ module _ (p : ℕ) (prime : IsPrime p) (m n : ℕ) (a : ℕ → ℕ → ℕ) (r 
   one_of_next rl ind = go (Y v) refl (lt_cases v n)
     where
       elsewhere : ((j : ℕ) → j < n → Y j ≡ true → j ≢ v) → IsIndependent p (with_entry a r v x) m n Y
-      elsewhere none c s = ind c (λ i il. vanishes_by p _ _ (sum_on-ext Y n (λ j. c j * a i j) (λ j. c j * with_entry a r v x i j) (λ j jl jh. ap (λ y. c j * y) (sym (with_entry-column a r v x i j (none j jl jh))))) (s i il))
+      elsewhere none c s = ind c (λ i il. vanishes_by p _ _
+          (sum_on-ext Y n (λ j. c j * a i j) (λ j. c j * with_entry a r v x i j)
+          (λ j jl jh. ap (λ y. c j * y) (sym (with_entry-column a r v x i j (none j jl jh))))) (s i il))
 
-      first : v < n → Y v ≡ true → (s : NonZeroSolution p (with_entry a r v x) everything m Y n) → Dichotomy p (with_entry a r v (x + 1)) everything m Y n → IsIndependent p (with_entry a r v (x + 1)) m n Y
+      first : v < n → Y v ≡ true → (s : NonZeroSolution p (with_entry a r v x) everything m Y n) → Dichotomy p (with_entry a r v (x + 1)) everything m Y n →
+          IsIndependent p (with_entry a r v (x + 1)) m n Y
       first vl vh s (inl (only, _)) = λ c t. only c (λ i il _. t i il)
       first vl vh s (inr t) = elim (clash vl vh rl ind s.at t.at (λ i il. s.solves i il refl) (λ i il. t.solves i il refl)) [
         | inl k ↦ absurd (s.non_zero (ind s.at k s.place s.below s.member))

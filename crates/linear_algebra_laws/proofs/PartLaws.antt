@@ -36,11 +36,14 @@ module _ (p m n : ℕ) (a : ℕ → ℕ → ℕ) (R X Y : ℕ → Bool) (within 
   part-only_zero ind c s = ind c (λ i il. go i il (R i) refl)
     where
       go : (i : ℕ) → i < m → (b : Bool) → R i ≡ b → sum_on Y n (λ j. c j * part R X a i j) % p ≡ 0
-      go i il true e = ap (λ y. y % p) (sum_on-ext Y n (λ j. c j * part R X a i j) (λ j. c j * a i j) (λ j jl jh. ap (λ y. c j * y) (part-shown R X a i j e (within j jl jh)))) ∙ s i il e
-      go i il false e = vanishes-sum p Y n (λ j. c j * part R X a i j) (λ j jl jh. vanishes-mul p (c j) (part R X a i j) (ap (λ y. y % p) (part-other_row R X a i j e) ∙ zero-mod p))
+      go i il true e = ap (λ y. y % p) (sum_on-ext Y n (λ j. c j * part R X a i j) (λ j. c j * a i j)
+          (λ j jl jh. ap (λ y. c j * y) (part-shown R X a i j e (within j jl jh)))) ∙ s i il e
+      go i il false e = vanishes-sum p Y n (λ j. c j * part R X a i j)
+          (λ j jl jh. vanishes-mul p (c j) (part R X a i j) (ap (λ y. y % p) (part-other_row R X a i j e) ∙ zero-mod p))
 
   pub only_zero-part : OnlyZero p a R m Y n → IsIndependent p (part R X a) m n Y
-  only_zero-part only c s = only c (λ i il e. ap (λ y. y % p) (sum_on-ext Y n (λ j. c j * a i j) (λ j. c j * part R X a i j) (λ j jl jh. ap (λ y. c j * y) (sym (part-shown R X a i j e (within j jl jh))))) ∙ s i il)
+  only_zero-part only c s = only c (λ i il e. ap (λ y. y % p)
+      (sum_on-ext Y n (λ j. c j * a i j) (λ j. c j * part R X a i j) (λ j jl jh. ap (λ y. c j * y) (sym (part-shown R X a i j e (within j jl jh))))) ∙ s i il)
 
 -- an independent set of a part has columns of the part alone, and is independent in the whole
 pub part-columns : (p : ℕ) → IsPrime p → (m n : ℕ) (a : ℕ → ℕ → ℕ) (R X Y : ℕ → Bool) → IsIndependent p (part R X a) m n Y → IsWithin n Y X
@@ -60,6 +63,13 @@ part-rank p prime m n a R X Y r s K S = omega (arith, S.reached.3, K.greatest S.
 -- the columns of X alone have on Y the rank of the columns of both
 pub part_columns-rank : (p : ℕ) → IsPrime p → (m n : ℕ) (a : ℕ → ℕ → ℕ) (X Y : ℕ → Bool) (r : ℕ) → IsRank p a m n (both Y X) r → IsRank p (part everything X a) m n Y r
 part_columns-rank p prime m n a X Y r K = record {
-  reached = (K.reached.0, (λ j l h. both-first (Y j) (X j) (K.reached.1 j l h)), only_zero-part p m n a everything X K.reached.0 (λ j l h. both-second (Y j) (X j) (K.reached.1 j l h)) (λ c s. K.reached.2 c (λ i il. s i il refl)), K.reached.3);
-  greatest = λ Z within ind. K.greatest Z (λ j l h. both_true (Y j) (X j) (within j l h) (part-columns p prime m n a everything X Z ind j l h)) (part-independent p prime m n a everything X Z ind);
+  reached = (
+    K.reached.0,
+    (λ j l h. both-first (Y j) (X j) (K.reached.1 j l h)),
+    only_zero-part p m n a everything X K.reached.0
+        (λ j l h. both-second (Y j) (X j) (K.reached.1 j l h)) (λ c s. K.reached.2 c (λ i il. s i il refl)),
+    K.reached.3,
+  );
+  greatest = λ Z within ind. K.greatest Z (λ j l h. both_true (Y j) (X j) (within j l h) (part-columns p prime m n a everything X Z ind j l h))
+      (part-independent p prime m n a everything X Z ind);
 }

@@ -51,7 +51,9 @@ part-removed p m n a e el = record {
   rows = λ Y c z i il ne. ap (λ y. y % p) (sum_on-ext Y n (λ j. c j * a i j) (λ j. c j * part (without everything e) everything a i j)
       (λ j _ _. ap (λ y. c j * y) (sym (part-shown (without everything e) everything a i j (member-without everything e i refl ne) refl)))) ∙ z i il;
   back = λ Y c z i il. elim (nat_cases i e) [
-    | inl q ↦ vanishes-sum p Y n (λ j. c j * part (without everything e) everything a i j) (λ j _ _. vanishes-mul p (c j) (part (without everything e) everything a i j) (ap (λ y. y % p) (part-other_row (without everything e) everything a i j (gone i q)) ∙ zero-mod p))
+    | inl q ↦ vanishes-sum p Y n (λ j. c j * part (without everything e) everything a i j)
+        (λ j _ _. vanishes-mul p (c j) (part (without everything e) everything a i j)
+        (ap (λ y. y % p) (part-other_row (without everything e) everything a i j (gone i q)) ∙ zero-mod p))
     | inr ne ↦ ap (λ y. y % p) (sum_on-ext Y n (λ j. c j * part (without everything e) everything a i j) (λ j. c j * a i j)
         (λ j _ _. ap (λ y. c j * y) (part-shown (without everything e) everything a i j (member-without everything e i refl ne) refl))) ∙ z i il ne
   ];
@@ -104,7 +106,8 @@ module _ (p : ℕ) (prime : IsPrime p) (m k n : ℕ) (a b : ℕ → ℕ → ℕ)
           (combination_of-largest p prime a m n X Z S.reached.1 (removed-independent Z S.reached.2) (subst (λ u. IsRank p a m n X u) (sym (S.reached.3 ∙ q)) R)) comb
 
       bad : Combines p a m n Z (λ i. identity i e) → ⊥
-      bad (d, t) = one_non_zero p prime (identity e e) (identity-same e) (sym (t e removed.row_below) ∙ vanishes-sum p Z n (λ j. d j * a e j) (λ j jl jh. zero_first j (S.reached.2 d
+      bad (d, t) = one_non_zero p prime (identity e e) (identity-same e)
+          (sym (t e removed.row_below) ∙ vanishes-sum p Z n (λ j. d j * a e j) (λ j jl jh. zero_first j (S.reached.2 d
           (removed.back Z d (λ i il ne. t i il ∙ ap (λ y. y % p) (identity-other i e ne) ∙ zero-mod p)) j jl jh)))
         where
           zero_first : (j : ℕ) → d j % p ≡ 0 → (d j * a e j) % p ≡ 0
@@ -139,7 +142,8 @@ module _ (p : ℕ) (prime : IsPrime p) (m k n : ℕ) (a b : ℕ → ℕ → ℕ)
               at_row : (i : ℕ) → i < m → (i ≡ e) ⊎ (i ≢ e) → (y * sum_on Y n (λ j. t.at j * a i j)) % p ≡ identity i e % p
               at_row i il (inl q) = subst (λ l. (y * sum_on Y n (λ j. t.at j * a l j)) % p ≡ identity l e % p) (sym q)
                   (ap (λ x. x % p) (let g : y * C ≡ C * y = omega arith in g) ∙ h ∙ sym (ap (λ x. x % p) (identity-same e) ∙ mod-eq_of_lt prime.above_one))
-              at_row i il (inr ne) = vanishes-mul p y (sum_on Y n (λ j. t.at j * a i j)) (removed.rows Y t.at zeros i il ne) ∙ sym (ap (λ x. x % p) (identity-other i e ne) ∙ zero-mod p)
+              at_row i il (inr ne) = vanishes-mul p y (sum_on Y n (λ j. t.at j * a i j)) (removed.rows Y t.at zeros i il ne)
+                  ∙ sym (ap (λ x. x % p) (identity-other i e ne) ∙ zero-mod p)
 
   pub removed-stays : (X : ℕ → Bool) (r s : ℕ) → IsRank p a m n X r → IsRank p b k n X s → (Combines p a m n X (λ i. identity i e) → ⊥) → s ≡ r
   removed-stays X r s R S never = elim (le_cases s r (removed-at_most X r s R S).0) [ inl q ↦ q | inr less ↦ absurd (never (falls-combines X r s R S less)) ]
@@ -158,7 +162,8 @@ module _ (p : ℕ) (prime : IsPrime p) (m k n : ℕ) (a b : ℕ → ℕ → ℕ)
 
     pub unit-combines : ((i : ℕ) → i < m → HasNoBase n B row i → S i e % p ≡ 0) → Combines p a m n X (λ i. identity i e)
     unit-combines shown = combines_of-product p prime m n S U a P X (λ i. identity i e) inv same
-        (combines-within p m n P B X (λ i. product m S identity i e) inside (combines_of-base p prime P m n B row base (λ i. product m S identity i e) (λ i il none. ap (λ y. y % p) (unit-column i) ∙ shown i il none)))
+        (combines-within p m n P B X (λ i. product m S identity i e) inside
+        (combines_of-base p prime P m n B row base (λ i. product m S identity i e) (λ i il none. ap (λ y. y % p) (unit-column i) ∙ shown i il none)))
 
     NonZeroRow : ℕ → Type 0
     NonZeroRow i = HasNoBase n B row i × (S i e % p ≢ 0)
