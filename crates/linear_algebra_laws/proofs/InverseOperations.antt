@@ -8,8 +8,8 @@ use Rattle.residue_theory.proofs.SumLaws.{sum_on-ext, nat_cases}
 use Rattle.residue_theory.proofs.ResidueLaws.{agree-add, agree-mul, vanishes-mul}
 use Rattle.linear_algebra.specs.Products.{product, identity, Agree, IsInverse}
 use Rattle.linear_algebra.specs.RowOperations.{IsRowAdded, IsRowScaled}
-use Rattle.linear_algebra_laws.proofs.Products.{identity-same, identity-other}
 use Rattle.linear_algebra_laws.proofs.Kernels.{row_added-other, row_added-changed, row_scaled-other, row_scaled-changed}
+use Rattle.linear_algebra_laws.proofs.Entries.{identity-same, identity-other}
 
 -- ---- products
 -- an entry of a product with the factors of its terms exchanged

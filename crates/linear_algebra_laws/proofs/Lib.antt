@@ -1,3 +1,4 @@
+pub mod Entries
 pub mod Elimination
 pub mod Ranks
 pub mod RankLaws

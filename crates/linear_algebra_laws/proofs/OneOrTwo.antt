@@ -1,6 +1,5 @@
 -- Of two values at a place, x and x + 1, one keeps columns independent, whatever stood there; so does one of 1 and 2.
 use Rattle.std.proofs.Common.{◌≡◌, ℕ, zero, suc, ◌+◌, ◌-◌, ◌*◌, ◌%◌, ◌<◌, ◌≤◌, ◌≢◌, Bool, true, false, ◌⊎◌, inl, inr, refl, ap, sym, subst, ◌∙◌, arith}
-use Rattle.std.proofs.lemmas.Bool.Decides.{nat_tests}
 use Rattle.std.proofs.Math.Nat.{mod_self, mod-eq_of_lt}
 use Rattle.residue_theory.specs.Sets.{without, everything}
 use Rattle.residue_theory.specs.Sums.{sum_on}
@@ -11,16 +10,7 @@ use Rattle.residue_theory.proofs.ResidueLaws.{vanishes-add, vanishes-mul, vanish
 use Rattle.linear_algebra.specs.Columns.{IsIndependent, CombinesToZero}
 use Rattle.linear_algebra.specs.Parts.{with_entry}
 use Rattle.linear_algebra_laws.proofs.Elimination.{Dichotomy, dichotomy, NonZeroSolution}
-
--- ---- a matrix with one entry changed
-pub with_entry-there : (a : ℕ → ℕ → ℕ) (r v x : ℕ) → with_entry a r v x r v ≡ x
-with_entry-there a r v x = grind (arith, nat_tests)
-
-pub with_entry-row : (a : ℕ → ℕ → ℕ) (r v x i j : ℕ) → i ≢ r → with_entry a r v x i j ≡ a i j
-with_entry-row a r v x i j ne = grind (arith, nat_tests)
-
-pub with_entry-column : (a : ℕ → ℕ → ℕ) (r v x i j : ℕ) → j ≢ v → with_entry a r v x i j ≡ a i j
-with_entry-column a r v x i j ne = grind (arith, nat_tests)
+use Rattle.linear_algebra_laws.proofs.Entries.{with_entry-there, with_entry-row, with_entry-column}
 
 -- ---- c combines the columns to zero with x at the place, and d with x + 1; u stands there, C and D are the rest of the row, k is -1
 -- then A * c + B * d combines the row to zero with u there

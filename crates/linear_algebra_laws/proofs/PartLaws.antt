@@ -1,5 +1,5 @@
 -- A part of a matrix: independent in the part means independent at its rows.
-use Rattle.std.proofs.Common.{◌≡◌, ℕ, ◌*◌, ◌%◌, ◌<◌, ◌≤◌, Bool, true, false, cond, ◌&&◌, refl, ap, sym, ◌∙◌, arith}
+use Rattle.std.proofs.Common.{◌≡◌, ℕ, ◌*◌, ◌%◌, ◌<◌, ◌≤◌, Bool, true, false, refl, ap, sym, ◌∙◌, arith}
 use Rattle.std.proofs.Math.Nat.{zero-mod}
 use Rattle.residue_theory.specs.Sets.{both, everything, IsWithin}
 use Rattle.residue_theory.specs.Residues.{IsPrime}
@@ -11,25 +11,7 @@ use Rattle.linear_algebra.specs.Columns.{IsIndependent, IsRank}
 use Rattle.linear_algebra.specs.Parts.{part}
 use Rattle.linear_algebra_laws.proofs.Elimination.{OnlyZero}
 use Rattle.linear_algebra_laws.proofs.RankLaws.{no_zero_column}
-
--- an entry of the part, and one outside
-pub part-shown : (R X : ℕ → Bool) (a : ℕ → ℕ → ℕ) (i j : ℕ) → R i ≡ true → X j ≡ true → part R X a i j ≡ a i j
-part-shown R X a i j r x = on (R i) (X j) (a i j) r x
-  where
-    on : (b c : Bool) (y : ℕ) → b ≡ true → c ≡ true → cond (b && c) y 0 ≡ y
-    on b c y h k = grind arith
-
-pub part-other_row : (R X : ℕ → Bool) (a : ℕ → ℕ → ℕ) (i j : ℕ) → R i ≡ false → part R X a i j ≡ 0
-part-other_row R X a i j r = off (R i) (X j) (a i j) r
-  where
-    off : (b c : Bool) (y : ℕ) → b ≡ false → cond (b && c) y 0 ≡ 0
-    off b c y h = grind arith
-
-pub part-other_column : (R X : ℕ → Bool) (a : ℕ → ℕ → ℕ) (i j : ℕ) → X j ≡ false → part R X a i j ≡ 0
-part-other_column R X a i j x = off (R i) (X j) (a i j) x
-  where
-    off : (b c : Bool) (y : ℕ) → c ≡ false → cond (b && c) y 0 ≡ 0
-    off b c y h = grind arith
+use Rattle.linear_algebra_laws.proofs.Entries.{part-shown, part-other_row, part-other_column}
 
 module _ (p m n : ℕ) (a : ℕ → ℕ → ℕ) (R X Y : ℕ → Bool) (within : IsWithin n Y X) where
   pub part-only_zero : IsIndependent p (part R X a) m n Y → OnlyZero p a R m Y n

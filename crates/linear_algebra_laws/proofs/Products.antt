@@ -1,5 +1,5 @@
 -- Products with invertible matrices keep which columns are independent, and so the rank.
-use Rattle.std.proofs.Common.{◌≡◌, ℕ, zero, suc, ◌+◌, ◌-◌, ◌*◌, ◌%◌, ◌<◌, ◌≢◌, Bool, cond, eqb, inl, inr, refl, ap, sym, ◌∙◌, arith}
+use Rattle.std.proofs.Common.{◌≡◌, ℕ, zero, suc, ◌+◌, ◌-◌, ◌*◌, ◌%◌, ◌<◌, ◌≢◌, Bool, inl, inr, refl, ap, sym, ◌∙◌, arith}
 use Rattle.residue_theory.specs.Sets.{without, everything}
 use Rattle.std.proofs.Math.Nat.{mod_self}
 use Rattle.std.proofs.lemmas.Bool.Decides.{nat_tests}
@@ -11,7 +11,9 @@ use Rattle.residue_theory.proofs.SumLaws.{sum_on-add, sum_on-mul, sum_on-ext, su
 use Rattle.residue_theory.proofs.ResidueLaws.{vanishes-mul, vanishes-sum, vanishes_by, vanishes-rest, agree-add, agree-mul, agree-sum, agree_of, vanishes_factor, lacks}
 use Rattle.residue_theory.proofs.CountLaws.{size-everything}
 use Rattle.linear_algebra.specs.Kernels.{SameKernel}
+use Rattle.linear_algebra.specs.Parts.{with_column}
 use Rattle.linear_algebra_laws.proofs.Elimination.{Dichotomy, dichotomy}
+use Rattle.linear_algebra_laws.proofs.Entries.{identity-same, identity-other, with_column-first, with_column-last}
 
 zero_not_prime : IsPrime 0 → ⊥
 zero_not_prime prime = absurd (no_such prime.above_one)
@@ -39,12 +41,6 @@ product-assoc k l U S a i j =
     one : (s : ℕ) → sum_below k (λ t. U i t * (S t s * a s j)) ≡ product k U S i s * a s j
     one s = sum_on-ext everything k (λ t. U i t * (S t s * a s j)) (λ t. a s j * (U i t * S t s)) (λ t _ _. omega arith)
         ∙ sum_on-mul everything k (a s j) (λ t. U i t * S t s) ∙ omega arith
-
-pub identity-same : (i : ℕ) → identity i i ≡ 1
-identity-same i = grind (arith, nat_tests)
-
-pub identity-other : (i j : ℕ) → i ≢ j → identity i j ≡ 0
-identity-other i j ne = grind (arith, nat_tests)
 
 -- a product with the identity matrix
 pub sum-identity : (k i : ℕ) (f : ℕ → ℕ) → i < k → sum_below k (λ t. identity i t * f t) ≡ f i
@@ -79,35 +75,23 @@ product-independent p m n U S a X inv ind = independent_of-product p m m n U (pr
         (λ t tl _. ap (λ s. s % p) (omega arith) ∙ agree-mul p (a t j) (product m U S i t) (identity i t) (inv i t il tl) ∙ ap (λ s. s % p) (omega arith))
         ∙ ap (λ s. s % p) (sum-identity m i (λ t. a t j) il))
 
--- U with x put beside it as a last column
-beside : ℕ → (ℕ → ℕ → ℕ) → (ℕ → ℕ) → ℕ → ℕ → ℕ
-beside m U x i j = cond (eqb j m) (x i) (U i j)
-
-beside-last : (m : ℕ) (U : ℕ → ℕ → ℕ) (x : ℕ → ℕ) (i : ℕ) → beside m U x i m ≡ x i
-unfolding beside
-beside-last m U x i = grind (arith, nat_tests)
-
-beside-other : (m : ℕ) (U : ℕ → ℕ → ℕ) (x : ℕ → ℕ) (i j : ℕ) → j < m → beside m U x i j ≡ U i j
-unfolding beside
-beside-other m U x i j l = grind (arith, nat_tests)
-
 -- where S * U is the identity, only zero is sent to zero by S
 pub kernel-zero : (p : ℕ) → IsPrime p → (m : ℕ) (S U : ℕ → ℕ → ℕ) → IsInverse p m S U → (x : ℕ → ℕ) →
     ((i : ℕ) → i < m → sum_below m (λ t. S i t * x t) % p ≡ 0) → (i : ℕ) → i < m → x i % p ≡ 0
-kernel-zero p prime m S U inv x zeros = go (dichotomy p prime everything (suc m) m (beside m U x) everything)
+kernel-zero p prime m S U inv x zeros = go (dichotomy p prime everything (suc m) m (with_column m U x) everything)
   where
-    go : Dichotomy p (beside m U x) everything m everything (suc m) → (i : ℕ) → i < m → x i % p ≡ 0
+    go : Dichotomy p (with_column m U x) everything m everything (suc m) → (i : ℕ) → i < m → x i % p ≡ 0
     go (inl (_, le)) i l = absurd (omega (arith, size-everything m, size-everything (suc m)))
     go (inr s) i l = vanishes_factor p prime (s.at m) (x i) at_m (vanishes-rest p (sum_below m (λ j. s.at j * U i j)) (s.at m * x i) (row i l)
         (vanishes-sum p everything m (λ j. s.at j * U i j) (λ j jl _. vanishes_by p _ (U i j * s.at j) (omega arith) (vanishes-mul p (U i j) (s.at j) (at_zero j jl)))))
       where
         row : (t : ℕ) → t < m → (sum_below m (λ j. s.at j * U t j) + s.at m * x t) % p ≡ 0
-        row t tl = vanishes_by p _ (sum_below m (λ j. s.at j * beside m U x t j) + s.at m * beside m U x t m)
+        row t tl = vanishes_by p _ (sum_below m (λ j. s.at j * with_column m U x t j) + s.at m * with_column m U x t m)
             (omega (
               arith,
-              sum_on-ext everything m (λ j. s.at j * U t j) (λ j. s.at j * beside m U x t j)
-                  (λ j jl _. ap (λ y. s.at j * y) (sym (beside-other m U x t j jl))),
-              ap (λ y. s.at m * y) (beside-last m U x t),
+              sum_on-ext everything m (λ j. s.at j * U t j) (λ j. s.at j * with_column m U x t j)
+                  (λ j jl _. ap (λ y. s.at j * y) (sym (with_column-first m U x t j jl))),
+              ap (λ y. s.at m * y) (with_column-last m U x t),
             ))
             (s.solves t tl refl)
 

@@ -12,7 +12,7 @@ use Rattle.residue_theory.proofs.CountLaws.{size-parts, size-without}
 use Rattle.residue_theory.proofs.ResidueLaws.{vanishes-mul, vanishes-sum, one_non_zero}
 use Rattle.linear_algebra_laws.proofs.Elimination.{dichotomy, NonZeroSolution}
 use Rattle.linear_algebra_laws.proofs.Ranks.{Basis, basis, basis-rank, independent-within, rank-unique, rank_exists}
-use Rattle.linear_algebra_laws.proofs.Products.{identity-same, identity-other}
+use Rattle.linear_algebra_laws.proofs.Entries.{identity-same, identity-other}
 
 pub rank-size : (p : ℕ) (a : ℕ → ℕ → ℕ) (m n : ℕ) (X : ℕ → Bool) (r : ℕ) → IsRank p a m n X r → r ≤ size_on X n
 rank-size p a m n X r R = omega (arith, (R.reached).3, size_on-within X (R.reached).0 n (R.reached).1)

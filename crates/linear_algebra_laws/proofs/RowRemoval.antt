@@ -16,11 +16,11 @@ use Rattle.linear_algebra.specs.Parts.{without_row, above, part}
 use Rattle.linear_algebra_laws.proofs.Elimination.{Dichotomy, dichotomy}
 use Rattle.linear_algebra_laws.proofs.Ranks.{rank_exists, combination_of-largest, combines-through, combines-within}
 use Rattle.linear_algebra_laws.proofs.RankLaws.{rank-rows}
-use Rattle.linear_algebra_laws.proofs.Products.{identity-same, identity-other, combines-product, combines_of-product, sum-identity_right}
+use Rattle.linear_algebra_laws.proofs.Products.{combines-product, combines_of-product, sum-identity_right}
 use Rattle.linear_algebra_laws.proofs.Bases.{base_or_none, base-combines, combines_of-base}
 use Rattle.linear_algebra_laws.proofs.Stacked.{above-size, top-zero, low-zero}
-use Rattle.linear_algebra_laws.proofs.PartLaws.{part-shown, part-other_row}
 use Rattle.linear_algebra_laws.proofs.SkipLaws.{skip-other, skip-below, unskip, unskip-below, skip-unskip}
+use Rattle.linear_algebra_laws.proofs.Entries.{identity-same, identity-other, part-shown, part-other_row}
 
 -- the k rows of b are those of a but row e, in any order
 pub record IsRowRemoved (p m k n : ℕ) (a b : ℕ → ℕ → ℕ) (e : ℕ) : Type 0 where

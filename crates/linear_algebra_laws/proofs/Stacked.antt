@@ -13,15 +13,7 @@ use Rattle.linear_algebra_laws.proofs.Elimination.{dichotomy}
 use Rattle.linear_algebra_laws.proofs.Ranks.{Basis, basis, combined, none_independent, rank_exists}
 use Rattle.linear_algebra_laws.proofs.RankLaws.{rank-rows}
 use Rattle.linear_algebra.specs.Parts.{above}
-
-pub above-top : (m : ℕ) (a b : ℕ → ℕ → ℕ) (i j : ℕ) → i < m → above m a b i j ≡ a i j
-above-top m a b i j l = grind (arith, nat_tests)
-
-pub above-low : (m : ℕ) (a b : ℕ → ℕ → ℕ) (i j : ℕ) → above m a b (m + i) j ≡ b i j
-above-low m a b i j = low (ltb (m + i) m) (m + i - m) (let g : m ≤ m + i = omega arith in grind (arith, nat_tests)) (omega arith)
-  where
-    low : (t : Bool) (k : ℕ) → t ≡ false → k ≡ i → cond t (a (m + i) j) (b k j) ≡ b i j
-    low t k e q = ap (λ s. cond s (a (m + i) j) (b k j)) e ∙ ap (λ s. b s j) q
+use Rattle.linear_algebra_laws.proofs.Entries.{above-top, above-low}
 
 module _ (p m t n : ℕ) (a b : ℕ → ℕ → ℕ) (X : ℕ → Bool) (c : ℕ → ℕ) where
   sum-top : (i : ℕ) → i < m → sum_on X n (λ j. c j * above m a b i j) ≡ sum_on X n (λ j. c j * a i j)

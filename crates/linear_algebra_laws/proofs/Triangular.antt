@@ -11,7 +11,7 @@ use Rattle.residue_theory.proofs.ResidueLaws.{vanishes-mul, vanishes-sum, vanish
 use Rattle.linear_algebra.specs.Columns.{IsIndependent, IsRank, CombinesToZero}
 use Rattle.linear_algebra.specs.Parts.{in_part, diagonal, IsBlockTriangular}
 use Rattle.linear_algebra_laws.proofs.RankLaws.{no_zero_column}
-use Rattle.linear_algebra_laws.proofs.PartLaws.{part-shown, part-other_row, part-other_column}
+use Rattle.linear_algebra_laws.proofs.Entries.{part-shown, part-other_row, part-other_column}
 
 ne_cases : (a b : ℕ) → a ≢ b → (a < b) ⊎ (b < a)
 ne_cases a b ne = grind arith
