@@ -4,6 +4,7 @@ pub mod Ranks
 pub mod RankLaws
 pub mod Products
 pub mod Bases
+pub mod Tableaus
 pub mod Kernels
 pub mod InverseOperations
 pub mod Pivots

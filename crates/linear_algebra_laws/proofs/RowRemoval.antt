@@ -3,20 +3,20 @@ use Rattle.std.proofs.Common.{◌≡◌, ℕ, ◌+◌, ◌-◌, ◌*◌, ◌%◌
 use Rattle.std.proofs.lemmas.Bool.Decides.{nat_tests}
 use Rattle.std.proofs.Math.Nat.{zero-mod, mod-eq_of_lt}
 use Rattle.residue_theory.specs.Sets.{everything, without, IsWithin}
-use Rattle.residue_theory.specs.Sums.{sum_on}
+use Rattle.residue_theory.specs.Sums.{sum_on, sum_below, size_on}
 use Rattle.residue_theory.specs.Residues.{IsPrime}
 use Rattle.residue_theory.proofs.SumLaws.{sum_on-mul, sum_on-ext, nat_cases, member-without}
 use Rattle.residue_theory.proofs.SetLaws.{le_cases, zero_cases, search_below}
 use Rattle.residue_theory.proofs.CountLaws.{size-everything}
-use Rattle.residue_theory.proofs.ResidueLaws.{vanishes-mul, vanishes-sum, inverse, one_non_zero}
+use Rattle.residue_theory.proofs.ResidueLaws.{agree-mul, agree-sum, vanishes-mul, vanishes-sum, inverse, one_non_zero}
 use Rattle.linear_algebra.specs.Columns.{CombinesToZero, IsIndependent, IsRank, Combines}
 use Rattle.linear_algebra.specs.Products.{identity, product, IsInverse, Agree}
 use Rattle.linear_algebra.specs.Bases.{IsBase, HasNoBase}
 use Rattle.linear_algebra.specs.Parts.{without_row, above, part}
 use Rattle.linear_algebra_laws.proofs.Elimination.{Dichotomy, dichotomy}
 use Rattle.linear_algebra_laws.proofs.Ranks.{rank_exists, combination_of-largest, combines-through, combines-within}
-use Rattle.linear_algebra_laws.proofs.RankLaws.{rank-rows}
-use Rattle.linear_algebra_laws.proofs.Products.{combines-product, combines_of-product, sum-identity_right}
+use Rattle.linear_algebra_laws.proofs.RankLaws.{rank-rows, rank_of-independent}
+use Rattle.linear_algebra_laws.proofs.Products.{sum-product, combines-product, combines_of-product, sum-identity_right}
 use Rattle.linear_algebra_laws.proofs.Bases.{base_or_none, base-combines, combines_of-base}
 use Rattle.linear_algebra_laws.proofs.Stacked.{above-size, top-zero, low-zero}
 use Rattle.linear_algebra_laws.proofs.SkipLaws.{skip-other, skip-below, unskip, unskip-below, skip-unskip}
@@ -147,6 +147,26 @@ module _ (p : ℕ) (prime : IsPrime p) (m k n : ℕ) (a b : ℕ → ℕ → ℕ)
 
   pub removed-stays : (X : ℕ → Bool) (r s : ℕ) → IsRank p a m n X r → IsRank p b k n X s → (Combines p a m n X (λ i. identity i e) → ⊥) → s ≡ r
   removed-stays X r s R S never = elim (le_cases s r (removed-at_most X r s R S).0) [ inl q ↦ q | inr less ↦ absurd (never (falls-combines X r s R S less)) ]
+
+  -- of an independent set at most one column goes with the row
+  pub removed-drop : (Y : ℕ → Bool) → IsIndependent p a m n Y → (Z : ℕ → Bool) × IsWithin n Z Y × IsIndependent p b k n Z × (size_on Y n ≤ size_on Z n + 1)
+  removed-drop Y ind = go (rank_exists p prime b k n Y)
+    where
+      go : (s : ℕ) × IsRank p b k n Y s → (Z : ℕ → Bool) × IsWithin n Z Y × IsIndependent p b k n Z × (size_on Y n ≤ size_on Z n + 1)
+      go (s, T) = (T.reached.0, T.reached.1, T.reached.2, omega (arith, T.reached.3, (removed-at_most Y (size_on Y n) s (rank_of-independent p a m n Y ind) T).1))
+
+  -- where row e is a combination of the others on X, the rank stays
+  pub removed-combined : (X : ℕ → Bool) (r s : ℕ) (y : ℕ → ℕ) → y e % p ≢ 0 → ((j : ℕ) → j < n → X j ≡ true → sum_below m (λ t. y t * a t j) % p ≡ 0) →
+      IsRank p a m n X r → IsRank p b k n X s → s ≡ r
+  removed-combined X r s y ne zeros R S = removed-stays X r s R S never
+    where
+      -- the rows' combination gives y e at the unit column, and zero at each column of X
+      never : Combines p a m n X (λ i. identity i e) → ⊥
+      never (c, t) = ne (sym (ap (λ x. x % p) (sum-identity_right m e y removed.row_below))
+          ∙ sym (agree-sum p everything m (λ i. y i * sum_on X n (λ j. c j * a i j)) (λ i. y i * identity i e)
+          (λ i il _. agree-mul p (y i) (sum_on X n (λ j. c j * a i j)) (identity i e) (t i il)))
+          ∙ ap (λ x. x % p) (sym (sum-product m n (λ _ i. y i) a X c 0))
+          ∙ vanishes-sum p X n (λ j. c j * product m (λ _ i. y i) a 0 j) (λ j jl jh. vanishes-mul p (c j) (product m (λ _ i. y i) a 0 j) (zeros j jl jh)))
 
   -- ---- read from a tableau: P = S * a with a base B within X, and the columns of X are zero in P at each row without base
   module _ (S U P : ℕ → ℕ → ℕ) (B : ℕ → Bool) (row : ℕ → ℕ) (X : ℕ → Bool) (inv : IsInverse p m S U) (same : Agree p m n P (product m S a)) (base : IsBase p P m n B row) (inside : IsWithin n B X)
