@@ -24,11 +24,13 @@ base-within p a m n C B row within base = record {
 module _ (p : ℕ) (prime : IsPrime p) (P : ℕ → ℕ → ℕ) (m n : ℕ) (B : ℕ → Bool) (row : ℕ → ℕ) (base : IsBase p P m n B row) where
   -- at the row of b, base columns combine to the coefficient of b
   pub base-row : (Y : ℕ → Bool) → IsWithin n Y B → (c : ℕ → ℕ) (b : ℕ) → b < n → Y b ≡ true → sum_on Y n (λ j. c j * P (row b) j) % p ≡ c b % p
-  base-row Y within c b bl bh = ap (λ s. s % p) (sum_on-without Y n b (λ j. c j * P (row b) j) bl bh) ∙ agree-add p (sum_on (without Y b) n (λ j. c j * P (row b) j)) 0 (c b * P (row b) b) (c b) others at_b ∙ ap (λ s. s % p) (omega arith)
+  base-row Y within c b bl bh = ap (λ s. s % p) (sum_on-without Y n b (λ j. c j * P (row b) j) bl bh)
+      ∙ agree-add p (sum_on (without Y b) n (λ j. c j * P (row b) j)) 0 (c b * P (row b) b) (c b) others at_b ∙ ap (λ s. s % p) (omega arith)
     where
       others : sum_on (without Y b) n (λ j. c j * P (row b) j) % p ≡ 0 % p
       others = vanishes-sum p (without Y b) n (λ j. c j * P (row b) j) (λ j jl jh. vanishes-mul p (c j) (P (row b) j)
-          (let w : (Y j ≡ true) × (j ≢ b) = without-member Y b j jh in base.zero j (row b) jl (within j jl w.0) (base.row_below b bl (within b bl bh)) (λ q. w.1 (base.distinct j b jl bl (within j jl w.0) (within b bl bh) (sym q)))))
+          (let w : (Y j ≡ true) × (j ≢ b) = without-member Y b j jh in base.zero j (row b) jl (within j jl w.0) (base.row_below b bl (within b bl bh))
+          (λ q. w.1 (base.distinct j b jl bl (within j jl w.0) (within b bl bh) (sym q)))))
           ∙ sym (zero-mod p)
 
       at_b : (c b * P (row b) b) % p ≡ c b % p
@@ -75,6 +77,7 @@ module _ (p : ℕ) (prime : IsPrime p) (P : ℕ → ℕ → ℕ) (m n : ℕ) (B 
   pub rank_of-base : ((j i : ℕ) → j < n → X j ≡ true → i < m → P i j % p ≢ 0 → (b : ℕ) × (b < n) × (both B X b ≡ true) × (row b ≡ i)) → IsRank p P m n X (size_on (both B X) n)
   rank_of-base shown = rank_of-base_rows (λ i j il jl jh none. zero_or i j none (zero_cases (P i j % p)) (shown j i jl jh il))
     where
-      zero_or : (i j : ℕ) → HasNoBase n (both B X) row i → (P i j % p ≡ 0) ⊎ (P i j % p ≢ 0) → (P i j % p ≢ 0 → (b : ℕ) × (b < n) × (both B X b ≡ true) × (row b ≡ i)) → P i j % p ≡ 0
+      zero_or : (i j : ℕ) → HasNoBase n (both B X) row i → (P i j % p ≡ 0) ⊎ (P i j % p ≢ 0) →
+          (P i j % p ≢ 0 → (b : ℕ) × (b < n) × (both B X b ≡ true) × (row b ≡ i)) → P i j % p ≡ 0
       zero_or i j none (inl z) found = z
       zero_or i j none (inr ne) found = absurd (none (found ne).0 (found ne).1 (found ne).2 (found ne).3)

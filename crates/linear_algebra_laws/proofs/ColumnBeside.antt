@@ -1,6 +1,5 @@
 -- A column put beside a matrix: the rank stays exactly where it is a combination of the columns.
-use Rattle.std.proofs.Common.{◌≡◌, ℕ, suc, ◌+◌, ◌-◌, ◌*◌, ◌%◌, ◌<◌, ◌≤◌, cond, refl, ap, sym, subst, ◌∙◌, arith}
-use Rattle.std.proofs.lemmas.Bool.Decides.{nat_tests}
+use Rattle.std.proofs.Common.{◌≡◌, ℕ, suc, ◌+◌, ◌-◌, ◌*◌, ◌%◌, ◌≤◌, cond, refl, ap, sym, subst, ◌∙◌, arith}
 use Rattle.residue_theory.specs.Sets.{everything, without}
 use Rattle.residue_theory.specs.Sums.{sum_on, sum_below}
 use Rattle.residue_theory.specs.Residues.{IsPrime}
@@ -10,12 +9,7 @@ use Rattle.linear_algebra.specs.Parts.{with_column, without_column}
 use Rattle.linear_algebra_laws.proofs.Kernels.{kernel_of-agree, rank_of-kernel}
 use Rattle.linear_algebra_laws.proofs.SkipLaws.{skip-first}
 use Rattle.linear_algebra_laws.proofs.ColumnRemoval.{column-stays, stays-column, removed_column-at_most}
-
-pub with_column-first : (n : ℕ) (a : ℕ → ℕ → ℕ) (x : ℕ → ℕ) (i j : ℕ) → j < n → with_column n a x i j ≡ a i j
-with_column-first n a x i j l = grind (arith, nat_tests)
-
-pub with_column-last : (n : ℕ) (a : ℕ → ℕ → ℕ) (x : ℕ → ℕ) (i : ℕ) → with_column n a x i n ≡ x i
-with_column-last n a x i = grind (arith, nat_tests)
+use Rattle.linear_algebra_laws.proofs.Entries.{with_column-first, with_column-last}
 
 module _ (p : ℕ) (m n : ℕ) (a : ℕ → ℕ → ℕ) (x : ℕ → ℕ) where
   -- the sum over the columns but the last

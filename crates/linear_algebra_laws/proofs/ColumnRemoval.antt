@@ -35,7 +35,8 @@ spread-second v Y j h = second (not (eqb j v)) (Y (unskip v j)) h
 module _ (p m n : ℕ) (a : ℕ → ℕ → ℕ) (v : ℕ) (vl : v < n) where
   -- a sum over columns but v, and its size
   sum-skip : (X : ℕ → Bool) (f : ℕ → ℕ) → sum_on (without X v) n f ≡ sum_on (λ k. X (skip v k)) (n - 1) (λ k. f (skip v k))
-  sum-skip X f = subst (λ w. sum_on (without X v) w f ≡ sum_on (λ k. X (skip v k)) (n - 1) (λ k. f (skip v k))) (let q : suc (n - 1) ≡ n = omega arith in q) (sum_on-skip X (n - 1) v f (omega arith))
+  sum-skip X f = subst (λ w. sum_on (without X v) w f ≡ sum_on (λ k. X (skip v k)) (n - 1) (λ k. f (skip v k))) (let q : suc (n - 1) ≡ n = omega arith in q)
+      (sum_on-skip X (n - 1) v f (omega arith))
 
   skipped : (X : ℕ → Bool) (k : ℕ) → X (skip v k) ≡ true → without X v (skip v k) ≡ true
   skipped X k h = member-without X v (skip v k) h (skip-other v k)
@@ -45,7 +46,8 @@ module _ (p m n : ℕ) (a : ℕ → ℕ → ℕ) (v : ℕ) (vl : v < n) where
     where
       solves : CombinesToZero p a m n (without X v) (λ j. c (unskip v j))
       solves i il = ap (λ y. y % p) (sum-skip X (λ j. c (unskip v j) * a i j)
-          ∙ sum_on-ext (λ k. X (skip v k)) (n - 1) (λ k. c (unskip v (skip v k)) * a i (skip v k)) (λ k. c k * without_column v a i k) (λ k _ _. ap (λ l. c l * a i (skip v k)) (unskip-skip v k))) ∙ s i il
+          ∙ sum_on-ext (λ k. X (skip v k)) (n - 1) (λ k. c (unskip v (skip v k)) * a i (skip v k)) (λ k. c k * without_column v a i k)
+          (λ k _ _. ap (λ l. c l * a i (skip v k)) (unskip-skip v k))) ∙ s i il
 
   pub whole_column-independent : (X : ℕ → Bool) → IsIndependent p (without_column v a) m (n - 1) (λ k. X (skip v k)) → IsIndependent p a m n (without X v)
   whole_column-independent X ind c s j jl jh = at (without-member X v j jh)
@@ -56,7 +58,11 @@ module _ (p m n : ℕ) (a : ℕ → ℕ → ℕ) (v : ℕ) (vl : v < n) where
 
   -- the rank of the columns but v is the same in both
   pub removed_column-rank : (X : ℕ → Bool) (s : ℕ) → IsRank p a m n (without X v) s → IsRank p (without_column v a) m (n - 1) (λ k. X (skip v k)) s
-  removed_column-rank X s R = record { reached = ((λ k. Y (skip v k)), (λ k kl kh. (without-member X v (skip v k) (R.reached.1 (skip v k) (skip-below v k n vl kl) kh)).0), free, size); greatest = greatest }
+  removed_column-rank X s R = record {
+    reached =
+        ((λ k. Y (skip v k)), (λ k kl kh. (without-member X v (skip v k) (R.reached.1 (skip v k) (skip-below v k n vl kl) kh)).0), free, size);
+    greatest = greatest;
+  }
     where
       Y : ℕ → Bool
       Y = R.reached.0
@@ -79,7 +85,9 @@ module _ (p m n : ℕ) (a : ℕ → ℕ → ℕ) (v : ℕ) (vl : v < n) where
         arith,
         sum_on-same (λ k. spread v Z (skip v k)) Z (n - 1) (λ _. 1) (λ k _. spread-skip v Z k),
         sum-skip (spread v Z) (λ _. 1),
-        R.greatest (without (spread v Z) v) inside (whole_column-independent (spread v Z) (independent-within p (without_column v a) m (n - 1) (λ k. spread v Z (skip v k)) Z (λ k _ h. sym (spread-skip v Z k) ∙ h) ind)),
+        R.greatest (without (spread v Z) v) inside
+            (whole_column-independent (spread v Z) (independent-within p (without_column v a) m (n - 1) (λ k. spread v Z (skip v k)) Z
+            (λ k _ h. sym (spread-skip v Z k) ∙ h) ind)),
       )
         where
           inside : IsWithin n (without (spread v Z) v) (without X v)
@@ -129,4 +137,5 @@ module _ (p m n : ℕ) (a : ℕ → ℕ → ℕ) (v : ℕ) (vl : v < n) where
     -- and only there
     pub stays-column : s ≡ r → IsCombination p a m n (without X v) v
     stays-column q = combination-within p a m n others.reached.0 (without X v) v others.reached.1
-        (combination_of-largest p prime a m n X others.reached.0 (λ j l h. in_x j l (others.reached.1 j l h)) others.reached.2 (subst (λ u. IsRank p a m n X u) (sym (others.reached.3 ∙ q)) R) v vl member)
+        (combination_of-largest p prime a m n X others.reached.0 (λ j l h. in_x j l (others.reached.1 j l h)) others.reached.2
+        (subst (λ u. IsRank p a m n X u) (sym (others.reached.3 ∙ q)) R) v vl member)

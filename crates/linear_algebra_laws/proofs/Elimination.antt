@@ -51,10 +51,12 @@ module _ (a : ℕ → ℕ → ℕ) (X : ℕ → Bool) (n : ℕ) where
   unfolding extend
   extend-other r v w c j ne = grind (arith, nat_tests)
 
-  sum-extend : (r v w : ℕ) (c : ℕ → ℕ) (i : ℕ) → v < n → X v ≡ true → sum_on X n (λ j. extend r v w c j * a i j) ≡ sum_on (without X v) n (λ j. c j * a i j) + w * sum_on (without X v) n (λ k. c k * a r k) * a i v
+  sum-extend : (r v w : ℕ) (c : ℕ → ℕ) (i : ℕ) → v < n → X v ≡ true →
+      sum_on X n (λ j. extend r v w c j * a i j) ≡ sum_on (without X v) n (λ j. c j * a i j) + w * sum_on (without X v) n (λ k. c k * a r k) * a i v
   sum-extend r v w c i l h =
       sum-split v l h (extend r v w c) i
-      ∙ ap (λ s. s + extend r v w c v * a i v) (sum_on-ext (without X v) n (λ j. extend r v w c j * a i j) (λ j. c j * a i j) (λ j _ q. ap (λ x. x * a i j) (extend-other r v w c j ((without-member X v j q).1))))
+      ∙ ap (λ s. s + extend r v w c v * a i v) (sum_on-ext (without X v) n (λ j. extend r v w c j * a i j) (λ j. c j * a i j)
+      (λ j _ q. ap (λ x. x * a i j) (extend-other r v w c j ((without-member X v j q).1))))
       ∙ ap (λ s. sum_on (without X v) n (λ j. c j * a i j) + s * a i v) (extend-same r v w c)
 
 not_pivot : (b : Bool) (x : ℕ) → b && not (eqb x 0) ≡ false → b ≡ true → x ≡ 0
@@ -74,7 +76,15 @@ no_rows : (p : ℕ) → IsPrime p → (a : ℕ → ℕ → ℕ) (R X : ℕ → B
 no_rows p prime a R X n = go (first_on X n)
   where
     go : ((j : ℕ) × (j < n) × (X j ≡ true)) ⊎ ((j : ℕ) → j < n → X j ≡ false) → Dichotomy p a R zero X n
-    go (inl (j, l, h)) = inr (record { at = λ _. suc zero; solves = λ i none. absurd (omega arith); place = j; below = l; member = h; non_zero = one_non_zero p prime (suc zero) refl })
+    go (inl (j, l, h)) = inr (record {
+      at = λ _. suc zero;
+      solves = λ i none. absurd
+          (omega arith);
+      place = j;
+      below = l;
+      member = h;
+      non_zero = one_non_zero p prime (suc zero) refl;
+    })
     go (inr none) = inl ((λ c _ j l h. absurd (differ (none j l) h)), omega (arith, size-zero X n none))
 
 -- the last row is not an equation of the system
@@ -114,11 +124,22 @@ pivot_row p prime a R X m n v w e vl vh z (inl (only, le)) = inl (zero_alone, (o
         row i l h = vanishes_by p _ _ (sym (sum-split a X n v vl vh c i)) (s i l h)
 
         rest : (k : ℕ) → k < n → without X v k ≡ true → c k % p ≡ 0
-        rest = only c (λ i l h. vanishes_by p _ (T i + w * a i v * T m) (sum-clear a (without X v) n m v w c i) (cleared p (T i) (T m) (c v) (a i v) (a m v) w (row i (omega arith) h) (row m (omega arith) e) z))
+        rest = only c (λ i l h. vanishes_by p _ (T i + w * a i v * T m) (sum-clear a (without X v) n m v w c i)
+            (cleared p (T i) (T m) (c v) (a i v) (a m v) w (row i (omega arith) h) (row m (omega arith) e) z))
 
         at_v : c v % p ≡ 0
-        at_v = pivot_free p (T m) (c v) (a m v) w (row m (omega arith) e) (vanishes-sum p (without X v) n (λ k. c k * a m k) (λ k l h. vanishes_by p _ (a m k * c k) (omega arith) (vanishes-mul p (a m k) (c k) (rest k l h)))) z
-pivot_row p prime a R X m n v w e vl vh z (inr s) = inr (record { at = extend a X n m v w s.at; solves = extended; place = s.place; below = s.below; member = (without-member X v s.place s.member).0; non_zero = still })
+        at_v = pivot_free p (T m) (c v) (a m v) w (row m (omega arith) e)
+            (vanishes-sum p (without X v) n (λ k. c k * a m k) (λ k l h. vanishes_by p _ (a m k * c k) (omega arith) (vanishes-mul p (a m k) (c k) (rest k l h)))) z
+pivot_row p prime a R X m n v w e vl vh z (inr s) = inr
+    (record {
+      at = extend a X n m v w s.at;
+      solves = extended;
+      place = s.place;
+      below = s.below;
+      member =
+          (without-member X v s.place s.member).0;
+      non_zero = still;
+    })
   where
     S : ℕ
     S = sum_on (without X v) n (λ k. s.at k * a m k)

@@ -8,8 +8,8 @@ use Rattle.residue_theory.proofs.SumLaws.{sum_on-ext, nat_cases}
 use Rattle.residue_theory.proofs.ResidueLaws.{agree-add, agree-mul, vanishes-mul}
 use Rattle.linear_algebra.specs.Products.{product, identity, Agree, IsInverse}
 use Rattle.linear_algebra.specs.RowOperations.{IsRowAdded, IsRowScaled}
-use Rattle.linear_algebra_laws.proofs.Products.{identity-same, identity-other}
 use Rattle.linear_algebra_laws.proofs.Kernels.{row_added-other, row_added-changed, row_scaled-other, row_scaled-changed}
+use Rattle.linear_algebra_laws.proofs.Entries.{identity-same, identity-other}
 
 -- ---- products
 -- an entry of a product with the factors of its terms exchanged
@@ -36,7 +36,9 @@ product-row_scaled p m k n S T a t f scaled = record {
 -- the same operation on entries that agree
 pub agree-row_added : (p m n : ℕ) (a b c d : ℕ → ℕ → ℕ) (t s f : ℕ) → t < m → s < m → Agree p m n a b → IsRowAdded p m n a c t s f → IsRowAdded p m n b d t s f → Agree p m n c d
 agree-row_added p m n a b c d t s f tl sl same left right i j il jl = elim (nat_cases i t) [
-  | inl q ↦ subst (λ k. c k j % p ≡ d k j % p) (sym q) (left.changed j jl ∙ agree-add p (a t j) (b t j) (f * a s j) (f * b s j) (same t j tl jl) (agree-mul p f (a s j) (b s j) (same s j sl jl)) ∙ sym (right.changed j jl))
+  | inl q ↦ subst (λ k. c k j % p ≡ d k j % p) (sym q)
+      (left.changed j jl ∙ agree-add p (a t j) (b t j) (f * a s j) (f * b s j) (same t j tl jl) (agree-mul p f (a s j) (b s j) (same s j sl jl))
+      ∙ sym (right.changed j jl))
   | inr ne ↦ left.others i j il jl ne ∙ same i j il jl ∙ sym (right.others i j il jl ne)
 ]
 
@@ -71,7 +73,8 @@ module _ (p m : ℕ) (S T V W : ℕ → ℕ → ℕ) (t s f g : ℕ) (inv : IsIn
 
   -- at row t and column s the two changes cancel
   corner : (x y z w : ℕ) → x ≡ 0 → y ≡ 1 → z ≡ 1 → w ≡ 0 → (x + g * y) + f * (z + g * w) ≡ f + g
-  corner x y z w a b c d = ap (λ k. (k + g * y) + f * (z + g * w)) a ∙ ap (λ k. (0 + g * k) + f * (z + g * w)) b ∙ ap (λ k. (0 + g * 1) + f * (k + g * w)) c ∙ ap (λ k. (0 + g * 1) + f * (1 + g * k)) d ∙ omega arith
+  corner x y z w a b c d = ap (λ k. (k + g * y) + f * (z + g * w)) a ∙ ap (λ k. (0 + g * k) + f * (z + g * w)) b ∙ ap (λ k. (0 + g * 1) + f * (k + g * w)) c
+      ∙ ap (λ k. (0 + g * 1) + f * (1 + g * k)) d ∙ omega arith
 
   pub inverse-row_added : IsInverse p m T (λ i j. W j i)
   inverse-row_added i j il jl = at (nat_cases i t) (nat_cases j s)
@@ -84,12 +87,14 @@ module _ (p m : ℕ) (S T V W : ℕ → ℕ → ℕ) (t s f g : ℕ) (inv : IsIn
       at (inr it) (inl q) = left-other i j il it ∙ subst (λ k. dot (S i) (W k) % p ≡ identity i k % p) (sym q)
           (right-changed i il ∙ ap (λ y. y % p) (no_more (identity i s) (identity i t) g (identity-other i t it)))
       at (inl q) (inr js) = subst (λ k. dot (T k) (W j) % p ≡ identity k j % p) (sym q)
-          (left-changed j ∙ agree-add p (dot (S t) (W j)) (identity t j) (f * dot (S s) (W j)) (f * identity s j) (right-other t j tl jl js) (agree-mul p f (dot (S s) (W j)) (identity s j) (right-other s j sl jl js))
+          (left-changed j ∙ agree-add p (dot (S t) (W j)) (identity t j) (f * dot (S s) (W j)) (f * identity s j) (right-other t j tl jl js)
+          (agree-mul p f (dot (S s) (W j)) (identity s j) (right-other s j sl jl js))
           ∙ ap (λ y. y % p) (no_more (identity t j) (identity s j) f (identity-other s j (λ e. js (sym e)))))
       at (inl q) (inl r) = subst (λ k. dot (T k) (W j) % p ≡ identity k j % p) (sym q) (subst (λ k. dot (T t) (W k) % p ≡ identity t k % p) (sym r)
           (left-changed s ∙ agree-add p (dot (S t) (W s)) (identity t s + g * identity t t) (f * dot (S s) (W s)) (f * (identity s s + g * identity s t))
           (right-changed t tl) (agree-mul p f (dot (S s) (W s)) (identity s s + g * identity s t) (right-changed s sl))
-          ∙ ap (λ y. y % p) (corner (identity t s) (identity t t) (identity s s) (identity s t) (identity-other t s apart) (identity-same t) (identity-same s) (identity-other s t (λ e. apart (sym e))))
+          ∙ ap (λ y. y % p) (corner (identity t s) (identity t t) (identity s s) (identity s t) (identity-other t s apart) (identity-same t) (identity-same s)
+          (identity-other s t (λ e. apart (sym e))))
           ∙ opposite ∙ sym (ap (λ y. y % p) (identity-other t s apart) ∙ zero_mod)))
         where
           zero_mod : 0 % p ≡ 0
@@ -123,7 +128,8 @@ module _ (p m : ℕ) (S T V W : ℕ → ℕ → ℕ) (t f g : ℕ) (inv : IsInve
       at (inl q) (inr jt) = subst (λ k. sum_below m (λ u. T k u * W j u) % p ≡ identity k j % p) (sym q)
           (scaled-row j ∙ agree-mul p f (sum_below m (λ u. S t u * W j u)) (identity t j) (right-entry t j tl jl jt)
           ∙ ap (λ y. y % p) (none (identity t j) (identity t j) f (identity-other t j (λ e. jt (sym e))) (identity-other t j (λ e. jt (sym e)))))
-      at (inl q) (inl r) = subst (λ k. sum_below m (λ u. T k u * W j u) % p ≡ identity k j % p) (sym q) (subst (λ k. sum_below m (λ u. T t u * W k u) % p ≡ identity t k % p) (sym r)
+      at (inl q) (inl r) = subst (λ k. sum_below m (λ u. T k u * W j u) % p ≡ identity k j % p) (sym q)
+          (subst (λ k. sum_below m (λ u. T t u * W k u) % p ≡ identity t k % p) (sym r)
           (scaled-row t ∙ agree-mul p f (sum_below m (λ u. S t u * W t u)) (g * identity t t) (right-column t tl)
           ∙ ap (λ y. (f * (g * y)) % p) (identity-same t) ∙ ap (λ y. y % p) (let e : f * (g * 1) ≡ f * g = omega arith in e) ∙ opposite
           ∙ sym (ap (λ y. y % p) (identity-same t) ∙ mod-eq_of_lt prime.above_one)))

@@ -44,7 +44,8 @@ module _ (p m n : ℕ) (a b : ℕ → ℕ → ℕ) (t s k : ℕ) (added : IsRowA
 
   pub row_added-changed : (X : ℕ → Bool) (c : ℕ → ℕ) → sum_on X n (λ j. c j * b t j) % p ≡ (sum_on X n (λ j. c j * a t j) + k * sum_on X n (λ j. c j * a s j)) % p
   row_added-changed X c =
-      agree-sum p X n (λ j. c j * b t j) (λ j. c j * a t j + k * (c j * a s j)) (λ j jl _. agree-mul p (c j) (b t j) (a t j + k * a s j) (added.changed j jl) ∙ ap (λ w. w % p) (omega arith))
+      agree-sum p X n (λ j. c j * b t j) (λ j. c j * a t j + k * (c j * a s j))
+      (λ j jl _. agree-mul p (c j) (b t j) (a t j + k * a s j) (added.changed j jl) ∙ ap (λ w. w % p) (omega arith))
       ∙ ap (λ w. w % p) (sum_on-add X n (λ j. c j * a t j) (λ j. k * (c j * a s j)) ∙ ap (λ w. sum_on X n (λ j. c j * a t j) + w) (sum_on-mul X n k (λ j. c j * a s j)))
 
   module _ (apart : t ≢ s) (tl : t < m) (sl : s < m) where
@@ -53,7 +54,10 @@ module _ (p m n : ℕ) (a b : ℕ → ℕ → ℕ) (t s k : ℕ) (added : IsRowA
       where
         forward : (X : ℕ → Bool) (c : ℕ → ℕ) → CombinesToZero p a m n X c → CombinesToZero p b m n X c
         forward X c z i il = elim (nat_cases i t) [
-          | inl q ↦ subst (λ w. sum_on X n (λ j. c j * b w j) % p ≡ 0) (sym q) (row_added-changed X c ∙ vanishes-add p (sum_on X n (λ j. c j * a t j)) (k * sum_on X n (λ j. c j * a s j)) (z t tl) (vanishes-mul p k (sum_on X n (λ j. c j * a s j)) (z s sl)))
+          | inl q ↦ subst (λ w. sum_on X n (λ j. c j * b w j) % p ≡ 0) (sym q)
+              (row_added-changed X c
+              ∙ vanishes-add p (sum_on X n (λ j. c j * a t j)) (k * sum_on X n (λ j. c j * a s j)) (z t tl)
+              (vanishes-mul p k (sum_on X n (λ j. c j * a s j)) (z s sl)))
           | inr ne ↦ row_added-other X c i il ne ∙ z i il
         ]
 
@@ -93,6 +97,7 @@ module _ (p m n : ℕ) (a b : ℕ → ℕ → ℕ) (t k : ℕ) (scaled : IsRowSc
 
         back : (X : ℕ → Bool) (c : ℕ → ℕ) → CombinesToZero p b m n X c → CombinesToZero p a m n X c
         back X c z i il = elim (nat_cases i t) [
-          | inl q ↦ subst (λ w. sum_on X n (λ j. c j * a w j) % p ≡ 0) (sym q) (vanishes_factor p prime k (sum_on X n (λ j. c j * a t j)) ne_zero (sym (row_scaled-changed X c) ∙ z t tl))
+          | inl q ↦ subst (λ w. sum_on X n (λ j. c j * a w j) % p ≡ 0) (sym q)
+              (vanishes_factor p prime k (sum_on X n (λ j. c j * a t j)) ne_zero (sym (row_scaled-changed X c) ∙ z t tl))
           | inr ne ↦ sym (row_scaled-other X c i il ne) ∙ z i il
         ]

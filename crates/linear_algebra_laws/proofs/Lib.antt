@@ -1,8 +1,10 @@
+pub mod Entries
 pub mod Elimination
 pub mod Ranks
 pub mod RankLaws
 pub mod Products
 pub mod Bases
+pub mod Tableaus
 pub mod Kernels
 pub mod InverseOperations
 pub mod Pivots

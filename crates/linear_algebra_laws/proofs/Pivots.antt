@@ -69,7 +69,8 @@ pub record IsPivotedBelow (p m n : ℕ) (a b : ℕ → ℕ → ℕ) (r v i : ℕ
   pub zero : (k : ℕ) → k < i → k < m → k ≢ r → b k v % p ≡ 0
   pub keeps : (j : ℕ) → j < n → a r j % p ≡ 0 → (k : ℕ) → k < m → b k j % p ≡ a k j % p
 
-pub pivot-start : (p : ℕ) → IsPrime p → (m n : ℕ) (a b : ℕ → ℕ → ℕ) (r v w : ℕ) → r < m → v < n → w % p ≢ 0 → w * a r v % p ≡ 1 → IsRowScaled p m n a b r w → IsPivotedBelow p m n a b r v 0
+pub pivot-start : (p : ℕ) → IsPrime p → (m n : ℕ) (a b : ℕ → ℕ → ℕ) (r v w : ℕ) → r < m → v < n → w % p ≢ 0 → w * a r v % p ≡ 1 → IsRowScaled p m n a b r w →
+    IsPivotedBelow p m n a b r v 0
 pivot-start p prime m n a b r v w rl vl ne one scaled = record {
   kernel = row_scaled-kernel p m n a b r w scaled prime rl ne;
   one = scaled.changed v vl ∙ one;
@@ -98,13 +99,17 @@ module _ (p m n : ℕ) (a b : ℕ → ℕ → ℕ) (r v i : ℕ) (so_far : IsPiv
       | inr other ↦ added.others t v tl vl other ∙ so_far.zero t (omega arith) tl ne
     ];
     keeps = λ j jl z t tl. elim (nat_cases t i) [
-      | inl q ↦ subst (λ x. d x j % p ≡ a x j % p) (sym q) (added.changed j jl ∙ agree-add p (b i j) (a i j) (k * b r j) 0 (so_far.keeps j jl z i il) (vanishes-mul p k (b r j) (so_far.keeps j jl z r rl ∙ z) ∙ sym (zero-mod p)) ∙ ap (λ x. x % p) (omega arith))
+      | inl q ↦ subst (λ x. d x j % p ≡ a x j % p) (sym q)
+          (added.changed j jl ∙ agree-add p (b i j) (a i j) (k * b r j) 0 (so_far.keeps j jl z i il)
+          (vanishes-mul p k (b r j) (so_far.keeps j jl z r rl ∙ z) ∙ sym (zero-mod p)) ∙ ap (λ x. x % p) (omega arith))
       | inr other ↦ added.others t j tl jl other ∙ so_far.keeps j jl z t tl
     ];
   }
     where
       now_zero : d i v % p ≡ 0
-      now_zero = added.changed v vl ∙ agree-add p (b i v) (b i v) (k * b r v) k refl (agree-mul p k (b r v) 1 (so_far.one ∙ sym one_is_one) ∙ ap (λ x. x % p) (omega arith)) ∙ ap (λ x. x % p) (omega arith) ∙ cancels
+      now_zero = added.changed v vl
+          ∙ agree-add p (b i v) (b i v) (k * b r v) k refl (agree-mul p k (b r v) 1 (so_far.one ∙ sym one_is_one) ∙ ap (λ x. x % p) (omega arith))
+          ∙ ap (λ x. x % p) (omega arith) ∙ cancels
         where
           one_is_one : 1 % p ≡ 1
           one_is_one = sym (ap (λ x. x % p) so_far.one) ∙ mod-mod (b r v) p ∙ so_far.one

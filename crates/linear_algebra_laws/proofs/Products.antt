@@ -1,5 +1,5 @@
 -- Products with invertible matrices keep which columns are independent, and so the rank.
-use Rattle.std.proofs.Common.{◌≡◌, ℕ, zero, suc, ◌+◌, ◌-◌, ◌*◌, ◌%◌, ◌<◌, ◌≢◌, Bool, cond, eqb, inl, inr, refl, ap, sym, ◌∙◌, arith}
+use Rattle.std.proofs.Common.{◌≡◌, ℕ, zero, suc, ◌+◌, ◌-◌, ◌*◌, ◌%◌, ◌<◌, ◌≢◌, Bool, inl, inr, refl, ap, sym, ◌∙◌, arith}
 use Rattle.residue_theory.specs.Sets.{without, everything}
 use Rattle.std.proofs.Math.Nat.{mod_self}
 use Rattle.std.proofs.lemmas.Bool.Decides.{nat_tests}
@@ -11,7 +11,9 @@ use Rattle.residue_theory.proofs.SumLaws.{sum_on-add, sum_on-mul, sum_on-ext, su
 use Rattle.residue_theory.proofs.ResidueLaws.{vanishes-mul, vanishes-sum, vanishes_by, vanishes-rest, agree-add, agree-mul, agree-sum, agree_of, vanishes_factor, lacks}
 use Rattle.residue_theory.proofs.CountLaws.{size-everything}
 use Rattle.linear_algebra.specs.Kernels.{SameKernel}
+use Rattle.linear_algebra.specs.Parts.{with_column}
 use Rattle.linear_algebra_laws.proofs.Elimination.{Dichotomy, dichotomy}
+use Rattle.linear_algebra_laws.proofs.Entries.{identity-same, identity-other, with_column-first, with_column-last}
 
 zero_not_prime : IsPrime 0 → ⊥
 zero_not_prime prime = absurd (no_such prime.above_one)
@@ -37,32 +39,31 @@ product-assoc k l U S a i j =
     ∙ sum_on-ext everything l (λ s. sum_below k (λ t. U i t * (S t s * a s j))) (λ s. product k U S i s * a s j) (λ s _ _. one s)
   where
     one : (s : ℕ) → sum_below k (λ t. U i t * (S t s * a s j)) ≡ product k U S i s * a s j
-    one s = sum_on-ext everything k (λ t. U i t * (S t s * a s j)) (λ t. a s j * (U i t * S t s)) (λ t _ _. omega arith) ∙ sum_on-mul everything k (a s j) (λ t. U i t * S t s) ∙ omega arith
-
-pub identity-same : (i : ℕ) → identity i i ≡ 1
-identity-same i = grind (arith, nat_tests)
-
-pub identity-other : (i j : ℕ) → i ≢ j → identity i j ≡ 0
-identity-other i j ne = grind (arith, nat_tests)
+    one s = sum_on-ext everything k (λ t. U i t * (S t s * a s j)) (λ t. a s j * (U i t * S t s)) (λ t _ _. omega arith)
+        ∙ sum_on-mul everything k (a s j) (λ t. U i t * S t s) ∙ omega arith
 
 -- a product with the identity matrix
 pub sum-identity : (k i : ℕ) (f : ℕ → ℕ) → i < k → sum_below k (λ t. identity i t * f t) ≡ f i
-sum-identity k i f l = sum_on-without everything k i (λ t. identity i t * f t) l refl ∙ ap (λ s. s + identity i i * f i) rest ∙ ap (λ s. 0 + s * f i) (identity-same i) ∙ omega arith
+sum-identity k i f l = sum_on-without everything k i (λ t. identity i t * f t) l refl ∙ ap (λ s. s + identity i i * f i) rest
+    ∙ ap (λ s. 0 + s * f i) (identity-same i) ∙ omega arith
   where
     rest : sum_on (without everything i) k (λ t. identity i t * f t) ≡ 0
-    rest = sum_on-ext (without everything i) k (λ t. identity i t * f t) (λ _. 0) (λ t _ h. ap (λ s. s * f t) (identity-other i t (λ q. (without-member everything i t h).1 (sym q))) ∙ omega arith) ∙ sum_on-none (without everything i) k
+    rest = sum_on-ext (without everything i) k (λ t. identity i t * f t) (λ _. 0)
+        (λ t _ h. ap (λ s. s * f t) (identity-other i t (λ q. (without-member everything i t h).1 (sym q))) ∙ omega arith) ∙ sum_on-none (without everything i) k
 
 pub sum-identity_right : (k j : ℕ) (f : ℕ → ℕ) → j < k → sum_below k (λ t. f t * identity t j) ≡ f j
 sum-identity_right k j f l = sum_on-ext everything k (λ t. f t * identity t j) (λ t. identity j t * f t) (λ t _ _. grind (arith, nat_tests)) ∙ sum-identity k j f l
 
 -- entries that agree make the same columns independent
 pub independent-agree : (p m n : ℕ) (a b : ℕ → ℕ → ℕ) (X : ℕ → Bool) → Agree p m n a b → IsIndependent p a m n X → IsIndependent p b m n X
-independent-agree p m n a b X same ind c s = ind c (λ i il. agree-sum p X n (λ j. c j * a i j) (λ j. c j * b i j) (λ j jl _. agree-mul p (c j) (a i j) (b i j) (same i j il jl)) ∙ s i il)
+independent-agree p m n a b X same ind c s = ind c
+    (λ i il. agree-sum p X n (λ j. c j * a i j) (λ j. c j * b i j) (λ j jl _. agree-mul p (c j) (a i j) (b i j) (same i j il jl)) ∙ s i il)
 
 -- columns that are independent in a product are so in its right factor
 pub independent_of-product : (p l m n : ℕ) (S a : ℕ → ℕ → ℕ) (X : ℕ → Bool) → IsIndependent p (product m S a) l n X → IsIndependent p a m n X
 independent_of-product p l m n S a X ind c s = ind c (λ i _.
-    vanishes_by p _ _ (sum-product m n S a X c i) (vanishes-sum p everything m (λ t. S i t * sum_on X n (λ j. c j * a t j)) (λ t tl _. vanishes-mul p (S i t) (sum_on X n (λ j. c j * a t j)) (s t tl))))
+    vanishes_by p _ _ (sum-product m n S a X c i)
+    (vanishes-sum p everything m (λ t. S i t * sum_on X n (λ j. c j * a t j)) (λ t tl _. vanishes-mul p (S i t) (sum_on X n (λ j. c j * a t j)) (s t tl))))
 
 -- with an inverse on the left, a product keeps independence
 pub product-independent : (p m n : ℕ) (U S a : ℕ → ℕ → ℕ) (X : ℕ → Bool) → IsInverse p m U S → IsIndependent p a m n X → IsIndependent p (product m S a) m n X
@@ -70,45 +71,45 @@ product-independent p m n U S a X inv ind = independent_of-product p m m n U (pr
   where
     agree : Agree p m n a (product m U (product m S a))
     agree i j il jl = sym (ap (λ s. s % p) (product-assoc m m U S a i j)
-        ∙ agree-sum p everything m (λ t. product m U S i t * a t j) (λ t. identity i t * a t j) (λ t tl _. ap (λ s. s % p) (omega arith) ∙ agree-mul p (a t j) (product m U S i t) (identity i t) (inv i t il tl) ∙ ap (λ s. s % p) (omega arith))
+        ∙ agree-sum p everything m (λ t. product m U S i t * a t j) (λ t. identity i t * a t j)
+        (λ t tl _. ap (λ s. s % p) (omega arith) ∙ agree-mul p (a t j) (product m U S i t) (identity i t) (inv i t il tl) ∙ ap (λ s. s % p) (omega arith))
         ∙ ap (λ s. s % p) (sum-identity m i (λ t. a t j) il))
-
--- U with x put beside it as a last column
-beside : ℕ → (ℕ → ℕ → ℕ) → (ℕ → ℕ) → ℕ → ℕ → ℕ
-beside m U x i j = cond (eqb j m) (x i) (U i j)
-
-beside-last : (m : ℕ) (U : ℕ → ℕ → ℕ) (x : ℕ → ℕ) (i : ℕ) → beside m U x i m ≡ x i
-unfolding beside
-beside-last m U x i = grind (arith, nat_tests)
-
-beside-other : (m : ℕ) (U : ℕ → ℕ → ℕ) (x : ℕ → ℕ) (i j : ℕ) → j < m → beside m U x i j ≡ U i j
-unfolding beside
-beside-other m U x i j l = grind (arith, nat_tests)
 
 -- where S * U is the identity, only zero is sent to zero by S
 pub kernel-zero : (p : ℕ) → IsPrime p → (m : ℕ) (S U : ℕ → ℕ → ℕ) → IsInverse p m S U → (x : ℕ → ℕ) →
     ((i : ℕ) → i < m → sum_below m (λ t. S i t * x t) % p ≡ 0) → (i : ℕ) → i < m → x i % p ≡ 0
-kernel-zero p prime m S U inv x zeros = go (dichotomy p prime everything (suc m) m (beside m U x) everything)
+kernel-zero p prime m S U inv x zeros = go (dichotomy p prime everything (suc m) m (with_column m U x) everything)
   where
-    go : Dichotomy p (beside m U x) everything m everything (suc m) → (i : ℕ) → i < m → x i % p ≡ 0
+    go : Dichotomy p (with_column m U x) everything m everything (suc m) → (i : ℕ) → i < m → x i % p ≡ 0
     go (inl (_, le)) i l = absurd (omega (arith, size-everything m, size-everything (suc m)))
     go (inr s) i l = vanishes_factor p prime (s.at m) (x i) at_m (vanishes-rest p (sum_below m (λ j. s.at j * U i j)) (s.at m * x i) (row i l)
         (vanishes-sum p everything m (λ j. s.at j * U i j) (λ j jl _. vanishes_by p _ (U i j * s.at j) (omega arith) (vanishes-mul p (U i j) (s.at j) (at_zero j jl)))))
       where
         row : (t : ℕ) → t < m → (sum_below m (λ j. s.at j * U t j) + s.at m * x t) % p ≡ 0
-        row t tl = vanishes_by p _ (sum_below m (λ j. s.at j * beside m U x t j) + s.at m * beside m U x t m)
-            (omega (arith, sum_on-ext everything m (λ j. s.at j * U t j) (λ j. s.at j * beside m U x t j) (λ j jl _. ap (λ y. s.at j * y) (sym (beside-other m U x t j jl))), ap (λ y. s.at m * y) (beside-last m U x t)))
+        row t tl = vanishes_by p _ (sum_below m (λ j. s.at j * with_column m U x t j) + s.at m * with_column m U x t m)
+            (omega (
+              arith,
+              sum_on-ext everything m (λ j. s.at j * U t j) (λ j. s.at j * with_column m U x t j)
+                  (λ j jl _. ap (λ y. s.at j * y) (sym (with_column-first m U x t j jl))),
+              ap (λ y. s.at m * y) (with_column-last m U x t),
+            ))
             (s.solves t tl refl)
 
-        through : (t : ℕ) → sum_below m (λ k. S t k * (sum_below m (λ j. s.at j * U k j) + s.at m * x k)) ≡ sum_below m (λ j. s.at j * product m S U t j) + s.at m * sum_below m (λ k. S t k * x k)
-        through t = sum_on-ext everything m (λ k. S t k * (sum_below m (λ j. s.at j * U k j) + s.at m * x k)) (λ k. S t k * sum_below m (λ j. s.at j * U k j) + s.at m * (S t k * x k)) (λ k _ _. omega arith)
+        through : (t : ℕ) → sum_below m (λ k. S t k * (sum_below m (λ j. s.at j * U k j) + s.at m * x k)) ≡
+            sum_below m (λ j. s.at j * product m S U t j) + s.at m * sum_below m (λ k. S t k * x k)
+        through t = sum_on-ext everything m (λ k. S t k * (sum_below m (λ j. s.at j * U k j) + s.at m * x k))
+            (λ k. S t k * sum_below m (λ j. s.at j * U k j) + s.at m * (S t k * x k)) (λ k _ _. omega arith)
             ∙ sum_on-add everything m (λ k. S t k * sum_below m (λ j. s.at j * U k j)) (λ k. s.at m * (S t k * x k))
             ∙ omega (arith, sum-product m m S U everything s.at t, sum_on-mul everything m (s.at m) (λ k. S t k * x k))
 
         at_zero : (t : ℕ) → t < m → s.at t % p ≡ 0
-        at_zero t tl = sym (ap (λ y. y % p) (sum-identity m t s.at tl)) ∙ sym (agree-sum p everything m (λ j. s.at j * product m S U t j) (λ j. identity t j * s.at j) (λ j jl _. agree-mul p (s.at j) (product m S U t j) (identity t j) (inv t j tl jl) ∙ ap (λ y. y % p) (omega arith)))
+        at_zero t tl = sym (ap (λ y. y % p) (sum-identity m t s.at tl))
+            ∙ sym (agree-sum p everything m (λ j. s.at j * product m S U t j) (λ j. identity t j * s.at j)
+            (λ j jl _. agree-mul p (s.at j) (product m S U t j) (identity t j) (inv t j tl jl) ∙ ap (λ y. y % p) (omega arith)))
             ∙ vanishes-rest p (s.at m * sum_below m (λ k. S t k * x k)) (sum_below m (λ j. s.at j * product m S U t j))
-            (vanishes_by p _ (sum_below m (λ k. S t k * (sum_below m (λ j. s.at j * U k j) + s.at m * x k))) (omega (arith, through t)) (vanishes-sum p everything m (λ k. S t k * (sum_below m (λ j. s.at j * U k j) + s.at m * x k)) (λ k kl _. vanishes-mul p (S t k) (sum_below m (λ j. s.at j * U k j) + s.at m * x k) (row k kl))))
+            (vanishes_by p _ (sum_below m (λ k. S t k * (sum_below m (λ j. s.at j * U k j) + s.at m * x k))) (omega (arith, through t))
+            (vanishes-sum p everything m (λ k. S t k * (sum_below m (λ j. s.at j * U k j) + s.at m * x k))
+            (λ k kl _. vanishes-mul p (S t k) (sum_below m (λ j. s.at j * U k j) + s.at m * x k) (row k kl))))
             (vanishes-mul p (s.at m) (sum_below m (λ k. S t k * x k)) (zeros t tl))
 
         at_m : s.at m % p ≢ 0
@@ -131,7 +132,9 @@ inverse-swap (suc k) prime m S U inv i j il jl =
         ∙ omega (arith, product-assoc m m S U S t j, sum_on-mul everything m k (λ s. S t s * identity s j), ap (λ y. k * y) (sum-identity_right m j (λ s. S t s) jl))
 
     back : (t : ℕ) → t < m → product m (product m S U) S t j % suc k ≡ S t j % suc k
-    back t tl = agree-sum (suc k) everything m (λ s. product m S U t s * S s j) (λ s. identity t s * S s j) (λ s sl _. ap (λ y. y % suc k) (omega arith) ∙ agree-mul (suc k) (S s j) (product m S U t s) (identity t s) (inv t s tl sl) ∙ ap (λ y. y % suc k) (omega arith))
+    back t tl = agree-sum (suc k) everything m (λ s. product m S U t s * S s j) (λ s. identity t s * S s j)
+        (λ s sl _. ap (λ y. y % suc k) (omega arith) ∙ agree-mul (suc k) (S s j) (product m S U t s) (identity t s) (inv t s tl sl)
+        ∙ ap (λ y. y % suc k) (omega arith))
         ∙ ap (λ y. y % suc k) (sum-identity m t (λ s. S s j) tl)
 
     sent : (t : ℕ) → t < m → sum_below m (λ s. S t s * (product m U S s j + k * identity s j)) % suc k ≡ 0
@@ -155,7 +158,8 @@ rank_of-product p prime m n S U a P X r inv same R = record {
 -- a product with an invertible matrix keeps the kernel
 pub product-kernel : (p : ℕ) → IsPrime p → (m n : ℕ) (S U a P : ℕ → ℕ → ℕ) → IsInverse p m S U → Agree p m n P (product m S a) → SameKernel p m n a P
 product-kernel p prime m n S U a P inv same = record {
-  forward = λ X c z i il. through X c i il ∙ vanishes-sum p everything m (λ t. S i t * sum_on X n (λ j. c j * a t j)) (λ t tl _. vanishes-mul p (S i t) (sum_on X n (λ j. c j * a t j)) (z t tl));
+  forward = λ X c z i il. through X c i il
+      ∙ vanishes-sum p everything m (λ t. S i t * sum_on X n (λ j. c j * a t j)) (λ t tl _. vanishes-mul p (S i t) (sum_on X n (λ j. c j * a t j)) (z t tl));
   back = λ X c z. kernel-zero p prime m S U inv (λ t. sum_on X n (λ j. c j * a t j)) (λ i il. sym (through X c i il) ∙ z i il);
 }
   where
@@ -165,7 +169,8 @@ product-kernel p prime m n S U a P inv same = record {
 
 -- ---- combinations in a product
 -- what the columns of X combine to, they combine to in P = S * a, with S applied to it
-pub combines-product : (p m n : ℕ) (S a P : ℕ → ℕ → ℕ) (X : ℕ → Bool) (x : ℕ → ℕ) → Agree p m n P (product m S a) → Combines p a m n X x → Combines p P m n X (λ i. sum_below m (λ t. S i t * x t))
+pub combines-product : (p m n : ℕ) (S a P : ℕ → ℕ → ℕ) (X : ℕ → Bool) (x : ℕ → ℕ) → Agree p m n P (product m S a) → Combines p a m n X x →
+    Combines p P m n X (λ i. sum_below m (λ t. S i t * x t))
 combines-product p m n S a P X x same (c, s) = (
   c,
   λ i il.
@@ -180,12 +185,15 @@ pub combines_of-product : (p : ℕ) → IsPrime p → (m n : ℕ) (S U a P : ℕ
 combines_of-product p prime m n S U a P X x inv same (c, s) = (
   c,
   λ i il.
-      agree_of p (sum_on X n (λ j. c j * a i j)) ((p - 1) * x i) (x i) (kernel-zero p prime m S U inv (λ t. sum_on X n (λ j. c j * a t j) + (p - 1) * x t) sent i il) (lacks p prime (x i)),
+      agree_of p (sum_on X n (λ j. c j * a i j)) ((p - 1) * x i) (x i)
+      (kernel-zero p prime m S U inv (λ t. sum_on X n (λ j. c j * a t j) + (p - 1) * x t) sent i il) (lacks p prime (x i)),
 )
   where
     -- S sends the difference to zero
-    parts : (i : ℕ) → sum_below m (λ t. S i t * (sum_on X n (λ j. c j * a t j) + (p - 1) * x t)) ≡ sum_on X n (λ j. c j * product m S a i j) + (p - 1) * sum_below m (λ t. S i t * x t)
-    parts i = sum_on-ext everything m (λ t. S i t * (sum_on X n (λ j. c j * a t j) + (p - 1) * x t)) (λ t. S i t * sum_on X n (λ j. c j * a t j) + (p - 1) * (S i t * x t)) (λ t _ _. spread (S i t) (sum_on X n (λ j. c j * a t j)) (p - 1) (x t))
+    parts : (i : ℕ) → sum_below m (λ t. S i t * (sum_on X n (λ j. c j * a t j) + (p - 1) * x t)) ≡
+        sum_on X n (λ j. c j * product m S a i j) + (p - 1) * sum_below m (λ t. S i t * x t)
+    parts i = sum_on-ext everything m (λ t. S i t * (sum_on X n (λ j. c j * a t j) + (p - 1) * x t))
+        (λ t. S i t * sum_on X n (λ j. c j * a t j) + (p - 1) * (S i t * x t)) (λ t _ _. spread (S i t) (sum_on X n (λ j. c j * a t j)) (p - 1) (x t))
         ∙ sum_on-add everything m (λ t. S i t * sum_on X n (λ j. c j * a t j)) (λ t. (p - 1) * (S i t * x t))
         ∙ ap (λ y. y + sum_below m (λ t. (p - 1) * (S i t * x t))) (sym (sum-product m n S a X c i))
         ∙ ap (λ y. sum_on X n (λ j. c j * product m S a i j) + y) (sum_on-mul everything m (p - 1) (λ t. S i t * x t))
@@ -198,5 +206,6 @@ combines_of-product p prime m n S U a P X x inv same (c, s) = (
 
     sent : (i : ℕ) → i < m → sum_below m (λ t. S i t * (sum_on X n (λ j. c j * a t j) + (p - 1) * x t)) % p ≡ 0
     sent i il = ap (λ y. y % p) (parts i)
-        ∙ agree-add p (sum_on X n (λ j. c j * product m S a i j)) (sum_below m (λ t. S i t * x t)) ((p - 1) * sum_below m (λ t. S i t * x t)) ((p - 1) * sum_below m (λ t. S i t * x t)) (at_row i il) refl
+        ∙ agree-add p (sum_on X n (λ j. c j * product m S a i j)) (sum_below m (λ t. S i t * x t)) ((p - 1) * sum_below m (λ t. S i t * x t))
+        ((p - 1) * sum_below m (λ t. S i t * x t)) (at_row i il) refl
         ∙ lacks p prime (sum_below m (λ t. S i t * x t))

@@ -12,7 +12,7 @@ use Rattle.residue_theory.proofs.CountLaws.{size-parts, size-without}
 use Rattle.residue_theory.proofs.ResidueLaws.{vanishes-mul, vanishes-sum, one_non_zero}
 use Rattle.linear_algebra_laws.proofs.Elimination.{dichotomy, NonZeroSolution}
 use Rattle.linear_algebra_laws.proofs.Ranks.{Basis, basis, basis-rank, independent-within, rank-unique, rank_exists}
-use Rattle.linear_algebra_laws.proofs.Products.{identity-same, identity-other}
+use Rattle.linear_algebra_laws.proofs.Entries.{identity-same, identity-other}
 
 pub rank-size : (p : ℕ) (a : ℕ → ℕ → ℕ) (m n : ℕ) (X : ℕ → Bool) (r : ℕ) → IsRank p a m n X r → r ≤ size_on X n
 rank-size p a m n X r R = omega (arith, (R.reached).3, size_on-within X (R.reached).0 n (R.reached).1)
@@ -97,11 +97,13 @@ independent-rows p prime a m n R Y zeros ind = elim (dichotomy p prime R n m a Y
 
 pub rank-rows : (p : ℕ) → IsPrime p → (a : ℕ → ℕ → ℕ) (m n : ℕ) (R X : ℕ → Bool) (r : ℕ) →
     ((i j : ℕ) → i < m → j < n → R i ≡ false → X j ≡ true → a i j % p ≡ 0) → IsRank p a m n X r → r ≤ size_on R m
-rank-rows p prime a m n R X r zeros K = omega (arith, K.reached.3, independent-rows p prime a m n R K.reached.0 (λ i j il jl e h. zeros i j il jl e (K.reached.1 j jl h)) K.reached.2)
+rank-rows p prime a m n R X r zeros K = omega
+    (arith, K.reached.3, independent-rows p prime a m n R K.reached.0 (λ i j il jl e h. zeros i j il jl e (K.reached.1 j jl h)) K.reached.2)
 
 -- an independent set has no zero column
 pub no_zero_column : (p : ℕ) → IsPrime p → (a : ℕ → ℕ → ℕ) (m n : ℕ) (Y : ℕ → Bool) → IsIndependent p a m n Y → (v : ℕ) → v < n → Y v ≡ true → ((i : ℕ) → i < m → a i v % p ≡ 0) → ⊥
-no_zero_column p prime a m n Y ind v vl vh zeros = one_non_zero p prime (mark v) (identity-same v) (ind mark (λ i il. vanishes-sum p Y n (λ j. mark j * a i j) (λ j _ _. term i il j)) v vl vh)
+no_zero_column p prime a m n Y ind v vl vh zeros = one_non_zero p prime (mark v) (identity-same v)
+    (ind mark (λ i il. vanishes-sum p Y n (λ j. mark j * a i j) (λ j _ _. term i il j)) v vl vh)
   where
     mark : ℕ → ℕ
     mark j = identity v j

@@ -27,7 +27,8 @@ module _ (p m n : ℕ) (a : ℕ → ℕ → ℕ) (I Y : ℕ → Bool) (c : ℕ �
       ((j : ℕ) → j < n → Y j ≡ true → (t : ℕ) → t < m → sum_on I n (λ i. D j i * a t i) % p ≡ a t j % p) →
       (t : ℕ) → t < m → sum_on Y n (λ j. c j * a t j) % p ≡ 0
   combined zeros combs t l =
-      sym (agree-sum p Y n (λ j. c j * sum_on I n (λ i. D j i * a t i)) (λ j. c j * a t j) (λ j jl jh. agree-mul p (c j) (sum_on I n (λ i. D j i * a t i)) (a t j) (combs j jl jh t l)))
+      sym (agree-sum p Y n (λ j. c j * sum_on I n (λ i. D j i * a t i)) (λ j. c j * a t j)
+      (λ j jl jh. agree-mul p (c j) (sum_on I n (λ i. D j i * a t i)) (a t j) (combs j jl jh t l)))
       ∙ ap (λ s. s % p) (regroup t)
       ∙ vanishes-sum p I n (λ i. a t i * sum_on Y n (λ j. c j * D j i)) (λ i il ih. vanishes-mul p (a t i) (sum_on Y n (λ j. c j * D j i)) (zeros i il ih))
 
@@ -51,7 +52,14 @@ rank_of-basis p prime a m n X I within ind combs = record {
 }
 
 pub rank-unique : (p : ℕ) (a : ℕ → ℕ → ℕ) (m n : ℕ) (X : ℕ → Bool) (r s : ℕ) → IsRank p a m n X r → IsRank p a m n X s → r ≡ s
-rank-unique p a m n X r s R S = omega (arith, (R.reached).3, (S.reached).3, R.greatest (S.reached).0 (S.reached).1 (S.reached).2, S.greatest (R.reached).0 (R.reached).1 (R.reached).2)
+rank-unique p a m n X r s R S = omega (
+  arith,
+  (R.reached).3,
+  (S.reached).3,
+  R.greatest (S.reached).0 (S.reached).1 (S.reached).2,
+  S.greatest (R.reached).0
+      (R.reached).1 (R.reached).2,
+)
 
 -- ---- one more column
 -- a solution on I and v whose coefficient at v is not zero gives v as a combination of I
@@ -85,15 +93,22 @@ join_or_combination p prime a m n I v l e ind = go (dichotomy p prime everything
         at_v : s.at v % p ≢ 0
         at_v z = elim (nat_cases s.place v) [
           | inl q ↦ s.non_zero (ap (λ k. s.at k % p) q ∙ z)
-          | inr ne ↦ s.non_zero (ind s.at (λ i il. vanishes-rest p (s.at v * a i v) (sum_on I n (λ j. s.at j * a i j)) (vanishes_by p _ (sum_on (with_one I v) n (λ j. s.at j * a i j)) (omega (arith, sums s.at i)) (s.solves i il refl)) (vanishes_by p _ (a i v * s.at v) (omega arith) (vanishes-mul p (a i v) (s.at v) z))) s.place s.below (with_one-other I v s.place s.member ne))
+          | inr ne ↦ s.non_zero (ind s.at (λ i il. vanishes-rest p (s.at v * a i v) (sum_on I n (λ j. s.at j * a i j))
+              (vanishes_by p _ (sum_on (with_one I v) n (λ j. s.at j * a i j)) (omega (arith, sums s.at i)) (s.solves i il refl))
+              (vanishes_by p _ (a i v * s.at v) (omega arith) (vanishes-mul p (a i v) (s.at v) z))) s.place s.below (with_one-other I v s.place s.member ne))
         ]
 
 -- a member is a combination of its set
 pub combination-member : (p : ℕ) (a : ℕ → ℕ → ℕ) (m n : ℕ) (I : ℕ → Bool) (v : ℕ) → v < n → I v ≡ true → IsCombination p a m n I v
-combination-member p a m n I v l h = ((λ j. cond (eqb j v) 1 0), λ i _. ap (λ s. s % p) (sum_on-without I n v (λ j. cond (eqb j v) 1 0 * a i j) l h ∙ ap (λ s. s + cond (eqb v v) 1 0 * a i v) (others i) ∙ at_v i))
+combination-member p a m n I v l h = (
+  (λ j. cond (eqb j v) 1 0),
+  λ i _. ap (λ s. s % p)
+      (sum_on-without I n v (λ j. cond (eqb j v) 1 0 * a i j) l h ∙ ap (λ s. s + cond (eqb v v) 1 0 * a i v) (others i) ∙ at_v i),
+)
   where
     others : (i : ℕ) → sum_on (without I v) n (λ j. cond (eqb j v) 1 0 * a i j) ≡ 0
-    others i = sum_on-ext (without I v) n (λ j. cond (eqb j v) 1 0 * a i j) (λ _. 0) (λ j _ q. let ne : j ≢ v = (without-member I v j q).1 in grind (arith, nat_tests)) ∙ sum_on-none (without I v) n
+    others i = sum_on-ext (without I v) n (λ j. cond (eqb j v) 1 0 * a i j) (λ _. 0)
+        (λ j _ q. let ne : j ≢ v = (without-member I v j q).1 in grind (arith, nat_tests)) ∙ sum_on-none (without I v) n
 
     at_v : (i : ℕ) → 0 + cond (eqb v v) 1 0 * a i v ≡ a i v
     at_v i = grind (arith, nat_tests)
@@ -106,7 +121,8 @@ combines-within p m n a I J x within (c, s) = ((λ j. cond (I j) (c j) 0), λ i 
     pulled b x y = grind arith
 
     only_I : (i : ℕ) → sum_on J n (λ j. cond (I j) (c j) 0 * a i j) ≡ sum_on I n (λ j. c j * a i j)
-    only_I i = sum_on-ext J n (λ j. cond (I j) (c j) 0 * a i j) (λ j. cond (I j) (c j * a i j) 0) (λ j _ _. pulled (I j) (c j) (a i j)) ∙ sum_on-within J I n (λ j. c j * a i j) within
+    only_I i = sum_on-ext J n (λ j. cond (I j) (c j) 0 * a i j) (λ j. cond (I j) (c j * a i j) 0) (λ j _ _. pulled (I j) (c j) (a i j))
+        ∙ sum_on-within J I n (λ j. c j * a i j) within
 
 pub combination-within : (p : ℕ) (a : ℕ → ℕ → ℕ) (m n : ℕ) (I J : ℕ → Bool) (v : ℕ) → IsWithin n I J → IsCombination p a m n I v → IsCombination p a m n J v
 combination-within p a m n I J v within comb = combines-within p m n a I J (λ i. a i v) within comb
@@ -121,15 +137,18 @@ with_one-independent p prime a m n I v l ind never = go (I v) refl
     go false e = elim (join_or_combination p prime a m n I v l e ind) [ inl joined ↦ joined | inr comb ↦ absurd (never comb) ]
 
 -- what the columns of X combine to, any set combines to that combines to each of them
-pub combines-through : (p m n : ℕ) (a : ℕ → ℕ → ℕ) (I X : ℕ → Bool) (x : ℕ → ℕ) → ((j : ℕ) → j < n → X j ≡ true → IsCombination p a m n I j) → Combines p a m n X x → Combines p a m n I x
+pub combines-through : (p m n : ℕ) (a : ℕ → ℕ → ℕ) (I X : ℕ → Bool) (x : ℕ → ℕ) → ((j : ℕ) → j < n → X j ≡ true → IsCombination p a m n I j) → Combines p a m n X x →
+    Combines p a m n I x
 combines-through p m n a I X x combs (c, s) = go (choice n X (λ j d. (i : ℕ) → i < m → sum_on I n (λ k. d k * a i k) % p ≡ a i j % p) combs)
   where
     go : (D : ℕ → ℕ → ℕ) × ((j : ℕ) → j < n → X j ≡ true → (i : ℕ) → i < m → sum_on I n (λ k. D j k * a i k) % p ≡ a i j % p) → Combines p a m n I x
     go (D, ok) = (
       (λ k. sum_on X n (λ j. c j * D j k)),
       λ i il.
-          ap (λ y. y % p) (sum_on-ext I n (λ k. sum_on X n (λ j. c j * D j k) * a i k) (λ k. a i k * sum_on X n (λ j. c j * D j k)) (λ k _ _. omega arith) ∙ sym (regroup p m n a I X c D i))
-          ∙ agree-sum p X n (λ j. c j * sum_on I n (λ k. D j k * a i k)) (λ j. c j * a i j) (λ j jl jh. agree-mul p (c j) (sum_on I n (λ k. D j k * a i k)) (a i j) (ok j jl jh i il))
+          ap (λ y. y % p) (sum_on-ext I n (λ k. sum_on X n (λ j. c j * D j k) * a i k) (λ k. a i k * sum_on X n (λ j. c j * D j k)) (λ k _ _. omega arith)
+          ∙ sym (regroup p m n a I X c D i))
+          ∙ agree-sum p X n (λ j. c j * sum_on I n (λ k. D j k * a i k)) (λ j. c j * a i j)
+          (λ j jl jh. agree-mul p (c j) (sum_on I n (λ k. D j k * a i k)) (a i j) (ok j jl jh i il))
           ∙ s i il,
     )
 
@@ -222,4 +241,5 @@ independent-within p a m n Y X within ind c s j jl jh = sym (ap (λ b. cond b (c
     pulled b x y = grind arith
 
     solves : (i : ℕ) → i < m → sum_on X n (λ k. cond (Y k) (c k) 0 * a i k) % p ≡ 0
-    solves i il = ap (λ w. w % p) (sum_on-ext X n (λ k. cond (Y k) (c k) 0 * a i k) (λ k. cond (Y k) (c k * a i k) 0) (λ k _ _. pulled (Y k) (c k) (a i k)) ∙ sum_on-within X Y n (λ k. c k * a i k) within) ∙ s i il
+    solves i il = ap (λ w. w % p) (sum_on-ext X n (λ k. cond (Y k) (c k) 0 * a i k) (λ k. cond (Y k) (c k * a i k) 0) (λ k _ _. pulled (Y k) (c k) (a i k))
+        ∙ sum_on-within X Y n (λ k. c k * a i k) within) ∙ s i il

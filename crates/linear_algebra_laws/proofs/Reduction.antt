@@ -83,7 +83,8 @@ module _ (p m n : ℕ) (a0 a : ℕ → ℕ → ℕ) (X : ℕ → Bool) (v r : �
     base = record {
       row_below = so_far.base.row_below;
       one = λ c l h. added.others (so_far.row c) c (so_far.base.row_below c l h) l (let less : so_far.row c < r = so_far.rows c l h in omega arith) ∙ so_far.base.one c l h;
-      zero = λ c i l h il ne. stays c i l il (so_far.base.zero c t l h tl (let less : so_far.row c < r = so_far.rows c l h in omega arith)) (so_far.base.zero c s l h sl (let less : so_far.row c < r = so_far.rows c l h in omega arith)) (so_far.base.zero c i l h il ne);
+      zero = λ c i l h il ne. stays c i l il (so_far.base.zero c t l h tl (let less : so_far.row c < r = so_far.rows c l h in omega arith))
+          (so_far.base.zero c s l h sl (let less : so_far.row c < r = so_far.rows c l h in omega arith)) (so_far.base.zero c i l h il ne);
       distinct = so_far.base.distinct;
     };
     zero = λ i j le il jl jv jh. stays j i jl il (so_far.zero t j rt tl jl jv jh) (so_far.zero s j rs sl jl jv jh) (so_far.zero i j le il jl jv jh);

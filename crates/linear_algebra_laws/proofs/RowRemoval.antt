@@ -3,24 +3,24 @@ use Rattle.std.proofs.Common.{◌≡◌, ℕ, ◌+◌, ◌-◌, ◌*◌, ◌%◌
 use Rattle.std.proofs.lemmas.Bool.Decides.{nat_tests}
 use Rattle.std.proofs.Math.Nat.{zero-mod, mod-eq_of_lt}
 use Rattle.residue_theory.specs.Sets.{everything, without, IsWithin}
-use Rattle.residue_theory.specs.Sums.{sum_on}
+use Rattle.residue_theory.specs.Sums.{sum_on, sum_below, size_on}
 use Rattle.residue_theory.specs.Residues.{IsPrime}
 use Rattle.residue_theory.proofs.SumLaws.{sum_on-mul, sum_on-ext, nat_cases, member-without}
 use Rattle.residue_theory.proofs.SetLaws.{le_cases, zero_cases, search_below}
 use Rattle.residue_theory.proofs.CountLaws.{size-everything}
-use Rattle.residue_theory.proofs.ResidueLaws.{vanishes-mul, vanishes-sum, inverse, one_non_zero}
+use Rattle.residue_theory.proofs.ResidueLaws.{agree-mul, agree-sum, vanishes-mul, vanishes-sum, inverse, one_non_zero}
 use Rattle.linear_algebra.specs.Columns.{CombinesToZero, IsIndependent, IsRank, Combines}
 use Rattle.linear_algebra.specs.Products.{identity, product, IsInverse, Agree}
 use Rattle.linear_algebra.specs.Bases.{IsBase, HasNoBase}
 use Rattle.linear_algebra.specs.Parts.{without_row, above, part}
 use Rattle.linear_algebra_laws.proofs.Elimination.{Dichotomy, dichotomy}
 use Rattle.linear_algebra_laws.proofs.Ranks.{rank_exists, combination_of-largest, combines-through, combines-within}
-use Rattle.linear_algebra_laws.proofs.RankLaws.{rank-rows}
-use Rattle.linear_algebra_laws.proofs.Products.{identity-same, identity-other, combines-product, combines_of-product, sum-identity_right}
+use Rattle.linear_algebra_laws.proofs.RankLaws.{rank-rows, rank_of-independent}
+use Rattle.linear_algebra_laws.proofs.Products.{sum-product, combines-product, combines_of-product, sum-identity_right}
 use Rattle.linear_algebra_laws.proofs.Bases.{base_or_none, base-combines, combines_of-base}
 use Rattle.linear_algebra_laws.proofs.Stacked.{above-size, top-zero, low-zero}
-use Rattle.linear_algebra_laws.proofs.PartLaws.{part-shown, part-other_row}
 use Rattle.linear_algebra_laws.proofs.SkipLaws.{skip-other, skip-below, unskip, unskip-below, skip-unskip}
+use Rattle.linear_algebra_laws.proofs.Entries.{identity-same, identity-other, part-shown, part-other_row}
 
 -- the k rows of b are those of a but row e, in any order
 pub record IsRowRemoved (p m k n : ℕ) (a b : ℕ → ℕ → ℕ) (e : ℕ) : Type 0 where
@@ -51,7 +51,9 @@ part-removed p m n a e el = record {
   rows = λ Y c z i il ne. ap (λ y. y % p) (sum_on-ext Y n (λ j. c j * a i j) (λ j. c j * part (without everything e) everything a i j)
       (λ j _ _. ap (λ y. c j * y) (sym (part-shown (without everything e) everything a i j (member-without everything e i refl ne) refl)))) ∙ z i il;
   back = λ Y c z i il. elim (nat_cases i e) [
-    | inl q ↦ vanishes-sum p Y n (λ j. c j * part (without everything e) everything a i j) (λ j _ _. vanishes-mul p (c j) (part (without everything e) everything a i j) (ap (λ y. y % p) (part-other_row (without everything e) everything a i j (gone i q)) ∙ zero-mod p))
+    | inl q ↦ vanishes-sum p Y n (λ j. c j * part (without everything e) everything a i j)
+        (λ j _ _. vanishes-mul p (c j) (part (without everything e) everything a i j)
+        (ap (λ y. y % p) (part-other_row (without everything e) everything a i j (gone i q)) ∙ zero-mod p))
     | inr ne ↦ ap (λ y. y % p) (sum_on-ext Y n (λ j. c j * part (without everything e) everything a i j) (λ j. c j * a i j)
         (λ j _ _. ap (λ y. c j * y) (part-shown (without everything e) everything a i j (member-without everything e i refl ne) refl))) ∙ z i il ne
   ];
@@ -104,7 +106,8 @@ module _ (p : ℕ) (prime : IsPrime p) (m k n : ℕ) (a b : ℕ → ℕ → ℕ)
           (combination_of-largest p prime a m n X Z S.reached.1 (removed-independent Z S.reached.2) (subst (λ u. IsRank p a m n X u) (sym (S.reached.3 ∙ q)) R)) comb
 
       bad : Combines p a m n Z (λ i. identity i e) → ⊥
-      bad (d, t) = one_non_zero p prime (identity e e) (identity-same e) (sym (t e removed.row_below) ∙ vanishes-sum p Z n (λ j. d j * a e j) (λ j jl jh. zero_first j (S.reached.2 d
+      bad (d, t) = one_non_zero p prime (identity e e) (identity-same e)
+          (sym (t e removed.row_below) ∙ vanishes-sum p Z n (λ j. d j * a e j) (λ j jl jh. zero_first j (S.reached.2 d
           (removed.back Z d (λ i il ne. t i il ∙ ap (λ y. y % p) (identity-other i e ne) ∙ zero-mod p)) j jl jh)))
         where
           zero_first : (j : ℕ) → d j % p ≡ 0 → (d j * a e j) % p ≡ 0
@@ -139,10 +142,31 @@ module _ (p : ℕ) (prime : IsPrime p) (m k n : ℕ) (a b : ℕ → ℕ → ℕ)
               at_row : (i : ℕ) → i < m → (i ≡ e) ⊎ (i ≢ e) → (y * sum_on Y n (λ j. t.at j * a i j)) % p ≡ identity i e % p
               at_row i il (inl q) = subst (λ l. (y * sum_on Y n (λ j. t.at j * a l j)) % p ≡ identity l e % p) (sym q)
                   (ap (λ x. x % p) (let g : y * C ≡ C * y = omega arith in g) ∙ h ∙ sym (ap (λ x. x % p) (identity-same e) ∙ mod-eq_of_lt prime.above_one))
-              at_row i il (inr ne) = vanishes-mul p y (sum_on Y n (λ j. t.at j * a i j)) (removed.rows Y t.at zeros i il ne) ∙ sym (ap (λ x. x % p) (identity-other i e ne) ∙ zero-mod p)
+              at_row i il (inr ne) = vanishes-mul p y (sum_on Y n (λ j. t.at j * a i j)) (removed.rows Y t.at zeros i il ne)
+                  ∙ sym (ap (λ x. x % p) (identity-other i e ne) ∙ zero-mod p)
 
   pub removed-stays : (X : ℕ → Bool) (r s : ℕ) → IsRank p a m n X r → IsRank p b k n X s → (Combines p a m n X (λ i. identity i e) → ⊥) → s ≡ r
   removed-stays X r s R S never = elim (le_cases s r (removed-at_most X r s R S).0) [ inl q ↦ q | inr less ↦ absurd (never (falls-combines X r s R S less)) ]
+
+  -- of an independent set at most one column goes with the row
+  pub removed-drop : (Y : ℕ → Bool) → IsIndependent p a m n Y → (Z : ℕ → Bool) × IsWithin n Z Y × IsIndependent p b k n Z × (size_on Y n ≤ size_on Z n + 1)
+  removed-drop Y ind = go (rank_exists p prime b k n Y)
+    where
+      go : (s : ℕ) × IsRank p b k n Y s → (Z : ℕ → Bool) × IsWithin n Z Y × IsIndependent p b k n Z × (size_on Y n ≤ size_on Z n + 1)
+      go (s, T) = (T.reached.0, T.reached.1, T.reached.2, omega (arith, T.reached.3, (removed-at_most Y (size_on Y n) s (rank_of-independent p a m n Y ind) T).1))
+
+  -- where row e is a combination of the others on X, the rank stays
+  pub removed-combined : (X : ℕ → Bool) (r s : ℕ) (y : ℕ → ℕ) → y e % p ≢ 0 → ((j : ℕ) → j < n → X j ≡ true → sum_below m (λ t. y t * a t j) % p ≡ 0) →
+      IsRank p a m n X r → IsRank p b k n X s → s ≡ r
+  removed-combined X r s y ne zeros R S = removed-stays X r s R S never
+    where
+      -- the rows' combination gives y e at the unit column, and zero at each column of X
+      never : Combines p a m n X (λ i. identity i e) → ⊥
+      never (c, t) = ne (sym (ap (λ x. x % p) (sum-identity_right m e y removed.row_below))
+          ∙ sym (agree-sum p everything m (λ i. y i * sum_on X n (λ j. c j * a i j)) (λ i. y i * identity i e)
+          (λ i il _. agree-mul p (y i) (sum_on X n (λ j. c j * a i j)) (identity i e) (t i il)))
+          ∙ ap (λ x. x % p) (sym (sum-product m n (λ _ i. y i) a X c 0))
+          ∙ vanishes-sum p X n (λ j. c j * product m (λ _ i. y i) a 0 j) (λ j jl jh. vanishes-mul p (c j) (product m (λ _ i. y i) a 0 j) (zeros j jl jh)))
 
   -- ---- read from a tableau: P = S * a with a base B within X, and the columns of X are zero in P at each row without base
   module _ (S U P : ℕ → ℕ → ℕ) (B : ℕ → Bool) (row : ℕ → ℕ) (X : ℕ → Bool) (inv : IsInverse p m S U) (same : Agree p m n P (product m S a)) (base : IsBase p P m n B row) (inside : IsWithin n B X)
@@ -158,7 +182,8 @@ module _ (p : ℕ) (prime : IsPrime p) (m k n : ℕ) (a b : ℕ → ℕ → ℕ)
 
     pub unit-combines : ((i : ℕ) → i < m → HasNoBase n B row i → S i e % p ≡ 0) → Combines p a m n X (λ i. identity i e)
     unit-combines shown = combines_of-product p prime m n S U a P X (λ i. identity i e) inv same
-        (combines-within p m n P B X (λ i. product m S identity i e) inside (combines_of-base p prime P m n B row base (λ i. product m S identity i e) (λ i il none. ap (λ y. y % p) (unit-column i) ∙ shown i il none)))
+        (combines-within p m n P B X (λ i. product m S identity i e) inside
+        (combines_of-base p prime P m n B row base (λ i. product m S identity i e) (λ i il none. ap (λ y. y % p) (unit-column i) ∙ shown i il none)))
 
     NonZeroRow : ℕ → Type 0
     NonZeroRow i = HasNoBase n B row i × (S i e % p ≢ 0)

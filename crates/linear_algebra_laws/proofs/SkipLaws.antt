@@ -41,7 +41,8 @@ sum_on-skip_last X n f =
     ∙ sum_on-same X (λ k. X (skip n k)) n (λ k. f (skip n k)) (λ k l. ap X (sym (skip-first n k l)))
 
 pub sum_on-skip : (X : ℕ → Bool) (n v : ℕ) (f : ℕ → ℕ) → v < suc n → sum_on (without X v) (suc n) f ≡ sum_on (λ k. X (skip v k)) n (λ k. f (skip v k))
-sum_on-skip X zero v f l = subst (λ w. sum_on (without X w) (suc zero) f ≡ sum_on (λ k. X (skip w k)) zero (λ k. f (skip w k))) (let q : zero ≡ v = omega arith in q) (sum_on-skip_last X zero f)
+sum_on-skip X zero v f l = subst (λ w. sum_on (without X w) (suc zero) f ≡ sum_on (λ k. X (skip w k)) zero (λ k. f (skip w k)))
+    (let q : zero ≡ v = omega arith in q) (sum_on-skip_last X zero f)
 sum_on-skip X (suc n) v f l = go (nat_cases v (suc n)) (λ less. sum_on-skip X n v f less)
   where
     go : (v ≡ suc n) ⊎ (v ≢ suc n) → (v < suc n → sum_on (without X v) (suc n) f ≡ sum_on (λ k. X (skip v k)) n (λ k. f (skip v k))) →

@@ -11,7 +11,7 @@ use Rattle.residue_theory.proofs.ResidueLaws.{vanishes-mul, vanishes-sum, vanish
 use Rattle.linear_algebra.specs.Columns.{IsIndependent, IsRank, CombinesToZero}
 use Rattle.linear_algebra.specs.Parts.{in_part, diagonal, IsBlockTriangular}
 use Rattle.linear_algebra_laws.proofs.RankLaws.{no_zero_column}
-use Rattle.linear_algebra_laws.proofs.PartLaws.{part-shown, part-other_row, part-other_column}
+use Rattle.linear_algebra_laws.proofs.Entries.{part-shown, part-other_row, part-other_column}
 
 ne_cases : (a b : ℕ) → a ≢ b → (a < b) ⊎ (b < a)
 ne_cases a b ne = grind arith
@@ -25,7 +25,8 @@ module _ (p : ℕ) (prime : IsPrime p) (m n k : ℕ) (a : ℕ → ℕ → ℕ) (
   inside h hl j jl jh = elim (nat_cases (column_part j) h) [
     | inl q ↦ q
     | inr ne ↦ absurd (no_zero_column p prime (diagonal row_part column_part a h) m n (f h) (ok h hl) j jl jh
-        (λ i _. ap (λ y. y % p) (part-other_column (in_part row_part h) (in_part column_part h) a i j (not_true (eqb (column_part j) h) (λ e. ne (eqb_true (column_part j) h e)))) ∙ zero-mod p))
+        (λ i _. ap (λ y. y % p) (part-other_column (in_part row_part h) (in_part column_part h) a i j
+        (not_true (eqb (column_part j) h) (λ e. ne (eqb_true (column_part j) h e)))) ∙ zero-mod p))
   ]
 
   -- the independent sets of all parts
@@ -66,7 +67,8 @@ module _ (p : ℕ) (prime : IsPrime p) (m n k : ℕ) (a : ℕ → ℕ → ℕ) (
             (λ j jl jh. ap (λ x. c j * x) (part-shown (in_part row_part h) (in_part column_part h) a i j e (eqb_from (column_part j) h (inside h hl j jl jh)))))
             ∙ row-part h hl i il (others i il (eqb_true (row_part i) h e))
         at_row i il false e = vanishes-sum p (f h) n (λ j. c j * diagonal row_part column_part a h i j)
-            (λ j jl jh. vanishes-mul p (c j) (diagonal row_part column_part a h i j) (ap (λ s. s % p) (part-other_row (in_part row_part h) (in_part column_part h) a i j e) ∙ zero-mod p))
+            (λ j jl jh. vanishes-mul p (c j) (diagonal row_part column_part a h i j)
+            (ap (λ s. s % p) (part-other_row (in_part row_part h) (in_part column_part h) a i j e) ∙ zero-mod p))
 
     -- from the last part to the first
     descend : (d j : ℕ) → j < n → glued j ≡ true → k ≤ column_part j + d → c j % p ≡ 0
@@ -89,15 +91,18 @@ module _ (p : ℕ) (prime : IsPrime p) (m n k : ℕ) (a : ℕ → ℕ → ℕ) (
       same false false b x y w = refl
 
 -- the ranks of the diagonal parts add up to at most the rank
-pub triangular-rank : (p : ℕ) → IsPrime p → (m n k : ℕ) (a : ℕ → ℕ → ℕ) (row_part column_part : ℕ → ℕ) → ((j : ℕ) → j < n → column_part j < k) → IsBlockTriangular p a m n row_part column_part →
+pub triangular-rank : (p : ℕ) → IsPrime p → (m n k : ℕ) (a : ℕ → ℕ → ℕ) (row_part column_part : ℕ → ℕ) → ((j : ℕ) → j < n → column_part j < k) →
+    IsBlockTriangular p a m n row_part column_part →
     (r : ℕ → ℕ) → ((h : ℕ) → h < k → IsRank p (diagonal row_part column_part a h) m n everything (r h)) → (s : ℕ) → IsRank p a m n everything s → sum_below k r ≤ s
 triangular-rank p prime m n k a row_part column_part below tri r ranks s S =
-    go (choose k (ℕ → Bool) nothing (λ h Y. IsIndependent p (diagonal row_part column_part a h) m n Y × (size_on Y n ≡ r h)) (λ h hl. ((ranks h hl).reached.0, ((ranks h hl).reached.2, (ranks h hl).reached.3))))
+    go (choose k (ℕ → Bool) nothing (λ h Y. IsIndependent p (diagonal row_part column_part a h) m n Y × (size_on Y n ≡ r h))
+    (λ h hl. ((ranks h hl).reached.0, ((ranks h hl).reached.2, (ranks h hl).reached.3))))
   where
     go : (f : ℕ → ℕ → Bool) × ((h : ℕ) → h < k → IsIndependent p (diagonal row_part column_part a h) m n (f h) × (size_on (f h) n ≡ r h)) → sum_below k r ≤ s
     go (f, ok) = omega (
       arith,
       sum_on-ext everything k (λ h. size_on (f h) n) r (λ h hl _. (ok h hl).1),
       glued-size p prime m n k a row_part column_part below tri f (λ h hl. (ok h hl).0),
-      S.greatest (glued p prime m n k a row_part column_part below tri f (λ h hl. (ok h hl).0)) (λ _ _ _. refl) (glued-independent p prime m n k a row_part column_part below tri f (λ h hl. (ok h hl).0)),
+      S.greatest (glued p prime m n k a row_part column_part below tri f (λ h hl. (ok h hl).0)) (λ _ _ _. refl)
+          (glued-independent p prime m n k a row_part column_part below tri f (λ h hl. (ok h hl).0)),
     )

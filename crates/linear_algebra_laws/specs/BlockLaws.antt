@@ -12,7 +12,8 @@ StackedRankIsAtMostTheSum =
     (p : ℕ) → IsPrime p → (m t n : ℕ) (a b : ℕ → ℕ → ℕ) (X : ℕ → Bool) (r s u : ℕ) →
     IsRank p a m n X r → IsRank p b t n X s → IsRank p (above m a b) (m + t) n X u → u ≤ r + s
 
--- where all columns stand in the first k parts, the ranks of the diagonal parts of a block triangular matrix add up to at most its rank
+-- where all columns stand in the first k parts, the ranks of the diagonal parts
+-- of a block triangular matrix add up to at most its rank
 abbrev pub DiagonalRanksAreAtMostTheRank : Type 0
 DiagonalRanksAreAtMostTheRank =
     (p : ℕ) → IsPrime p → (m n k : ℕ) (a : ℕ → ℕ → ℕ) (row_part column_part : ℕ → ℕ) →

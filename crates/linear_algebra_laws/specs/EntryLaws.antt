@@ -11,7 +11,8 @@ OneOfTwoNeighboursKeepsIndependence =
     IsIndependent p a m n Y →
     IsIndependent p (with_entry a r v x) m n Y ⊎ IsIndependent p (with_entry a r v (x + 1)) m n Y
 
--- modulo a prime above 2 an entry that is 0 may be made 1 or 2, neither of which is zero, and columns stay independent
+-- modulo a prime above 2 an entry that is 0 may be made 1 or 2, neither of which is zero,
+-- and columns stay independent
 abbrev pub ZeroMayBecomeOneOrTwo : Type 0
 ZeroMayBecomeOneOrTwo =
     (p : ℕ) → IsPrime p → 2 < p → (m n : ℕ) (a : ℕ → ℕ → ℕ) (r v : ℕ) (Y : ℕ → Bool) → r < m →

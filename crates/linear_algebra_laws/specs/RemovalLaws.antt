@@ -1,6 +1,7 @@
 -- Laws of a matrix with one row or one column less, or one more.
-use Rattle.std.specs.Prelude.{ℕ, ◌+◌, ◌-◌, ◌%◌, ◌<◌, ◌≤◌, ◌≡◌, ◌≢◌, ◌↔◌, Bool, true}
+use Rattle.std.specs.Prelude.{ℕ, ◌+◌, ◌-◌, ◌*◌, ◌%◌, ◌<◌, ◌≤◌, ◌≡◌, ◌≢◌, ◌↔◌, Bool, true}
 use Rattle.residue_theory.specs.Sets.{everything, without, IsWithin}
+use Rattle.residue_theory.specs.Sums.{sum_below}
 use Rattle.residue_theory.specs.Residues.{IsPrime}
 use Rattle.linear_algebra.specs.Columns.{IsRank, Combines, IsCombination}
 use Rattle.linear_algebra.specs.Products.{product, identity, IsInverse, Agree}
@@ -33,7 +34,7 @@ RankFallsWithoutRow =
     IsRank p a m n X r → IsRank p (without_row e a) (m - 1) n X s →
     (s + 1 ≡ r) ↔ Combines p a m n X (λ i. identity i e)
 
--- in a tableau P = S * a, S invertible, with a base B within X such that the columns of X are zero in P at each row without base:
+-- in a tableau P = S * a, S invertible, let the base B be within X, and the columns of X be zero in P at each row without base:
 -- without row e of a the rank of X stays exactly where column e of S is not zero at some row without base
 abbrev pub TableauTellsTheRowsThatMayGo : Type 0
 TableauTellsTheRowsThatMayGo =
@@ -68,3 +69,10 @@ RankStaysWithColumnBeside =
     (p : ℕ) → IsPrime p → (a : ℕ → ℕ → ℕ) (x : ℕ → ℕ) (m n r s : ℕ) →
     IsRank p a m n everything r → IsRank p (with_column n a x) m (n + 1) everything s →
     (s ≡ r) ↔ Combines p a m n everything x
+
+-- where row e is on X a combination of the other rows, the rank of X stays without it
+abbrev pub RankStaysWithoutACombinedRow : Type 0
+RankStaysWithoutACombinedRow =
+    (p : ℕ) → IsPrime p → (a : ℕ → ℕ → ℕ) (m n : ℕ) (X : ℕ → Bool) (e r s : ℕ) (y : ℕ → ℕ) → e < m →
+    y e % p ≢ 0 → ((j : ℕ) → j < n → X j ≡ true → sum_below m (λ t. y t * a t j) % p ≡ 0) →
+    IsRank p a m n X r → IsRank p (without_row e a) (m - 1) n X s → s ≡ r

@@ -1,5 +1,5 @@
 //! A matrix with one row or one column less, or one more.
-ghost use Rattle.linear_algebra_laws.specs.RemovalLaws.{OneMoreRowAddsAtMostOne, OneRowLessTakesAtMostOne, RankStaysWithoutRow, RankFallsWithoutRow, TableauTellsTheRowsThatMayGo, OneColumnLessTakesAtMostOne, RankStaysWithoutColumn, OneColumnBesideAddsAtMostOne, RankStaysWithColumnBeside};
+ghost use Rattle.linear_algebra_laws.specs.RemovalLaws.{OneMoreRowAddsAtMostOne, OneRowLessTakesAtMostOne, RankStaysWithoutRow, RankFallsWithoutRow, TableauTellsTheRowsThatMayGo, OneColumnLessTakesAtMostOne, RankStaysWithoutColumn, OneColumnBesideAddsAtMostOne, RankStaysWithColumnBeside, RankStaysWithoutACombinedRow};
 
 /// One more row keeps the rank or adds one.
 pub fn one_more_row_adds_at_most_one()
@@ -44,4 +44,9 @@ pub fn one_column_beside_adds_at_most_one()
 /// With a column beside the matrix the rank stays exactly where it is a combination of the columns.
 pub fn rank_stays_with_column_beside()
     ensures { RankStaysWithColumnBeside }
+{}
+
+/// Without a row that is a combination of the others the rank stays.
+pub fn rank_stays_without_a_combined_row()
+    ensures { RankStaysWithoutACombinedRow }
 {}

@@ -19,7 +19,8 @@ pub size-positive : (X : ℕ → Bool) (n j : ℕ) → j < n → X j ≡ true �
 size-positive X n j l x = omega (arith, sum_on-without X n j (λ _. 1) l x)
 
 pub sum-with_one : (X : ℕ → Bool) (n v : ℕ) (f : ℕ → ℕ) → v < n → X v ≡ false → sum_on (with_one X v) n f ≡ sum_on X n f + f v
-sum-with_one X n v f l h = sum_on-without (with_one X v) n v f l (with_one-new X v) ∙ ap (λ s. s + f v) (sum_on-same (without (with_one X v) v) X n f (λ j _. with_one-without X v j h))
+sum-with_one X n v f l h = sum_on-without (with_one X v) n v f l (with_one-new X v)
+    ∙ ap (λ s. s + f v) (sum_on-same (without (with_one X v) v) X n f (λ j _. with_one-without X v j h))
 
 -- one member less, or none
 pub size-without : (X : ℕ → Bool) (n v : ℕ) → v < n → size_on X n ≤ size_on (without X v) n + 1
@@ -35,21 +36,24 @@ pub size-injection : (A : ℕ → Bool) (n : ℕ) (f : ℕ → ℕ) (m : ℕ) (D
     ((a : ℕ) → a < n → A a ≡ true → f a < m) → ((a : ℕ) → a < n → A a ≡ true → D (f a) ≡ true) →
     ((a b : ℕ) → a < n → b < n → A a ≡ true → A b ≡ true → f a ≡ f b → a ≡ b) → size_on A n ≤ size_on D m
 size-injection A zero f m D below inside distinct = omega arith
-size-injection A (suc n) f m D below inside distinct = go (A n) refl (λ E h. size-injection A n f m E (λ a l. below a (omega arith)) h (λ a b l k. distinct a b (omega arith) (omega arith)))
+size-injection A (suc n) f m D below inside distinct = go (A n) refl
+    (λ E h. size-injection A n f m E (λ a l. below a (omega arith)) h (λ a b l k. distinct a b (omega arith) (omega arith)))
   where
     go : (b : Bool) → A n ≡ b → ((E : ℕ → Bool) → ((a : ℕ) → a < n → A a ≡ true → E (f a) ≡ true) → size_on A n ≤ size_on E m) → size_on A (suc n) ≤ size_on D m
     go false e ih = grind (arith, e, ih D (λ a l. inside a (omega arith)))
     go true e ih = grind (
       arith,
       e,
-      ih (without D (f n)) (λ a l h. member-without D (f n) (f a) (inside a (omega arith) h) (λ q. let same : a ≡ n = distinct a n (omega arith) (omega arith) h e q in absurd (omega arith))),
+      ih (without D (f n)) (λ a l h. member-without D (f n) (f a) (inside a (omega arith) h)
+          (λ q. let same : a ≡ n = distinct a n (omega arith) (omega arith) h e q in absurd (omega arith))),
       sum_on-without D m (f n) (λ _. 1) (below n (omega arith) e) (inside n (omega arith) e),
     )
 
 -- members of D that are all images of members of A
 pub size-surjection : (A : ℕ → Bool) (n : ℕ) (f : ℕ → ℕ) (m : ℕ) (D : ℕ → Bool) →
     ((i : ℕ) → i < m → D i ≡ true → (a : ℕ) × (a < n) × (A a ≡ true) × (f a ≡ i)) → size_on D m ≤ size_on A n
-size-surjection A n f m D each = go (choice m D (λ i c. (c 0 < n) × (A (c 0) ≡ true) × (f (c 0) ≡ i)) (λ i l h. let a : (a : ℕ) × (a < n) × (A a ≡ true) × (f a ≡ i) = each i l h in ((λ _. a.0), (a.1, a.2, a.3))))
+size-surjection A n f m D each = go (choice m D (λ i c. (c 0 < n) × (A (c 0) ≡ true) × (f (c 0) ≡ i))
+    (λ i l h. let a : (a : ℕ) × (a < n) × (A a ≡ true) × (f a ≡ i) = each i l h in ((λ _. a.0), (a.1, a.2, a.3))))
   where
     go : (g : ℕ → ℕ → ℕ) × ((i : ℕ) → i < m → D i ≡ true → (g i 0 < n) × (A (g i 0) ≡ true) × (f (g i 0) ≡ i)) → size_on D m ≤ size_on A n
     go (g, ok) = size-injection D m (λ i. g i 0) n A (λ i l h. (ok i l h).0) (λ i l h. (ok i l h).1) (λ i k l r h s q. sym ((ok i l h).2) ∙ ap f q ∙ (ok k r s).2)
@@ -113,7 +117,8 @@ counts I J X (suc n) h = omega (arith, counts I J X n (λ j l. h j (omega arith)
 pub counts-equal : (I J X : ℕ → Bool) (n : ℕ) → IsApart n I J → ((j : ℕ) → j < n → I j ≡ false → J j ≡ false → X j ≡ true) →
     size_on I n + size_on J n + size_on X n ≡ size_on (both I X) n + size_on (both J X) n + n
 counts-equal I J X zero h free = omega arith
-counts-equal I J X (suc n) h free = omega (arith, counts-equal I J X n (λ j l. h j (omega arith)) (λ j l. free j (omega arith)), one (I n) (J n) (X n) (h n (omega arith)) (free n (omega arith)))
+counts-equal I J X (suc n) h free = omega
+    (arith, counts-equal I J X n (λ j l. h j (omega arith)) (λ j l. free j (omega arith)), one (I n) (J n) (X n) (h n (omega arith)) (free n (omega arith)))
   where
     one : (a b x : Bool) → (a ≡ true → b ≡ false) → (a ≡ false → b ≡ false → x ≡ true) → cond a 1 0 + cond b 1 0 + cond x 1 0 ≡ cond (a && x) 1 0 + cond (b && x) 1 0 + 1
     one a b x e f = grind arith
@@ -130,8 +135,14 @@ counts-less I J X (suc n) h j l a b x = go (nat_cases j n) (λ less. counts-less
     none : (u v w : Bool) → u ≡ false → v ≡ false → w ≡ false → cond u 1 0 + cond v 1 0 + cond w 1 0 + 1 ≤ cond (u && w) 1 0 + cond (v && w) 1 0 + 1
     none u v w d e f = grind arith
 
-    go : (j ≡ n) ⊎ (j ≢ n) → (j < n → size_on I n + size_on J n + size_on X n < size_on (both I X) n + size_on (both J X) n + n) → size_on I (suc n) + size_on J (suc n) + size_on X (suc n) < size_on (both I X) (suc n) + size_on (both J X) (suc n) + suc n
-    go (inl q) ih = omega (arith, counts I J X n (λ k r. h k (omega arith)), none (I n) (J n) (X n) (subst (λ k. I k ≡ false) q a) (subst (λ k. J k ≡ false) q b) (subst (λ k. X k ≡ false) q x))
+    go : (j ≡ n) ⊎ (j ≢ n) → (j < n → size_on I n + size_on J n + size_on X n < size_on (both I X) n + size_on (both J X) n + n) →
+        size_on I (suc n) + size_on J (suc n) + size_on X (suc n) < size_on (both I X) (suc n) + size_on (both J X) (suc n) + suc n
+    go (inl q) ih = omega (
+      arith,
+      counts I J X n (λ k r. h k (omega arith)),
+      none (I n) (J n) (X n) (subst (λ k. I k ≡ false) q a) (subst (λ k. J k ≡ false) q b)
+          (subst (λ k. X k ≡ false) q x),
+    )
     go (inr ne) ih = omega (arith, ih (omega arith), one (I n) (J n) (X n) (h n (omega arith)))
 
 -- the members of I and of J that are in X
@@ -142,20 +153,27 @@ pair-columns I J X (suc n) h = omega (arith, pair-columns I J X n (λ j l. h j (
     one : (a b x : Bool) → (a ≡ true → b ≡ false) → cond (a && x) 1 0 + cond (b && x) 1 0 ≤ cond x 1 0
     one a b x e = grind arith
 
-pub pair-columns-equal : (I J X : ℕ → Bool) (n : ℕ) → IsApart n I J → ((j : ℕ) → j < n → X j ≡ true → I j ≡ false → J j ≡ true) → size_on (both I X) n + size_on (both J X) n ≡ size_on X n
+pub pair-columns-equal : (I J X : ℕ → Bool) (n : ℕ) → IsApart n I J → ((j : ℕ) → j < n → X j ≡ true → I j ≡ false → J j ≡ true) →
+    size_on (both I X) n + size_on (both J X) n ≡ size_on X n
 pair-columns-equal I J X zero h all = omega arith
-pair-columns-equal I J X (suc n) h all = omega (arith, pair-columns-equal I J X n (λ j l. h j (omega arith)) (λ j l. all j (omega arith)), one (I n) (J n) (X n) (h n (omega arith)) (all n (omega arith)))
+pair-columns-equal I J X (suc n) h all = omega
+    (arith, pair-columns-equal I J X n (λ j l. h j (omega arith)) (λ j l. all j (omega arith)), one (I n) (J n) (X n) (h n (omega arith)) (all n (omega arith)))
   where
     one : (a b x : Bool) → (a ≡ true → b ≡ false) → (x ≡ true → a ≡ false → b ≡ true) → cond (a && x) 1 0 + cond (b && x) 1 0 ≡ cond x 1 0
     one a b x e f = grind arith
 
-pub pair-columns-less : (I J X : ℕ → Bool) (n : ℕ) → IsApart n I J → (j : ℕ) → j < n → X j ≡ true → I j ≡ false → J j ≡ false → size_on (both I X) n + size_on (both J X) n < size_on X n
+pub pair-columns-less : (I J X : ℕ → Bool) (n : ℕ) → IsApart n I J → (j : ℕ) → j < n → X j ≡ true → I j ≡ false → J j ≡ false →
+    size_on (both I X) n + size_on (both J X) n < size_on X n
 pair-columns-less I J X n h j l x a b = omega (
   arith,
   pair-columns I J (without X j) n h,
   sum_on-without X n j (λ _. 1) l x,
-  size_on-within (both I (without X j)) (both I X) n (λ k _ q. both_true (I k) (without X j k) (both-first (I k) (X k) q) (member-without X j k (both-second (I k) (X k) q) (λ e. differ (subst (λ i. I i ≡ false) (sym e) a) (both-first (I k) (X k) q)))),
-  size_on-within (both J (without X j)) (both J X) n (λ k _ q. both_true (J k) (without X j k) (both-first (J k) (X k) q) (member-without X j k (both-second (J k) (X k) q) (λ e. differ (subst (λ i. J i ≡ false) (sym e) b) (both-first (J k) (X k) q)))),
+  size_on-within (both I (without X j)) (both I X) n
+      (λ k _ q. both_true (I k) (without X j k) (both-first (I k) (X k) q)
+      (member-without X j k (both-second (I k) (X k) q) (λ e. differ (subst (λ i. I i ≡ false) (sym e) a) (both-first (I k) (X k) q)))),
+  size_on-within (both J (without X j)) (both J X) n
+      (λ k _ q. both_true (J k) (without X j k) (both-first (J k) (X k) q)
+      (member-without X j k (both-second (J k) (X k) q) (λ e. differ (subst (λ i. J i ≡ false) (sym e) b) (both-first (J k) (X k) q)))),
 )
 
 -- ---- the levels of a function f
@@ -185,7 +203,8 @@ level-one : (b : Bool) (k l x : ℕ) → (b ≡ true → l < k) → sum_below k 
 level-one false k l x h = sum_on-none everything k
 level-one true k l x h =
     sum_on-without everything k l (λ i. cond (eqb l i) x 0) (h refl) refl
-    ∙ ap (λ s. s + cond (eqb l l) x 0) (sum_on-ext (without everything l) k (λ i. cond (eqb l i) x 0) (λ _. 0) (λ i _ m. other i (without-member everything l i m).1) ∙ sum_on-none (without everything l) k)
+    ∙ ap (λ s. s + cond (eqb l l) x 0) (sum_on-ext (without everything l) k (λ i. cond (eqb l i) x 0) (λ _. 0)
+    (λ i _ m. other i (without-member everything l i m).1) ∙ sum_on-none (without everything l) k)
     ∙ ap (λ b. 0 + cond b x 0) (eqb_from l l refl) ∙ omega arith
   where
     other : (i : ℕ) → i ≢ l → cond (eqb l i) x 0 ≡ 0

@@ -47,7 +47,11 @@ prime_by_trial p k above root h = record { above_one = above; no_divisor = none 
     none d dl du z = elim (cases d (2 + 2 ^ k)) [ inl small ↦ trial-ok p k 2 h d (omega arith) small z | inr large ↦ other (p / d) (omega (arith, mod-add-div p d)) large ]
       where
         other : (e : ℕ) → d * e ≡ p → 2 + 2 ^ k ≤ d → ⊥
-        other e q large = elim (cases e (2 + 2 ^ k)) [ inl small ↦ trial-ok p k 2 h e (cofactor d e p q dl du) small (ap (λ x. x % e) (sym q) ∙ mul-mod_left d e) | inr big ↦ omega (arith, mul-le-mul large big) ]
+        other e q large = elim (cases e (2 + 2 ^ k)) [
+          | inl small ↦ trial-ok p k 2 h e (cofactor d e p q dl du) small
+              (ap (λ x. x % e) (sym q) ∙ mul-mod_left d e)
+          | inr big ↦ omega (arith, mul-le-mul large big)
+        ]
 
 pub prime_65521 : IsPrime 65521
 unfolding trial

@@ -83,7 +83,8 @@ euclid_step k a q r e (w, h) = (k * (q * w), same ∙ mod_self (suc k))
     rest = vanishes_by (suc k) _ (k * (r * w + 1)) (omega arith) (vanishes-mul (suc k) k (r * w + 1) h)
 
     same : (a * (k * (q * w)) + 1) % suc k ≡ suc k % suc k
-    same = ap (λ x. x % suc k) (omega arith) ∙ agree-add (suc k) (k * (a * (q * w))) k 1 1 (agree_of (suc k) (k * (a * (q * w))) (k * (r * w)) k multiple rest) refl ∙ ap (λ x. x % suc k) (omega arith)
+    same = ap (λ x. x % suc k) (omega arith) ∙ agree-add (suc k) (k * (a * (q * w))) k 1 1 (agree_of (suc k) (k * (a * (q * w))) (k * (r * w)) k multiple rest) refl
+        ∙ ap (λ x. x % suc k) (omega arith)
 
 inverse_below : (k : ℕ) → IsPrime (suc k) → (fuel a : ℕ) → a ≤ fuel → 0 < a → a < suc k → HasNegativeInverse (suc k) a
 inverse_below k prime zero a le pos l = absurd (omega arith)
@@ -91,7 +92,8 @@ inverse_below k prime (suc fuel) a le pos l = go (one_or a pos) (λ r less rpos.
   where
     go : (a ≡ 1) ⊎ (1 < a) → ((r : ℕ) → r < a → 0 < r → HasNegativeInverse (suc k) r) → HasNegativeInverse (suc k) a
     go (inl e) ih = (k, ap (λ x. (x * k + 1) % suc k) e ∙ ap (λ x. x % suc k) (omega arith) ∙ mod_self (suc k))
-    go (inr more) ih = euclid_step k a (suc k / a) (suc k % a) (sym (omega (arith, mod-add-div (suc k) a))) (ih (suc k % a) (mod-lt (suc k) pos) (pos_of (suc k % a) (prime.no_divisor a more l)))
+    go (inr more) ih = euclid_step k a (suc k / a) (suc k % a) (sym (omega (arith, mod-add-div (suc k) a)))
+        (ih (suc k % a) (mod-lt (suc k) pos) (pos_of (suc k % a) (prime.no_divisor a more l)))
 
 -- Each number that p does not divide has an inverse, here the one whose product is -1.
 pub negative_inverse : (p : ℕ) → IsPrime p → (a : ℕ) → a % p ≢ 0 → HasNegativeInverse p a
@@ -185,5 +187,6 @@ factor_vanishes p prime x y h = go (zero_or (x % p))
 pub sum-one : (p : ℕ) (X : ℕ → Bool) (n v : ℕ) (f : ℕ → ℕ) → v < n → X v ≡ true → ((j : ℕ) → j < n → X j ≡ true → j ≢ v → f j % p ≡ 0) → sum_on X n f % p ≡ f v % p
 sum-one p X n v f l h rest =
     ap (λ s. s % p) (sum_on-without X n v f l h)
-    ∙ agree-add p (sum_on (without X v) n f) 0 (f v) (f v) (vanishes-sum p (without X v) n f (λ j jl jh. let w : (X j ≡ true) × (j ≢ v) = without-member X v j jh in rest j jl w.0 w.1) ∙ sym (zero-mod p)) refl
+    ∙ agree-add p (sum_on (without X v) n f) 0 (f v) (f v)
+    (vanishes-sum p (without X v) n f (λ j jl jh. let w : (X j ≡ true) × (j ≢ v) = without-member X v j jh in rest j jl w.0 w.1) ∙ sym (zero-mod p)) refl
     ∙ ap (λ s. s % p) (zero-add (f v))

@@ -65,7 +65,11 @@ pub with_one-other : (X : ℕ → Bool) (v j : ℕ) → with_one X v j ≡ true 
 with_one-other X v j h ne = grind (arith, nat_tests)
 
 pub with_one-without : (X : ℕ → Bool) (v j : ℕ) → X v ≡ false → without (with_one X v) v j ≡ X j
-with_one-without X v j h = elim (nat_cases j v) [ inl q ↦ subst (λ k. without (with_one X v) v k ≡ X k) (sym q) (without-same (with_one X v) v ∙ sym h) | inr ne ↦ grind (arith, nat_tests) ]
+with_one-without X v j h = elim (nat_cases j v) [
+  | inl q ↦ subst (λ k. without (with_one X v) v k ≡ X k) (sym q)
+      (without-same (with_one X v) v ∙ sym h)
+  | inr ne ↦ grind (arith, nat_tests)
+]
 
 -- ---- the search for a member
 pub first_on : (P : ℕ → Bool) (n : ℕ) → ((j : ℕ) × (j < n) × (P j ≡ true)) ⊎ ((j : ℕ) → j < n → P j ≡ false)

@@ -67,7 +67,8 @@ sum_on-without X zero v f l h = absurd (omega arith)
 sum_on-without X (suc n) v f l h = go (nat_cases n v) (λ less. sum_on-without X n v f less h)
   where
     go : (n ≡ v) ⊎ (n ≢ v) → (v < n → sum_on X n f ≡ sum_on (without X v) n f + f v) → sum_on X (suc n) f ≡ sum_on (without X v) (suc n) f + f v
-    go (inl e) ih = subst (λ w. sum_on X (suc n) f ≡ sum_on (without X w) (suc n) f + f w) e (grind (arith, sum_on-without_above X n n f (omega arith), without-same X n, subst (λ w. X w ≡ true) (sym e) h))
+    go (inl e) ih = subst (λ w. sum_on X (suc n) f ≡ sum_on (without X w) (suc n) f + f w) e
+        (grind (arith, sum_on-without_above X n n f (omega arith), without-same X n, subst (λ w. X w ≡ true) (sym e) h))
     go (inr ne) ih = grind (arith, ih, without-other X v n ne)
 
 pub size-none : (n : ℕ) → size_on (λ _. false) n ≡ 0
