@@ -68,11 +68,7 @@ fn put_words<N: Sink>(
 }
 
 /// Puts the words for an input that is too long.
-fn put_limit<N: Sink>(
-    buffer: &mut PieceBuffer,
-    notes: &mut N,
-    limit: u64,
-) -> Result<(), WriteFault>
+fn put_limit<N: Sink>(buffer: &mut PieceBuffer, notes: &mut N, limit: u64) -> Result<(), WriteFault>
     ensures { IsPut (N.written notes.old) buffer.old (N.faults notes.old) (N.takes notes.old) (N.written notes.new) buffer.new (N.faults notes.new) (N.takes notes.new) (limit_text limit) result }
 {
     put_piece(buffer, notes, b"input longer than")?;
