@@ -11,6 +11,8 @@ mod running;
 mod shape;
 mod status;
 mod telling;
+#[cfg(test)]
+mod tests;
 mod words;
 
 pub use running::run;
