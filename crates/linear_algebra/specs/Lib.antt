@@ -1,4 +1,5 @@
 pub mod Columns
+pub mod Kernels
 pub mod Products
 pub mod Bases
 pub mod RowOperations

@@ -5,8 +5,9 @@ use Rattle.residue_theory.specs.Sets.{without}
 use Rattle.residue_theory.specs.Sums.{sum_on, size_on}
 use Rattle.residue_theory.specs.Residues.{IsPrime}
 use Rattle.residue_theory.proofs.SumLaws.{sum_on-add, sum_on-mul, sum_on-ext, sum_on-without, nat_cases, without-member, member-without}
-use Rattle.residue_theory.proofs.ResidueLaws.{vanishes-mul, vanishes-sum, vanishes_by, cleared, pivot_free, negative_inverse, HasNegativeInverse}
-use Rattle.std.proofs.Math.Nat.{mod-eq_of_lt}
+use Rattle.residue_theory.proofs.SetLaws.{differ, first_on}
+use Rattle.residue_theory.proofs.CountLaws.{size-zero}
+use Rattle.residue_theory.proofs.ResidueLaws.{vanishes-mul, vanishes-sum, vanishes_by, cleared, pivot_free, negative_inverse, HasNegativeInverse, one_non_zero}
 use Rattle.std.proofs.lemmas.Bool.Decides.{nat_tests}
 
 -- c solves the equations of the rows of R, below m, in the unknowns of X, below n
@@ -23,18 +24,6 @@ pub record NonZeroSolution (p : ℕ) (a : ℕ → ℕ → ℕ) (R : ℕ → Bool
   pub below : place < n
   pub member : X place ≡ true
   pub non_zero : at place % p ≢ 0
-
-pub first_on : (P : ℕ → Bool) (n : ℕ) → ((j : ℕ) × (j < n) × (P j ≡ true)) ⊎ ((j : ℕ) → j < n → P j ≡ false)
-first_on P zero = inr (λ j l. absurd (omega arith))
-first_on P (suc n) = go (P n) refl (first_on P n)
-  where
-    go : (b : Bool) → P n ≡ b → ((j : ℕ) × (j < n) × (P j ≡ true)) ⊎ ((j : ℕ) → j < n → P j ≡ false) → ((j : ℕ) × (j < suc n) × (P j ≡ true)) ⊎ ((j : ℕ) → j < suc n → P j ≡ false)
-    go true e before = inl (n, omega arith, e)
-    go false e (inl (j, l, h)) = inl (j, omega arith, h)
-    go false e (inr none) = inr (λ j l. below_suc j l)
-      where
-        below_suc : (j : ℕ) → j < suc n → P j ≡ false
-        below_suc j l = elim (nat_cases n j) [ inl q ↦ subst (λ w. P w ≡ false) q e | inr ne ↦ none j (omega arith) ]
 
 -- the matrix with column v cleared by the pivot at row r, where w is -1 over the pivot
 abbrev clear : (ℕ → ℕ → ℕ) → ℕ → ℕ → ℕ → ℕ → ℕ → ℕ
@@ -68,19 +57,6 @@ module _ (a : ℕ → ℕ → ℕ) (X : ℕ → Bool) (n : ℕ) where
       ∙ ap (λ s. s + extend r v w c v * a i v) (sum_on-ext (without X v) n (λ j. extend r v w c j * a i j) (λ j. c j * a i j) (λ j _ q. ap (λ x. x * a i j) (extend-other r v w c j ((without-member X v j q).1))))
       ∙ ap (λ s. sum_on (without X v) n (λ j. c j * a i j) + s * a i v) (extend-same r v w c)
 
-differ : {b : Bool} → b ≡ false → b ≡ true → ⊥
-differ e h = cc
-
-one_non_zero : (p : ℕ) → IsPrime p → 1 % p ≢ 0
-one_non_zero p prime h = differs (1 % p) h (mod-eq_of_lt prime.above_one)
-  where
-    differs : (x : ℕ) → x ≡ 0 → x ≡ 1 → ⊥
-    differs x q r = omega arith
-
-size_none : (X : ℕ → Bool) (n : ℕ) → ((j : ℕ) → j < n → X j ≡ false) → size_on X n ≤ 0
-size_none X zero h = omega arith
-size_none X (suc n) h = grind (arith, size_none X n (λ j l. h j (omega arith)), h n (omega arith))
-
 not_pivot : (b : Bool) (x : ℕ) → b && not (eqb x 0) ≡ false → b ≡ true → x ≡ 0
 not_pivot b x h e = grind (arith, nat_tests)
 
@@ -98,8 +74,8 @@ no_rows : (p : ℕ) → IsPrime p → (a : ℕ → ℕ → ℕ) (R X : ℕ → B
 no_rows p prime a R X n = go (first_on X n)
   where
     go : ((j : ℕ) × (j < n) × (X j ≡ true)) ⊎ ((j : ℕ) → j < n → X j ≡ false) → Dichotomy p a R zero X n
-    go (inl (j, l, h)) = inr (record { at = λ _. 1; solves = λ i none. absurd (omega arith); place = j; below = l; member = h; non_zero = one_non_zero p prime })
-    go (inr none) = inl ((λ c _ j l h. absurd (differ (none j l) h)), size_none X n none)
+    go (inl (j, l, h)) = inr (record { at = λ _. suc zero; solves = λ i none. absurd (omega arith); place = j; below = l; member = h; non_zero = one_non_zero p prime (suc zero) refl })
+    go (inr none) = inl ((λ c _ j l h. absurd (differ (none j l) h)), omega (arith, size-zero X n none))
 
 -- the last row is not an equation of the system
 skip_row : (p : ℕ) (a : ℕ → ℕ → ℕ) (R X : ℕ → Bool) (m n : ℕ) → R m ≡ false → Dichotomy p a R m X n → Dichotomy p a R (suc m) X n

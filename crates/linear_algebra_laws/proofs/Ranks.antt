@@ -1,35 +1,15 @@
--- The laws of the rank.
+-- Combinations of columns, and the one rank that each set of columns has.
 use Rattle.std.proofs.Common.{◌≡◌, ℕ, zero, suc, ◌+◌, ◌*◌, ◌%◌, ◌<◌, ◌≤◌, ◌≢◌, Bool, true, false, cond, eqb, ◌⊎◌, inl, inr, refl, ap, sym, subst, ◌∙◌, arith}
 use Rattle.residue_theory.specs.Sets.{without, with_one, everything, IsWithin}
 use Rattle.std.proofs.lemmas.Bool.Decides.{nat_tests}
 use Rattle.residue_theory.specs.Sums.{sum_on, size_on}
 use Rattle.residue_theory.specs.Residues.{IsPrime}
-use Rattle.linear_algebra.specs.Columns.{IsIndependent, IsRank, IsCombination}
-use Rattle.residue_theory.proofs.SumLaws.{sum_on-mul, sum_on-ext, sum_on-same, sum_on-swap, sum_on-within, sum_on-none, sum_on-without, nat_cases, without-same, without-member}
+use Rattle.linear_algebra.specs.Columns.{IsIndependent, IsRank, Combines, IsCombination}
+use Rattle.residue_theory.proofs.SumLaws.{sum_on-mul, sum_on-ext, sum_on-swap, sum_on-within, sum_on-none, sum_on-without, nat_cases, without-member}
+use Rattle.residue_theory.proofs.SetLaws.{differ, lt_cases, with_one-member, with_one-new, with_one-other, choice}
+use Rattle.residue_theory.proofs.CountLaws.{sum-with_one}
 use Rattle.residue_theory.proofs.ResidueLaws.{vanishes-mul, vanishes-sum, vanishes_by, vanishes-rest, agree-mul, agree-sum, agree_of, negative_inverse, HasNegativeInverse}
 use Rattle.linear_algebra_laws.proofs.Elimination.{Dichotomy, dichotomy}
-
-differ : {b : Bool} → b ≡ false → b ≡ true → ⊥
-differ e h = cc
-
--- ---- a choice for each member
-pub lt_cases : (j n : ℕ) → (j < n) ⊎ (n ≤ j)
-lt_cases j n = grind arith
-
-module _ (n : ℕ) (X : ℕ → Bool) (P : ℕ → (ℕ → ℕ) → Type 0) (each : (j : ℕ) → j < n → X j ≡ true → (c : ℕ → ℕ) × P j c) where
-  chosen_at : (j : ℕ) (b : Bool) → X j ≡ b → (j < n) ⊎ (n ≤ j) → ℕ → ℕ
-  chosen_at j true e (inl l) = (each j l e).0
-  chosen_at j true e (inr _) = λ _. 0
-  chosen_at j false e d = λ _. 0
-
-  chosen_at-ok : (j : ℕ) (b : Bool) (e : X j ≡ b) (d : (j < n) ⊎ (n ≤ j)) → j < n → X j ≡ true → P j (chosen_at j b e d)
-  unfolding chosen_at
-  chosen_at-ok j true e (inl l) _ _ = (each j l e).1
-  chosen_at-ok j true e (inr g) l _ = absurd (omega arith)
-  chosen_at-ok j false e d l h = absurd (differ e h)
-
-  pub choice : (D : ℕ → ℕ → ℕ) × ((j : ℕ) → j < n → X j ≡ true → P j (D j))
-  choice = ((λ j. chosen_at j (X j) refl (lt_cases j n)), (λ j l h. chosen_at-ok j (X j) refl (lt_cases j n) l h))
 
 -- ---- combinations
 -- a combination of combinations vanishes where their coefficients do
@@ -74,21 +54,6 @@ pub rank-unique : (p : ℕ) (a : ℕ → ℕ → ℕ) (m n : ℕ) (X : ℕ → B
 rank-unique p a m n X r s R S = omega (arith, (R.reached).3, (S.reached).3, R.greatest (S.reached).0 (S.reached).1 (S.reached).2, S.greatest (R.reached).0 (R.reached).1 (R.reached).2)
 
 -- ---- one more column
-pub with_one-member : (X : ℕ → Bool) (v j : ℕ) → X j ≡ true → with_one X v j ≡ true
-with_one-member X v j h = grind (arith, nat_tests)
-
-pub with_one-new : (X : ℕ → Bool) (v : ℕ) → with_one X v v ≡ true
-with_one-new X v = grind (arith, nat_tests)
-
-pub with_one-other : (X : ℕ → Bool) (v j : ℕ) → with_one X v j ≡ true → j ≢ v → X j ≡ true
-with_one-other X v j h ne = grind (arith, nat_tests)
-
-pub with_one-without : (X : ℕ → Bool) (v j : ℕ) → X v ≡ false → without (with_one X v) v j ≡ X j
-with_one-without X v j h = elim (nat_cases j v) [ inl q ↦ subst (λ k. without (with_one X v) v k ≡ X k) (sym q) (without-same (with_one X v) v ∙ sym h) | inr ne ↦ grind (arith, nat_tests) ]
-
-pub sum-with_one : (X : ℕ → Bool) (n v : ℕ) (f : ℕ → ℕ) → v < n → X v ≡ false → sum_on (with_one X v) n f ≡ sum_on X n f + f v
-sum-with_one X n v f l h = sum_on-without (with_one X v) n v f l (with_one-new X v) ∙ ap (λ s. s + f v) (sum_on-same (without (with_one X v) v) X n f (λ j _. with_one-without X v j h))
-
 -- a solution on I and v whose coefficient at v is not zero gives v as a combination of I
 solved_for : (p m n : ℕ) (a : ℕ → ℕ → ℕ) (I : ℕ → Bool) (v : ℕ) → IsPrime p → (c : ℕ → ℕ) → c v % p ≢ 0 →
     ((i : ℕ) → i < m → (sum_on I n (λ j. c j * a i j) + c v * a i v) % p ≡ 0) → IsCombination p a m n I v
@@ -134,14 +99,17 @@ combination-member p a m n I v l h = ((λ j. cond (eqb j v) 1 0), λ i _. ap (λ
     at_v i = grind (arith, nat_tests)
 
 -- a combination of part of a set is one of the set
-pub combination-within : (p : ℕ) (a : ℕ → ℕ → ℕ) (m n : ℕ) (I J : ℕ → Bool) (v : ℕ) → IsWithin n I J → IsCombination p a m n I v → IsCombination p a m n J v
-combination-within p a m n I J v within (c, s) = ((λ j. cond (I j) (c j) 0), λ i l. ap (λ s. s % p) (only_I i) ∙ s i l)
+pub combines-within : (p m n : ℕ) (a : ℕ → ℕ → ℕ) (I J : ℕ → Bool) (x : ℕ → ℕ) → IsWithin n I J → Combines p a m n I x → Combines p a m n J x
+combines-within p m n a I J x within (c, s) = ((λ j. cond (I j) (c j) 0), λ i l. ap (λ s. s % p) (only_I i) ∙ s i l)
   where
     pulled : (b : Bool) (x y : ℕ) → cond b x 0 * y ≡ cond b (x * y) 0
     pulled b x y = grind arith
 
     only_I : (i : ℕ) → sum_on J n (λ j. cond (I j) (c j) 0 * a i j) ≡ sum_on I n (λ j. c j * a i j)
     only_I i = sum_on-ext J n (λ j. cond (I j) (c j) 0 * a i j) (λ j. cond (I j) (c j * a i j) 0) (λ j _ _. pulled (I j) (c j) (a i j)) ∙ sum_on-within J I n (λ j. c j * a i j) within
+
+pub combination-within : (p : ℕ) (a : ℕ → ℕ → ℕ) (m n : ℕ) (I J : ℕ → Bool) (v : ℕ) → IsWithin n I J → IsCombination p a m n I v → IsCombination p a m n J v
+combination-within p a m n I J v within comb = combines-within p m n a I J (λ i. a i v) within comb
 
 -- a column that is no combination of an independent set may join it
 pub with_one-independent : (p : ℕ) → IsPrime p → (a : ℕ → ℕ → ℕ) (m n : ℕ) (I : ℕ → Bool) (v : ℕ) → v < n → IsIndependent p a m n I →
@@ -151,6 +119,35 @@ with_one-independent p prime a m n I v l ind never = go (I v) refl
     go : (b : Bool) → I v ≡ b → IsIndependent p a m n (with_one I v)
     go true e = absurd (never (combination-member p a m n I v l e))
     go false e = elim (join_or_combination p prime a m n I v l e ind) [ inl joined ↦ joined | inr comb ↦ absurd (never comb) ]
+
+-- what the columns of X combine to, any set combines to that combines to each of them
+pub combines-through : (p m n : ℕ) (a : ℕ → ℕ → ℕ) (I X : ℕ → Bool) (x : ℕ → ℕ) → ((j : ℕ) → j < n → X j ≡ true → IsCombination p a m n I j) → Combines p a m n X x → Combines p a m n I x
+combines-through p m n a I X x combs (c, s) = go (choice n X (λ j d. (i : ℕ) → i < m → sum_on I n (λ k. d k * a i k) % p ≡ a i j % p) combs)
+  where
+    go : (D : ℕ → ℕ → ℕ) × ((j : ℕ) → j < n → X j ≡ true → (i : ℕ) → i < m → sum_on I n (λ k. D j k * a i k) % p ≡ a i j % p) → Combines p a m n I x
+    go (D, ok) = (
+      (λ k. sum_on X n (λ j. c j * D j k)),
+      λ i il.
+          ap (λ y. y % p) (sum_on-ext I n (λ k. sum_on X n (λ j. c j * D j k) * a i k) (λ k. a i k * sum_on X n (λ j. c j * D j k)) (λ k _ _. omega arith) ∙ sym (regroup p m n a I X c D i))
+          ∙ agree-sum p X n (λ j. c j * sum_on I n (λ k. D j k * a i k)) (λ j. c j * a i j) (λ j jl jh. agree-mul p (c j) (sum_on I n (λ k. D j k * a i k)) (a i j) (ok j jl jh i il))
+          ∙ s i il,
+    )
+
+-- a part of X that is as large as its rank, and independent, combines to each column of X
+pub combination_of-largest : (p : ℕ) → IsPrime p → (a : ℕ → ℕ → ℕ) (m n : ℕ) (X I : ℕ → Bool) → IsWithin n I X → IsIndependent p a m n I → IsRank p a m n X (size_on I n) →
+    (v : ℕ) → v < n → X v ≡ true → IsCombination p a m n I v
+combination_of-largest p prime a m n X I within ind R v vl vh = go (I v) refl
+  where
+    joined : I v ≡ false → IsIndependent p a m n (with_one I v) → ⊥
+    joined h free = omega (
+      arith,
+      sum-with_one I n v (λ _. 1) vl h,
+      R.greatest (with_one I v) (λ j jl jh. elim (nat_cases j v) [ inl q ↦ subst (λ k. X k ≡ true) (sym q) vh | inr ne ↦ within j jl (with_one-other I v j jh ne) ]) free,
+    )
+
+    go : (b : Bool) → I v ≡ b → IsCombination p a m n I v
+    go true h = combination-member p a m n I v vl h
+    go false h = elim (join_or_combination p prime a m n I v vl h ind) [ inl free ↦ absurd (joined h free) | inr comb ↦ comb ]
 
 -- ---- each set of columns has a rank
 -- an independent part of X that combines to each of its columns below k, and keeps the members of Z

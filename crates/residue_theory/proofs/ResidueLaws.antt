@@ -1,8 +1,11 @@
+-- Numbers read modulo p: what vanishes, what agrees, and inverses modulo a prime.
 use Rattle.std.proofs.Common.{◌≡◌, ℕ, zero, suc, ◌+◌, ◌*◌, ◌%◌, ◌/◌, ◌-◌, ◌<◌, ◌≤◌, ◌≢◌, Bool, true, false, cond, ◌⊎◌, inl, inr, refl, ap, sym, ◌∙◌, arith}
 use Rattle.std.proofs.Math.Nat.{add-mod, mod-add-mod, mod-add-div, zero-mod, zero-add, mul-zero, mod_self, mod-lt, mod-eq_of_lt, mul-mod_right}
 use Rattle.std.proofs.lemmas.Nat.{mul-mod_second, mul-mod_first}
 use Rattle.residue_theory.specs.Sums.{sum_on}
 use Rattle.residue_theory.specs.Residues.{IsPrime}
+use Rattle.residue_theory.specs.Sets.{without}
+use Rattle.residue_theory.proofs.SumLaws.{sum_on-without, without-member}
 
 pos_of : (x : ℕ) → x ≢ 0 → 0 < x
 pos_of x ne = omega arith
@@ -139,3 +142,48 @@ inverse-step p prime a c x more less e = (stands ∙ mod-eq_of_lt smaller, pos_o
 
     stands : (next * a) % p ≡ p % x % p
     stands = agree_of p (next * a) (p / x * x) (p % x) zero_left zero_right
+
+-- p - 1 times x is what x lacks
+pub lacks : (p : ℕ) → IsPrime p → (x : ℕ) → (x + (p - 1) * x) % p ≡ 0
+lacks p prime x = vanishes_by p _ (x * p) (multiple (p - 1) (omega (arith, prime.above_one))) (vanishes-mul p x p (mod_self p))
+  where
+    multiple : (d : ℕ) → d + 1 ≡ p → x + d * x ≡ x * p
+    multiple d q = let e : x + d * x ≡ x * (d + 1) = omega arith in e ∙ ap (λ k. x * k) q
+
+-- a number that is 1 does not vanish
+pub one_non_zero : (p : ℕ) → IsPrime p → (y : ℕ) → y ≡ suc zero → y % p ≢ 0
+one_non_zero p prime y e z = bad (y % p) z (ap (λ s. s % p) e ∙ mod-eq_of_lt prime.above_one)
+  where
+    bad : (u : ℕ) → u ≡ 0 → u ≡ suc zero → ⊥
+    bad u a b = omega arith
+
+-- the inverse whose product is 1
+pub inverse : (p : ℕ) → IsPrime p → (x : ℕ) → x % p ≢ 0 → (y : ℕ) × ((x * y) % p ≡ 1)
+inverse p prime x ne = go (negative_inverse p prime x ne)
+  where
+    go : HasNegativeInverse p x → (y : ℕ) × ((x * y) % p ≡ 1)
+    go (w, h) = (
+      (p - 1) * w,
+      agree_of p (x * ((p - 1) * w)) (x * w) (suc zero)
+          (vanishes_by p _ (x * w + (p - 1) * (x * w)) (omega arith) (lacks p prime (x * w)))
+          (vanishes_by p _ (x * w + 1) (omega arith) h)
+          ∙ mod-eq_of_lt prime.above_one,
+    )
+
+-- of a product that vanishes a factor does
+pub factor_vanishes : (p : ℕ) → IsPrime p → (x y : ℕ) → (x * y) % p ≡ 0 → (x % p ≡ 0) ⊎ (y % p ≡ 0)
+factor_vanishes p prime x y h = go (zero_or (x % p))
+  where
+    zero_or : (u : ℕ) → (u ≡ 0) ⊎ (u ≢ 0)
+    zero_or u = grind arith
+
+    go : (x % p ≡ 0) ⊎ (x % p ≢ 0) → (x % p ≡ 0) ⊎ (y % p ≡ 0)
+    go (inl z) = inl z
+    go (inr ne) = inr (vanishes_factor p prime x y ne h)
+
+-- a sum whose terms but one vanish
+pub sum-one : (p : ℕ) (X : ℕ → Bool) (n v : ℕ) (f : ℕ → ℕ) → v < n → X v ≡ true → ((j : ℕ) → j < n → X j ≡ true → j ≢ v → f j % p ≡ 0) → sum_on X n f % p ≡ f v % p
+sum-one p X n v f l h rest =
+    ap (λ s. s % p) (sum_on-without X n v f l h)
+    ∙ agree-add p (sum_on (without X v) n f) 0 (f v) (f v) (vanishes-sum p (without X v) n f (λ j jl jh. let w : (X j ≡ true) × (j ≢ v) = without-member X v j jh in rest j jl w.0 w.1) ∙ sym (zero-mod p)) refl
+    ∙ ap (λ s. s % p) (zero-add (f v))

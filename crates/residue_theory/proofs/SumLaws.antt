@@ -1,3 +1,4 @@
+-- Sums over a set of numbers.
 use Rattle.std.proofs.Common.{◌≡◌, ℕ, zero, suc, ◌+◌, ◌*◌, ◌<◌, ◌≤◌, ◌≢◌, Bool, true, false, cond, ◌⊎◌, inl, inr, refl, sym, subst, arith}
 use Rattle.residue_theory.specs.Sets.{without}
 use Rattle.residue_theory.specs.Sums.{sum_on, size_on}

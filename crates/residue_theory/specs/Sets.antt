@@ -1,5 +1,5 @@
 -- Sets of numbers. A set is a test, and is looked at below a bound.
-use Rattle.std.specs.Prelude.{ℕ, ◌<◌, ◌≡◌, Bool, ◌&&◌, ◌||◌, not, eqb, true, false}
+use Rattle.std.specs.Prelude.{ℕ, zero, suc, ◌<◌, ◌≡◌, Bool, ◌&&◌, ◌||◌, not, eqb, true, false}
 
 -- every number
 abbrev pub everything : ℕ → Bool
@@ -32,3 +32,12 @@ either X Y j = X j || Y j
 -- each member of Y below n is one of X
 abbrev pub IsWithin : ℕ → (ℕ → Bool) → (ℕ → Bool) → Type 0
 IsWithin n Y X = (j : ℕ) → j < n → Y j ≡ true → X j ≡ true
+
+-- no number below n is in both
+abbrev pub IsApart : ℕ → (ℕ → Bool) → (ℕ → Bool) → Type 0
+IsApart n X Y = (j : ℕ) → j < n → X j ≡ true → Y j ≡ false
+
+-- X has a member below n
+abbrev pub some_below : ℕ → (ℕ → Bool) → Bool
+some_below zero X = false
+some_below (suc n) X = some_below n X || X n

@@ -1,38 +1,23 @@
--- Products with invertible matrices keep which columns are independent, and so the rank; and a tableau shows the rank.
-use Rattle.std.proofs.Common.{◌≡◌, ℕ, zero, suc, ◌+◌, ◌*◌, ◌%◌, ◌<◌, ◌≢◌, Bool, true, false, cond, ◌&&◌, eqb, ◌⊎◌, inl, inr, refl, ap, sym, subst, ◌∙◌, arith}
-use Rattle.residue_theory.specs.Sets.{without, both, everything, IsWithin}
-use Rattle.linear_algebra.specs.Bases.{IsBase}
-use Rattle.std.proofs.Math.Nat.{zero-mod, mod_self, mod-eq_of_lt}
+-- Products with invertible matrices keep which columns are independent, and so the rank.
+use Rattle.std.proofs.Common.{◌≡◌, ℕ, zero, suc, ◌+◌, ◌-◌, ◌*◌, ◌%◌, ◌<◌, ◌≢◌, Bool, cond, eqb, inl, inr, refl, ap, sym, ◌∙◌, arith}
+use Rattle.residue_theory.specs.Sets.{without, everything}
+use Rattle.std.proofs.Math.Nat.{mod_self}
 use Rattle.std.proofs.lemmas.Bool.Decides.{nat_tests}
-use Rattle.residue_theory.specs.Sums.{sum_on, size_on, sum_below}
+use Rattle.residue_theory.specs.Sums.{sum_on, sum_below}
 use Rattle.residue_theory.specs.Residues.{IsPrime}
-use Rattle.linear_algebra.specs.Columns.{IsIndependent, IsRank, IsCombination}
+use Rattle.linear_algebra.specs.Columns.{IsIndependent, IsRank, Combines}
 use Rattle.linear_algebra.specs.Products.{product, identity, IsInverse, Agree}
 use Rattle.residue_theory.proofs.SumLaws.{sum_on-add, sum_on-mul, sum_on-ext, sum_on-swap, sum_on-without, sum_on-none, nat_cases, without-member}
-use Rattle.residue_theory.proofs.ResidueLaws.{vanishes-mul, vanishes-sum, vanishes_by, vanishes-rest, agree-add, agree-mul, agree-sum, agree_of, vanishes_factor}
-use Rattle.linear_algebra_laws.proofs.Elimination.{Dichotomy, dichotomy, first_on}
-use Rattle.linear_algebra_laws.proofs.Ranks.{rank_of-basis}
+use Rattle.residue_theory.proofs.ResidueLaws.{vanishes-mul, vanishes-sum, vanishes_by, vanishes-rest, agree-add, agree-mul, agree-sum, agree_of, vanishes_factor, lacks}
+use Rattle.residue_theory.proofs.CountLaws.{size-everything}
+use Rattle.linear_algebra.specs.Kernels.{SameKernel}
+use Rattle.linear_algebra_laws.proofs.Elimination.{Dichotomy, dichotomy}
 
 zero_not_prime : IsPrime 0 → ⊥
 zero_not_prime prime = absurd (no_such prime.above_one)
   where
     no_such : 1 < 0 → ⊥
     no_such h = omega arith
-
-both-first : (a b : Bool) → a && b ≡ true → a ≡ true
-both-first a b h = grind arith
-
-both-second : (a b : Bool) → a && b ≡ true → b ≡ true
-both-second a b h = grind arith
-
-not_row : (b : Bool) (r i : ℕ) → b && eqb r i ≡ false → b ≡ true → i ≢ r
-not_row b r i h e = grind (arith, nat_tests)
-
-row_is : (b : Bool) (r i : ℕ) → b && eqb r i ≡ true → r ≡ i
-row_is b r i h = grind (arith, nat_tests)
-
-mod_cases : (x : ℕ) → (x ≡ 0) ⊎ (x ≢ 0)
-mod_cases x = grind arith
 
 -- what the columns of X combine to in a product
 pub sum-product : (k n : ℕ) (S a : ℕ → ℕ → ℕ) (X : ℕ → Bool) (c : ℕ → ℕ) (i : ℕ) →
@@ -54,10 +39,10 @@ product-assoc k l U S a i j =
     one : (s : ℕ) → sum_below k (λ t. U i t * (S t s * a s j)) ≡ product k U S i s * a s j
     one s = sum_on-ext everything k (λ t. U i t * (S t s * a s j)) (λ t. a s j * (U i t * S t s)) (λ t _ _. omega arith) ∙ sum_on-mul everything k (a s j) (λ t. U i t * S t s) ∙ omega arith
 
-identity-same : (i : ℕ) → identity i i ≡ 1
+pub identity-same : (i : ℕ) → identity i i ≡ 1
 identity-same i = grind (arith, nat_tests)
 
-identity-other : (i j : ℕ) → i ≢ j → identity i j ≡ 0
+pub identity-other : (i j : ℕ) → i ≢ j → identity i j ≡ 0
 identity-other i j ne = grind (arith, nat_tests)
 
 -- a product with the identity matrix
@@ -87,10 +72,6 @@ product-independent p m n U S a X inv ind = independent_of-product p m m n U (pr
     agree i j il jl = sym (ap (λ s. s % p) (product-assoc m m U S a i j)
         ∙ agree-sum p everything m (λ t. product m U S i t * a t j) (λ t. identity i t * a t j) (λ t tl _. ap (λ s. s % p) (omega arith) ∙ agree-mul p (a t j) (product m U S i t) (identity i t) (inv i t il tl) ∙ ap (λ s. s % p) (omega arith))
         ∙ ap (λ s. s % p) (sum-identity m i (λ t. a t j) il))
-
-pub size-everything : (n : ℕ) → size_on everything n ≡ n
-size-everything zero = refl
-size-everything (suc n) = grind (arith, size-everything n)
 
 -- U with x put beside it as a last column
 beside : ℕ → (ℕ → ℕ → ℕ) → (ℕ → ℕ) → ℕ → ℕ → ℕ
@@ -171,49 +152,51 @@ rank_of-product p prime m n S U a P X r inv same R = record {
     up : (Y : ℕ → Bool) → IsIndependent p a m n Y → IsIndependent p P m n Y
     up Y ind = independent-agree p m n (product m S a) P Y (λ i j il jl. sym (same i j il jl)) (product-independent p m n U S a Y (inverse-swap p prime m S U inv) ind)
 
--- ---- a tableau: what the sum over base columns is at one row
-module _ (p : ℕ) (prime : IsPrime p) (P : ℕ → ℕ → ℕ) (m n : ℕ) (B : ℕ → Bool) (row : ℕ → ℕ) (base : IsBase p P m n B row) where
-  -- at the row of b, base columns combine to the coefficient of b
-  pub base-row : (Y : ℕ → Bool) → IsWithin n Y B → (c : ℕ → ℕ) (b : ℕ) → b < n → Y b ≡ true → sum_on Y n (λ j. c j * P (row b) j) % p ≡ c b % p
-  base-row Y within c b bl bh = ap (λ s. s % p) (sum_on-without Y n b (λ j. c j * P (row b) j) bl bh) ∙ agree-add p (sum_on (without Y b) n (λ j. c j * P (row b) j)) 0 (c b * P (row b) b) (c b) others at_b ∙ ap (λ s. s % p) (omega arith)
-    where
-      others : sum_on (without Y b) n (λ j. c j * P (row b) j) % p ≡ 0 % p
-      others = vanishes-sum p (without Y b) n (λ j. c j * P (row b) j) (λ j jl jh. vanishes-mul p (c j) (P (row b) j)
-          (let w : (Y j ≡ true) × (j ≢ b) = without-member Y b j jh in base.zero j (row b) jl (within j jl w.0) (base.row_below b bl (within b bl bh)) (λ q. w.1 (base.distinct j b jl bl (within j jl w.0) (within b bl bh) (sym q)))))
-          ∙ sym (zero-mod p)
+-- a product with an invertible matrix keeps the kernel
+pub product-kernel : (p : ℕ) → IsPrime p → (m n : ℕ) (S U a P : ℕ → ℕ → ℕ) → IsInverse p m S U → Agree p m n P (product m S a) → SameKernel p m n a P
+product-kernel p prime m n S U a P inv same = record {
+  forward = λ X c z i il. through X c i il ∙ vanishes-sum p everything m (λ t. S i t * sum_on X n (λ j. c j * a t j)) (λ t tl _. vanishes-mul p (S i t) (sum_on X n (λ j. c j * a t j)) (z t tl));
+  back = λ X c z. kernel-zero p prime m S U inv (λ t. sum_on X n (λ j. c j * a t j)) (λ i il. sym (through X c i il) ∙ z i il);
+}
+  where
+    through : (X : ℕ → Bool) (c : ℕ → ℕ) (i : ℕ) → i < m → sum_on X n (λ j. c j * P i j) % p ≡ sum_below m (λ t. S i t * sum_on X n (λ j. c j * a t j)) % p
+    through X c i il = agree-sum p X n (λ j. c j * P i j) (λ j. c j * product m S a i j) (λ j jl _. agree-mul p (c j) (P i j) (product m S a i j) (same i j il jl))
+        ∙ ap (λ s. s % p) (sum-product m n S a X c i)
 
-      at_b : (c b * P (row b) b) % p ≡ c b % p
-      at_b = agree-mul p (c b) (P (row b) b) 1 (base.one b bl (within b bl bh) ∙ sym (mod-eq_of_lt prime.above_one)) ∙ ap (λ s. s % p) (omega arith)
+-- ---- combinations in a product
+-- what the columns of X combine to, they combine to in P = S * a, with S applied to it
+pub combines-product : (p m n : ℕ) (S a P : ℕ → ℕ → ℕ) (X : ℕ → Bool) (x : ℕ → ℕ) → Agree p m n P (product m S a) → Combines p a m n X x → Combines p P m n X (λ i. sum_below m (λ t. S i t * x t))
+combines-product p m n S a P X x same (c, s) = (
+  c,
+  λ i il.
+      agree-sum p X n (λ j. c j * P i j) (λ j. c j * product m S a i j) (λ j jl _. agree-mul p (c j) (P i j) (product m S a i j) (same i j il jl))
+      ∙ ap (λ y. y % p) (sum-product m n S a X c i)
+      ∙ agree-sum p everything m (λ t. S i t * sum_on X n (λ j. c j * a t j)) (λ t. S i t * x t) (λ t tl _. agree-mul p (S i t) (sum_on X n (λ j. c j * a t j)) (x t) (s t tl)),
+)
 
-  -- at a row of none of them, they combine to zero
-  pub base-no_row : (Y : ℕ → Bool) → IsWithin n Y B → (c : ℕ → ℕ) (i : ℕ) → i < m → ((b : ℕ) → b < n → Y b ≡ true → i ≢ row b) → sum_on Y n (λ j. c j * P i j) % p ≡ 0
-  base-no_row Y within c i il none = vanishes-sum p Y n (λ j. c j * P i j) (λ j jl jh. vanishes-mul p (c j) (P i j) (base.zero j i jl (within j jl jh) il (none j jl jh)))
+-- and back, for an invertible S
+pub combines_of-product : (p : ℕ) → IsPrime p → (m n : ℕ) (S U a P : ℕ → ℕ → ℕ) (X : ℕ → Bool) (x : ℕ → ℕ) → IsInverse p m S U → Agree p m n P (product m S a) →
+    Combines p P m n X (λ i. sum_below m (λ t. S i t * x t)) → Combines p a m n X x
+combines_of-product p prime m n S U a P X x inv same (c, s) = (
+  c,
+  λ i il.
+      agree_of p (sum_on X n (λ j. c j * a i j)) ((p - 1) * x i) (x i) (kernel-zero p prime m S U inv (λ t. sum_on X n (λ j. c j * a t j) + (p - 1) * x t) sent i il) (lacks p prime (x i)),
+)
+  where
+    -- S sends the difference to zero
+    parts : (i : ℕ) → sum_below m (λ t. S i t * (sum_on X n (λ j. c j * a t j) + (p - 1) * x t)) ≡ sum_on X n (λ j. c j * product m S a i j) + (p - 1) * sum_below m (λ t. S i t * x t)
+    parts i = sum_on-ext everything m (λ t. S i t * (sum_on X n (λ j. c j * a t j) + (p - 1) * x t)) (λ t. S i t * sum_on X n (λ j. c j * a t j) + (p - 1) * (S i t * x t)) (λ t _ _. spread (S i t) (sum_on X n (λ j. c j * a t j)) (p - 1) (x t))
+        ∙ sum_on-add everything m (λ t. S i t * sum_on X n (λ j. c j * a t j)) (λ t. (p - 1) * (S i t * x t))
+        ∙ ap (λ y. y + sum_below m (λ t. (p - 1) * (S i t * x t))) (sym (sum-product m n S a X c i))
+        ∙ ap (λ y. sum_on X n (λ j. c j * product m S a i j) + y) (sum_on-mul everything m (p - 1) (λ t. S i t * x t))
+      where
+        spread : (u y k z : ℕ) → u * (y + k * z) ≡ u * y + k * (u * z)
+        spread u y k z = omega arith
 
-  pub base-independent : (Y : ℕ → Bool) → IsWithin n Y B → IsIndependent p P m n Y
-  base-independent Y within c s j jl jh = sym (base-row Y within c j jl jh) ∙ s (row j) (base.row_below j jl (within j jl jh))
+    at_row : (i : ℕ) → i < m → sum_on X n (λ j. c j * product m S a i j) % p ≡ sum_below m (λ t. S i t * x t) % p
+    at_row i il = agree-sum p X n (λ j. c j * product m S a i j) (λ j. c j * P i j) (λ j jl _. agree-mul p (c j) (product m S a i j) (P i j) (sym (same i j il jl))) ∙ s i il
 
-  -- a set whose columns are zero at each row but those of its own base columns has as many columns in its rank as it has base columns
-  pub rank_of-base : (X : ℕ → Bool) → ((j i : ℕ) → j < n → X j ≡ true → i < m → P i j % p ≢ 0 → (b : ℕ) × (b < n) × (both B X b ≡ true) × (row b ≡ i)) → IsRank p P m n X (size_on (both B X) n)
-  rank_of-base X shown = rank_of-basis p prime P m n X (both B X) (λ j l h. both-second (B j) (X j) h) (base-independent (both B X) in_base) spans
-    where
-      in_base : IsWithin n (both B X) B
-      in_base j l h = both-first (B j) (X j) h
-
-      spans : (j : ℕ) → j < n → X j ≡ true → IsCombination p P m n (both B X) j
-      spans j jl jh = ((λ b. P (row b) j), λ i il. at_row i il (mod_cases (P i j % p)))
-        where
-          Found : ℕ → Type 0
-          Found i = (b : ℕ) × (b < n) × (both B X b ≡ true) × (row b ≡ i)
-
-          with_row : (i : ℕ) → i < m → Found i → sum_on (both B X) n (λ b. P (row b) j * P i b) % p ≡ P i j % p
-          with_row i il (b, bl, bh, q) = subst (λ k. sum_on (both B X) n (λ b. P (row b) j * P k b) % p ≡ P k j % p) q (base-row (both B X) in_base (λ b. P (row b) j) b bl bh)
-
-          no_row : (i : ℕ) → i < m → P i j % p ≡ 0 → ((b : ℕ) → b < n → both B X b && eqb (row b) i ≡ false) → sum_on (both B X) n (λ b. P (row b) j * P i b) % p ≡ P i j % p
-          no_row i il z none = base-no_row (both B X) in_base (λ b. P (row b) j) i il (λ b bl bh. not_row (both B X b) (row b) i (none b bl) bh) ∙ sym z
-
-          at_row : (i : ℕ) → i < m → (P i j % p ≡ 0) ⊎ (P i j % p ≢ 0) → sum_on (both B X) n (λ b. P (row b) j * P i b) % p ≡ P i j % p
-          at_row i il (inr ne) = with_row i il (shown j i jl jh il ne)
-          at_row i il (inl z) = elim (first_on (λ b. both B X b && eqb (row b) i) n) [
-            | inl found ↦ with_row i il (found.0, found.1, both-first (both B X found.0) (eqb (row found.0) i) found.2, row_is (both B X found.0) (row found.0) i found.2)
-            | inr none ↦ no_row i il z none
-          ]
+    sent : (i : ℕ) → i < m → sum_below m (λ t. S i t * (sum_on X n (λ j. c j * a t j) + (p - 1) * x t)) % p ≡ 0
+    sent i il = ap (λ y. y % p) (parts i)
+        ∙ agree-add p (sum_on X n (λ j. c j * product m S a i j)) (sum_below m (λ t. S i t * x t)) ((p - 1) * sum_below m (λ t. S i t * x t)) ((p - 1) * sum_below m (λ t. S i t * x t)) (at_row i il) refl
+        ∙ lacks p prime (sum_below m (λ t. S i t * x t))

@@ -1,0 +1,12 @@
+pub mod SetLaws
+pub mod WalkLaws
+pub mod Hulls
+pub mod ClosedLaws
+pub mod Ideals
+pub mod ListingUnique
+pub mod Listings
+pub mod Covers
+pub mod TableLaws
+pub mod RuleLaws
+pub mod BlockOrder
+pub mod ExampleLaws

@@ -1,0 +1,104 @@
+-- The first token of a text, and the others.
+use Rattle.std.proofs.Common.{◌≡◌, ℕ, ◌+◌, ◌<◌, Bool, true, false, not, ◌&&◌, List, [], ◌∷◌, length, take, drop, filter, cond, nat_lt, Some, None, position, lt-ltb, refl, sym, ap, ◌∙◌, arith, length-drop, length-take-le, one-add, add-zero, add_assoc}
+use Rattle.std.specs.List.{position_or_len}
+use Rattle.std.specs.Str.{IsAscii, IsUtf8}
+use Rattle.std.specs.List.{list_all}
+use Rattle.std.proofs.Math.Seq.{take-length}
+use Rattle.std.proofs.lemmas.Bool.Decides.{nat_tests}
+use Rattle.std.proofs.lemmas.Str.Ascii.{IsAscii-nil, IsAscii-cons}
+use Rattle.std.proofs.Math.ListN.{drop_of_length-le}
+use Rattle.std.proofs.lemmas.List.Quantifiers.{position-Some}
+use Rattle.std.proofs.lemmas.List.Sums.{prefix_len-le-length, prefix_len-drop_yes}
+use Rattle.std.proofs.lemmas.Str.{IsAscii-drop, IsUtf8-from_ascii}
+use Rattle.line_lexer.proofs.PlaceLaws.{position_or_len-Some, position_or_len-None}
+use Rattle.line_lexer.specs.Cuts.{CutsToken}
+use Rattle.line_lexer.specs.Tokens.{is_blank, is_comment_sign, is_text_byte, uncommented, parts_from, onto_first_part, has_bytes, tokens_from}
+
+-- blanks before a token only move its place
+pub tokens_after_blanks : (i : ℕ) (text : List ℕ) → tokens_from i text ≡ tokens_from (i + position_or_len (λ byte. not (is_blank byte)) text) (drop (position_or_len (λ byte. not (is_blank byte)) text) text)
+tokens_after_blanks i [] = sym (ap (λ j. tokens_from j []) (add-zero i))
+tokens_after_blanks i (byte ∷ text) = by (is_blank byte) refl (tokens_after_blanks (i + 1) text)
+  where
+    by : (b : Bool) → is_blank byte ≡ b → tokens_from (i + 1) text ≡ tokens_from (i + 1 + position_or_len (λ byte. not (is_blank byte)) text) (drop (position_or_len (λ byte. not (is_blank byte)) text) text) → tokens_from i (byte ∷ text) ≡ tokens_from (i + position_or_len (λ byte. not (is_blank byte)) (byte ∷ text)) (drop (position_or_len (λ byte. not (is_blank byte)) (byte ∷ text)) (byte ∷ text))
+    by true e rest = rw e (rest ∙ ap (λ j. tokens_from j (drop (position_or_len (λ byte. not (is_blank byte)) text) text)) (add_assoc i 1 (position_or_len (λ byte. not (is_blank byte)) text)) ∙ rw one-add refl)
+    by false e rest = rw (e, add-zero) (rw e refl)
+
+-- what the parts of a text are from a blank on
+parts_after : ℕ → List ℕ → List (ℕ × List ℕ)
+parts_after i [] = []
+parts_after i (byte ∷ bytes) = parts_from (i + 1) bytes
+
+-- the first part of a text ends at its first blank
+first_part : (i : ℕ) (text : List ℕ) → parts_from i text ≡ (i, take (position_or_len is_blank text) text) ∷ parts_after (i + position_or_len is_blank text) (drop (position_or_len is_blank text) text)
+unfolding parts_after
+first_part i [] = refl
+first_part i (byte ∷ text) = by (is_blank byte) refl (first_part (i + 1) text)
+  where
+    by : (b : Bool) → is_blank byte ≡ b → parts_from (i + 1) text ≡ (i + 1, take (position_or_len is_blank text) text) ∷ parts_after (i + 1 + position_or_len is_blank text) (drop (position_or_len is_blank text) text) → parts_from i (byte ∷ text) ≡ (i, take (position_or_len is_blank (byte ∷ text)) (byte ∷ text)) ∷ parts_after (i + position_or_len is_blank (byte ∷ text)) (drop (position_or_len is_blank (byte ∷ text)) (byte ∷ text))
+    by true e rest = rw e (ap (λ j. (i, []) ∷ parts_from (j + 1) text) (sym (add-zero i)))
+    by false e rest = rw e (ap (onto_first_part i byte) rest ∙ ap (λ j. (i, byte ∷ take (position_or_len is_blank text) text) ∷ parts_after j (drop (position_or_len is_blank text) text)) (add_assoc i 1 (position_or_len is_blank text)) ∙ rw one-add refl)
+
+-- from the first blank on, an empty part is no token
+tokens_after_part : (i : ℕ) (text : List ℕ) → filter has_bytes (parts_after i (drop (position_or_len is_blank text) text)) ≡ tokens_from i (drop (position_or_len is_blank text) text)
+unfolding parts_after
+tokens_after_part i [] = refl
+tokens_after_part i (byte ∷ text) = by (is_blank byte) refl (tokens_after_part i text)
+  where
+    by : (b : Bool) → is_blank byte ≡ b → filter has_bytes (parts_after i (drop (position_or_len is_blank text) text)) ≡ tokens_from i (drop (position_or_len is_blank text) text) → filter has_bytes (parts_after i (drop (position_or_len is_blank (byte ∷ text)) (byte ∷ text))) ≡ tokens_from i (drop (position_or_len is_blank (byte ∷ text)) (byte ∷ text))
+    by true e rest = rw e (rw e refl)
+    by false e rest = rw (e, one-add) rest
+
+-- a text that begins with a token
+tokens_at_token : (i : ℕ) (text : List ℕ) → 0 < position_or_len is_blank text → tokens_from i text ≡ (i, take (position_or_len is_blank text) text) ∷ tokens_from (i + position_or_len is_blank text) (drop (position_or_len is_blank text) text)
+tokens_at_token i text some =
+    let short = prefix_len-le-length (λ byte. not (is_blank byte)) text in
+    let token : nat_lt 0 (length (take (position_or_len is_blank text) text)) ≡ true = lt-ltb 0 _ (omega (arith, length-take-le (position_or_len is_blank text) text short)) in
+    ap (filter has_bytes) (first_part i text)
+    ∙ ap (λ b. cond b ((i, take (position_or_len is_blank text) text) ∷ filter has_bytes (parts_after (i + position_or_len is_blank text) (drop (position_or_len is_blank text) text))) (filter has_bytes (parts_after (i + position_or_len is_blank text) (drop (position_or_len is_blank text) text)))) token
+    ∙ ap (λ rest. (i, take (position_or_len is_blank text) text) ∷ rest) (tokens_after_part (i + position_or_len is_blank text) text)
+
+-- where no byte is of a token
+pub tokens_from-None : (i : ℕ) (text : List ℕ) → position (λ byte. not (is_blank byte)) text ≡ None → tokens_from i text ≡ []
+tokens_from-None i text e =
+    let whole = position_or_len-None (λ byte. not (is_blank byte)) text e in
+    tokens_after_blanks i text ∙ ap (λ rest. tokens_from (i + position_or_len (λ byte. not (is_blank byte)) text) rest) (drop_of_length-le text (omega arith))
+
+pub CutsToken-Some : (text : List ℕ) (skipped n : ℕ) → IsAscii text → position (λ byte. not (is_blank byte)) text ≡ Some skipped → n ≡ position_or_len is_blank (drop skipped text) → CutsToken text skipped (take n (drop skipped text)) (drop n (drop skipped text))
+CutsToken-Some text skipped n ascii found end =
+    let at = position-Some (λ byte. not (is_blank byte)) text skipped 0 found in
+    let more = prefix_len-drop_yes (λ byte. not (is_blank byte)) text skipped 0 at.0 at.1 in
+    let short = prefix_len-le-length (λ byte. not (is_blank byte)) (drop skipped text) in
+    let length_token = length-take-le n (drop skipped text) (omega arith) in
+    record {
+      tokens = λ i.
+          tokens_after_blanks i text
+          ∙ ap (λ m. tokens_from (i + m) (drop m text)) (position_or_len-Some (λ byte. not (is_blank byte)) text skipped found)
+          ∙ tokens_at_token (i + skipped) (drop skipped text) (omega arith)
+          ∙ ap (λ m. (i + skipped, take m (drop skipped text)) ∷ tokens_from (i + skipped + m) (drop m (drop skipped text))) (sym end)
+          ∙ ap (λ m. (i + skipped, take n (drop skipped text)) ∷ tokens_from (i + skipped + m) (drop n (drop skipped text))) (sym length_token);
+      whole = omega (arith, length_token, length-drop n (drop skipped text), length-drop skipped text);
+      ascii = IsAscii-drop (drop skipped text) n (IsAscii-drop text skipped ascii);
+    }
+
+-- up to the sign of a comment, or whole
+pub uncommented-Some : (line : List ℕ) (end : ℕ) → position is_comment_sign line ≡ Some end → take end line ≡ uncommented line
+uncommented-Some line end e = ap (λ n. take n line) (sym (position_or_len-Some is_comment_sign line end e))
+
+pub uncommented-None : (line : List ℕ) → position is_comment_sign line ≡ None → line ≡ uncommented line
+uncommented-None line e = sym (take-length line) ∙ ap (λ n. take n line) (sym (position_or_len-None is_comment_sign line e))
+
+pub ruleset uncommented_is = (uncommented-Some, uncommented-None)
+
+text_byte_below : (byte : ℕ) → is_text_byte byte ≡ true → byte < 128
+text_byte_below byte h = grind (arith, nat_tests)
+
+pub IsAscii-from_text_bytes : (text : List ℕ) → list_all is_text_byte text ≡ true → IsAscii text
+IsAscii-from_text_bytes [] h = IsAscii-nil
+IsAscii-from_text_bytes (byte ∷ text) h = by (is_text_byte byte) refl h (λ rest. IsAscii-from_text_bytes text rest)
+  where
+    by : (b : Bool) → is_text_byte byte ≡ b → (b && list_all is_text_byte text) ≡ true → (list_all is_text_byte text ≡ true → IsAscii text) → IsAscii (byte ∷ text)
+    by true e rest more = IsAscii-cons byte text (text_byte_below byte e) (more rest)
+    by false e rest more = let f : ⊥ = cc in absurd f
+
+pub text_is_utf8 : (text : List ℕ) → list_all is_text_byte text ≡ true → IsUtf8 text
+text_is_utf8 text h = IsUtf8-from_ascii text (IsAscii-from_text_bytes text h)

@@ -1,0 +1,4 @@
+pub mod Lines
+pub mod Tokens
+pub mod Cuts
+pub mod Names

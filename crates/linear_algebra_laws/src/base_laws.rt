@@ -1,0 +1,17 @@
+//! A base of unit columns, as a tableau has one.
+ghost use Rattle.linear_algebra_laws.specs.BaseLaws.{BasesAreIndependent, BasesShowTheRank, BasesSpanWhatIsZeroElsewhere};
+
+/// A base is independent.
+pub fn bases_are_independent()
+    ensures { BasesAreIndependent }
+{}
+
+/// A set that is zero at each row without base in the set has as many columns in its rank as it has base columns.
+pub fn bases_show_the_rank()
+    ensures { BasesShowTheRank }
+{}
+
+/// A column is a combination of the base exactly where it is zero at each row without base.
+pub fn bases_span_what_is_zero_elsewhere()
+    ensures { BasesSpanWhatIsZeroElsewhere }
+{}

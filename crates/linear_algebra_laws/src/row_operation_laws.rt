@@ -1,0 +1,62 @@
+//! Row operations, and products with an invertible matrix.
+ghost use Rattle.linear_algebra_laws.specs.RowOperationLaws.{InverseOnOneSideIsInverse, InvertibleProductsKeepIndependence, InvertibleProductsKeepTheRank, AddedRowsKeepTheKernel, ScaledRowsKeepTheKernel, SameKernelHasTheRank, EntriesDecideTheKernel, PivotsAddToTheBase, ProductsFollowAddedRows, ProductsFollowScaledRows, AddedRowsKeepTheInverse, ScaledRowsKeepTheInverse};
+
+/// For square matrices, `S * U = 1` alone shows that `U * S = 1`.
+pub fn inverse_on_one_side_is_inverse()
+    ensures { InverseOnOneSideIsInverse }
+{}
+
+/// Columns are independent in a matrix exactly where they are in its product with an invertible one.
+pub fn invertible_products_keep_independence()
+    ensures { InvertibleProductsKeepIndependence }
+{}
+
+/// A product with an invertible matrix keeps every rank.
+pub fn invertible_products_keep_the_rank()
+    ensures { InvertibleProductsKeepTheRank }
+{}
+
+/// A multiple of a row added to another row keeps the kernel.
+pub fn added_rows_keep_the_kernel()
+    ensures { AddedRowsKeepTheKernel }
+{}
+
+/// A row multiplied by a number that is not zero keeps the kernel.
+pub fn scaled_rows_keep_the_kernel()
+    ensures { ScaledRowsKeepTheKernel }
+{}
+
+/// Matrices with the same kernel have the same ranks.
+pub fn same_kernel_has_the_rank()
+    ensures { SameKernelHasTheRank }
+{}
+
+/// Matrices whose entries agree have the same kernel.
+pub fn entries_decide_the_kernel()
+    ensures { EntriesDecideTheKernel }
+{}
+
+/// A pivot at a row without base adds its column to the base.
+pub fn pivots_add_to_the_base()
+    ensures { PivotsAddToTheBase }
+{}
+
+/// A product follows a multiple of a row added to another in its left factor.
+pub fn products_follow_added_rows()
+    ensures { ProductsFollowAddedRows }
+{}
+
+/// A product follows a row multiplied in its left factor.
+pub fn products_follow_scaled_rows()
+    ensures { ProductsFollowScaledRows }
+{}
+
+/// A row added in a matrix, and its opposite in the transpose of the inverse, leave inverses.
+pub fn added_rows_keep_the_inverse()
+    ensures { AddedRowsKeepTheInverse }
+{}
+
+/// A row multiplied in a matrix, and divided in the transpose of the inverse, leave inverses.
+pub fn scaled_rows_keep_the_inverse()
+    ensures { ScaledRowsKeepTheInverse }
+{}

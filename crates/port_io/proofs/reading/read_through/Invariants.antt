@@ -1,0 +1,15 @@
+use Rattle.std.proofs.Common.{length, ◌-◌, ◌≡◌, ◌+◌, ◌≤◌, ◌<◌}
+use Rattle.port_io.specs.Bytes.{Took}
+use Rattle.port_io.proofs.reading.read_through.Given as goal
+
+abbrev pub invariant-loop-bytes : goal.invariant-loop-bytes
+invariant-loop-bytes g l = record {
+  most : l.most ≡ l.limit + 1;
+  room : length l.bytes.items < l.most;
+  so_far : Took (g.S.Source.left l.initial.source) (g.S.Source.left l.source) l.bytes.items;
+  later : g.S.Source.faults l.initial.source ≤ g.S.Source.faults l.source;
+  steady : g.S.Source.never_fails l.initial.source → g.S.Source.never_fails l.source × (g.S.Source.faults l.source ≡ g.S.Source.faults l.initial.source);
+}
+
+abbrev pub decreases-loop-bytes : goal.decreases-loop-bytes
+decreases-loop-bytes g l = l.most - length l.bytes.items

@@ -1,0 +1,19 @@
+-- Why a call may fail: a count of faults that code over a source or a sink cannot raise by itself.
+use Rattle.std.specs.Prelude.{ℕ, ◌+◌, ◌-◌, ◌^◌, ◌≤◌, min, OnErr, Result}
+
+-- what a count of 64 bits shows: it stays at its last value
+abbrev pub shown : ℕ → ℕ
+shown count = min count (2 ^ 64 - 1)
+
+-- a count after one call more
+abbrev pub one_more : ℕ → ℕ
+one_more count = shown (count + 1)
+
+-- a count rose, or stands at its last value
+abbrev pub Rose : ℕ → ℕ → Type 0
+Rose before now = one_more before ≤ now
+
+-- the count never falls, and rose where the call failed
+pub record HasCause {T E : Type 0} (before now : ℕ) (result : Result T E) : Type 0 where
+  pub later : before ≤ now
+  pub failed : OnErr result (Rose before now)

@@ -1,0 +1,91 @@
+//! A whole input.
+
+ghost use Rattle.std.specs.Prelude.{◌≡◌, ◌≢◌, ◌+◌, ◌≤◌, ◌<◌, length, IfOk};
+ghost use Rattle.port_io.specs.Causes.{Rose};
+ghost use Rattle.port_io.specs.Bytes.{Took, Ended, TookExactly, TookAtMost};
+
+use crate::ports::Source;
+use std::alloc::{AllocError, Global};
+use thiserror::Error;
+
+/// Why there is no whole input.
+#[derive(Debug, PartialEq, Eq, Drop, Error)]
+pub enum ReadError {
+    /// The source failed.
+    #[error("the input cannot be read")]
+    ReadFault,
+    /// There are more bytes than the limit, and one more than the limit was taken.
+    #[error("the input is too long")]
+    TooLong,
+    /// There is no memory for the bytes.
+    #[error("out of memory")]
+    NoMemory,
+}
+
+/// The most bytes of one call.
+const PIECE: usize = 65_536;
+
+/// All bytes to the end, where there are no more than `limit`. It asks for pieces of at most 65,536
+/// bytes, and never for more than `limit + 1` bytes in all. After an error the bytes that were taken
+/// stay taken: `limit + 1` at `TooLong`, and else at most `limit`.
+pub fn read_all<S: Source>(alloc: Global, source: &mut S, limit: u64) -> Result<Vec<u8>, ReadError>
+    requires { limit ≤ 2147483648 }
+    ensures within { IfOk result (λ bytes. length bytes.items ≤ limit) }
+    ensures all { IfOk result (λ bytes. Took (S.left source.old) (S.left source.new) bytes.items × Ended (S.left source.new)) }
+    ensures too_long { result ≡ Err ReadError.TooLong → TookExactly (limit + 1) (S.left source.old) (S.left source.new) }
+    ensures fault_taken { result ≡ Err ReadError.ReadFault → TookAtMost limit (S.left source.old) (S.left source.new) }
+    ensures memory_taken { result ≡ Err ReadError.NoMemory → TookAtMost limit (S.left source.old) (S.left source.new) }
+    ensures fault { result ≡ Err ReadError.ReadFault → Rose (S.faults source.old) (S.faults source.new) }
+    ensures later { S.faults source.old ≤ S.faults source.new }
+    ensures steady { S.never_fails source.old → S.never_fails source.new × (S.faults source.new ≡ S.faults source.old) × (result ≢ Err ReadError.ReadFault) }
+{
+    let Ok(mut buffer) = buffer_of(alloc, PIECE) else {
+        return Err(ReadError::NoMemory);
+    };
+    read_through(alloc, source, &mut buffer, limit)
+}
+
+/// A buffer of this size.
+fn buffer_of(alloc: Global, size: usize) -> Result<Vec<u8>, AllocError>
+    ensures { IfOk result (λ buffer. length buffer.items ≡ size) }
+{
+    vec![in alloc; 0u8; size]
+}
+
+/// All bytes to the end, through this buffer.
+fn read_through<S: Source>(
+    alloc: Global,
+    source: &mut S,
+    buffer: &mut [u8],
+    limit: u64,
+) -> Result<Vec<u8>, ReadError>
+    requires limit { limit ≤ 2147483648 }
+    requires room { 0 < length buffer.old }
+    ensures within { IfOk result (λ bytes. length bytes.items ≤ limit) }
+    ensures all { IfOk result (λ bytes. Took (S.left source.old) (S.left source.new) bytes.items × Ended (S.left source.new)) }
+    ensures too_long { result ≡ Err ReadError.TooLong → TookExactly (limit + 1) (S.left source.old) (S.left source.new) }
+    ensures fault_taken { result ≡ Err ReadError.ReadFault → TookAtMost limit (S.left source.old) (S.left source.new) }
+    ensures memory_taken { result ≡ Err ReadError.NoMemory → TookAtMost limit (S.left source.old) (S.left source.new) }
+    ensures fault { result ≡ Err ReadError.ReadFault → Rose (S.faults source.old) (S.faults source.new) }
+    ensures later { S.faults source.old ≤ S.faults source.new }
+    ensures steady { S.never_fails source.old → S.never_fails source.new × (S.faults source.new ≡ S.faults source.old) × (result ≢ Err ReadError.ReadFault) }
+{
+    let most = limit as usize + 1;
+    let mut bytes = Vec::new(alloc);
+    while bytes.len() < most {
+        let want = buffer.len().min(most - bytes.len());
+        let Ok(count) = source.read(&mut buffer[..want]) else {
+            return Err(ReadError::ReadFault);
+        };
+        if count == 0 {
+            return Ok(bytes);
+        }
+        if bytes.len() + count >= most {
+            return Err(ReadError::TooLong);
+        }
+        if bytes.extend_from_slice(&buffer[..count]).is_err() {
+            return Err(ReadError::NoMemory);
+        }
+    }
+    Err(ReadError::TooLong)
+}

@@ -1,0 +1,196 @@
+//! The process's own streams. What they give and keep is outside what is proved: they tell no bytes,
+//! and count a fault for each call that the system refused.
+
+ghost use Rattle.std.specs.Prelude.{◌≡◌, ◌≤◌, ℕ, None, false, IfOk};
+
+use crate::ports::{Failed, Sink, Source};
+use std::io::{Read, Write};
+
+/// A source over one of std's readers, as standard input.
+#[derive(Drop)]
+pub struct StdSource<R> {
+    stream: R,
+    faults: u64,
+}
+
+impl<R: Read + Drop> StdSource<R> {
+    /// A source with no fault yet.
+    pub fn new(stream: R) -> StdSource<R>
+        ensures zero { ⟦<StdSource<R> as Source>⟧.faults result ≡ 0 }
+    {
+        StdSource { stream, faults: 0 }
+    }
+}
+
+impl<R: Read + Drop> Source for StdSource<R> {
+    ghost left = { λ _. None };
+
+    ghost faults = { λ source. source.faults };
+
+    ghost never_fails = { λ _. ⊥ };
+
+    ghost read_gives = { λ _ _ _ _. Unit {0} };
+
+    fn read(&mut self, buffer: &mut [u8]) -> Result<usize, Failed> {
+        let Ok(count) = self.stream.read(buffer) else {
+            self.faults = self.faults.saturating_add(1);
+            return Err(Failed);
+        };
+        Ok(count)
+    }
+}
+
+/// A sink over one of std's writers, as standard output or standard error.
+#[derive(Drop)]
+pub struct StdSink<W> {
+    stream: W,
+    flushed: bool,
+    faults: u64,
+}
+
+impl<W: Write + Drop> StdSink<W> {
+    /// A sink with no fault yet.
+    pub fn new(stream: W) -> StdSink<W>
+        ensures zero { ⟦<StdSink<W> as Sink>⟧.faults result ≡ 0 }
+        ensures unflushed { ⟦<StdSink<W> as Sink>⟧.flushed result ≡ false }
+    {
+        StdSink {
+            stream,
+            flushed: false,
+            faults: 0,
+        }
+    }
+}
+
+impl<W: Write + Drop> Sink for StdSink<W> {
+    ghost written = { λ _. None };
+
+    ghost flushed = { λ sink. sink.flushed };
+
+    ghost faults = { λ sink. sink.faults };
+
+    ghost takes = { λ _ _. ⊥ };
+
+    ghost write_gives = { λ _ _ _ _. Unit {0} };
+
+    ghost flush_gives = { λ _ _ _. Unit {0} };
+
+    fn write(&mut self, piece: &[u8]) -> Result<usize, Failed> {
+        match self.stream.write(piece) {
+            Ok(count) if count > 0 || piece.is_empty() => {
+                self.flushed = self.flushed && count == 0;
+                Ok(count)
+            }
+            _ => {
+                self.faults = self.faults.saturating_add(1);
+                Err(Failed)
+            }
+        }
+    }
+
+    fn flush(&mut self) -> Result<(), Failed> {
+        if self.stream.flush().is_err() {
+            self.faults = self.faults.saturating_add(1);
+            return Err(Failed);
+        }
+        self.flushed = true;
+        Ok(())
+    }
+}
+
+#[cfg(test)]
+mod tests {
+    use super::*;
+    use std::io;
+    use std::io::ErrorKind;
+    use std::test::Fail;
+
+    /// Fails at its second call, and moves at most two bytes in each other one; from the fifth on
+    /// it moves none.
+    #[derive(Drop)]
+    struct Unsteady {
+        calls: u64,
+    }
+
+    impl Unsteady {
+        fn call(&mut self, bytes: usize) -> io::Result<usize>
+            ensures { IfOk result (λ n. n ≤ bytes) }
+        {
+            self.calls = self.calls.saturating_add(1);
+            match self.calls {
+                2 => Err(io::Error::from(ErrorKind::Other)),
+                0..5 => Ok(bytes.min(2)),
+                _ => Ok(0),
+            }
+        }
+    }
+
+    impl Read for Unsteady {
+        fn read(&mut self, buffer: &mut [u8]) -> io::Result<usize> {
+            let count = self.call(buffer.len())?;
+            buffer[..count].fill(b'a');
+            Ok(count)
+        }
+    }
+
+    impl Write for Unsteady {
+        fn write(&mut self, piece: &[u8]) -> io::Result<usize> {
+            self.call(piece.len())
+        }
+
+        fn flush(&mut self) -> io::Result<()> {
+            self.call(0)?;
+            Ok(())
+        }
+    }
+
+    #[test]
+    fn a_source_counts_its_faults(rt: HostRuntime) -> Result<(), Fail> {
+        let mut source = StdSource::new(Unsteady { calls: 0 });
+        let mut buffer = [0; 3];
+        for (want, faults) in [
+            (Some(2), 0),
+            (None, 1),
+            (Some(2), 1),
+            (Some(2), 1),
+            (Some(0), 1),
+        ] {
+            assert_eq!(rt; source.read(&mut buffer).ok(), want);
+            assert_eq!(rt; source.faults, faults);
+        }
+        assert_eq!(rt; buffer, [b'a', b'a', 0]);
+        Ok(())
+    }
+
+    #[test]
+    fn a_sink_counts_its_faults(rt: HostRuntime) -> Result<(), Fail> {
+        let mut sink = StdSink::new(Unsteady { calls: 0 });
+        for (want, faults) in [
+            (Some(2), 0),
+            (None, 1),
+            (Some(2), 1),
+            (Some(2), 1),
+            (None, 2),
+        ] {
+            assert_eq!(rt; sink.write(b"abc").ok(), want);
+            assert_eq!(rt; sink.faults, faults);
+        }
+        assert!(rt; !sink.flushed);
+        assert!(rt; sink.flush().is_ok());
+        assert!(rt; sink.flushed);
+        assert_eq!(rt; sink.write(b"").ok(), Some(0));
+        assert!(rt; sink.flushed);
+        Ok(())
+    }
+
+    #[test]
+    fn the_real_streams_fit(rt: HostRuntime) -> Result<(), Fail> {
+        let mut source = StdSource::new(rt.stdin());
+        assert_eq!(rt; source.read(&mut []).ok(), Some(0));
+        let mut sink = StdSink::new(rt.stdout());
+        assert!(rt; sink.flush().is_ok());
+        let mut notes = StdSink::new(rt.stderr());
+        assert!(rt; notes.flush().is_ok());
+        Ok(())
+    }
+}

@@ -1,0 +1,110 @@
+//! Calls over memory, with ample memory.
+
+use crate::{MemSink, MemSource, PieceBuffer, ReadError, Sink, Source, read_all, write_all};
+use std::alloc::Global;
+use std::test::Fail;
+
+#[test]
+fn reads_all_in_pieces_of_any_size(rt: HostRuntime) -> Result<(), Fail> {
+    let alloc = rt.alloc();
+    for most in 1..12 {
+        let mut source = MemSource::new(alloc, b"seventeen", most, &[])?;
+        let bytes = read_all(alloc, &mut source, 9)?;
+        assert_eq!(rt; bytes.as_slice(), b"seventeen".as_slice(), "at {most}");
+    }
+    Ok(())
+}
+
+#[test]
+fn reads_nothing_past_a_fault_or_the_limit(rt: HostRuntime) -> Result<(), Fail> {
+    let alloc = rt.alloc();
+    let cases: [(u64, u64, ReadError, &[u8]); 3] = [
+        (9, 2, ReadError::ReadFault, b"teen"),
+        (9, 3, ReadError::ReadFault, b""),
+        (8, 9, ReadError::TooLong, b""),
+    ];
+    for (limit, failing, want, left) in cases {
+        let mut source = MemSource::new(alloc, b"seventeen", 5, &[failing])?;
+        let outcome = read_all(alloc, &mut source, limit);
+        assert_eq!(rt; outcome.err(), Some(want), "at {failing}");
+        let rest = read_all(alloc, &mut source, 9)?;
+        assert_eq!(rt; rest.as_slice(), left, "at {failing}");
+    }
+    Ok(())
+}
+
+#[test]
+fn writes_all_or_a_counted_part(rt: HostRuntime) -> Result<(), Fail> {
+    let alloc = rt.alloc();
+    let cases: [(usize, u64, Option<usize>); 4] = [
+        (9, 9, None),
+        (9, 1, Some(0)),
+        (9, 3, Some(4)),
+        (7, 9, Some(7)),
+    ];
+    for (room, failing, want) in cases {
+        let mut sink = MemSink::new(alloc, 2, room, &[failing])?;
+        let fault = write_all(&mut sink, b"seventeen").err();
+        let written = fault.map(|fault| fault.written);
+        assert_eq!(rt; written, want, "at {failing}");
+        let count = want.unwrap_or(9);
+        assert_eq!(rt; sink.bytes().len(), count, "at {failing}");
+        assert!(rt; b"seventeen".starts_with(sink.bytes()));
+    }
+    Ok(())
+}
+
+#[test]
+fn counts_a_flush_as_a_call(rt: HostRuntime) -> Result<(), Fail> {
+    let mut sink = MemSink::new(rt.alloc(), 2, 9, &[2, 4])?;
+    assert_eq!(rt; sink.write(b"abc").ok(), Some(2));
+    assert!(rt; sink.flush().is_err());
+    assert!(rt; sink.flush().is_ok());
+    assert!(rt; sink.write(b"c").is_err());
+    assert_eq!(rt; sink.write(b"").ok(), Some(0));
+    assert_eq!(rt; sink.bytes(), b"ab".as_slice());
+    Ok(())
+}
+
+/// Puts the piece many times, then a piece that is longer than the buffer, then hands on.
+fn put_many<K: Sink>(alloc: Global, sink: &mut K) -> Result<Option<usize>, Fail> {
+    let long = vec![in alloc; b'x'; 5000]?;
+    let mut buffer = PieceBuffer::new();
+    for _ in 0..1000 {
+        if let Err(fault) = buffer.put(sink, b"12345\n") {
+            return Ok(Some(fault.written));
+        }
+    }
+    if let Err(fault) = buffer.put(sink, &long) {
+        return Ok(Some(fault.written));
+    }
+    Ok(buffer.hand_on(sink).err().map(|fault| fault.written))
+}
+
+#[test]
+fn gathers_small_pieces(rt: HostRuntime) -> Result<(), Fail> {
+    let alloc = rt.alloc();
+    let mut whole = Vec::new(alloc);
+    for _ in 0..1000 {
+        whole.extend_from_slice(b"12345\n")?;
+    }
+    whole.extend_from_slice(&vec![in alloc; b'x'; 5000]?)?;
+    let cases: [(u64, Option<usize>); 4] = [
+        (99, None),
+        (1, Some(0)),
+        (3, Some(4092)),
+        (5, Some(8500)),
+    ];
+    for (failing, want) in cases {
+        let mut sink = MemSink::new(alloc, 2500, 20_000, &[failing])?;
+        let written = put_many(alloc, &mut sink)?;
+        assert_eq!(rt; written, want, "at {failing}");
+        assert_eq!(rt;
+            sink.bytes().len(),
+            want.unwrap_or(whole.len()),
+            "at {failing}"
+        );
+        assert!(rt; whole.starts_with(sink.bytes()));
+    }
+    Ok(())
+}

@@ -1,0 +1,207 @@
+//! Why an input is refused, and at which place in it.
+#![tactic(auto)]
+
+ghost use Rattle.std.specs.Prelude.{◌≡◌};
+ghost use Rattle.refusals.specs.Texts.{place_word, place_number, why_text};
+
+use std::alloc::{AllocError, AllocFailed};
+use std::fmt;
+use thiserror::Error;
+
+/// A place in an input. Its number counts from 1.
+#[derive(Clone, Copy, Debug, PartialEq, Eq)]
+pub enum Place {
+    Line(u32),
+    Document,
+    Component(u32),
+    Stream(u32),
+    Unit(u32),
+}
+
+/// Why an input is refused.
+#[derive(Clone, Copy, Debug, PartialEq, Eq)]
+pub enum Why {
+    /// A byte that may not stand there.
+    BadByte,
+    /// A line of no known kind.
+    BadWord,
+    /// A line or an item that lacks a part, or has one too many.
+    BadShape,
+    /// What should be a name is none.
+    BadName,
+    /// What should be a number is none.
+    BadNumber,
+    /// A number whose residue is zero, or has no meaning, though the number itself is neither.
+    Vanish,
+    /// What may stand once stands twice.
+    Twice,
+    /// More than the program takes.
+    TooMany,
+    /// A form that this version of the program does not read yet.
+    Later,
+}
+
+/// A refusal: the first place at which an input breaks a rule, and the rule.
+#[derive(Clone, Copy, Debug, PartialEq, Eq)]
+pub struct Refused {
+    pub place: Place,
+    pub why: Why,
+}
+
+/// Why a model was not read.
+#[derive(Clone, Copy, Debug, PartialEq, Eq, Error)]
+pub enum ReadModel {
+    #[error("{0}")]
+    Refused(Refused),
+    #[error("out of memory")]
+    NoMemory,
+}
+
+impl Place {
+    /// The word for this place.
+    pub fn word(self) -> &'static str
+        ensures { result.now ≡ place_word self }
+    {
+        match self {
+            Place::Line(_) => "line",
+            Place::Document => "document",
+            Place::Component(_) => "component",
+            Place::Stream(_) => "stream",
+            Place::Unit(_) => "unit",
+        }
+    }
+
+    /// The number of this place, where it has one.
+    pub fn number(self) -> Option<u32>
+        ensures { result ≡ place_number self }
+    {
+        match self {
+            Place::Document => None,
+            Place::Line(number)
+            | Place::Component(number)
+            | Place::Stream(number)
+            | Place::Unit(number) => Some(number),
+        }
+    }
+}
+
+impl fmt::Display for Place {
+    ghost use Rattle.std.specs.Prelude.{Some};
+    ghost use Rattle.refusals.specs.Texts.{place_text};
+
+    ghost output = { λ place. Some (place_text place) };
+
+    fn fmt<W: fmt::Write>(&self, f: &mut fmt::Formatter<W>) -> fmt::Result {
+        let word = self.word();
+        match self.number() {
+            None => f.write_str(word),
+            Some(number) => write!(f, "{word} {number}"),
+        }
+    }
+}
+
+impl Why {
+    /// The words for this reason.
+    pub fn text(self) -> &'static str
+        ensures { result.now ≡ why_text self }
+    {
+        match self {
+            Why::BadByte => "bad byte",
+            Why::BadWord => "bad word",
+            Why::BadShape => "bad shape",
+            Why::BadName => "bad name",
+            Why::BadNumber => "bad number",
+            Why::Vanish => "vanishes in the field",
+            Why::Twice => "twice",
+            Why::TooMany => "too many",
+            Why::Later => "comes later",
+        }
+    }
+}
+
+impl fmt::Display for Why {
+    ghost use Rattle.std.specs.Prelude.{Some};
+    ghost use Rattle.refusals.specs.Texts.{why_text};
+
+    ghost output = { λ why. Some (why_text why) };
+
+    fn fmt<W: fmt::Write>(&self, f: &mut fmt::Formatter<W>) -> fmt::Result {
+        f.write_str(self.text())
+    }
+}
+
+/// The place, a colon and the reason, as in `line 3: bad byte`.
+impl fmt::Display for Refused {
+    ghost use Rattle.std.specs.Prelude.{Some};
+    ghost use Rattle.refusals.specs.Texts.{refusal_text};
+
+    ghost output = { λ refused. Some (refusal_text refused) };
+
+    fn fmt<W: fmt::Write>(&self, f: &mut fmt::Formatter<W>) -> fmt::Result {
+        let place = self.place;
+        let why = self.why;
+        write!(f, "{place}: {why}")
+    }
+}
+
+impl From<Refused> for ReadModel {
+    ghost use Rattle.std.specs.Prelude.{◌≡◌};
+    ghost use Rattle.refusals.specs.declared.ReadModel.TheVariants.{Refused};
+
+    ghost from_gives = { λ refused error. error ≡ Refused refused };
+
+    fn from(refused: Refused) -> ReadModel {
+        ReadModel::Refused(refused)
+    }
+}
+
+impl From<AllocError> for ReadModel {
+    ghost use Rattle.std.specs.Prelude.{◌≡◌};
+    ghost use Rattle.refusals.specs.declared.ReadModel.TheVariants.{NoMemory};
+
+    ghost from_gives = { λ _ error. error ≡ NoMemory };
+
+    fn from(_error: AllocError) -> ReadModel {
+        ReadModel::NoMemory
+    }
+}
+
+impl<T: Drop> From<AllocFailed<T>> for ReadModel {
+    ghost use Rattle.std.specs.Prelude.{◌≡◌};
+    ghost use Rattle.refusals.specs.declared.ReadModel.TheVariants.{NoMemory};
+
+    ghost from_gives = { λ _ error. error ≡ NoMemory };
+
+    fn from(_error: AllocFailed<T>) -> ReadModel {
+        ReadModel::NoMemory
+    }
+}
+
+#[cfg(test)]
+mod tests {
+    use super::*;
+    use std::test::Fail;
+
+    #[test]
+    fn prints_places_and_reasons(rt: HostRuntime) -> Result<(), Fail> {
+        let cases = [
+            (Place::Line(3), Why::BadByte, "line 3: bad byte"),
+            (Place::Document, Why::BadWord, "document: bad word"),
+            (Place::Component(1), Why::BadShape, "component 1: bad shape"),
+            (Place::Stream(20), Why::BadName, "stream 20: bad name"),
+            (Place::Unit(7), Why::BadNumber, "unit 7: bad number"),
+            (Place::Line(1), Why::Vanish, "line 1: vanishes in the field"),
+            (Place::Line(2), Why::Twice, "line 2: twice"),
+            (Place::Line(4097), Why::TooMany, "line 4097: too many"),
+            (Place::Line(1), Why::Later, "line 1: comes later"),
+        ];
+        for (place, why, want) in cases {
+            let refused = Refused { place, why };
+            let text = refused.to_string(rt.alloc())?;
+            assert_eq!(rt; text.as_str(), want);
+            let error = ReadModel::Refused(refused).to_string(rt.alloc())?;
+            assert_eq!(rt; error.as_str(), want);
+        }
+        Ok(())
+    }
+}

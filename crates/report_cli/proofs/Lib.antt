@@ -1,0 +1,5 @@
+pub mod DigitSteps
+pub mod Pieces
+pub mod Puts
+pub mod Noting
+pub mod Written

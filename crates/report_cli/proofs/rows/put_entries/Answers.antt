@@ -1,0 +1,27 @@
+use Rattle.std.proofs.Common.{◌≡◌, ◌<◌, ◌+◌, ◌++◌, ap, sym, ◌∙◌, drop, length, subst, arith}
+use Rattle.dense_q.specs.Tables.{row_at, entry}
+use Rattle.report_cli.specs.Certificates.{entries_text, entry_text}
+use Rattle.report_cli.proofs.Pieces.{entries_left, row_long, entries_end}
+use Rattle.report_cli.proofs.Puts.{loop_goes_on, loop_breaks, loop_begins, loop_ends, put_failed, put_is}
+use Rattle.report_cli.proofs.rows.put_entries.Goals as goal
+
+pub loop-column-init : goal.loop-column-init
+loop-column-init g c = loop_begins (entries_text 1 (row_at c.args.matrix.now c.args.row))
+
+pub returns-in_err-put_entry : goal.returns-in_err-put_entry
+returns-in_err-put_entry g c =
+    let row = row_at c.args.matrix.now c.args.row in
+    let within : c.loop-column.column < length row = omega (arith, row_long c.args.matrix.now c.args.row c.requires c.cols-column-end.ensures.matrix) in
+    put_failed c.from_residual.ensures.0
+    (loop_breaks (entries_text (c.loop-column.column + 1 + 1) (drop (c.loop-column.column + 1) row)) (entries_left row c.loop-column.column 0 within ∙ ap (λ n. entry_text (c.loop-column.column + 1) n ++ entries_text (c.loop-column.column + 1 + 1) (drop (c.loop-column.column + 1) row)) (sym c.get.ensures)) c.loop-column.invariant c.in_err-put_entry.ensures)
+
+pub loop-column-preserved : goal.loop-column-preserved
+loop-column-preserved g c =
+    let row = row_at c.args.matrix.now c.args.row in
+    let within : c.loop-column.column < length row = omega (arith, row_long c.args.matrix.now c.args.row c.requires c.cols-column-end.ensures.matrix) in
+    loop_goes_on (entries_text (c.loop-column.column + 1 + 1) (drop (c.loop-column.column + 1) row)) (entries_left row c.loop-column.column 0 within ∙ ap (λ n. entry_text (c.loop-column.column + 1) n ++ entries_text (c.loop-column.column + 1 + 1) (drop (c.loop-column.column + 1) row)) (sym c.get.ensures)) c.loop-column.invariant c.in_ok-put_entry.ensures
+
+pub returns : goal.returns
+returns g c =
+    let row = row_at c.args.matrix.now c.args.row in
+    loop_ends (entries_end (c.loop-column.column + 1) row c.loop-column.column (omega (arith, row_long c.args.matrix.now c.args.row c.requires c.cols-column-end.ensures.matrix))) c.loop-column.invariant

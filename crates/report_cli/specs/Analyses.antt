@@ -1,0 +1,9 @@
+-- What an analysis found.
+use Rattle.std.specs.Prelude.{◌≡◌, ℕ, List}
+use Rattle.report_cli.specs.declared.analysis.Analysis.{Analysis}
+use Rattle.report_cli.specs.declared.analysis.Analysis.TheVariants.{Certified, Refused}
+
+-- a certificate of the input, or its refusal
+abbrev pub IsAnalysis : List ℕ → Analysis → Type 0
+IsAnalysis input (Certified certificate) = certificate.echo ≡ input
+IsAnalysis input (Refused refused) = Unit {0}

@@ -1,0 +1,92 @@
+-- What a run answers.
+use Rattle.std.specs.Prelude.{◌≡◌, ℕ, ◌+◌, ◌≤◌, ◌<◌, ◌⊎◌, List, [], ◌++◌, length, Option, Some, None}
+use Rattle.port_io.specs.Bytes.{Took, Appended, Ended}
+use Rattle.report_cli.specs.Certificates.{Contents, certificate_text}
+use Rattle.report_cli.specs.Words.{AskForAnalysis}
+use Rattle.report_cli.specs.Writing.{PartWritten}
+use Rattle.report_cli.specs.declared.status.Status.{Status}
+use Rattle.report_cli.specs.declared.status.Status.TheVariants.{Done, Usage, Refused, TooLong, ReadFault, WriteFault, Memory}
+
+-- the most bytes of a model's text
+abbrev pub model_limit : ℕ
+model_limit = 8388608
+
+-- the text of some certificate whose echo is the input
+pub record IsCertified (input text : List ℕ) : Type 0 where
+  pub certificate : Contents
+  pub echo : certificate.echo ≡ input
+  pub text_is : text ≡ certificate_text certificate
+
+-- a run with these words on this whole input ends with this status and this text on `out`, when nothing fails
+abbrev pub IsAnswer : List (List ℕ) → List ℕ → Status → List ℕ → Type 0
+IsAnswer words input Usage text = (AskForAnalysis words → ⊥) × (text ≡ [])
+IsAnswer words input (TooLong limit) text = AskForAnalysis words × (limit ≡ model_limit) × (model_limit < length input) × (text ≡ [])
+IsAnswer words input (Refused refusal) text = AskForAnalysis words × (length input ≤ model_limit) × (text ≡ [])
+IsAnswer words input Done text = AskForAnalysis words × (length input ≤ model_limit) × IsCertified input text
+IsAnswer words input ReadFault text = ⊥
+IsAnswer words input WriteFault text = ⊥
+IsAnswer words input Memory text = ⊥
+
+-- the statuses that tell of a whole input within the limit
+abbrev pub ReadsAll : Status → Type 0 → Type 0
+ReadsAll Done p = p
+ReadsAll (Refused refusal) p = p
+ReadsAll _ p = Unit {0}
+
+-- the status is no fault and no want of memory
+abbrev pub Tells : Status → Type 0 → Type 0
+Tells ReadFault p = Unit {0}
+Tells WriteFault p = Unit {0}
+Tells Memory p = Unit {0}
+Tells _ p = p
+
+-- the statuses with which nothing is written
+abbrev pub WritesNothing : Status → Type 0 → Type 0
+WritesNothing Done p = Unit {0}
+WritesNothing WriteFault p = Unit {0}
+WritesNothing _ p = p
+
+-- what was read, what was written, and that this is the answer
+pub record Answered (words : List (List ℕ)) (left left' written written' : Option (List ℕ)) (status : Status) : Type 0 where
+  pub read : List ℕ
+  pub text : List ℕ
+  pub took : Took left left' read
+  pub ended : ReadsAll status (Ended left')
+  pub appended : Appended written written' text
+  pub answer : IsAnswer words read status text
+
+-- a write failed amid the text of an answer to the whole input
+pub record CutShort (words : List (List ℕ)) (left left' written written' : Option (List ℕ)) : Type 0 where
+  pub read : List ℕ
+  pub text : List ℕ
+  pub took : Took left left' read
+  pub ended : Ended left'
+  pub written : PartWritten written written' text
+  pub answer : IsAnswer words read Done text
+
+-- the input was within the limit, and was read
+abbrev pub IsOfInput : Status → Type 0
+IsOfInput Done = Unit {0}
+IsOfInput (Refused refusal) = Unit {0}
+IsOfInput _ = ⊥
+
+-- the status is that of the answer; of `Refused` and `Done` it is not told yet which of the two
+abbrev pub Agrees : Status → Status → Type 0
+Agrees Done status = IsOfInput status
+Agrees (Refused refusal) status = IsOfInput status
+Agrees answer status = status ≡ answer
+
+-- where the whole input has an answer, no status comes that disagrees with it, but for want of memory
+abbrev pub OnlyAnswer : List (List ℕ) → Option (List ℕ) → Status → Type 0
+OnlyAnswer words left status =
+    (input : List ℕ) (answer : Status) (text : List ℕ) → left ≡ Some input → IsAnswer words input answer text → Agrees answer status ⊎ (status ≡ Memory)
+
+-- a sink takes each text that a run may write for this input
+abbrev pub TakesAnyText : List (List ℕ) → List ℕ → (ℕ → Type 0) → Type 0
+TakesAnyText words input takes = (text : List ℕ) → IsAnswer words input Done text → takes (length text)
+
+-- a text was written whole, or the sink failed
+abbrev pub IsDelivered : Status → Type 0 → Type 0 → Type 0
+IsDelivered Done whole failed = whole
+IsDelivered WriteFault whole failed = failed
+IsDelivered _ whole failed = ⊥

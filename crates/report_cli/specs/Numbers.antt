@@ -1,0 +1,13 @@
+-- The number that the program ends with.
+use Rattle.std.specs.Prelude.{ℕ}
+use Rattle.report_cli.specs.declared.status.Status.{Status}
+use Rattle.report_cli.specs.declared.status.Status.TheVariants.{Done, Usage, Refused, TooLong, ReadFault, WriteFault, Memory}
+
+abbrev pub number_of : Status → ℕ
+number_of Done = 0
+number_of Usage = 2
+number_of (Refused refusal) = 3
+number_of (TooLong limit) = 3
+number_of ReadFault = 4
+number_of WriteFault = 5
+number_of Memory = 6

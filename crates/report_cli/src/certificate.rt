@@ -1,0 +1,92 @@
+//! A certificate, as a value, and the writing of its text.
+
+ghost use Rattle.std.specs.Prelude.{◌≡◌, ◌<◌, ◌^◌, length, OnOk, OnErr, IsOk};
+ghost use Rattle.std.specs.List.{All};
+ghost use Rattle.port_io.specs.Bytes.{Appended};
+ghost use Rattle.port_io.specs.Causes.{HasCause};
+ghost use Rattle.report_cli.specs.Certificates.{lines_text, certificate_text};
+ghost use Rattle.report_cli.specs.Writing.{IsPut, PartWritten};
+
+use crate::lines::{put_echo, put_pair};
+use crate::numbers::put_piece;
+use crate::rows::put_matrices;
+use crate::shape::Shape;
+use dense_q::Mat;
+use port_io::{PieceBuffer, Sink, WriteFault};
+use residue_field::Res;
+use std::marker::Model;
+
+/// What the text of a certificate contains. `base` has each row with a base column, and that column, by rising row.
+/// With m rows of constants and n columns, s and u are m x m and p is m x n.
+#[derive(Drop)]
+pub struct Certificate {
+    echo: Vec<u8>,
+    shape: Shape,
+    base: Vec<(usize, usize)>,
+    s: Mat<Res>,
+    u: Mat<Res>,
+    p: Mat<Res>,
+}
+
+impl Model for Certificate {
+    ghost use Rattle.std.specs.Prelude.{◌<◌, ◌^◌};
+    ghost use Rattle.std.specs.List.{All};
+    ghost use Rattle.report_cli.specs.Certificates.{Contents};
+
+    ghost Value = { Contents };
+
+    ghost view = { λ c. record { echo = c.echo.items; shape = c.shape; base = c.base.items; s = c.s.rows; u = c.u.rows; p = c.p.rows } };
+
+    ghost invariant = { λ c. All (λ pair. (pair.0 < 2 ^ 32) × (pair.1 < 2 ^ 32)) c.base.items };
+}
+
+impl Certificate {
+    /// Appends the whole text to the sink, in pieces of some KiB, and takes no memory. Where the sink fails, a first
+    /// part of the text was appended.
+    pub fn write<K: Sink>(&self, out: &mut K) -> Result<(), WriteFault>
+        ensures whole { OnOk result (Appended (K.written out.old) (K.written out.new) (certificate_text self.now)) }
+        ensures part { OnErr result (PartWritten (K.written out.old) (K.written out.new) (certificate_text self.now)) }
+        ensures cause { HasCause (K.faults out.old) (K.faults out.new) result }
+        ensures calm { K.takes out.old (length (certificate_text self.now)) → (K.faults out.new ≡ K.faults out.old) × IsOk result × K.takes out.new 0 }
+    {
+        let mut buffer = PieceBuffer::new();
+        self.put(&mut buffer, out)?;
+        buffer.hand_on(out)
+    }
+
+    /// Puts the whole text.
+    fn put<K: Sink>(&self, buffer: &mut PieceBuffer, out: &mut K) -> Result<(), WriteFault>
+        ensures { IsPut (K.written out.old) buffer.old (K.faults out.old) (K.takes out.old) (K.written out.new) buffer.new (K.faults out.new) (K.takes out.new) (certificate_text self.now) result }
+    {
+        put_lines(
+            buffer,
+            out,
+            &self.echo,
+            &self.shape,
+            &self.base,
+            &self.s,
+            &self.u,
+            &self.p,
+        )
+    }
+}
+
+/// Puts the lines of a certificate with these parts.
+fn put_lines<K: Sink>(
+    buffer: &mut PieceBuffer,
+    out: &mut K,
+    echo: &[u8],
+    shape: &Shape,
+    base: &[(usize, usize)],
+    s: &Mat<Res>,
+    u: &Mat<Res>,
+    p: &Mat<Res>,
+) -> Result<(), WriteFault>
+    requires { All (λ pair. (pair.0 < 2 ^ 32) × (pair.1 < 2 ^ 32)) base.now }
+    ensures { IsPut (K.written out.old) buffer.old (K.faults out.old) (K.takes out.old) (K.written out.new) buffer.new (K.faults out.new) (K.takes out.new) (lines_text echo.now shape.now base.now s.now.rows u.now.rows p.now.rows) result }
+{
+    put_echo(buffer, out, echo)?;
+    put_pair(buffer, out, shape, base)?;
+    put_matrices(buffer, out, s, u, p)?;
+    put_piece(buffer, out, b"end\n")
+}

@@ -1,0 +1,17 @@
+//! The top call: a run of the program over any source and sinks.
+#![tactic(auto)]
+
+mod analysis;
+mod certificate;
+mod digits;
+mod lines;
+mod numbers;
+mod rows;
+mod running;
+mod shape;
+mod status;
+mod telling;
+mod words;
+
+pub use running::run;
+pub use status::Status;

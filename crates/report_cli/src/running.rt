@@ -1,0 +1,104 @@
+//! The top call.
+
+ghost use Rattle.std.specs.Prelude.{◌≡◌, ℕ, ◌+◌, ◌≤◌, ◌<◌, List, [], IsTrue, map, length, Some};
+ghost use Rattle.std.specs.String.{string_bytes};
+ghost use Rattle.port_io.specs.Causes.{Rose};
+ghost use Rattle.port_io.specs.Bytes.{Appended, TookAtMost};
+ghost use Rattle.report_cli.specs.Answer.{Answered, CutShort, OnlyAnswer, Tells, WritesNothing, TakesAnyText, IsDelivered};
+ghost use Rattle.report_cli.specs.Certificates.{certificate_text};
+ghost use Rattle.report_cli.specs.Writing.{PartWritten};
+ghost use Rattle.report_cli.specs.Notes.{Noted, note_of};
+
+use crate::analysis::{Analysis, analyse};
+use crate::certificate::Certificate;
+use crate::status::Status;
+use crate::telling::tell;
+use crate::words::ask_for_analysis;
+use port_io::{ReadError, Sink, Source, read_all};
+use std::alloc::Global;
+
+/// The most bytes of a model's text.
+const MODEL_LIMIT: u64 = 8_388_608;
+
+/// Runs the command that the words name: reads the source to its end, writes the whole text to `out`, and notes in
+/// one line why where that was not done. The first word is the program's own name.
+pub fn run<S: Source, K: Sink, N: Sink>(
+    alloc: Global,
+    words: &[String],
+    source: &mut S,
+    out: &mut K,
+    notes: &mut N,
+) -> Status
+    // a status that is no fault is the answer to what was read
+    ensures answered { Tells result (Answered (map string_bytes words.now) (S.left source.old) (S.left source.new) (K.written out.old) (K.written out.new) result) }
+    ensures finished { result ≡ Status.Done → IsTrue (K.flushed out.new) }
+
+    // where nothing fails, no other status comes
+    ensures only_answer { (Rose (S.faults source.old) (S.faults source.new) → ⊥) → (Rose (K.faults out.old) (K.faults out.new) → ⊥) → OnlyAnswer (map string_bytes words.now) (S.left source.old) result }
+
+    // faults have their cause
+    ensures read_fault { result ≡ Status.ReadFault → Rose (S.faults source.old) (S.faults source.new) }
+    ensures write_fault { result ≡ Status.WriteFault → Rose (K.faults out.old) (K.faults out.new) × CutShort (map string_bytes words.now) (S.left source.old) (S.left source.new) (K.written out.old) (K.written out.new) }
+
+    // what is written, noted and taken
+    ensures nothing_written { WritesNothing result (K.written out.new ≡ K.written out.old) }
+    ensures noted { Noted (N.written notes.old) (N.written notes.new) (N.faults notes.old) (N.faults notes.new) (note_of result) }
+    ensures taken { TookAtMost 8388609 (S.left source.old) (S.left source.new) }
+    ensures taken_usage { result ≡ Status.Usage → S.left source.new ≡ S.left source.old }
+
+    // counts of faults: none falls, and none rises over what is known not to fail
+    ensures counts_source { S.faults source.old ≤ S.faults source.new }
+    ensures counts_out { K.faults out.old ≤ K.faults out.new }
+    ensures counts_notes { N.faults notes.old ≤ N.faults notes.new }
+    ensures calm_source { S.never_fails source.old → S.faults source.new ≡ S.faults source.old }
+    ensures calm_out { (input : List ℕ) → S.left source.old ≡ Some input → TakesAnyText (map string_bytes words.now) input (K.takes out.old) → K.faults out.new ≡ K.faults out.old }
+{
+    let status = work(alloc, words, source, out);
+    tell(notes, status);
+    status
+}
+
+/// A run, but for what is noted.
+fn work<S: Source, K: Sink>(alloc: Global, words: &[String], source: &mut S, out: &mut K) -> Status
+    ensures answered { Tells result (Answered (map string_bytes words.now) (S.left source.old) (S.left source.new) (K.written out.old) (K.written out.new) result) }
+    ensures finished { result ≡ Status.Done → IsTrue (K.flushed out.new) }
+    ensures read_fault { result ≡ Status.ReadFault → Rose (S.faults source.old) (S.faults source.new) }
+    ensures write_fault { result ≡ Status.WriteFault → Rose (K.faults out.old) (K.faults out.new) × CutShort (map string_bytes words.now) (S.left source.old) (S.left source.new) (K.written out.old) (K.written out.new) }
+    ensures nothing_written { WritesNothing result (K.written out.new ≡ K.written out.old) }
+    ensures taken { TookAtMost 8388609 (S.left source.old) (S.left source.new) }
+    ensures taken_usage { result ≡ Status.Usage → S.left source.new ≡ S.left source.old }
+    ensures counts_source { S.faults source.old ≤ S.faults source.new }
+    ensures counts_out { K.faults out.old ≤ K.faults out.new }
+    ensures calm_source { S.never_fails source.old → S.faults source.new ≡ S.faults source.old }
+    ensures calm_out { (input : List ℕ) → S.left source.old ≡ Some input → TakesAnyText (map string_bytes words.now) input (K.takes out.old) → K.faults out.new ≡ K.faults out.old }
+{
+    if !ask_for_analysis(words) {
+        return Status::Usage;
+    }
+    let input = match read_all(alloc, source, MODEL_LIMIT) {
+        Ok(input) => input,
+        Err(ReadError::ReadFault) => return Status::ReadFault,
+        Err(ReadError::TooLong) => return Status::TooLong(MODEL_LIMIT),
+        Err(ReadError::NoMemory) => return Status::Memory,
+    };
+    match analyse(alloc, input) {
+        Ok(Analysis::Certified(certificate)) => deliver(out, &certificate),
+        Ok(Analysis::Refused(refused)) => Status::Refused(refused),
+        Err(_) => Status::Memory,
+    }
+}
+
+/// Writes the whole text of a certificate, and flushes it.
+fn deliver<K: Sink>(out: &mut K, certificate: &Certificate) -> Status
+    ensures ends { IsDelivered result (Appended (K.written out.old) (K.written out.new) (certificate_text certificate.now) × IsTrue (K.flushed out.new)) (Rose (K.faults out.old) (K.faults out.new) × PartWritten (K.written out.old) (K.written out.new) (certificate_text certificate.now)) }
+    ensures counts { K.faults out.old ≤ K.faults out.new }
+    ensures calm { K.takes out.old (length (certificate_text certificate.now)) → K.faults out.new ≡ K.faults out.old }
+{
+    match certificate.write(out) {
+        Err(_) => Status::WriteFault,
+        Ok(()) => match out.flush() {
+            Ok(()) => Status::Done,
+            Err(_) => Status::WriteFault,
+        },
+    }
+}
