@@ -1,5 +1,5 @@
 -- A row and multiples of rows, entry by entry, and loops over them.
-use Rattle.std.proofs.Common.{◌≡◌, ℕ, suc, zero, ◌+◌, ◌*◌, ◌%◌, ◌<◌, ◌≤◌, List, [], ◌∷◌, ◌++◌, take, drop, length, slice_index, slice_index_or, slice_set, map, refl, ap, sym, ◌∙◌, arith, add-one, length-drop}
+use Rattle.std.proofs.Common.{◌≡◌, ℕ, suc, zero, ◌+◌, ◌*◌, ◌%◌, ◌<◌, ◌≤◌, List, [], ◌∷◌, ◌++◌, take, drop, length, slice_index, slice_index_or, slice_set, map, refl, ap, sym, ◌∙◌, arith, add-one}
 use Rattle.std.proofs.lemmas.List.{map-set, get_or-map, length-map}
 use Rattle.std.proofs.Math.Nat.{add-mod-mod}
 use Rattle.std.proofs.lemmas.Grind.{common_steps}
@@ -78,9 +78,9 @@ module _ {A : Type 0} (number : A → ℕ) where
   added_at p k old others now i x y z w len same l e is other done sum =
       written_at xs ys now i w lengths less e
       (sum ∙ ap (λ v. (number x + v) % p) done ∙ add-mod-mod (number x) (k * number y) p
-          ∙ ap (λ v. (v + k * number y) % p) (read_at xs ys now i x lengths e l is)
-          ∙ ap (λ v. (slice_index ys i + k * v) % p) (ap number other ∙ sym (get_or-map number others i y 0 (omega arith)))
-          ∙ sym (plus_multiple-at p k ys (map number others) i equal less))
+      ∙ ap (λ v. (v + k * number y) % p) (read_at xs ys now i x lengths e l is)
+      ∙ ap (λ v. (slice_index ys i + k * v) % p) (ap number other ∙ sym (get_or-map number others i y 0 (omega arith)))
+      ∙ sym (plus_multiple-at p k ys (map number others) i equal less))
     where
       ys : List ℕ
       ys = map number old

@@ -1,5 +1,5 @@
 -- Tables of numbers: what a change of one row does to the entries.
-use Rattle.std.proofs.Common.{◌≡◌, ℕ, ◌+◌, ◌*◌, ◌%◌, ◌<◌, ◌≤◌, ◌≢◌, List, [], ◌∷◌, map, length, slice_index, slice_index_or, slice_set, refl, sym, subst, ap, ◌∙◌, Vec, vec_len, arith}
+use Rattle.std.proofs.Common.{◌≡◌, ℕ, ◌+◌, ◌*◌, ◌%◌, ◌<◌, ◌≢◌, List, [], ◌∷◌, map, length, slice_index, slice_index_or, slice_set, refl, sym, subst, ap, ◌∙◌, Vec, vec_len, arith}
 use Rattle.std.specs.List.{All, swap}
 use Rattle.std.specs.Vec.{with_item, with_items}
 use Rattle.std.proofs.lemmas.List.{map-set, get_or-map, get_or-set_same, get_or-set_other, length-map, length-set, set-set, with_items_is}
@@ -10,7 +10,7 @@ use Rattle.linear_algebra.specs.RowOperations.{IsRowAdded, IsRowScaled}
 use Rattle.dense_q.specs.Rows.{plus_multiple, multiple}
 use Rattle.dense_q.specs.Storage.{IsStored}
 use Rattle.dense_q.specs.Tables.{Table, IsMatrix, HasSameSize, height, row_at, entry, with_row}
-use Rattle.dense_q.proofs.RowLaws.{plus_multiple-length, plus_multiple-at, multiple-length, multiple-at}
+use Rattle.dense_q.proofs.RowLaws.{plus_multiple-at, multiple-at}
 
 module _ {A Z : Type 0} (number : A → ℕ) where
   -- the rows of numbers
@@ -54,8 +54,8 @@ module _ {A Z : Type 0} (number : A → ℕ) where
   numbers-plus_multiple p k rows i j row taken source hole old new others il jl apart e te se same other_same len done =
       ap (λ rs. numbers rs) (set-set rows i hole (with_items taken new))
       ∙ numbers-with_items rows i taken old new _ same len (done
-          ∙ ap (λ xs. plus_multiple p k xs (map number others)) (ap (λ xs. map number xs) (same ∙ ap (λ v. v.items) te) ∙ sym (numbers-row rows i row il e))
-          ∙ ap (λ xs. plus_multiple p k (slice_index_or (numbers rows) i []) xs) (ap (λ xs. map number xs) other_same ∙ sym (numbers-row rows j source jl (se ∙ get_or-set_other rows i j hole source (λ q. apart (sym q))))))
+      ∙ ap (λ xs. plus_multiple p k xs (map number others)) (ap (λ xs. map number xs) (same ∙ ap (λ v. v.items) te) ∙ sym (numbers-row rows i row il e))
+      ∙ ap (λ xs. plus_multiple p k (slice_index_or (numbers rows) i []) xs) (ap (λ xs. map number xs) other_same ∙ sym (numbers-row rows j source jl (se ∙ get_or-set_other rows i j hole source (λ q. apart (sym q))))))
 
 -- ---- rows in each other's place
 pub map-swap : {A B : Type 0} (f : A → B) (xs : List A) (i j : ℕ) → i < length xs → j < length xs → map f (swap xs i j) ≡ swap (map f xs) i j

@@ -1,7 +1,7 @@
 -- A matrix as its rows, and as a function from a row and a column to an entry, both counted from 0.
 use Rattle.std.specs.List.{All, swap}
 use Rattle.std.specs.Prelude.{ℕ, ◌≡◌, ◌<◌, ◌≤◌, ◌%◌, ◌∷◌, ◌++◌, List, [], length, slice_index, slice_index_or, slice_set, replicate}
-use Rattle.linear_algebra.specs.Products.{product, identity}
+use Rattle.linear_algebra.specs.Products.{product}
 
 -- the rows, each a list of numbers, and how many columns there are: a matrix with no rows has columns too
 pub record Table : Type 0 where

@@ -7,3 +7,6 @@ mod rows;
 
 pub use matrix::Mat;
 pub use memory::NoMemory;
+
+#[cfg(test)]
+mod tests;

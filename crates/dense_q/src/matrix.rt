@@ -1,7 +1,8 @@
-ghost use Rattle.std.specs.Prelude.{◌≡◌, ℕ, ◌<◌, ◌≤◌, ◌≢◌, map, length, IfOk};
+ghost use Rattle.std.specs.Prelude.{◌≡◌, ℕ, ◌<◌, ◌≤◌, ◌≢◌, map, length, IfOk, OnOk, OnErr};
+ghost use Rattle.linear_algebra.specs.Products.{identity};
 ghost use Rattle.linear_algebra.specs.RowOperations.{IsRowAdded, IsRowScaled};
 ghost use Rattle.dense_q.specs.Rows.{plus_multiple, multiple};
-ghost use Rattle.dense_q.specs.Tables.{Table, IsMatrix, HasSameSize, IsTableOf, height, row_at, entry, zero_table, with_row, with_entry, with_rows_swapped, with_last_row};
+ghost use Rattle.dense_q.specs.Tables.{Table, IsMatrix, HasSameSize, IsTableOf, IsProduct, height, row_at, entry, zero_table, with_row, with_entry, with_rows_swapped, with_last_row};
 
 use crate::memory::NoMemory;
 use crate::rows;
@@ -46,6 +47,68 @@ impl<F: Field> Mat<F> {
         })
     }
 
+    /// The square matrix with 1 where row and column are the same, and 0 elsewhere.
+    pub fn identity(alloc: Global, n: usize) -> Result<Mat<F>, NoMemory>
+        requires { n ≤ 8192 }
+        ensures { IfOk result (IsTableOf n n identity) }
+    {
+        let mut all = Vec::with_capacity(alloc, n)?;
+        for i in 0..n {
+            let mut row = rows::zero_row(alloc, n)?;
+            row[i] = F::one();
+            all.push(row)?;
+        }
+        Ok(Mat {
+            width: n,
+            rows: all,
+        })
+    }
+
+    /// The product of two matrices, where a has as many columns as b has rows.
+    pub fn product(alloc: Global, a: &Mat<F>, b: &Mat<F>) -> Result<Mat<F>, NoMemory>
+        requires { a.now.width ≡ height b.now }
+        ensures { IfOk result (IsProduct F.modulus a.now b.now) }
+    {
+        let mut all = Vec::with_capacity(alloc, a.rows.len())?;
+        for coefficients in &a.rows {
+            all.push(rows::combination(alloc, coefficients, &b.rows, b.width)?)?;
+        }
+        Ok(Mat {
+            width: b.width,
+            rows: all,
+        })
+    }
+
+    /// The same matrix once more.
+    pub fn copy(&self) -> Result<Mat<F>, NoMemory>
+        ensures { IfOk result (λ m. m ≡ self.now) }
+    {
+        let alloc = *self.rows.allocator();
+        let mut all = Vec::with_capacity(alloc, self.rows.len())?;
+        for row in &self.rows {
+            all.push(Vec::from_slice(alloc, row)?)?;
+        }
+        Ok(Mat {
+            width: self.width,
+            rows: all,
+        })
+    }
+
+    /// The matrix with rows and columns in each other's place.
+    pub fn transposed(&self) -> Result<Mat<F>, NoMemory>
+        ensures { IfOk result (IsTableOf self.now.width (height self.now) (λ i j. entry self.now j i)) }
+    {
+        let alloc = *self.rows.allocator();
+        let mut all = Vec::with_capacity(alloc, self.width)?;
+        for j in 0..self.width {
+            all.push(rows::column(alloc, &self.rows, j)?)?;
+        }
+        Ok(Mat {
+            width: self.rows.len(),
+            rows: all,
+        })
+    }
+
     /// How many rows there are.
     pub fn rows(&self) -> usize
         ensures rows { result ≡ height self.now }
@@ -78,6 +141,18 @@ impl<F: Field> Mat<F> {
         ensures { self.new ≡ with_entry self.old i j (F.number v) }
     {
         self.rows[i][j] = v;
+    }
+
+    /// Puts a row below the last one.
+    pub fn push_row(&mut self, row: &[F]) -> Result<(), NoMemory>
+        requires width { length row.now ≡ self.old.width }
+        requires room { height self.old < 8192 }
+        ensures ok { OnOk result (self.new ≡ with_last_row self.old (map F.number row.now)) }
+        ensures err { OnErr result (self.new ≡ self.old) }
+    {
+        let row = Vec::from_slice(*self.rows.allocator(), row)?;
+        self.rows.push(row)?;
+        Ok(())
     }
 
     /// Multiplies row i by c.

@@ -1,7 +1,8 @@
 // Rows of a matrix, each over slices of their own.
 
-ghost use Rattle.std.specs.Prelude.{◌≡◌, ℕ, ◌<◌, ◌≤◌, map, length, replicate, IfOk};
-ghost use Rattle.dense_q.specs.Rows.{plus_multiple, multiple};
+ghost use Rattle.std.specs.Prelude.{◌≡◌, ℕ, ◌<◌, ◌≤◌, map, length, replicate, vec_len, slice_index, slice_index_or, IfOk};
+ghost use Rattle.std.specs.List.{All};
+ghost use Rattle.dense_q.specs.Rows.{plus_multiple, multiple, IsCombined};
 
 use residue_field::Field;
 use std::alloc::{AllocError, Global};
@@ -35,4 +36,38 @@ pub(crate) fn zero_row<F: Field>(alloc: Global, columns: usize) -> Result<Vec<F>
         row.push(F::zero())?;
     }
     Ok(row)
+}
+
+// The sum of the rows, each times its coefficient.
+pub(crate) fn combination<F: Field>(
+    alloc: Global,
+    coefficients: &[F],
+    rows: &[Vec<F>],
+    columns: usize,
+) -> Result<Vec<F>, AllocError>
+    requires coefficients { length coefficients.now ≡ length rows.now }
+    requires full { All (λ row. vec_len row ≡ columns) rows.now }
+    ensures { IfOk result (λ row. IsCombined F.modulus (map F.number coefficients.now) (map (λ row. map F.number row.items) rows.now) columns (map F.number row.items)) }
+{
+    let mut sum = zero_row(alloc, columns)?;
+    for (row, coefficient) in rows.iter().zip(coefficients) {
+        add_multiple(&mut sum, row, *coefficient);
+    }
+    Ok(sum)
+}
+
+// The values at one column.
+pub(crate) fn column<F: Field>(
+    alloc: Global,
+    rows: &[Vec<F>],
+    j: usize,
+) -> Result<Vec<F>, AllocError>
+    requires { All (λ row. j < vec_len row) rows.now }
+    ensures { IfOk result (λ column. map F.number column.items ≡ map (λ row. slice_index (map F.number row.items) j) rows.now) }
+{
+    let mut column = Vec::with_capacity(alloc, rows.len())?;
+    for row in rows {
+        column.push(row[j])?;
+    }
+    Ok(column)
 }

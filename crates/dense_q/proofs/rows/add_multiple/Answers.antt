@@ -1,4 +1,4 @@
-use Rattle.std.proofs.Common.{◌≡◌, ◌∷◌, ◌∙◌, drop, arith, map, sym, ap, length, length-drop, slice_index_or, suc, add-one}
+use Rattle.std.proofs.Common.{◌≡◌, ◌∷◌, ◌∙◌, drop, arith, map, sym, ap, length, length-drop, add-one}
 use Rattle.std.specs.Slice.Iter.{iter_rest}
 use Rattle.std.proofs.lemmas.List.{length-map}
 use Rattle.dense_q.specs.Rows.{plus_multiple}
@@ -25,5 +25,5 @@ returns g c =
     let others = map g.F.Field.number c.args.source.now in
     c.loop-x.invariant.so_far
     ∙ upto-all c.loop-x.x-index (plus_multiple g.F.Field.modulus (g.F.Field.number c.args.factor) old others) old
-        (plus_multiple-length g.F.Field.modulus (g.F.Field.number c.args.factor) old others (omega (arith, length-map c.args.target.now g.F.Field.number, length-map c.args.source.now g.F.Field.number)))
-        (omega (arith, length-map c.args.target.now g.F.Field.number))
+    (plus_multiple-length g.F.Field.modulus (g.F.Field.number c.args.factor) old others (omega (arith, length-map c.args.target.now g.F.Field.number, length-map c.args.source.now g.F.Field.number)))
+    (omega (arith, length-map c.args.target.now g.F.Field.number))
