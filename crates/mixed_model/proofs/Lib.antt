@@ -1,0 +1,3 @@
+pub mod ModelLaws
+pub mod NameLaws
+pub mod RowLaws

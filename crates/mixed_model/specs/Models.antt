@@ -1,0 +1,44 @@
+-- Models, seen as data, and what the calls of `Mixed` leave.
+use Rattle.std.specs.Prelude.{◌≡◌, ℕ, ◌&&◌, List, [], ◌∷◌, ◌++◌, length, nat_eq, if◌then◌else◌, Option, Some, slice_index_or, All}
+use Rattle.mixed_model.specs.declared.entry.Entry.{Entry}
+use Rattle.mixed_model.specs.Names.{IsNameList}
+use Rattle.mixed_model.specs.Rows.{IsRow, IsWithin, constant_in}
+
+-- A model: the names of its equations and of its unknowns, in order, and for each equation its constants by rising column.
+pub record MixedModel : Type 0 where
+  pub equations : List (List ℕ)
+  pub unknowns : List (List ℕ)
+  pub rows : List (List Entry)
+
+-- the row of equation i
+abbrev pub row_of : MixedModel → ℕ → List Entry
+row_of model i = slice_index_or model.rows i []
+
+-- the constant of equation i at unknown j, where there is one
+abbrev pub constant_of : MixedModel → ℕ → ℕ → Option ℕ
+constant_of model i j = constant_in (row_of model i) j
+
+-- Names are few and differ, each equation has a row, and the columns of the rows are unknowns.
+pub record IsModel (model : MixedModel) : Type 0 where
+  pub equations : IsNameList model.equations
+  pub unknowns : IsNameList model.unknowns
+  pub one_row_each : length model.rows ≡ length model.equations
+  pub rows : All (λ row. IsRow row × IsWithin (length model.unknowns) row) model.rows
+
+-- a model without equations and unknowns
+abbrev pub empty_model : MixedModel
+empty_model = record { equations = []; unknowns = []; rows = [] }
+
+-- one more equation, with no constant
+abbrev pub with_equation : MixedModel → List ℕ → MixedModel
+with_equation model name = record model { equations = model.equations ++ name ∷ []; rows = model.rows ++ [] ∷ [] }
+
+-- one more unknown
+abbrev pub with_unknown : MixedModel → List ℕ → MixedModel
+with_unknown model name = record model { unknowns = model.unknowns ++ name ∷ [] }
+
+-- The new model is the old one with a constant at the place (i, j).
+pub record PutsAt (old new : MixedModel) (i j constant : ℕ) : Type 0 where
+  pub equations : new.equations ≡ old.equations
+  pub unknowns : new.unknowns ≡ old.unknowns
+  pub constants : (k c : ℕ) → constant_of new k c ≡ (if nat_eq i k && nat_eq j c then Some constant else constant_of old k c)

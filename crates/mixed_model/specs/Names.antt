@@ -1,0 +1,33 @@
+-- Lists of names, and a name that is added to one.
+use Rattle.std.specs.Prelude.{◌≡◌, ℕ, ◌≤◌, All, Bool, not, ◌&&◌, ◌||◌, IsTrue, List, length, nat_eq, nat_le, nat_lt, if◌then◌else◌, Result, Ok, Err}
+use Rattle.std.specs.List.{IsDistinct, list_all, list_any}
+use Rattle.std.specs.Str.{bytes_eq}
+use Rattle.mixed_model.specs.declared.errors.AddError.{AddError}
+use Rattle.mixed_model.specs.declared.errors.AddError.TheVariants.{Twice, TooMany, NoMemory}
+
+-- what may be a name: 1 to 96 bytes, none of them a space or a tab
+abbrev pub is_label : List ℕ → Bool
+is_label name = nat_le 1 (length name) && nat_le (length name) 96 && list_all (λ byte. not (nat_eq byte 32 || nat_eq byte 9)) name
+
+-- at most 4,096 names, no two of them the same
+pub record IsNameList (names : List (List ℕ)) : Type 0 where
+  pub labels : All (λ name. IsTrue (is_label name)) names
+  pub few : length names ≤ 4096
+  pub distinct : IsDistinct bytes_eq names
+
+-- whether a name is among these
+abbrev pub has_name : List (List ℕ) → List ℕ → Bool
+has_name names name = list_any (bytes_eq name) names
+
+-- What adding a name answers while there is memory: its place, or why it is not added.
+abbrev pub adding : List (List ℕ) → List ℕ → Result ℕ AddError
+adding names name =
+    if has_name names name then Err Twice
+    else (if nat_lt (length names) 4096 then Ok (length names) else Err TooMany)
+
+-- The answer is the wanted one, or memory ran out.
+abbrev pub AnswersAdd : {T : Type 0} → Result T AddError → Result T AddError → Type 0
+AnswersAdd (Ok place) wanted = wanted ≡ Ok place
+AnswersAdd (Err Twice) wanted = wanted ≡ Err Twice
+AnswersAdd (Err TooMany) wanted = wanted ≡ Err TooMany
+AnswersAdd (Err NoMemory) wanted = Unit {0}

@@ -1,0 +1,46 @@
+use std::alloc::{AllocError, AllocFailed};
+use thiserror::Error;
+
+/// Why nothing was added to a model.
+#[derive(Clone, Copy, Debug, PartialEq, Eq, Error)]
+pub enum AddError {
+    #[error("it is there already")]
+    Twice,
+    #[error("the model is full")]
+    TooMany,
+    #[error("out of memory")]
+    NoMemory,
+}
+
+/// Memory ran out.
+#[derive(Clone, Copy, Debug, PartialEq, Eq, Error)]
+#[error("out of memory")]
+pub struct NoMemory;
+
+impl From<AllocError> for NoMemory {
+    fn from(_error: AllocError) -> NoMemory {
+        NoMemory
+    }
+}
+
+impl From<AllocError> for AddError {
+    ghost use Rattle.std.specs.Prelude.{◌≡◌};
+    ghost use Rattle.mixed_model.specs.declared.errors.AddError.TheVariants.{NoMemory};
+
+    ghost from_gives = { λ _ error. error ≡ NoMemory };
+
+    fn from(_error: AllocError) -> AddError {
+        AddError::NoMemory
+    }
+}
+
+impl<T: Drop> From<AllocFailed<T>> for AddError {
+    ghost use Rattle.std.specs.Prelude.{◌≡◌};
+    ghost use Rattle.mixed_model.specs.declared.errors.AddError.TheVariants.{NoMemory};
+
+    ghost from_gives = { λ _ error. error ≡ NoMemory };
+
+    fn from(_error: AllocFailed<T>) -> AddError {
+        AddError::NoMemory
+    }
+}

@@ -1,0 +1,17 @@
+//! Models: named equations over named unknowns, and the constants at their places.
+#![tactic(auto)]
+
+mod entry;
+mod errors;
+mod mixed;
+mod names;
+mod rows;
+
+pub use entry::{Entries, Entry};
+pub use errors::{AddError, NoMemory};
+pub use mixed::Mixed;
+pub use names::is_label;
+pub use refusals::{Place, ReadModel, Refused, Why};
+
+#[cfg(test)]
+mod tests;

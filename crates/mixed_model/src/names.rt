@@ -1,0 +1,118 @@
+ghost use Rattle.std.specs.Prelude.{◌≡◌, ◌∷◌, ◌++◌, [], ◌<◌, IsTrue, false, not, ◌||◌, nat_eq, length, map, position, slice_get, Some, OnOk, OnErr};
+ghost use Rattle.std.specs.List.{list_all};
+ghost use Rattle.std.specs.Str.{bytes_eq};
+ghost use Rattle.std.specs.String.{string_bytes};
+ghost use Rattle.mixed_model.specs.Names.{is_label, IsNameList, has_name, adding, AnswersAdd};
+
+use crate::errors::AddError;
+use indexmap::IndexSet;
+use std::alloc::{AllocError, Global};
+use std::marker::Model;
+
+// The greatest number of names.
+const MOST: usize = 4096;
+
+// The greatest number of bytes of a name.
+const LONGEST: usize = 96;
+
+/// Whether a text may be a name in a model: 1 to 96 bytes, none of them a space or a tab.
+pub fn is_label(text: &str) -> bool
+    ensures { result ≡ is_label text.now }
+{
+    !text.is_empty() && text.len() <= LONGEST && are_solid(text.as_bytes())
+}
+
+fn are_solid(bytes: &[u8]) -> bool
+    ensures { result ≡ list_all (λ byte. not (nat_eq byte 32 || nat_eq byte 9)) bytes.now }
+{
+    bytes.iter().all(|byte| !(*byte == b' ' || *byte == b'\t'))
+}
+
+/// At most 4,096 names in first-seen order, none twice. Contracts see the list of their bytes.
+#[derive(Drop)]
+pub(crate) struct Names {
+    texts: IndexSet<String>,
+}
+
+impl Model for Names {
+    ghost use Rattle.std.specs.Prelude.{List, ℕ, map};
+    ghost use Rattle.std.specs.String.{string_bytes};
+    ghost use Rattle.mixed_model.specs.Names.{IsNameList};
+
+    ghost Value = { List (List ℕ) };
+
+    ghost view = { λ n. map string_bytes n.texts.keys };
+
+    ghost invariant = { λ n. IsNameList (map string_bytes n.texts.keys) };
+}
+
+impl Names {
+    #[tactic(auto, using(crate::proofs::NameLaws::no_names))]
+    pub(crate) fn new(alloc: Global) -> Self
+        ensures empty { result ≡ [] }
+        ensures names { IsNameList result }
+    {
+        Names {
+            texts: IndexSet::new(alloc),
+        }
+    }
+
+    pub(crate) fn len(&self) -> usize
+        ensures count { result ≡ length self.now }
+        ensures names { IsNameList self.now }
+    {
+        self.texts.len()
+    }
+
+    pub(crate) fn get(&self, place: usize) -> &str
+        requires { place < length self.now }
+        ensures { slice_get self.now place ≡ Some result.now }
+    {
+        self.texts.as_slice()[place].as_str()
+    }
+
+    #[tactic(auto, using(crate::proofs::NameLaws::position_map))]
+    pub(crate) fn find(&self, name: &str) -> Option<usize>
+        ensures { result ≡ position (bytes_eq name.now) self.now }
+    {
+        self.texts.get_index_of(name)
+    }
+
+    #[tactic(auto, using(crate::proofs::NameLaws::list_any_map))]
+    fn has(&self, name: &str) -> bool
+        ensures { result ≡ has_name self.now name.now }
+    {
+        self.texts.contains(name)
+    }
+
+    // The new name's place. A refusal changes nothing.
+    #[tactic(auto, using(crate::proofs::NameLaws::adding_laws))]
+    pub(crate) fn add(&mut self, name: &str) -> Result<usize, AddError>
+        requires { IsTrue (is_label name.now) }
+        ensures answer { AnswersAdd result (adding self.old name.now) }
+        ensures added { OnOk result (self.new ≡ self.old ++ name.now ∷ []) }
+        ensures kept { OnErr result (self.new ≡ self.old) }
+        ensures names { IsNameList self.new }
+    {
+        if self.has(name) {
+            return Err(AddError::Twice);
+        }
+        let place = self.len();
+        if place >= MOST {
+            return Err(AddError::TooMany);
+        }
+        push_text(&mut self.texts, name)?;
+        Ok(place)
+    }
+}
+
+// Puts a new text last.
+fn push_text(texts: &mut IndexSet<String>, text: &str) -> Result<(), AllocError>
+    requires { has_name (map string_bytes texts.old.keys) text.now ≡ false }
+    ensures pushed { OnOk result (map string_bytes texts.new.keys ≡ map string_bytes texts.old.keys ++ text.now ∷ []) }
+    ensures kept { OnErr result (texts.new.keys ≡ texts.old.keys) }
+{
+    let text = String::from_str(*texts.allocator(), text)?;
+    texts.insert(text)?;
+    Ok(())
+}

@@ -1,0 +1,67 @@
+use super::*;
+use residue_field::Res;
+use std::alloc::Global;
+use std::test::Fail;
+
+fn rectangle(alloc: Global) -> Result<Mixed, Fail> {
+    let mut model = Mixed::new(alloc)?;
+    model.add_equation("mass")?;
+    model.add_equation("heat")?;
+    model.add_unknown("x")?;
+    model.add_unknown("y")?;
+    model.add_unknown("z")?;
+    Ok(model)
+}
+
+#[test]
+fn names_stand_in_first_seen_order(rt: HostRuntime) -> Result<(), Fail> {
+    let mut model = rectangle(rt.alloc())?;
+    assert_eq!(rt; model.add_equation("mass"), Err(AddError::Twice));
+    assert_eq!(rt; model.add_unknown("z"), Err(AddError::Twice));
+    assert_eq!(rt; model.add_equation("x"), Ok(2));
+    assert_eq!(rt; (model.equations(), model.unknowns()), (3, 3));
+    assert_eq!(rt; model.find_equation("heat"), Some(1));
+    assert_eq!(rt; model.find_unknown("heat"), None);
+    assert_eq!(rt; model.find_unknown("y"), Some(1));
+    Ok(())
+}
+
+#[test]
+fn entries_stand_by_rising_column(rt: HostRuntime) -> Result<(), Fail> {
+    let mut model = rectangle(rt.alloc())?;
+    for (column, number) in [(2, 5), (0, 65_520), (1, 7)] {
+        let constant = Res::of(number);
+        assert!(rt; constant.value() != 0);
+        assert!(rt; 1 < model.equations() && column < model.unknowns());
+        model.put_constant(1, column, constant)?;
+        assert!(rt; 1 < model.equations() && column < model.unknowns());
+        assert_eq!(rt;
+            model.put_constant(1, column, constant),
+            Err(AddError::Twice)
+        );
+    }
+    assert!(rt; 1 < model.equations() && 2 < model.unknowns());
+    assert_eq!(rt; model.constant(0, 2), None);
+    assert_eq!(rt; model.constant(1, 0), Some(Res::of(65_520)));
+    let mut columns = Vec::new(rt.alloc());
+    for entry in model.entries(1) {
+        columns.push(entry.column)?;
+    }
+    assert_eq!(rt; columns.as_slice(), [0, 1, 2].as_slice());
+    assert_eq!(rt; model.equation_name(1), "heat");
+    assert_eq!(rt; model.unknown_name(2), "z");
+    Ok(())
+}
+
+#[test]
+fn a_model_has_at_most_4096_unknowns(rt: HostRuntime) -> Result<(), Fail> {
+    let mut model = Mixed::new(rt.alloc())?;
+    for number in 0..4096 {
+        let name = format!(in rt.alloc(); "x{number}")?;
+        assert!(rt; is_label(name.as_str()));
+        model.add_unknown(name.as_str())?;
+    }
+    assert_eq!(rt; model.add_unknown("x4096"), Err(AddError::TooMany));
+    assert_eq!(rt; model.add_unknown("x4095"), Err(AddError::Twice));
+    Ok(())
+}
