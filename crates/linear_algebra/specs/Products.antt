@@ -17,3 +17,7 @@ Agree p m n a b = (i j : ℕ) → i < m → j < n → a i j % p ≡ b i j % p
 -- S * U is the identity matrix, modulo p; both are m by m
 abbrev pub IsInverse : ℕ → ℕ → (ℕ → ℕ → ℕ) → (ℕ → ℕ → ℕ) → Type 0
 IsInverse p m S U = Agree p m m (product m S U) identity
+
+-- a with rows and columns exchanged
+abbrev pub transposed : (ℕ → ℕ → ℕ) → ℕ → ℕ → ℕ
+transposed a i j = a j i

@@ -6,7 +6,7 @@ use Rattle.residue_theory.specs.Sums.{sum_below}
 use Rattle.residue_theory.specs.Residues.{IsPrime}
 use Rattle.residue_theory.proofs.SumLaws.{sum_on-ext, nat_cases}
 use Rattle.residue_theory.proofs.ResidueLaws.{agree-add, agree-mul, vanishes-mul}
-use Rattle.linear_algebra.specs.Products.{product, identity, Agree, IsInverse}
+use Rattle.linear_algebra.specs.Products.{product, identity, transposed, Agree, IsInverse}
 use Rattle.linear_algebra.specs.RowOperations.{IsRowAdded, IsRowScaled}
 use Rattle.linear_algebra_laws.proofs.Kernels.{row_added-other, row_added-changed, row_scaled-other, row_scaled-changed}
 use Rattle.linear_algebra_laws.proofs.Entries.{identity-same, identity-other}
@@ -50,7 +50,7 @@ agree-row_scaled p m n a b c d t f tl same left right i j il jl = elim (nat_case
 
 -- ---- inverses
 -- f times row s of S added to row t, and g times row t of V added to row s, where f + g is zero
-module _ (p m : ℕ) (S T V W : ℕ → ℕ → ℕ) (t s f g : ℕ) (inv : IsInverse p m S (λ i j. V j i)) (left : IsRowAdded p m m S T t s f) (right : IsRowAdded p m m V W s t g)
+module _ (p m : ℕ) (S T V W : ℕ → ℕ → ℕ) (t s f g : ℕ) (inv : IsInverse p m S (transposed V)) (left : IsRowAdded p m m S T t s f) (right : IsRowAdded p m m V W s t g)
     (apart : t ≢ s) (tl : t < m) (sl : s < m) (opposite : (f + g) % p ≡ 0) where
   -- the entry of S * V transposed
   abbrev dot : (ℕ → ℕ) → (ℕ → ℕ) → ℕ
@@ -76,7 +76,7 @@ module _ (p m : ℕ) (S T V W : ℕ → ℕ → ℕ) (t s f g : ℕ) (inv : IsIn
   corner x y z w a b c d = ap (λ k. (k + g * y) + f * (z + g * w)) a ∙ ap (λ k. (0 + g * k) + f * (z + g * w)) b ∙ ap (λ k. (0 + g * 1) + f * (k + g * w)) c
       ∙ ap (λ k. (0 + g * 1) + f * (1 + g * k)) d ∙ omega arith
 
-  pub inverse-row_added : IsInverse p m T (λ i j. W j i)
+  pub inverse-row_added : IsInverse p m T (transposed W)
   inverse-row_added i j il jl = at (nat_cases i t) (nat_cases j s)
     where
       no_more : (x y k : ℕ) → y ≡ 0 → x + k * y ≡ x
@@ -101,7 +101,7 @@ module _ (p m : ℕ) (S T V W : ℕ → ℕ → ℕ) (t s f g : ℕ) (inv : IsIn
           zero_mod = sym (ap (λ y. y % p) (let e : 0 * (f + g) ≡ 0 = omega arith in e)) ∙ vanishes-mul p 0 (f + g) opposite
 
 -- row t of S multiplied by f, and row t of V by its inverse g
-module _ (p m : ℕ) (S T V W : ℕ → ℕ → ℕ) (t f g : ℕ) (inv : IsInverse p m S (λ i j. V j i)) (left : IsRowScaled p m m S T t f) (right : IsRowScaled p m m V W t g)
+module _ (p m : ℕ) (S T V W : ℕ → ℕ → ℕ) (t f g : ℕ) (inv : IsInverse p m S (transposed V)) (left : IsRowScaled p m m S T t f) (right : IsRowScaled p m m V W t g)
     (prime : IsPrime p) (tl : t < m) (opposite : (f * g) % p ≡ 1) where
   scaled-dot : (i j : ℕ) → i < m → j < m → i ≢ t → sum_below m (λ u. T i u * W j u) % p ≡ sum_below m (λ u. S i u * W j u) % p
   scaled-dot i j il jl ne = ap (λ y. y % p) (commuted m (T i) (W j)) ∙ row_scaled-other p m m S T t f left everything (W j) i il ne ∙ ap (λ y. y % p) (commuted m (W j) (S i))
@@ -115,7 +115,7 @@ module _ (p m : ℕ) (S T V W : ℕ → ℕ → ℕ) (t f g : ℕ) (inv : IsInve
   right-column : (i : ℕ) → i < m → sum_below m (λ u. S i u * W t u) % p ≡ g * identity i t % p
   right-column i il = row_scaled-changed p m m V W t g right everything (S i) ∙ agree-mul p g (sum_below m (λ u. S i u * V t u)) (identity i t) (inv i t il tl)
 
-  pub inverse-row_scaled : IsInverse p m T (λ i j. W j i)
+  pub inverse-row_scaled : IsInverse p m T (transposed W)
   inverse-row_scaled i j il jl = at (nat_cases i t) (nat_cases j t)
     where
       none : (x y k : ℕ) → x ≡ 0 → y ≡ 0 → k * x ≡ y

@@ -17,4 +17,5 @@ pub mod SkipLaws
 pub mod RowRemoval
 pub mod ColumnRemoval
 pub mod ColumnBeside
+pub mod Transposes
 pub mod ExampleFacts

@@ -1,9 +1,10 @@
 -- Laws of independent columns and of the rank.
 use Rattle.std.specs.Prelude.{ℕ, ◌+◌, ◌%◌, ◌<◌, ◌≤◌, ◌≡◌, Bool, true, false}
-use Rattle.residue_theory.specs.Sets.{with_one, both, either, IsWithin}
+use Rattle.residue_theory.specs.Sets.{everything, with_one, both, either, IsWithin}
 use Rattle.residue_theory.specs.Sums.{size_on}
 use Rattle.residue_theory.specs.Residues.{IsPrime}
 use Rattle.linear_algebra.specs.Columns.{IsIndependent, IsRank, IsCombination}
+use Rattle.linear_algebra.specs.Products.{transposed}
 
 -- modulo a prime, every set of columns has a rank, and only one
 abbrev pub EachSetHasOneRank : Type 0
@@ -83,3 +84,9 @@ abbrev pub OneMoreColumnAddsAtMostOne : Type 0
 OneMoreColumnAddsAtMostOne =
     (p : ℕ) → IsPrime p → (a : ℕ → ℕ → ℕ) (m n : ℕ) (X : ℕ → Bool) (v r s : ℕ) → v < n →
     IsRank p a m n X r → IsRank p a m n (with_one X v) s → (r ≤ s) × (s ≤ r + 1)
+
+-- the rank by rows is the rank by columns
+abbrev pub TransposesHaveTheRank : Type 0
+TransposesHaveTheRank =
+    (p : ℕ) → IsPrime p → (m n : ℕ) (a : ℕ → ℕ → ℕ) (r : ℕ) →
+    IsRank p a m n everything r → IsRank p (transposed a) n m everything r

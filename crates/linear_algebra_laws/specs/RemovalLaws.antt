@@ -4,7 +4,7 @@ use Rattle.residue_theory.specs.Sets.{everything, without, IsWithin}
 use Rattle.residue_theory.specs.Sums.{sum_below}
 use Rattle.residue_theory.specs.Residues.{IsPrime}
 use Rattle.linear_algebra.specs.Columns.{IsRank, Combines, IsCombination}
-use Rattle.linear_algebra.specs.Products.{product, identity, IsInverse, Agree}
+use Rattle.linear_algebra.specs.Products.{product, identity, transposed, IsInverse, Agree}
 use Rattle.linear_algebra.specs.Bases.{IsBase, HasNoBase}
 use Rattle.linear_algebra.specs.Parts.{without_row, without_column, with_column}
 
@@ -70,9 +70,16 @@ RankStaysWithColumnBeside =
     IsRank p a m n everything r → IsRank p (with_column n a x) m (n + 1) everything s →
     (s ≡ r) ↔ Combines p a m n everything x
 
--- where row e is on X a combination of the other rows, the rank of X stays without it
+-- without row e the rank stays exactly where row e is a combination of the other rows
 abbrev pub RankStaysWithoutACombinedRow : Type 0
 RankStaysWithoutACombinedRow =
+    (p : ℕ) → IsPrime p → (a : ℕ → ℕ → ℕ) (m n e r s : ℕ) → e < m →
+    IsRank p a m n everything r → IsRank p (without_row e a) (m - 1) n everything s →
+    (s ≡ r) ↔ IsCombination p (transposed a) n m (without everything e) e
+
+-- and the rank of X stays where the rows combine to zero on X with a coefficient of row e that is not zero
+abbrev pub RankOfASetStaysWithoutACombinedRow : Type 0
+RankOfASetStaysWithoutACombinedRow =
     (p : ℕ) → IsPrime p → (a : ℕ → ℕ → ℕ) (m n : ℕ) (X : ℕ → Bool) (e r s : ℕ) (y : ℕ → ℕ) → e < m →
     y e % p ≢ 0 → ((j : ℕ) → j < n → X j ≡ true → sum_below m (λ t. y t * a t j) % p ≡ 0) →
     IsRank p a m n X r → IsRank p (without_row e a) (m - 1) n X s → s ≡ r

@@ -3,7 +3,7 @@ use Rattle.std.specs.Prelude.{ℕ, ◌+◌, ◌*◌, ◌%◌, ◌<◌, ◌≡◌
 use Rattle.residue_theory.specs.Residues.{IsPrime}
 use Rattle.linear_algebra.specs.Columns.{IsIndependent, IsRank}
 use Rattle.linear_algebra.specs.Kernels.{SameKernel}
-use Rattle.linear_algebra.specs.Products.{product, Agree, IsInverse}
+use Rattle.linear_algebra.specs.Products.{product, transposed, Agree, IsInverse}
 use Rattle.linear_algebra.specs.Bases.{IsBase, HasNoBase}
 use Rattle.residue_theory.specs.Sets.{with_one}
 use Rattle.linear_algebra.specs.RowOperations.{IsRowAdded, IsRowScaled, IsPivoted}
@@ -69,13 +69,13 @@ ProductsFollowScaledRows =
 -- -f times row t added to row s, they are inverse again
 abbrev pub AddedRowsKeepTheInverse : Type 0
 AddedRowsKeepTheInverse =
-    (p m : ℕ) (S T V W : ℕ → ℕ → ℕ) (t s f g : ℕ) → IsInverse p m S (λ i j. V j i) →
+    (p m : ℕ) (S T V W : ℕ → ℕ → ℕ) (t s f g : ℕ) → IsInverse p m S (transposed V) →
     IsRowAdded p m m S T t s f → IsRowAdded p m m V W s t g → t ≢ s → t < m → s < m → (f + g) % p ≡ 0 →
-    IsInverse p m T (λ i j. W j i)
+    IsInverse p m T (transposed W)
 
 -- and with row t of S multiplied by f, and row t of V by the inverse of f
 abbrev pub ScaledRowsKeepTheInverse : Type 0
 ScaledRowsKeepTheInverse =
-    (p : ℕ) → IsPrime p → (m : ℕ) (S T V W : ℕ → ℕ → ℕ) (t f g : ℕ) → IsInverse p m S (λ i j. V j i) →
+    (p : ℕ) → IsPrime p → (m : ℕ) (S T V W : ℕ → ℕ → ℕ) (t f g : ℕ) → IsInverse p m S (transposed V) →
     IsRowScaled p m m S T t f → IsRowScaled p m m V W t g → t < m → (f * g) % p ≡ 1 →
-    IsInverse p m T (λ i j. W j i)
+    IsInverse p m T (transposed W)

@@ -3,7 +3,7 @@ ghost use Rattle.std.specs.Prelude.{ℕ, ◌+◌, ◌≡◌};
 ghost use Rattle.residue_theory.specs.Sets.{everything, only};
 ghost use Rattle.linear_algebra.specs.Columns.{IsIndependent, IsRank, Combines, IsCombination};
 ghost use Rattle.linear_algebra.specs.Kernels.{SameKernel};
-ghost use Rattle.linear_algebra.specs.Products.{product, identity, Agree, IsInverse};
+ghost use Rattle.linear_algebra.specs.Products.{product, identity, transposed, Agree, IsInverse};
 ghost use Rattle.linear_algebra.specs.Bases.{IsBase, HasNoBase};
 ghost use Rattle.linear_algebra.specs.RowOperations.{IsRowAdded, IsRowScaled, IsPivoted};
 ghost use Rattle.linear_algebra.specs.Parts.{part, above, with_column, without_row, without_column, with_entry, diagonal, IsBlockTriangular};
@@ -39,6 +39,12 @@ pub fn kernels_at_examples()
 pub fn products_at_examples()
     ensures holds { Agree 65521 2 2 (product 2 all_ones all_ones) (λ i j. 2) }
     ensures fails { Agree 65521 2 2 (product 2 all_ones all_ones) all_ones → ⊥ }
+{}
+
+/// Rows 1 1 and 0 1 transposed are rows 1 0 and 1 1, and not themselves.
+pub fn transposes_at_examples()
+    ensures holds { Agree 65521 2 2 (transposed triangle) (with_entry all_ones 0 1 0) }
+    ensures fails { Agree 65521 2 2 (transposed triangle) triangle → ⊥ }
 {}
 
 /// Rows 0 1 and 1 2 have the inverse with rows -2 1 and 1 0; all ones has none.

@@ -1,5 +1,5 @@
 //! Independent columns and the rank of a set of columns.
-ghost use Rattle.linear_algebra_laws.specs.RankLaws.{EachSetHasOneRank, IndependentSetsExtend, SpanningSetsShowTheRank, LargestSetsSpan, OtherColumnsJoin, CombinationsAreNoMore, ColumnsAreNoMoreThanRows, RankIsAtMostTheRows, RankIsMonotone, RankIsSubmodular, RankIsSubadditive, OneMoreColumnAddsAtMostOne};
+ghost use Rattle.linear_algebra_laws.specs.RankLaws.{EachSetHasOneRank, IndependentSetsExtend, SpanningSetsShowTheRank, LargestSetsSpan, OtherColumnsJoin, CombinationsAreNoMore, ColumnsAreNoMoreThanRows, RankIsAtMostTheRows, RankIsMonotone, RankIsSubmodular, RankIsSubadditive, OneMoreColumnAddsAtMostOne, TransposesHaveTheRank};
 
 /// Every set of columns has a rank, and only one.
 pub fn each_set_has_one_rank()
@@ -59,4 +59,9 @@ pub fn rank_is_subadditive()
 /// One more column keeps the rank or adds one.
 pub fn one_more_column_adds_at_most_one()
     ensures { OneMoreColumnAddsAtMostOne }
+{}
+
+/// The rank by rows is the rank by columns.
+pub fn transposes_have_the_rank()
+    ensures { TransposesHaveTheRank }
 {}

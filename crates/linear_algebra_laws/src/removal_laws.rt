@@ -1,5 +1,5 @@
 //! A matrix with one row or one column less, or one more.
-ghost use Rattle.linear_algebra_laws.specs.RemovalLaws.{OneMoreRowAddsAtMostOne, OneRowLessTakesAtMostOne, RankStaysWithoutRow, RankFallsWithoutRow, TableauTellsTheRowsThatMayGo, OneColumnLessTakesAtMostOne, RankStaysWithoutColumn, OneColumnBesideAddsAtMostOne, RankStaysWithColumnBeside, RankStaysWithoutACombinedRow};
+ghost use Rattle.linear_algebra_laws.specs.RemovalLaws.{OneMoreRowAddsAtMostOne, OneRowLessTakesAtMostOne, RankStaysWithoutRow, RankFallsWithoutRow, TableauTellsTheRowsThatMayGo, OneColumnLessTakesAtMostOne, RankStaysWithoutColumn, OneColumnBesideAddsAtMostOne, RankStaysWithColumnBeside, RankStaysWithoutACombinedRow, RankOfASetStaysWithoutACombinedRow};
 
 /// One more row keeps the rank or adds one.
 pub fn one_more_row_adds_at_most_one()
@@ -46,7 +46,12 @@ pub fn rank_stays_with_column_beside()
     ensures { RankStaysWithColumnBeside }
 {}
 
-/// Without a row that is a combination of the others the rank stays.
+/// Without a row the rank stays exactly where the row is a combination of the others.
 pub fn rank_stays_without_a_combined_row()
     ensures { RankStaysWithoutACombinedRow }
+{}
+
+/// Without a row that is a combination of the others on a set of columns the rank of the set stays.
+pub fn rank_of_a_set_stays_without_a_combined_row()
+    ensures { RankOfASetStaysWithoutACombinedRow }
 {}
