@@ -4,3 +4,4 @@ pub mod Puts
 pub mod Noting
 pub mod Written
 pub mod Runs
+pub mod Entries

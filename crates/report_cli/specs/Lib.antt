@@ -5,3 +5,5 @@ pub mod Writing
 pub mod Notes
 pub mod Answer
 pub mod Analyses
+pub mod Right
+pub mod Filling

@@ -3,6 +3,7 @@
 
 mod analysis;
 mod certificate;
+mod constants;
 mod digits;
 mod lines;
 mod numbers;
