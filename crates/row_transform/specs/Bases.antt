@@ -1,0 +1,51 @@
+-- Which column is the base column of which row, kept as two lists, and how a base changes.
+use Rattle.std.specs.Prelude.{ℕ, ◌<◌, ◌≡◌, ◌≢◌, Bool, true, false, List, length, Option, Some, None, is_some, unwrap_or, slice_index_or, slice_set}
+
+-- for each row perhaps its base column, and for each column perhaps the row whose base it is
+pub record BaseLists : Type 0 where
+  pub columns : List (Option ℕ)
+  pub rows : List (Option ℕ)
+
+-- column y is a base column
+abbrev pub is_base : BaseLists → ℕ → Bool
+is_base b y = is_some (slice_index_or b.rows y None)
+
+-- the row of the base column y, and 0 where y is none
+abbrev pub row_of : BaseLists → ℕ → ℕ
+row_of b y = unwrap_or (slice_index_or b.rows y None) 0
+
+-- each item of a list names an item of the other, which names it back
+abbrev pub PointsBack : List (Option ℕ) → List (Option ℕ) → Type 0
+PointsBack a b = (i j : ℕ) → slice_index_or a i None ≡ Some j → (j < length b) × (slice_index_or b j None ≡ Some i)
+
+-- the two lists say the same
+pub record IsConsistent (b : BaseLists) : Type 0 where
+  pub columns_point : PointsBack b.columns b.rows
+  pub rows_point : PointsBack b.rows b.columns
+
+-- b without the column that was the base column of a row
+abbrev pub unlinked : BaseLists → ℕ → ℕ → BaseLists
+unlinked b r y = record { columns = slice_set b.columns r None; rows = slice_set b.rows y None }
+
+-- b with a column as the base column of a row
+abbrev pub linked : BaseLists → ℕ → ℕ → BaseLists
+linked b r y = record { columns = slice_set b.columns r (Some y); rows = slice_set b.rows y (Some r) }
+
+-- column v is now the base column of row r; the column that was it before is none now, and all others stay.
+-- There are n columns; B and row are the base before, C and now the base after
+pub record IsBaseTaken (n : ℕ) (B : ℕ → Bool) (row : ℕ → ℕ) (C : ℕ → Bool) (now : ℕ → ℕ) (r v : ℕ) : Type 0 where
+  pub member : C v ≡ true
+  pub at_row : now v ≡ r
+  pub only : (y : ℕ) → y < n → y ≢ v → C y ≡ true → (B y ≡ true) × (row y ≢ r) × (now y ≡ row y)
+  pub kept : (y : ℕ) → y < n → y ≢ v → B y ≡ true → row y ≢ r → C y ≡ true
+
+-- row r has no base column now; all base columns of other rows stay
+pub record IsRowCleared (n : ℕ) (B : ℕ → Bool) (row : ℕ → ℕ) (C : ℕ → Bool) (now : ℕ → ℕ) (r : ℕ) : Type 0 where
+  pub only : (y : ℕ) → y < n → C y ≡ true → (B y ≡ true) × (row y ≢ r) × (now y ≡ row y)
+  pub kept : (y : ℕ) → y < n → B y ≡ true → row y ≢ r → C y ≡ true
+
+-- column v is no base column now, and all others stay
+pub record IsBaseDropped (n : ℕ) (B : ℕ → Bool) (row : ℕ → ℕ) (C : ℕ → Bool) (now : ℕ → ℕ) (v : ℕ) : Type 0 where
+  pub gone : C v ≡ false
+  pub others : (y : ℕ) → y < n → y ≢ v → C y ≡ B y
+  pub rows : (y : ℕ) → y < n → y ≢ v → now y ≡ row y

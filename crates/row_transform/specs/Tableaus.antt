@@ -1,0 +1,108 @@
+-- A tableau of a matrix Q: P = S * Q for an invertible S, with some columns of P as a base of unit columns.
+use Rattle.std.specs.Prelude.{ℕ, ◌<◌, ◌%◌, ◌≡◌, Bool, true, cond, ltb, ◌&&◌, length}
+use Rattle.linear_algebra.specs.Bases.{IsBase, HasNoBase}
+use Rattle.linear_algebra.specs.Products.{product, Agree, IsInverse}
+use Rattle.linear_algebra.specs.RowOperations.{IsPivoted}
+use Rattle.row_transform.specs.Bases.{BaseLists, is_base, row_of, IsBaseTaken, IsBaseDropped}
+use Rattle.row_transform.specs.Transforms.{IsSized}
+use Rattle.dense_q.specs.Tables.{Table, height, entry}
+
+-- how many rows and columns there are; the matrices q, s, u and p; which columns are base columns, and the row of each
+pub record State : Type 0 where
+  pub rows : ℕ
+  pub columns : ℕ
+  pub q : ℕ → ℕ → ℕ
+  pub s : ℕ → ℕ → ℕ
+  pub u : ℕ → ℕ → ℕ
+  pub p : ℕ → ℕ → ℕ
+  pub base : ℕ → Bool
+  pub row : ℕ → ℕ
+
+-- p is s * q, u is the inverse of s, and each base column of p is the unit column of its row
+pub record IsTableau (modulus : ℕ) (t : State) : Type 0 where
+  pub product_is : Agree modulus t.rows t.columns t.p (product t.rows t.s t.q)
+  pub inverse : IsInverse modulus t.rows t.s t.u
+  pub unit_columns : IsBase modulus t.p t.rows t.columns t.base t.row
+
+-- column y is the base column of row r
+pub record IsBaseColumn (t : State) (r y : ℕ) : Type 0 where
+  pub below : y < t.columns
+  pub member : t.base y ≡ true
+  pub at_row : t.row y ≡ r
+
+-- row r has no base column
+abbrev pub IsBare : State → ℕ → Type 0
+IsBare t r = HasNoBase t.columns t.base t.row r
+
+-- n is t after a pivot at row r and column v: v is the base column of r now
+pub record IsPivot (modulus : ℕ) (t n : State) (r v : ℕ) : Type 0 where
+  pub rows_same : n.rows ≡ t.rows
+  pub columns_same : n.columns ≡ t.columns
+  pub q_same : n.q ≡ t.q
+  pub pivoted : IsPivoted modulus t.rows t.columns t.p n.p r v
+  pub taken : IsBaseTaken t.columns t.base t.row n.base n.row r v
+
+-- n is t without the base column v
+pub record IsDrop (t n : State) (v : ℕ) : Type 0 where
+  pub rows_same : n.rows ≡ t.rows
+  pub columns_same : n.columns ≡ t.columns
+  pub q_same : n.q ≡ t.q
+  pub s_same : n.s ≡ t.s
+  pub u_same : n.u ≡ t.u
+  pub p_same : n.p ≡ t.p
+  pub dropped : IsBaseDropped t.columns t.base t.row n.base n.row v
+
+-- the tables have the entries of s, u and p
+pub record AreParts (t : State) (s u p : Table) : Type 0 where
+  pub s_height : height s ≡ t.rows
+  pub s_width : s.width ≡ t.rows
+  pub s_entries : (i j : ℕ) → i < t.rows → j < t.rows → entry s i j ≡ t.s i j
+  pub u_height : height u ≡ t.rows
+  pub u_width : u.width ≡ t.rows
+  pub u_entries : (i j : ℕ) → i < t.rows → j < t.rows → entry u i j ≡ t.u i j
+  pub p_height : height p ≡ t.rows
+  pub p_width : p.width ≡ t.columns
+  pub p_entries : (i j : ℕ) → i < t.rows → j < t.columns → entry p i j ≡ t.p i j
+
+-- what a dense tableau keeps: P, S, the transpose V of U, and the base
+pub record Dense : Type 0 where
+  pub p : Table
+  pub s : Table
+  pub v : Table
+  pub base : BaseLists
+
+-- the matrix that U leads back to from P
+abbrev pub led_back : ℕ → Table → Table → ℕ → ℕ → ℕ
+led_back modulus p v i j = cond (ltb i (height p) && ltb j p.width) (product (height p) (λ r t. entry v t r) (entry p) i j % modulus) 0
+
+abbrev pub state_of : ℕ → Dense → State
+state_of modulus d = record {
+  rows = height d.p;
+  columns = d.p.width;
+  q = led_back modulus d.p d.v;
+  s = entry d.s;
+  u = λ i j. entry d.v j i;
+  p = entry d.p;
+  base = is_base d.base;
+  row = row_of d.base;
+}
+
+-- n has as many rows and columns as t
+pub record HasSameShape (t n : State) : Type 0 where
+  pub rows_same : n.rows ≡ t.rows
+  pub columns_same : n.columns ≡ t.columns
+
+-- s and u are square, with a row and a column for each row, and p has the rows and columns of the tableau
+pub record AreSized (t : State) (s u p : Table) : Type 0 where
+  pub s_height : height s ≡ t.rows
+  pub s_width : s.width ≡ t.rows
+  pub u_height : height u ≡ t.rows
+  pub u_width : u.width ≡ t.rows
+  pub p_height : height p ≡ t.rows
+  pub p_width : p.width ≡ t.columns
+
+-- the parts of a dense tableau have sizes that go together
+pub record IsDense (d : Dense) : Type 0 where
+  pub sized : IsSized d.p d.s d.v
+  pub base_rows : length d.base.columns ≡ height d.p
+  pub base_columns : length d.base.rows ≡ d.p.width

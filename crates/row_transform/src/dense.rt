@@ -1,0 +1,78 @@
+ghost use Rattle.std.specs.Prelude.{◌≡◌, ◌≢◌, ℕ, ◌<◌, ◌≤◌, ◌%◌, Bool, true, false, IfOk};
+ghost use Rattle.dense_q.specs.Tables.{height};
+ghost use Rattle.row_transform.specs.Tableaus.{state_of};
+
+use crate::base::Base;
+use crate::tableau::{Tableau, TableauParts};
+use crate::transform::Transform;
+use dense_q::{Mat, NoMemory};
+use residue_field::Field;
+use std::alloc::Global;
+use std::marker::Model;
+
+/// A tableau that keeps all entries of its matrices.
+#[derive(Drop)]
+pub struct DenseTableau<F: Field> {
+    transform: Transform<F>,
+    base: Base,
+}
+
+impl<F: Field> Model for DenseTableau<F> {
+    ghost use Rattle.row_transform.specs.Tableaus.{Dense, IsDense};
+
+    ghost Value = { Dense };
+
+    ghost view = { λ t. record { p = t.transform.p; s = t.transform.s; v = t.transform.v; base = t.base } };
+
+    ghost invariant = { λ t. IsDense (record { p = t.transform.p; s = t.transform.s; v = t.transform.v; base = t.base }) };
+}
+
+impl<F: Field> DenseTableau<F> {
+    /// The tableau of a matrix before any row operation, with no base column.
+    pub fn open(alloc: Global, q: &Mat<F>) -> Result<DenseTableau<F>, NoMemory>
+        ensures rows { IfOk result (λ t. (state_of F.modulus t).rows ≡ height q.now) }
+        ensures columns { IfOk result (λ t. (state_of F.modulus t).columns ≡ q.now.width) }
+    {
+        Ok(DenseTableau {
+            transform: Transform::open(alloc, q)?,
+            base: Base::empty(alloc, q.rows(), q.cols())?,
+        })
+    }
+}
+
+impl<F: Field> Tableau<F> for DenseTableau<F> {
+    ghost state = { state_of F.modulus };
+
+    fn rows(&self) -> usize {
+        self.transform.rows()
+    }
+
+    fn columns(&self) -> usize {
+        self.transform.columns()
+    }
+
+    fn entry(&self, row: usize, col: usize) -> F {
+        self.transform.entry(row, col)
+    }
+
+    fn base_of(&self, row: usize) -> Option<usize> {
+        self.base.column_of(row)
+    }
+
+    fn pivot(&mut self, row: usize, col: usize) {
+        self.transform.pivot(row, col);
+        self.base.take(row, col);
+    }
+
+    fn drop_base(&mut self, col: usize) {
+        self.base.leave(col);
+    }
+
+    fn parts(&self) -> Result<TableauParts<F>, NoMemory> {
+        Ok(TableauParts {
+            s: self.transform.s.copy()?,
+            u: self.transform.v.transposed()?,
+            p: self.transform.p.copy()?,
+        })
+    }
+}

@@ -1,0 +1,15 @@
+//! Tableaus: row operations on a matrix Q that make some of its columns a base of unit columns, with the
+//! matrix S of all operations and its inverse U.
+#![tactic(auto)]
+
+mod base;
+mod dense;
+mod tableau;
+mod transform;
+
+pub use dense::DenseTableau;
+pub use dense_q::NoMemory;
+pub use tableau::{Tableau, TableauParts};
+
+#[cfg(test)]
+mod tests;

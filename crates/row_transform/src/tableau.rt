@@ -1,0 +1,59 @@
+ghost use Rattle.std.specs.Prelude.{◌≡◌, ◌≢◌, ℕ, ◌<◌, ◌≤◌, ◌%◌, Bool, true, false, IfSome, IfNone, IfOk};
+ghost use Rattle.row_transform.specs.Tableaus.{State, IsBare, IsBaseColumn, HasSameShape, AreSized};
+
+use dense_q::{Mat, NoMemory};
+use residue_field::Field;
+
+/// The matrices of a tableau: S and its inverse U, with a row and a column for each row of Q, and P = S * Q.
+#[derive(Drop)]
+pub struct TableauParts<F: Field> {
+    pub s: Mat<F>,
+    pub u: Mat<F>,
+    pub p: Mat<F>,
+}
+
+/// Row operations on a matrix Q: P = S * Q for an invertible S. Some columns are base columns, each with a row of
+/// its own; in P it is 1 there and 0 elsewhere. Rows and columns are counted from 0. (Murota 2000, chapter 2.)
+pub trait Tableau<F: Field>: Drop {
+    ghost state: { Self → State };
+
+    /// How many rows there are.
+    fn rows(&self) -> usize
+        ensures rows { result ≡ (state self.now).rows }
+        ensures few { result ≤ 8192 };
+
+    /// How many columns there are.
+    fn columns(&self) -> usize
+        ensures columns { result ≡ (state self.now).columns }
+        ensures narrow { result ≤ 8192 };
+
+    /// The entry of P.
+    fn entry(&self, row: usize, col: usize) -> F
+        requires row { row < (state self.now).rows }
+        requires col { col < (state self.now).columns }
+        ensures { F.number result ≡ (state self.now).p row col };
+
+    /// The base column of a row.
+    fn base_of(&self, row: usize) -> Option<usize>
+        requires { row < (state self.now).rows }
+        ensures none { IfNone result (IsBare (state self.now) row) }
+        ensures some { IfSome result (IsBaseColumn (state self.now) row) };
+
+    /// Makes a column that is no base column the base column of a row where its entry is not zero.
+    fn pivot(&mut self, row: usize, col: usize)
+        requires row { row < (state self.old).rows }
+        requires col { col < (state self.old).columns }
+        requires entry { (state self.old).p row col % F.modulus ≢ 0 }
+        requires no_base { (state self.old).base col ≡ false }
+        ensures { HasSameShape (state self.old) (state self.new) };
+
+    /// Takes a base column out of the base.
+    fn drop_base(&mut self, col: usize)
+        requires col { col < (state self.old).columns }
+        requires base { (state self.old).base col ≡ true }
+        ensures { HasSameShape (state self.old) (state self.new) };
+
+    /// The matrices S, U and P.
+    fn parts(&self) -> Result<TableauParts<F>, NoMemory>
+        ensures { IfOk result (λ t. AreSized (state self.now) t.s t.u t.p) };
+}
