@@ -5,3 +5,4 @@ pub mod Noting
 pub mod Written
 pub mod Runs
 pub mod Entries
+pub mod Eliminations

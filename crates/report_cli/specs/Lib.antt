@@ -7,3 +7,4 @@ pub mod Answer
 pub mod Analyses
 pub mod Right
 pub mod Filling
+pub mod Elimination

@@ -5,6 +5,7 @@ mod analysis;
 mod certificate;
 mod constants;
 mod digits;
+mod elimination;
 mod lines;
 mod numbers;
 mod rows;

@@ -1,0 +1,51 @@
+//! Elimination over a tableau.
+
+ghost use Rattle.std.specs.Prelude.{◌≡◌, ◌≢◌, ℕ, ◌<◌, ◌%◌, IfSome, IfNone, MatchBool};
+ghost use Rattle.report_cli.specs.Elimination.{IsOpenAt, Closes, IsEliminated};
+
+use residue_field::Field;
+use row_transform::Tableau;
+
+/// Pivots until each column is zero at each row without base column.
+pub fn eliminate<F: Field, T: Tableau<F>>(tableau: &mut T)
+    ensures { IsEliminated F.modulus (T.state tableau.old) (T.state tableau.new) }
+{
+    for column in 0..tableau.columns() {
+        close_column(tableau, column);
+    }
+}
+
+/// Makes a column zero at each row without base column, by a pivot if need be. Columns that are so stay so.
+fn close_column<F: Field, T: Tableau<F>>(tableau: &mut T, column: usize)
+    requires { column < (T.state tableau.old).columns }
+    ensures { Closes F.modulus (T.state tableau.old) (T.state tableau.new) column }
+{
+    if let Some(row) = open_row(tableau, column) {
+        tableau.pivot(row, column);
+    }
+}
+
+/// The first row without base column that has an entry in this column.
+fn open_row<F: Field, T: Tableau<F>>(tableau: &T, column: usize) -> Option<usize>
+    requires { column < (T.state tableau.now).columns }
+    ensures some { IfSome result (λ row. IsOpenAt F.modulus (T.state tableau.now) row column) }
+    ensures none { IfNone result ((row : ℕ) → IsOpenAt F.modulus (T.state tableau.now) row column → ⊥) }
+{
+    for row in 0..tableau.rows() {
+        if tableau.base_of(row).is_none() && has_entry(tableau, row, column) {
+            return Some(row);
+        }
+    }
+    None
+}
+
+/// Whether the entry is other than zero.
+fn has_entry<F: Field, T: Tableau<F>>(tableau: &T, row: usize, column: usize) -> bool
+    requires row { row < (T.state tableau.now).rows }
+    requires column { column < (T.state tableau.now).columns }
+    ensures { MatchBool result ((T.state tableau.now).p row column % F.modulus ≢ 0) ((T.state tableau.now).p row column % F.modulus ≡ 0) }
+{
+    let entry = tableau.entry(row, column);
+    entry.in_field();
+    !entry.is_zero()
+}
