@@ -1,19 +1,24 @@
 //! A certificate, as a value, and the writing of its text.
 
-ghost use Rattle.std.specs.Prelude.{◌≡◌, ◌<◌, ◌^◌, length, OnOk, OnErr, IsOk};
+ghost use Rattle.std.specs.Prelude.{◌≡◌, ◌<◌, ◌^◌, length, IfOk, OnOk, OnErr, IsOk};
 ghost use Rattle.std.specs.List.{All};
 ghost use Rattle.port_io.specs.Bytes.{Appended};
 ghost use Rattle.port_io.specs.Causes.{HasCause};
 ghost use Rattle.report_cli.specs.Certificates.{lines_text, certificate_text};
 ghost use Rattle.report_cli.specs.Writing.{IsPut, PartWritten};
 
+use crate::constants::constants_of;
+use crate::elimination::{base_pairs, eliminate};
 use crate::lines::{put_echo, put_pair};
 use crate::numbers::put_piece;
 use crate::rows::put_matrices;
 use crate::shape::Shape;
-use dense_q::Mat;
+use dense_q::{Mat, NoMemory};
+use mixed_model::Mixed;
 use port_io::{PieceBuffer, Sink, WriteFault};
 use residue_field::Res;
+use row_transform::{DenseTableau, Tableau, TableauParts};
+use std::alloc::Global;
 use std::marker::Model;
 
 /// What the text of a certificate contains. `base` has each row with a base column, and that column, by rising row.
@@ -68,6 +73,42 @@ impl Certificate {
             &self.u,
             &self.p,
         )
+    }
+}
+
+/// The certificate of a model, whose text is the echo.
+pub fn certificate_of(alloc: Global, model: &Mixed, echo: Vec<u8>) -> Result<Certificate, NoMemory>
+    ensures echo { IfOk result (λ c. c.echo ≡ echo.items) }
+{
+    let tableau = eliminated(alloc, model)?;
+    let base = base_pairs(alloc, &tableau)?;
+    let TableauParts { s, u, p } = tableau.parts()?;
+    Ok(Certificate {
+        echo,
+        shape: shape_of(model),
+        base,
+        s,
+        u,
+        p,
+    })
+}
+
+/// The tableau of a model's constants, eliminated.
+fn eliminated(alloc: Global, model: &Mixed) -> Result<DenseTableau<Res>, NoMemory> {
+    let q = constants_of(alloc, model)?;
+    let mut tableau = DenseTableau::open(alloc, &q)?;
+    eliminate(&mut tableau);
+    Ok(tableau)
+}
+
+/// The shape of a certificate of a model of constants.
+fn shape_of(model: &Mixed) -> Shape {
+    Shape {
+        equations: model.equations(),
+        unknowns: model.unknowns(),
+        q_rows: model.equations(),
+        t_rows: 0,
+        columns: model.unknowns(),
     }
 }
 

@@ -1,10 +1,12 @@
 //! Elimination over a tableau.
 
-ghost use Rattle.std.specs.Prelude.{◌≡◌, ◌≢◌, ℕ, ◌<◌, ◌%◌, IfSome, IfNone, MatchBool};
-ghost use Rattle.report_cli.specs.Elimination.{IsOpenAt, Closes, IsEliminated};
+ghost use Rattle.std.specs.Prelude.{◌≡◌, ◌≢◌, ℕ, ◌<◌, ◌%◌, IfSome, IfNone, IfOk, MatchBool};
+ghost use Rattle.report_cli.specs.Elimination.{IsOpenAt, Closes, IsEliminated, ListsBase};
 
+use dense_q::NoMemory;
 use residue_field::Field;
 use row_transform::Tableau;
+use std::alloc::Global;
 
 /// Pivots until each column is zero at each row without base column.
 pub fn eliminate<F: Field, T: Tableau<F>>(tableau: &mut T)
@@ -48,4 +50,20 @@ fn has_entry<F: Field, T: Tableau<F>>(tableau: &T, row: usize, column: usize) ->
     let entry = tableau.entry(row, column);
     entry.in_field();
     !entry.is_zero()
+}
+
+/// Each row with a base column, and that column, by rising row.
+pub fn base_pairs<F: Field, T: Tableau<F>>(
+    alloc: Global,
+    tableau: &T,
+) -> Result<Vec<(usize, usize)>, NoMemory>
+    ensures { IfOk result (λ pairs. ListsBase (T.state tableau.now) (T.state tableau.now).rows pairs.items) }
+{
+    let mut pairs = Vec::new(alloc);
+    for row in 0..tableau.rows() {
+        if let Some(column) = tableau.base_of(row) {
+            pairs.push((row, column))?;
+        }
+    }
+    Ok(pairs)
 }
