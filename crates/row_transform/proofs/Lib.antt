@@ -1,1 +1,4 @@
 pub mod BaseLaws
+pub mod TransformLaws
+pub mod TableauLaws
+pub mod DenseLaws

@@ -1,3 +1,4 @@
 pub mod Bases
 pub mod Transforms
 pub mod Tableaus
+pub mod Dense

@@ -1,10 +1,9 @@
 -- A tableau of a matrix Q: P = S * Q for an invertible S, with some columns of P as a base of unit columns.
-use Rattle.std.specs.Prelude.{ℕ, ◌<◌, ◌%◌, ◌≡◌, Bool, true, cond, ltb, ◌&&◌, length}
+use Rattle.std.specs.Prelude.{ℕ, ◌<◌, ◌%◌, ◌≡◌, Bool, true, false}
 use Rattle.linear_algebra.specs.Bases.{IsBase, HasNoBase}
 use Rattle.linear_algebra.specs.Products.{product, Agree, IsInverse}
 use Rattle.linear_algebra.specs.RowOperations.{IsPivoted}
-use Rattle.row_transform.specs.Bases.{BaseLists, is_base, row_of, IsBaseTaken, IsBaseDropped}
-use Rattle.row_transform.specs.Transforms.{IsSized}
+use Rattle.row_transform.specs.Bases.{IsBaseTaken, IsBaseDropped}
 use Rattle.dense_q.specs.Tables.{Table, height, entry}
 
 -- how many rows and columns there are; the matrices q, s, u and p; which columns are base columns, and the row of each
@@ -64,45 +63,10 @@ pub record AreParts (t : State) (s u p : Table) : Type 0 where
   pub p_width : p.width ≡ t.columns
   pub p_entries : (i j : ℕ) → i < t.rows → j < t.columns → entry p i j ≡ t.p i j
 
--- what a dense tableau keeps: P, S, the transpose V of U, and the base
-pub record Dense : Type 0 where
-  pub p : Table
-  pub s : Table
-  pub v : Table
-  pub base : BaseLists
-
--- the matrix that U leads back to from P
-abbrev pub led_back : ℕ → Table → Table → ℕ → ℕ → ℕ
-led_back modulus p v i j = cond (ltb i (height p) && ltb j p.width) (product (height p) (λ r t. entry v t r) (entry p) i j % modulus) 0
-
-abbrev pub state_of : ℕ → Dense → State
-state_of modulus d = record {
-  rows = height d.p;
-  columns = d.p.width;
-  q = led_back modulus d.p d.v;
-  s = entry d.s;
-  u = λ i j. entry d.v j i;
-  p = entry d.p;
-  base = is_base d.base;
-  row = row_of d.base;
-}
-
--- n has as many rows and columns as t
-pub record HasSameShape (t n : State) : Type 0 where
-  pub rows_same : n.rows ≡ t.rows
-  pub columns_same : n.columns ≡ t.columns
-
--- s and u are square, with a row and a column for each row, and p has the rows and columns of the tableau
-pub record AreSized (t : State) (s u p : Table) : Type 0 where
-  pub s_height : height s ≡ t.rows
-  pub s_width : s.width ≡ t.rows
-  pub u_height : height u ≡ t.rows
-  pub u_width : u.width ≡ t.rows
-  pub p_height : height p ≡ t.rows
-  pub p_width : p.width ≡ t.columns
-
--- the parts of a dense tableau have sizes that go together
-pub record IsDense (d : Dense) : Type 0 where
-  pub sized : IsSized d.p d.s d.v
-  pub base_rows : length d.base.columns ≡ height d.p
-  pub base_columns : length d.base.rows ≡ d.p.width
+-- t is the tableau of q, with m rows and n columns, before any row operation; it has no base column
+pub record IsOpened (modulus m n : ℕ) (q : ℕ → ℕ → ℕ) (t : State) : Type 0 where
+  pub rows_are : t.rows ≡ m
+  pub columns_are : t.columns ≡ n
+  pub q_is : Agree modulus m n t.q q
+  pub p_is : t.p ≡ q
+  pub no_base : (y : ℕ) → t.base y ≡ false

@@ -10,7 +10,11 @@ pub record IsSized (P S V : Table) : Type 0 where
   pub v_height : height V ≡ height P
   pub v_width : V.width ≡ height P
 
--- P is S * q, and V is the transpose of the inverse of S, modulo p
-pub record LeadsFrom (p : ℕ) (q : ℕ → ℕ → ℕ) (P S V : Table) : Type 0 where
-  pub product_is : Agree p (height P) P.width (entry P) (product (height P) (entry S) q)
-  pub inverse : IsInverse p (height P) (entry S) (λ i j. entry V j i)
+-- P, with m rows and n columns, is S * q, and V is the transpose of the inverse of S, modulo p
+pub record LeadsFrom (p m n : ℕ) (q P S V : ℕ → ℕ → ℕ) : Type 0 where
+  pub product_is : Agree p m n P (product m S q)
+  pub inverse : IsInverse p m S (λ i j. V j i)
+
+-- whatever matrix the first transform leads from, the second one leads from too: both have m rows and n columns
+abbrev pub LeadsFromTheSame : ℕ → ℕ → ℕ → (ℕ → ℕ → ℕ) → (ℕ → ℕ → ℕ) → (ℕ → ℕ → ℕ) → (ℕ → ℕ → ℕ) → (ℕ → ℕ → ℕ) → (ℕ → ℕ → ℕ) → Type 0
+LeadsFromTheSame p m n P S V P' S' V' = (q : ℕ → ℕ → ℕ) → LeadsFrom p m n q P S V → LeadsFrom p m n q P' S' V'

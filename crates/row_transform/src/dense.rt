@@ -1,6 +1,7 @@
 ghost use Rattle.std.specs.Prelude.{◌≡◌, ◌≢◌, ℕ, ◌<◌, ◌≤◌, ◌%◌, Bool, true, false, IfOk};
-ghost use Rattle.dense_q.specs.Tables.{height};
-ghost use Rattle.row_transform.specs.Tableaus.{state_of};
+ghost use Rattle.dense_q.specs.Tables.{height, entry};
+ghost use Rattle.row_transform.specs.Tableaus.{IsOpened};
+ghost use Rattle.row_transform.specs.Dense.{state_of};
 
 use crate::base::Base;
 use crate::tableau::{Tableau, TableauParts};
@@ -18,20 +19,19 @@ pub struct DenseTableau<F: Field> {
 }
 
 impl<F: Field> Model for DenseTableau<F> {
-    ghost use Rattle.row_transform.specs.Tableaus.{Dense, IsDense};
+    ghost use Rattle.row_transform.specs.Dense.{Dense, IsDense};
 
     ghost Value = { Dense };
 
     ghost view = { λ t. record { p = t.transform.p; s = t.transform.s; v = t.transform.v; base = t.base } };
 
-    ghost invariant = { λ t. IsDense (record { p = t.transform.p; s = t.transform.s; v = t.transform.v; base = t.base }) };
+    ghost invariant = { λ t. IsDense F.modulus (record { p = t.transform.p; s = t.transform.s; v = t.transform.v; base = t.base }) };
 }
 
 impl<F: Field> DenseTableau<F> {
     /// The tableau of a matrix before any row operation, with no base column.
     pub fn open(alloc: Global, q: &Mat<F>) -> Result<DenseTableau<F>, NoMemory>
-        ensures rows { IfOk result (λ t. (state_of F.modulus t).rows ≡ height q.now) }
-        ensures columns { IfOk result (λ t. (state_of F.modulus t).columns ≡ q.now.width) }
+        ensures { IfOk result (λ t. IsOpened F.modulus (height q.now) q.now.width (entry q.now) (state_of F.modulus t)) }
     {
         Ok(DenseTableau {
             transform: Transform::open(alloc, q)?,
@@ -57,6 +57,17 @@ impl<F: Field> Tableau<F> for DenseTableau<F> {
 
     fn base_of(&self, row: usize) -> Option<usize> {
         self.base.column_of(row)
+    }
+
+    fn in_span(&self, col: usize) -> bool {
+        for row in 0..self.rows() {
+            let entry = self.entry(row, col);
+            entry.in_field();
+            if !entry.is_zero() && self.base_of(row).is_none() {
+                return false;
+            }
+        }
+        true
     }
 
     fn pivot(&mut self, row: usize, col: usize) {

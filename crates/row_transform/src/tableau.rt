@@ -1,5 +1,6 @@
-ghost use Rattle.std.specs.Prelude.{◌≡◌, ◌≢◌, ℕ, ◌<◌, ◌≤◌, ◌%◌, Bool, true, false, IfSome, IfNone, IfOk};
-ghost use Rattle.row_transform.specs.Tableaus.{State, IsBare, IsBaseColumn, HasSameShape, AreSized};
+ghost use Rattle.std.specs.Prelude.{◌≡◌, ◌≢◌, ℕ, ◌<◌, ◌≤◌, ◌%◌, Bool, true, false, IfSome, IfNone, IfOk, IsTrue, ◌↔◌};
+ghost use Rattle.row_transform.specs.Tableaus.{State, IsTableau, IsBare, IsBaseColumn, IsPivot, IsDrop, AreParts};
+ghost use Rattle.linear_algebra.specs.Columns.{IsCombination};
 
 use dense_q::{Mat, NoMemory};
 use residue_field::Field;
@@ -20,12 +21,14 @@ pub trait Tableau<F: Field>: Drop {
     /// How many rows there are.
     fn rows(&self) -> usize
         ensures rows { result ≡ (state self.now).rows }
-        ensures few { result ≤ 8192 };
+        ensures few { result ≤ 8192 }
+        ensures tableau { IsTableau F.modulus (state self.now) };
 
     /// How many columns there are.
     fn columns(&self) -> usize
         ensures columns { result ≡ (state self.now).columns }
-        ensures narrow { result ≤ 8192 };
+        ensures narrow { result ≤ 8192 }
+        ensures tableau { IsTableau F.modulus (state self.now) };
 
     /// The entry of P.
     fn entry(&self, row: usize, col: usize) -> F
@@ -39,21 +42,26 @@ pub trait Tableau<F: Field>: Drop {
         ensures none { IfNone result (IsBare (state self.now) row) }
         ensures some { IfSome result (IsBaseColumn (state self.now) row) };
 
+    /// Whether a column of Q is a combination of the base columns.
+    fn in_span(&self, col: usize) -> bool
+        requires { col < (state self.now).columns }
+        ensures { IsTrue result ↔ IsCombination F.modulus (state self.now).q (state self.now).rows (state self.now).columns (state self.now).base col };
+
     /// Makes a column that is no base column the base column of a row where its entry is not zero.
     fn pivot(&mut self, row: usize, col: usize)
         requires row { row < (state self.old).rows }
         requires col { col < (state self.old).columns }
         requires entry { (state self.old).p row col % F.modulus ≢ 0 }
         requires no_base { (state self.old).base col ≡ false }
-        ensures { HasSameShape (state self.old) (state self.new) };
+        ensures { IsPivot F.modulus (state self.old) (state self.new) row col };
 
     /// Takes a base column out of the base.
     fn drop_base(&mut self, col: usize)
         requires col { col < (state self.old).columns }
         requires base { (state self.old).base col ≡ true }
-        ensures { HasSameShape (state self.old) (state self.new) };
+        ensures { IsDrop (state self.old) (state self.new) col };
 
     /// The matrices S, U and P.
     fn parts(&self) -> Result<TableauParts<F>, NoMemory>
-        ensures { IfOk result (λ t. AreSized (state self.now) t.s t.u t.p) };
+        ensures { IfOk result (λ t. AreParts (state self.now) t.s t.u t.p) };
 }

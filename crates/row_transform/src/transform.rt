@@ -2,7 +2,7 @@ ghost use Rattle.std.specs.Prelude.{◌≡◌, ◌≢◌, ℕ, ◌+◌, ◌*◌,
 ghost use Rattle.linear_algebra.specs.Products.{identity};
 ghost use Rattle.linear_algebra.specs.RowOperations.{IsRowAdded, IsRowScaled, IsPivoted};
 ghost use Rattle.dense_q.specs.Tables.{Table, height, entry, HasSameSize, IsTableOf};
-ghost use Rattle.row_transform.specs.Transforms.{IsSized, LeadsFrom};
+ghost use Rattle.row_transform.specs.Transforms.{IsSized, LeadsFrom, LeadsFromTheSame};
 
 use dense_q::{Mat, NoMemory};
 use residue_field::Field;
@@ -22,6 +22,7 @@ impl<F: Field> Transform<F> {
         ensures p { IfOk result (λ t. t.p ≡ q.now) }
         ensures s { IfOk result (λ t. IsTableOf (height q.now) (height q.now) identity t.s) }
         ensures v { IfOk result (λ t. IsTableOf (height q.now) (height q.now) identity t.v) }
+        ensures leads { IfOk result (λ t. LeadsFrom F.modulus (height q.now) q.now.width (entry q.now) (entry t.p) (entry t.s) (entry t.v)) }
     {
         let rows = q.rows();
         Ok(Transform {
@@ -54,34 +55,36 @@ impl<F: Field> Transform<F> {
         self.p.get(row, column)
     }
 
-    // Divides a row by one of its entries.
-    fn divide(&mut self, row: usize, by: F)
+    // Multiplies a row by a factor, whose inverse is given too.
+    fn scale(&mut self, row: usize, factor: F, inverse: F)
         requires row { row < height self.old.p }
         requires sized { IsSized self.old.p self.old.s self.old.v }
-        requires by { F.number by ≢ 0 }
+        requires inverse { (F.number factor * F.number inverse) % F.modulus ≡ 1 }
         ensures size { HasSameSize self.new.p self.old.p }
         ensures sized { IsSized self.new.p self.new.s self.new.v }
+        ensures scaled { IsRowScaled F.modulus (height self.old.p) self.old.p.width (entry self.old.p) (entry self.new.p) row (F.number factor) }
+        ensures leads { LeadsFromTheSame F.modulus (height self.old.p) self.old.p.width (entry self.old.p) (entry self.old.s) (entry self.old.v) (entry self.new.p) (entry self.new.s) (entry self.new.v) }
     {
-        if let Some(inverse) = by.inv() {
-            self.p.scale_row(row, inverse);
-            self.s.scale_row(row, inverse);
-            self.v.scale_row(row, by);
-        }
+        self.p.scale_row(row, factor);
+        self.s.scale_row(row, factor);
+        self.v.scale_row(row, inverse);
     }
 
-    // Takes a multiple of row `source` from row `target`.
-    fn subtract(&mut self, target: usize, source: usize, factor: F)
+    // Adds a multiple of row `source` to row `target`; the factor's negative is given too.
+    fn add(&mut self, target: usize, source: usize, factor: F, negative: F)
         requires target { target < height self.old.p }
         requires source { source < height self.old.p }
         requires apart { target ≢ source }
         requires sized { IsSized self.old.p self.old.s self.old.v }
+        requires negative { (F.number factor + F.number negative) % F.modulus ≡ 0 }
         ensures size { HasSameSize self.new.p self.old.p }
         ensures sized { IsSized self.new.p self.new.s self.new.v }
+        ensures added { IsRowAdded F.modulus (height self.old.p) self.old.p.width (entry self.old.p) (entry self.new.p) target source (F.number factor) }
+        ensures leads { LeadsFromTheSame F.modulus (height self.old.p) self.old.p.width (entry self.old.p) (entry self.old.s) (entry self.old.v) (entry self.new.p) (entry self.new.s) (entry self.new.v) }
     {
-        let negative = factor.neg();
-        self.p.add_row(target, source, negative);
-        self.s.add_row(target, source, negative);
-        self.v.add_row(source, target, factor);
+        self.p.add_row(target, source, factor);
+        self.s.add_row(target, source, factor);
+        self.v.add_row(source, target, negative);
     }
 
     // Makes a column the unit column of a row, by row operations.
@@ -92,12 +95,16 @@ impl<F: Field> Transform<F> {
         requires entry { entry self.old.p row column ≢ 0 }
         ensures size { HasSameSize self.new.p self.old.p }
         ensures sized { IsSized self.new.p self.new.s self.new.v }
+        ensures pivoted { IsPivoted F.modulus (height self.old.p) self.old.p.width (entry self.old.p) (entry self.new.p) row column }
+        ensures leads { LeadsFromTheSame F.modulus (height self.old.p) self.old.p.width (entry self.old.p) (entry self.old.s) (entry self.old.v) (entry self.new.p) (entry self.new.s) (entry self.new.v) }
     {
-        self.divide(row, self.entry(row, column));
+        let entry = self.entry(row, column);
+        let inverse = entry.inv().unwrap();
+        self.scale(row, inverse, entry);
         for i in 0..self.rows() {
-            let factor = self.entry(i, column);
-            if i != row && !factor.is_zero() {
-                self.subtract(i, row, factor);
+            let entry = self.entry(i, column);
+            if i != row && !entry.is_zero() {
+                self.add(i, row, entry.neg(), entry);
             }
         }
     }
