@@ -1,13 +1,13 @@
 -- One column more is closed.
-use Rattle.std.proofs.Common.{◌≡◌, ◌≢◌, ℕ, ◌+◌, ◌<◌, ◌≤◌, ◌%◌, ◌⊎◌, inl, inr, Bool, true, false, not, IsTrue, ◌↔◌, refl, ap, sym, ◌∙◌, subst, arith}
+use Rattle.std.proofs.Common.{◌≡◌, ◌≢◌, ℕ, ◌+◌, ◌<◌, ◌≤◌, ◌%◌, List, [], ◌∷◌, ◌++◌, ◌⊎◌, inl, inr, Bool, true, false, not, IsTrue, ◌↔◌, refl, ap, sym, ◌∙◌, subst, arith}
 use Rattle.std.proofs.Math.Nat.{zero-mod, mod-eq_of_lt}
 use Rattle.std.specs.Bool.{MatchBool}
 use Rattle.linear_algebra.specs.RowOperations.{IsPivoted}
 use Rattle.linear_algebra.specs.Bases.{IsBase}
 use Rattle.residue_theory.proofs.SumLaws.{nat_cases}
 use Rattle.residue_theory.proofs.SetLaws.{differ}
-use Rattle.row_transform.specs.Tableaus.{State, IsTableau, IsBare, IsPivot}
-use Rattle.report_cli.specs.Elimination.{IsOpenAt, AreClosed, IsEliminated}
+use Rattle.row_transform.specs.Tableaus.{State, IsTableau, IsBare, IsBaseColumn, IsPivot}
+use Rattle.report_cli.specs.Elimination.{IsOpenAt, AreClosed, Closes, ListsBase}
 
 -- a number is 0 modulo p or is not
 zero_or_not : (x : ℕ) → (x ≡ 0) ⊎ (x ≢ 0)

@@ -6,3 +6,5 @@ pub mod Written
 pub mod Runs
 pub mod Entries
 pub mod Eliminations
+pub mod BaseLists
+pub mod RightLaws

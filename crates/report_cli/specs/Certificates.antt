@@ -1,5 +1,5 @@
 -- What a certificate contains, and its text. Rows and columns are counted from 0 here, and from 1 in the text.
-use Rattle.std.specs.Prelude.{ℕ, ◌+◌, ◌==◌, List, [], ◌∷◌, ◌++◌, length, codes, decimal, if◌then◌else◌}
+use Rattle.std.specs.Prelude.{ℕ, ◌+◌, ◌==◌, List, [], ◌∷◌, ◌++◌, length, slice_index_or, codes, decimal, if◌then◌else◌}
 use Rattle.report_cli.specs.declared.shape.Shape.{Shape}
 
 -- echo: the input; base: a row and its base column, each; s, u, p: the rows of the matrices
@@ -10,6 +10,10 @@ pub record Contents : Type 0 where
   pub s : List (List ℕ)
   pub u : List (List ℕ)
   pub p : List (List ℕ)
+
+-- item k of a list of rows and their columns
+abbrev pub pair_at : List (ℕ × ℕ) → ℕ → ℕ × ℕ
+pair_at pairs k = slice_index_or pairs k (0, 0)
 
 -- a mark and a number
 abbrev pub marked : ℕ → ℕ → List ℕ

@@ -1,12 +1,11 @@
 -- What makes a certificate right for a model of constants. (Murota, chapters 2 and 4.)
-use Rattle.std.specs.Prelude.{ℕ, ◌+◌, ◌<◌, ◌≤◌, ◌≡◌, ◌≢◌, ◌%◌, ◌==◌, Bool, List, [], length, slice_index, slice_index_or, unwrap_or, All}
-use Rattle.std.specs.List.{list_any}
-use Rattle.residue_theory.specs.Sets.{everything}
+use Rattle.std.specs.Prelude.{ℕ, ◌<◌, ◌≡◌, ◌≢◌, ◌%◌, eqb, Bool, List, [], length, slice_index, slice_index_or, unwrap_or, All}
+use Rattle.residue_theory.specs.Sets.{everything, some_below}
 use Rattle.residue_theory.specs.Sums.{size_on}
 use Rattle.linear_algebra.specs.Columns.{IsIndependent, IsRank}
 use Rattle.linear_algebra.specs.Products.{product, Agree, IsInverse}
 use Rattle.mixed_model.specs.Models.{MixedModel, constant_of}
-use Rattle.report_cli.specs.Certificates.{Contents}
+use Rattle.report_cli.specs.Certificates.{Contents, pair_at}
 use Rattle.report_cli.specs.declared.shape.Shape.{Shape}
 
 -- the matrix of a model's constants, with 0 where there is none
@@ -17,15 +16,14 @@ constants model i j = unwrap_or (constant_of model i j) 0
 abbrev pub matrix : List (List ℕ) → ℕ → ℕ → ℕ
 matrix rows i j = slice_index (slice_index_or rows i []) j
 
--- so many rows, each of so many numbers below p
-pub record AreRows (p m n : ℕ) (rows : List (List ℕ)) : Type 0 where
+-- so many rows, each of so many numbers
+pub record AreRows (m n : ℕ) (rows : List (List ℕ)) : Type 0 where
   pub count : length rows ≡ m
   pub long : All (λ row. length row ≡ n) rows
-  pub residues : (i j : ℕ) → i < m → j < n → matrix rows i j < p
 
--- column j is a column of the base
+-- column j is the column of an item of the base
 abbrev pub in_base : List (ℕ × ℕ) → ℕ → Bool
-in_base base j = list_any (λ pair. pair.1 == j) base
+in_base base j = some_below (length base) (λ k. eqb (pair_at base k).1 j)
 
 -- the shape: a row of constants for each equation, no row of symbols, and a column for each unknown
 abbrev pub shape_of : MixedModel → Shape
@@ -39,16 +37,17 @@ shape_of model = record {
 
 -- S is invertible with the inverse U, and P is S times the matrix of constants; a has m rows and n columns
 pub record IsTransform (p m n : ℕ) (a : ℕ → ℕ → ℕ) (c : Contents) : Type 0 where
-  pub s : AreRows p m m c.s
-  pub u : AreRows p m m c.u
-  pub p_rows : AreRows p m n c.p
+  pub s : AreRows m m c.s
+  pub u : AreRows m m c.u
+  pub p_rows : AreRows m n c.p
   pub inverse : IsInverse p m (matrix c.s) (matrix c.u)
   pub product_is : Agree p m n (matrix c.p) (product m (matrix c.s) a)
 
 -- by rising row, rows and columns in range
 pub record IsPairList (m n : ℕ) (base : List (ℕ × ℕ)) : Type 0 where
-  pub within : All (λ pair. (pair.0 < m) × (pair.1 < n)) base
-  pub rising : (k l : ℕ) → k < l → l < length base → (slice_index_or base k (0, 0)).0 < (slice_index_or base l (0, 0)).0
+  pub row : (k : ℕ) → k < length base → (pair_at base k).0 < m
+  pub column : (k : ℕ) → k < length base → (pair_at base k).1 < n
+  pub rising : (k l : ℕ) → k < l → l < length base → (pair_at base k).0 < (pair_at base l).0
 
 -- column j of b is 1 at row i and 0 elsewhere
 pub record IsUnitColumn (p m : ℕ) (b : ℕ → ℕ → ℕ) (i j : ℕ) : Type 0 where
@@ -58,7 +57,7 @@ pub record IsUnitColumn (p m : ℕ) (b : ℕ → ℕ → ℕ) (i j : ℕ) : Type
 -- the columns of the base are unit columns of P at their rows, differ, and are independent in the matrix of constants; and there are as many as its rank
 pub record HasPair (p m n : ℕ) (a : ℕ → ℕ → ℕ) (c : Contents) : Type 0 where
   pub pairs : IsPairList m n c.base
-  pub units : All (λ pair. IsUnitColumn p m (matrix c.p) pair.0 pair.1) c.base
+  pub units : (k : ℕ) → k < length c.base → IsUnitColumn p m (matrix c.p) (pair_at c.base k).0 (pair_at c.base k).1
   pub differ : size_on (in_base c.base) n ≡ length c.base
   pub independent : IsIndependent p a m n (in_base c.base)
   pub rank : IsRank p a m n everything (length c.base)

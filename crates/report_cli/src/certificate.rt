@@ -4,7 +4,12 @@ ghost use Rattle.std.specs.Prelude.{◌≡◌, ◌<◌, ◌^◌, length, IfOk, O
 ghost use Rattle.std.specs.List.{All};
 ghost use Rattle.port_io.specs.Bytes.{Appended};
 ghost use Rattle.port_io.specs.Causes.{HasCause};
+ghost use Rattle.residue_field.specs.Modulus.{res_modulus};
+ghost use Rattle.dense_q.specs.Tables.{IsMatrix, height};
+ghost use Rattle.row_transform.specs.Dense.{state_of};
 ghost use Rattle.report_cli.specs.Certificates.{lines_text, certificate_text};
+ghost use Rattle.report_cli.specs.Elimination.{IsEliminatedOf};
+ghost use Rattle.report_cli.specs.Right.{IsRight, constants};
 ghost use Rattle.report_cli.specs.Writing.{IsPut, PartWritten};
 
 use crate::constants::constants_of;
@@ -76,39 +81,47 @@ impl Certificate {
     }
 }
 
-/// The certificate of a model, whose text is the echo.
+/// The certificate of a model, with this echo.
 pub fn certificate_of(alloc: Global, model: &Mixed, echo: Vec<u8>) -> Result<Certificate, NoMemory>
     ensures echo { IfOk result (λ c. c.echo ≡ echo.items) }
+    ensures right { IfOk result (IsRight res_modulus model.now) }
 {
     let tableau = eliminated(alloc, model)?;
     let base = base_pairs(alloc, &tableau)?;
-    let TableauParts { s, u, p } = tableau.parts()?;
+    let parts = tableau.parts()?;
     Ok(Certificate {
         echo,
-        shape: shape_of(model),
+        shape: shape_of(&parts),
         base,
-        s,
-        u,
-        p,
+        s: parts.s,
+        u: parts.u,
+        p: parts.p,
     })
 }
 
 /// The tableau of a model's constants, eliminated.
-fn eliminated(alloc: Global, model: &Mixed) -> Result<DenseTableau<Res>, NoMemory> {
+fn eliminated(alloc: Global, model: &Mixed) -> Result<DenseTableau<Res>, NoMemory>
+    ensures { IfOk result (λ t. IsEliminatedOf res_modulus (length model.now.equations) (length model.now.unknowns) (constants model.now) (state_of res_modulus t)) }
+{
     let q = constants_of(alloc, model)?;
     let mut tableau = DenseTableau::open(alloc, &q)?;
     eliminate(&mut tableau);
     Ok(tableau)
 }
 
-/// The shape of a certificate of a model of constants.
-fn shape_of(model: &Mixed) -> Shape {
+/// The shape that goes with the matrices of a model of constants.
+fn shape_of(parts: &TableauParts<Res>) -> Shape
+    ensures shape { result ≡ record { equations = height parts.now.s; unknowns = parts.now.p.width; q_rows = height parts.now.u; t_rows = 0; columns = parts.now.p.width } }
+    ensures s { IsMatrix parts.now.s }
+    ensures u { IsMatrix parts.now.u }
+    ensures p { IsMatrix parts.now.p }
+{
     Shape {
-        equations: model.equations(),
-        unknowns: model.unknowns(),
-        q_rows: model.equations(),
+        equations: parts.s.rows(),
+        unknowns: parts.p.cols(),
+        q_rows: parts.u.rows(),
         t_rows: 0,
-        columns: model.unknowns(),
+        columns: parts.p.cols(),
     }
 }
 

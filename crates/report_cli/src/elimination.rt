@@ -1,6 +1,7 @@
 //! Elimination over a tableau.
 
-ghost use Rattle.std.specs.Prelude.{◌≡◌, ◌≢◌, ℕ, ◌<◌, ◌%◌, IfSome, IfNone, IfOk, MatchBool};
+ghost use Rattle.std.specs.Prelude.{◌≡◌, ◌≢◌, ℕ, ◌<◌, ◌≤◌, ◌%◌, IfSome, IfNone, IfOk, MatchBool};
+ghost use Rattle.row_transform.specs.Tableaus.{IsTableau};
 ghost use Rattle.report_cli.specs.Elimination.{IsOpenAt, Closes, IsEliminated, ListsBase};
 
 use dense_q::NoMemory;
@@ -32,6 +33,7 @@ fn open_row<F: Field, T: Tableau<F>>(tableau: &T, column: usize) -> Option<usize
     requires { column < (T.state tableau.now).columns }
     ensures some { IfSome result (λ row. IsOpenAt F.modulus (T.state tableau.now) row column) }
     ensures none { IfNone result ((row : ℕ) → IsOpenAt F.modulus (T.state tableau.now) row column → ⊥) }
+    ensures tableau { IsTableau F.modulus (T.state tableau.now) }
 {
     for row in 0..tableau.rows() {
         if tableau.base_of(row).is_none() && has_entry(tableau, row, column) {
@@ -57,7 +59,9 @@ pub fn base_pairs<F: Field, T: Tableau<F>>(
     alloc: Global,
     tableau: &T,
 ) -> Result<Vec<(usize, usize)>, NoMemory>
-    ensures { IfOk result (λ pairs. ListsBase (T.state tableau.now) (T.state tableau.now).rows pairs.items) }
+    ensures base { IfOk result (λ pairs. ListsBase (T.state tableau.now) (T.state tableau.now).rows pairs.items) }
+    ensures few { (T.state tableau.now).rows ≤ 8192 }
+    ensures tableau { IsTableau F.modulus (T.state tableau.now) }
 {
     let mut pairs = Vec::new(alloc);
     for row in 0..tableau.rows() {

@@ -1,5 +1,4 @@
 use Rattle.std.proofs.Common.{◌≡◌}
-use Rattle.row_transform.specs.Tableaus.{IsTableau}
 use Rattle.report_cli.specs.Elimination.{AreClosed}
 use Rattle.report_cli.proofs.elimination.eliminate.Given as goal
 
@@ -11,6 +10,5 @@ invariant-loop-column g l =
       rows_same : now.rows ≡ before.rows;
       columns_same : now.columns ≡ before.columns;
       q_same : now.q ≡ before.q;
-      tableau : IsTableau g.F.Field.modulus now;
       closed : AreClosed g.F.Field.modulus now l.column;
     }
