@@ -1,9 +1,10 @@
 -- What an analysis found.
-use Rattle.std.specs.Prelude.{◌≡◌, ℕ, List}
+use Rattle.std.specs.Prelude.{ℕ, List}
+use Rattle.report_cli.specs.RightFor.{IsRightFor}
 use Rattle.report_cli.specs.declared.analysis.Analysis.{Analysis}
 use Rattle.report_cli.specs.declared.analysis.Analysis.TheVariants.{Certified, Refused}
 
--- a certificate of the input, or its refusal
+-- a right certificate of the input, or its refusal
 abbrev pub IsAnalysis : List ℕ → Analysis → Type 0
-IsAnalysis input (Certified certificate) = certificate.echo ≡ input
+IsAnalysis input (Certified certificate) = IsRightFor input certificate
 IsAnalysis input (Refused refused) = Unit {0}

@@ -2,6 +2,7 @@
 use Rattle.std.specs.Prelude.{◌≡◌, ℕ, ◌+◌, ◌≤◌, ◌<◌, ◌⊎◌, List, [], ◌++◌, length, Option, Some, None}
 use Rattle.port_io.specs.Bytes.{Took, Appended, Ended}
 use Rattle.report_cli.specs.Certificates.{Contents, certificate_text}
+use Rattle.report_cli.specs.RightFor.{IsRightFor}
 use Rattle.report_cli.specs.Words.{AskForAnalysis}
 use Rattle.report_cli.specs.Writing.{PartWritten}
 use Rattle.report_cli.specs.declared.status.Status.{Status}
@@ -11,10 +12,10 @@ use Rattle.report_cli.specs.declared.status.Status.TheVariants.{Done, Usage, Ref
 abbrev pub model_limit : ℕ
 model_limit = 8388608
 
--- the text of some certificate whose echo is the input
+-- the text of a certificate that is right for the input
 pub record IsCertified (input text : List ℕ) : Type 0 where
   pub certificate : Contents
-  pub echo : certificate.echo ≡ input
+  pub right : IsRightFor input certificate
   pub text_is : text ≡ certificate_text certificate
 
 -- a run with these words on this whole input ends with this status and this text on `out`, when nothing fails

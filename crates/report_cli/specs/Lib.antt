@@ -8,3 +8,4 @@ pub mod Analyses
 pub mod Right
 pub mod Filling
 pub mod Elimination
+pub mod RightFor

@@ -3,6 +3,7 @@ use Rattle.std.proofs.lemmas.Grind.{common_steps}
 use Rattle.std.specs.String.{string_bytes}
 use Rattle.report_cli.specs.Analyses.{IsAnalysis}
 use Rattle.report_cli.specs.Certificates.{certificate_text}
+use Rattle.report_cli.specs.RightFor.{IsRightFor}
 use Rattle.report_cli.specs.Words.{AskForAnalysis}
 use Rattle.report_cli.specs.Answer.{model_limit}
 use Rattle.report_cli.specs.declared.analysis.Analysis.{Analysis}
@@ -17,5 +18,5 @@ returns-in-Ok-Certified-clause-calm_out g c = λ input is takes.
     let same : read ≡ input = read_is (g.S.Source.left c.args.source.now) (g.S.Source.left c.read_all.new.source) input read is c.in-Ok.ensures.all.0 c.in-Ok.ensures.all.1 in
     let short : length input ≤ model_limit = subst (λ r. length r ≤ model_limit) same c.in-Ok.ensures.within in
     let P : Analysis → Type 0 = λ found. IsAnalysis read found in
-    let echo : certificate.echo ≡ read = subst P c.in-Ok-Certified.field-0-is c.in-Ok-Certified.ensures in
-    c.deliver.ensures.calm (takes (certificate_text certificate) (asks, short, record { certificate = certificate; echo = echo ∙ same; text_is = refl }))
+    let right : IsRightFor read certificate = subst P c.in-Ok-Certified.field-0-is c.in-Ok-Certified.ensures in
+    c.deliver.ensures.calm (takes (certificate_text certificate) (asks, short, record { certificate = certificate; right = subst (λ r. IsRightFor r certificate) same right; text_is = refl }))
