@@ -1,16 +1,17 @@
 -- A dense tableau as it is kept: that it is a tableau, and that its operations keep that.
-use Rattle.std.proofs.Common.{◌≡◌, ℕ, ◌*◌, ◌%◌, ◌<◌, ◌≢◌, Bool, true, false, refl, sym, subst, ap, ◌∙◌, arith, length, replicate, None, Some, Option, List, is_some, IfNone, IfSome}
-use Rattle.std.proofs.Math.Nat.{mod-mod, mod-eq_of_lt}
+use Rattle.std.proofs.Common.{◌≡◌, ℕ, ◌%◌, ◌<◌, true, false, sym, subst, ap, ◌∙◌, arith, length, replicate, None, Some, Option, is_some, IfNone}
+use Rattle.std.proofs.Math.Nat.{mod-mod}
 use Rattle.std.proofs.lemmas.List.{length-replicate}
+use Rattle.std.proofs.lemmas.Bool.Decides.{nat_tests}
 use Rattle.residue_theory.specs.Residues.{IsPrime}
 use Rattle.linear_algebra.specs.Bases.{IsBase}
 use Rattle.linear_algebra.specs.Columns.{IsCombination}
 use Rattle.linear_algebra.specs.Products.{identity, IsInverse}
 use Rattle.linear_algebra.specs.RowOperations.{IsPivoted}
 use Rattle.dense_q.specs.Tables.{Table, height, entry, HasSameSize, IsTableOf}
-use Rattle.row_transform.specs.Bases.{BaseLists, is_base, row_of, IsBaseTaken, IsBaseDropped}
+use Rattle.row_transform.specs.Bases.{BaseLists, is_base, row_of, IsBaseTaken}
 use Rattle.row_transform.specs.Dense.{Dense, IsDense, state_of, led_back}
-use Rattle.row_transform.specs.Tableaus.{State, IsTableau, IsBare, IsBaseColumn, IsPivot, IsOpened}
+use Rattle.row_transform.specs.Tableaus.{State, IsTableau, IsBare, IsPivot, IsOpened}
 use Rattle.row_transform.specs.Transforms.{IsSized, LeadsFrom, LeadsFromTheSame}
 use Rattle.row_transform.proofs.TableauLaws.{leads_from-led_back, led_back-unique, led_back-same, span-zero, zero-span, base-taken, no_column}
 
@@ -69,9 +70,14 @@ module _ (p : ℕ) (prime : IsPrime p) (d : Dense) (q : Table) (rows columns : �
     columns_are = width_is;
     q_is = λ i j il jl. ap (λ x. x % p) (at_size i j il jl) ∙ mod-mod (entry q i j) p;
     p_is = ap entry same;
+    s_is = s_is.entries;
+    u_is = λ i j il jl. v_is.entries j i jl il ∙ turned j i;
     no_base = empty;
   }
     where
+      turned : (i j : ℕ) → identity i j ≡ identity j i
+      turned i j = grind (arith, nat_tests)
+
       at_size : (i j : ℕ) → i < height q → j < q.width → led_back p (height d.p) d.p.width (entry d.p) (entry d.v) i j ≡ entry q i j % p
       at_size i j il jl = ap (λ m. led_back p m d.p.width (entry d.p) (entry d.v) i j) height_is ∙ ap (λ n. led_back p (height q) n (entry d.p) (entry d.v) i j) width_is
           ∙ led_back-unique p (height q) q.width (entry d.p) (entry d.s) (entry d.v) prime (entry q) leads i j il jl
@@ -109,11 +115,3 @@ module _ (p : ℕ) (prime : IsPrime p) (d e : Dense) (r v : ℕ) (dense : IsDens
 pub bare_from : (o : Option ℕ) (P : Type 0) → is_some o ≡ false → IfNone o P → P
 bare_from None P e h = h
 bare_from (Some y) P e h = absurd (cc)
-
-pub not_bare : (t : State) (r : ℕ) (o : Option ℕ) → is_some o ≡ true → IfSome o (IsBaseColumn t r) → IsBare t r → ⊥
-not_bare t r None e h bare = absurd (cc)
-not_bare t r (Some y) e h bare = bare y h.below h.member h.at_row
-
--- a number below p that is zero modulo p
-pub zero_below : (p x : ℕ) → x < p → x % p ≡ 0 → x ≡ 0
-zero_below p x l z = sym (mod-eq_of_lt l) ∙ z

@@ -1,18 +1,18 @@
 -- What a dense tableau shows, and what a pivot keeps.
-use Rattle.std.proofs.Common.{◌≡◌, ℕ, ◌*◌, ◌%◌, ◌<◌, ◌≢◌, Bool, true, false, cond, ltb, eqb, ◌&&◌, not, ◌⊎◌, inl, inr, refl, sym, subst, ap, ◌∙◌, arith, replicate, slice_index_or, is_some, None, Option, List, ◌≤◌}
+use Rattle.std.proofs.Common.{◌≡◌, ℕ, ◌*◌, ◌%◌, ◌<◌, ◌≢◌, Bool, true, false, cond, ltb, eqb, ◌&&◌, not, ◌⊎◌, inl, inr, sym, subst, ap, ◌∙◌, arith, replicate, slice_index_or, is_some, None, Option, List, ◌≤◌}
 use Rattle.std.proofs.Math.ListN.{get_or-eq_default}
 use Rattle.std.proofs.lemmas.List.{get_or-replicate, length-replicate}
 use Rattle.std.proofs.Math.Nat.{mod-mod}
 use Rattle.std.proofs.Math.Path.{fun_ext}
 use Rattle.std.proofs.lemmas.Bool.Decides.{nat_tests}
 use Rattle.residue_theory.specs.Residues.{IsPrime}
-use Rattle.residue_theory.specs.Sets.{everything, with_one, IsWithin}
+use Rattle.residue_theory.specs.Sets.{everything, with_one}
 use Rattle.residue_theory.specs.Sums.{sum_below}
 use Rattle.residue_theory.proofs.SumLaws.{nat_cases}
 use Rattle.residue_theory.proofs.ResidueLaws.{agree-mul, agree-sum}
 use Rattle.linear_algebra.specs.Bases.{IsBase, HasNoBase}
-use Rattle.linear_algebra.specs.Columns.{Combines, IsCombination}
-use Rattle.linear_algebra.specs.Products.{product, identity, Agree, IsInverse}
+use Rattle.linear_algebra.specs.Columns.{IsCombination}
+use Rattle.linear_algebra.specs.Products.{product, identity, IsInverse}
 use Rattle.linear_algebra.specs.RowOperations.{IsPivoted}
 use Rattle.linear_algebra_laws.proofs.Bases.{base-within, base-combines, combines_of-base}
 use Rattle.linear_algebra_laws.proofs.Pivots.{row_set, row_set-same, row_set-other, base-pivot}

@@ -1,16 +1,16 @@
 -- Row operations on P and S, with the opposite ones on V.
-use Rattle.std.proofs.Common.{◌≡◌, ℕ, ◌+◌, ◌*◌, ◌%◌, ◌<◌, ◌≤◌, ◌≢◌, inl, inr, refl, sym, subst, ap, ◌∙◌, arith}
+use Rattle.std.proofs.Common.{◌≡◌, ℕ, ◌+◌, ◌*◌, ◌%◌, ◌<◌, ◌≢◌, inl, inr, sym, subst, ap, ◌∙◌, arith}
 use Rattle.std.proofs.lemmas.Bool.Decides.{nat_tests}
 use Rattle.residue_theory.specs.Residues.{IsPrime}
 use Rattle.residue_theory.specs.Sets.{everything}
 use Rattle.residue_theory.proofs.SumLaws.{nat_cases, sum_on-ext}
 use Rattle.residue_theory.proofs.ResidueLaws.{vanishes-mul}
-use Rattle.linear_algebra.specs.Products.{product, identity, Agree, IsInverse}
-use Rattle.linear_algebra.specs.RowOperations.{IsRowAdded, IsRowScaled, IsPivoted}
+use Rattle.linear_algebra.specs.Products.{product, identity}
+use Rattle.linear_algebra.specs.RowOperations.{IsRowAdded, IsRowScaled}
 use Rattle.linear_algebra_laws.proofs.Products.{sum-identity}
 use Rattle.linear_algebra_laws.proofs.InverseOperations.{product-row_added, product-row_scaled, agree-row_added, agree-row_scaled, inverse-row_added, inverse-row_scaled}
-use Rattle.linear_algebra_laws.proofs.Pivots.{IsPivotedBelow, pivot-start, pivot-skip, pivot-add, pivot-done}
-use Rattle.dense_q.specs.Tables.{Table, height, entry, HasSameSize, IsTableOf}
+use Rattle.linear_algebra_laws.proofs.Pivots.{IsPivotedBelow, pivot-start, pivot-add}
+use Rattle.dense_q.specs.Tables.{Table, height, entry, HasSameSize}
 use Rattle.row_transform.specs.Transforms.{IsSized, LeadsFrom, LeadsFromTheSame}
 
 pub scaled_at : (p m n : ℕ) (a b : Table) (t k : ℕ) → height a ≡ m → a.width ≡ n → IsRowScaled p (height a) a.width (entry a) (entry b) t k → IsRowScaled p m n (entry a) (entry b) t k

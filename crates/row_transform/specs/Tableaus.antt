@@ -1,7 +1,7 @@
 -- A tableau of a matrix Q: P = S * Q for an invertible S, with some columns of P as a base of unit columns.
-use Rattle.std.specs.Prelude.{ℕ, ◌<◌, ◌%◌, ◌≡◌, Bool, true, false}
+use Rattle.std.specs.Prelude.{ℕ, ◌<◌, ◌≡◌, Bool, true, false}
 use Rattle.linear_algebra.specs.Bases.{IsBase, HasNoBase}
-use Rattle.linear_algebra.specs.Products.{product, Agree, IsInverse}
+use Rattle.linear_algebra.specs.Products.{product, identity, Agree, IsInverse}
 use Rattle.linear_algebra.specs.RowOperations.{IsPivoted}
 use Rattle.row_transform.specs.Bases.{IsBaseTaken, IsBaseDropped}
 use Rattle.dense_q.specs.Tables.{Table, height, entry}
@@ -69,4 +69,6 @@ pub record IsOpened (modulus m n : ℕ) (q : ℕ → ℕ → ℕ) (t : State) : 
   pub columns_are : t.columns ≡ n
   pub q_is : Agree modulus m n t.q q
   pub p_is : t.p ≡ q
+  pub s_is : (i j : ℕ) → i < m → j < m → t.s i j ≡ identity i j
+  pub u_is : (i j : ℕ) → i < m → j < m → t.u i j ≡ identity i j
   pub no_base : (y : ℕ) → t.base y ≡ false

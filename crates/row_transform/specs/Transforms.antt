@@ -1,7 +1,7 @@
 -- A matrix P to which row operations have led, with the matrix S of these operations and the transpose V of its inverse.
 use Rattle.std.specs.Prelude.{ℕ, ◌≡◌}
 use Rattle.linear_algebra.specs.Products.{product, Agree, IsInverse}
-use Rattle.dense_q.specs.Tables.{Table, height, entry}
+use Rattle.dense_q.specs.Tables.{Table, height}
 
 -- S and V are square, with a row and a column for each row of P
 pub record IsSized (P S V : Table) : Type 0 where

@@ -52,7 +52,9 @@ impl<F: Field> Tableau<F> for DenseTableau<F> {
     }
 
     fn entry(&self, row: usize, col: usize) -> F {
-        self.transform.entry(row, col)
+        let entry = self.transform.entry(row, col);
+        entry.in_field();
+        entry
     }
 
     fn base_of(&self, row: usize) -> Option<usize> {
@@ -61,9 +63,7 @@ impl<F: Field> Tableau<F> for DenseTableau<F> {
 
     fn in_span(&self, col: usize) -> bool {
         for row in 0..self.rows() {
-            let entry = self.entry(row, col);
-            entry.in_field();
-            if !entry.is_zero() && self.base_of(row).is_none() {
+            if self.base_of(row).is_none() && !self.entry(row, col).is_zero() {
                 return false;
             }
         }

@@ -34,7 +34,7 @@ pub trait Tableau<F: Field>: Drop {
     fn entry(&self, row: usize, col: usize) -> F
         requires row { row < (state self.now).rows }
         requires col { col < (state self.now).columns }
-        ensures { F.number result ≡ (state self.now).p row col };
+        ensures { F.number result ≡ (state self.now).p row col % F.modulus };
 
     /// The base column of a row.
     fn base_of(&self, row: usize) -> Option<usize>

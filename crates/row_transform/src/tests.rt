@@ -1,6 +1,9 @@
+ghost use Rattle.std.specs.Prelude.{◌≡◌, ◌<◌, false};
+ghost use Rattle.row_transform.specs.Tableaus.{IsPivot};
+
 use super::*;
 use dense_q::Mat;
-use residue_field::Res;
+use residue_field::{Field, Res};
 use std::alloc::Global;
 use std::process::Abort;
 use std::test::Fail;
@@ -38,5 +41,88 @@ fn opens(rt: HostRuntime) -> Result<(), Fail> {
     assert_entries(&rt, &parts.s, &[&[1, 0], &[0, 1]], "S");
     assert_entries(&rt, &parts.u, &[&[1, 0], &[0, 1]], "U");
     assert_entries(&rt, &parts.p, &[&[1, 2, 3], &[4, 5, 6]], "P");
+    Ok(())
+}
+
+// Each base column, by rows.
+fn assert_base(rt: &impl Abort, t: &DenseTableau<Res>, want: &[Option<usize>], at: &str) {
+    assert_eq!(rt; t.rows(), want.len(), "{at}");
+    for (row, column) in want.iter().enumerate() {
+        assert!(rt; row < t.rows());
+        assert_eq!(rt; t.base_of(row), *column, "{at}, row {row}");
+    }
+}
+
+// A pivot through the bound, at an entry that is not zero.
+fn pivot_at<F: Field, T: Tableau<F>>(rt: &impl Abort, t: &mut T, row: usize, col: usize)
+    requires row { row < (T.state t.old).rows }
+    requires col { col < (T.state t.old).columns }
+    requires no_base { (T.state t.old).base col ≡ false }
+    ensures { IsPivot F.modulus (T.state t.old) (T.state t.new) row col }
+{
+    let entry = t.entry(row, col);
+    assert!(rt; !entry.is_zero());
+    t.pivot(row, col);
+}
+
+#[test]
+fn pivots_on_ones(rt: HostRuntime) -> Result<(), Fail> {
+    let q = matrix(rt.alloc(), &[[1, 1, 1], [1, 1, 1]])?;
+    let mut t = DenseTableau::open(rt.alloc(), &q)?;
+    assert_eq!(rt; (t.rows(), t.columns()), (2, 3));
+    assert!(rt; !t.in_span(2));
+    pivot_at(&rt, &mut t, 0, 0);
+    assert_base(&rt, &t, &[Some(0), None], "after a pivot");
+    assert!(rt; t.in_span(2));
+    let parts = t.parts()?;
+    assert_entries(&rt, &parts.p, &[&[1, 1, 1], &[0, 0, 0]], "P");
+    assert_entries(&rt, &parts.s, &[&[1, 0], &[65_520, 1]], "S");
+    assert_entries(&rt, &parts.u, &[&[1, 0], &[1, 1]], "U");
+    t.drop_base(0);
+    assert_base(&rt, &t, &[None, None], "after its column is dropped");
+    Ok(())
+}
+
+#[test]
+fn pivots_twice(rt: HostRuntime) -> Result<(), Fail> {
+    let q = matrix(rt.alloc(), &[[2, 1, 3], [4, 5, 6]])?;
+    let mut t = DenseTableau::open(rt.alloc(), &q)?;
+    assert_eq!(rt; (t.rows(), t.columns()), (2, 3));
+    pivot_at(&rt, &mut t, 1, 1);
+    pivot_at(&rt, &mut t, 0, 0);
+    assert_base(&rt, &t, &[Some(0), Some(1)], "two pivots");
+    let parts = t.parts()?;
+    assert_eq!(rt;
+        (
+            parts.s.rows(),
+            parts.s.cols(),
+            parts.u.rows(),
+            parts.p.cols()
+        ),
+        (2, 2, 2, 3)
+    );
+    assert_entries(
+        &rt,
+        &Mat::product(rt.alloc(), &parts.s, &parts.u)?,
+        &[&[1, 0], &[0, 1]],
+        "S * U",
+    );
+    assert_entries(
+        &rt,
+        &Mat::product(rt.alloc(), &parts.u, &parts.p)?,
+        &[&[2, 1, 3], &[4, 5, 6]],
+        "U * P",
+    );
+    Ok(())
+}
+
+#[test]
+fn takes_another_column(rt: HostRuntime) -> Result<(), Fail> {
+    let q = matrix(rt.alloc(), &[[2, 1, 3], [4, 5, 6]])?;
+    let mut t = DenseTableau::open(rt.alloc(), &q)?;
+    assert_eq!(rt; (t.rows(), t.columns()), (2, 3));
+    pivot_at(&rt, &mut t, 0, 0);
+    pivot_at(&rt, &mut t, 0, 2);
+    assert_base(&rt, &t, &[Some(2), None], "row 0 has column 2 now");
     Ok(())
 }

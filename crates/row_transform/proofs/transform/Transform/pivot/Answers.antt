@@ -1,7 +1,7 @@
-use Rattle.std.proofs.Common.{◌≡◌, ℕ, ◌*◌, ◌+◌, ◌%◌, arith, ap, sym, ◌∙◌}
+use Rattle.std.proofs.Common.{◌≡◌, ◌*◌, ◌%◌, arith, ap, sym, ◌∙◌}
 use Rattle.std.proofs.Math.Nat.{zero-mod}
 use Rattle.dense_q.specs.Tables.{height, entry}
-use Rattle.linear_algebra_laws.proofs.Pivots.{pivot-skip, pivot-done}
+use Rattle.linear_algebra_laws.proofs.Pivots.{pivot-skip}
 use Rattle.row_transform.proofs.TransformLaws.{pivot-first, pivot-next, pivot-zero, leads-next, size-trans}
 use Rattle.row_transform.proofs.transform.Transform.pivot.Goals as goal
 use Rattle.row_transform.proofs.transform.Transform.pivot.Goals.{then-i-row+then-not-is_zero, else-i-row, else-i-row-via-then-i-row+else-not-is_zero, else-i-row-via-else-i-row}
