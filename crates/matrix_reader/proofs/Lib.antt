@@ -1,1 +1,6 @@
+pub mod ItemSteps
 pub mod LabelLaws
+pub mod MarkLaws
+pub mod ModelSteps
+pub mod SaidLaws
+pub mod SeenLaws

@@ -1,8 +1,9 @@
-ghost use Rattle.std.specs.Prelude.{◌≡◌, ◌≢◌, ◌<◌, ◌≤◌, length, vec_len, IsTrue, IfOk, OnOk};
+ghost use Rattle.std.specs.Prelude.{◌≡◌, ◌≢◌, ◌<◌, ◌≤◌, length, vec_len, position, IsTrue, IfOk, IfErr, OnOk};
+ghost use Rattle.std.specs.Str.{bytes_eq};
 ghost use Rattle.mixed_model.specs.Names.{is_label};
-ghost use Rattle.mixed_model.specs.Models.{IsModel};
+ghost use Rattle.matrix_reader.specs.ReaderStates.{MarkedFrom, UnmarkedFrom, OnNotPlain, ReadsItem};
 
-use crate::item::{Term, read_term};
+use crate::item::read_term;
 use line_lexer::{Line, Tokens, name, tokens};
 use mixed_model::{AddError, Mixed, NoMemory};
 use std::alloc::{AllocError, AllocFailed, Global};
@@ -16,6 +17,11 @@ pub(crate) enum LineFault {
 }
 
 impl From<AddError> for LineFault {
+    ghost use Rattle.std.specs.Prelude.{◌≡◌};
+    ghost use Rattle.matrix_reader.specs.Faults.{fault_of};
+
+    ghost from_gives = { λ error fault. fault ≡ fault_of error };
+
     fn from(error: AddError) -> LineFault {
         match error {
             AddError::Twice | AddError::TooMany => LineFault::NotPlain,
@@ -25,6 +31,11 @@ impl From<AddError> for LineFault {
 }
 
 impl<T: Drop> From<AllocFailed<T>> for LineFault {
+    ghost use Rattle.std.specs.Prelude.{◌≡◌};
+    ghost use Rattle.matrix_reader.specs.declared.reader.LineFault.TheVariants.{NoMemory};
+
+    ghost from_gives = { λ _ fault. fault ≡ NoMemory };
+
     fn from(_error: AllocFailed<T>) -> LineFault {
         LineFault::NoMemory
     }
@@ -84,21 +95,23 @@ impl Reader {
         }
         let i = self.model.add_equation(equation)?;
         for item in items {
-            let Some(term) = read_term(item.text) else {
-                return Err(LineFault::NotPlain);
-            };
-            self.put_term(line, i, term)?;
+            self.read_item(line, i, item.text)?;
         }
         Ok(())
     }
 
-    fn put_term(&mut self, line: u32, i: usize, term: Term<'_>) -> Result<(), LineFault>
-        requires marks { vec_len self.old.last_lines ≡ length self.old.model.unknowns }
+    // Puts what an item says into equation `i`, in the line of this number.
+    #[tactic(auto, using(crate::proofs::LabelLaws::name_is_label))]
+    fn read_item(&mut self, line: u32, i: usize, item: &str) -> Result<(), LineFault>
+        requires lengths { vec_len self.old.last_lines ≡ length self.old.model.unknowns }
         requires equation { i < length self.old.model.equations }
-        requires label { IsTrue (is_label term.unknown.now) }
-        ensures marks { OnOk result (vec_len self.new.last_lines ≡ length self.new.model.unknowns) }
+        ensures lengths { OnOk result (vec_len self.new.last_lines ≡ length self.new.model.unknowns) }
         ensures equations { OnOk result (self.new.model.equations ≡ self.old.model.equations) }
+        ensures read { ReadsItem line i self.old.model self.new.model self.old.last_lines.items self.new.last_lines.items item.now result }
     {
+        let Some(term) = read_term(item) else {
+            return Err(LineFault::NotPlain);
+        };
         let j = self.mark(line, term.unknown)?;
         if term.constant.value() == 0 {
             return Ok(());
@@ -109,11 +122,13 @@ impl Reader {
 
     // The column of an unknown, which now stands in this line. It may not have stood there before.
     fn mark(&mut self, line: u32, unknown: &str) -> Result<usize, LineFault>
-        requires marks { vec_len self.old.last_lines ≡ length self.old.model.unknowns }
+        requires lengths { vec_len self.old.last_lines ≡ length self.old.model.unknowns }
         requires label { IsTrue (is_label unknown.now) }
         ensures within { IfOk result (λ j. j < length self.new.model.unknowns) }
-        ensures marks { OnOk result (vec_len self.new.last_lines ≡ length self.new.model.unknowns) }
+        ensures lengths { OnOk result (vec_len self.new.last_lines ≡ length self.new.model.unknowns) }
         ensures equations { OnOk result (self.new.model.equations ≡ self.old.model.equations) }
+        ensures marked { IfOk result (λ j. MarkedFrom (position (bytes_eq unknown.now) self.old.model.unknowns) line self.old.model self.new.model self.old.last_lines.items self.new.last_lines.items unknown.now j) }
+        ensures unmarked { IfErr result (λ fault. OnNotPlain fault (UnmarkedFrom (position (bytes_eq unknown.now) self.old.model.unknowns) line self.old.model self.old.last_lines.items)) }
     {
         match self.model.find_unknown(unknown) {
             Some(j) => {
