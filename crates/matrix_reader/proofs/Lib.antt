@@ -1,5 +1,6 @@
 pub mod ItemSteps
 pub mod LabelLaws
+pub mod LineSteps
 pub mod MarkLaws
 pub mod ModelSteps
 pub mod SaidLaws

@@ -1,9 +1,11 @@
 -- What the reader knows between two lines, and within one.
-use Rattle.std.specs.Prelude.{◌≡◌, ◌≢◌, ℕ, ◌<◌, ◌≤◌, Bool, not, ◌&&◌, ◌||◌, List, [], ◌∷◌, ◌++◌, length, map, nat_eq, nat_lt, slice_index, slice_index_or, slice_set, Option, Some, None, Result, Ok, Err, MatchResult, true, false}
+use Rattle.std.specs.Prelude.{◌≡◌, ◌≢◌, ℕ, ◌+◌, ◌<◌, ◌≤◌, Bool, not, ◌&&◌, ◌||◌, List, [], ◌∷◌, ◌++◌, length, map, nat_eq, nat_lt, slice_index, slice_index_or, slice_set, Option, Some, None, Result, Ok, Err, MatchResult, true, false}
 use Rattle.mixed_model.specs.Names.{has_name}
 use Rattle.mixed_model.specs.Models.{MixedModel, IsModel, with_unknown}
 use Rattle.matrix_reader.specs.Items.{is_item, unknown_of}
-use Rattle.matrix_reader.specs.EquationLists.{Equation}
+use Rattle.line_lexer.specs.Names.{is_name}
+use Rattle.line_lexer.specs.Tokens.{words_of}
+use Rattle.matrix_reader.specs.EquationLists.{Equation, equation_of, is_bare, is_new_equation, are_new_items, are_plain_words}
 use Rattle.matrix_reader.specs.Models.{IsModelOf}
 use Rattle.matrix_reader.specs.declared.reader.LineFault.{LineFault}
 use Rattle.matrix_reader.specs.declared.reader.LineFault.TheVariants.{NotPlain, NoMemory}
@@ -56,3 +58,32 @@ ReadsItem line i old new old_lines new_lines item result =
     → MatchResult result
       (λ _. (may_follow old.unknowns current.items item ≡ true) × IsWithin before (with_item current item) line new new_lines)
       (λ fault. OnNotPlain fault (may_follow old.unknowns current.items item ≡ false))
+
+-- whether a name may be that of the next equation of a model
+abbrev pub may_be_added : MixedModel → List ℕ → Bool
+may_be_added model name = is_name name && not (has_name model.equations name) && nat_lt (length model.equations) 4096
+
+-- What adding an equation answers: its number, or why the line is not plain.
+abbrev pub AddsEquation : MixedModel → List ℕ → Result ℕ LineFault → Type 0
+AddsEquation old name result =
+    MatchResult result
+    (λ i. (i ≡ length old.equations) × (may_be_added old name ≡ true))
+    (λ fault. OnNotPlain fault (may_be_added old name ≡ false))
+
+-- What reading an equation answers and leaves, wherever between two lines the reader was.
+abbrev pub ReadsEquation : ℕ → MixedModel → MixedModel → List ℕ → List ℕ → List ℕ → List (List ℕ) → Result (Unit {0}) LineFault → Type 0
+ReadsEquation line old new old_lines new_lines name items result =
+    (before : List Equation) → IsBetween before line old old_lines
+    → MatchResult result
+      (λ _. ((is_new_equation before name && are_new_items before items) ≡ true)
+        × IsBetween (before ++ record { name = name; items = items } ∷ []) (line + 1) new new_lines)
+      (λ fault. OnNotPlain fault ((is_new_equation before name && are_new_items before items) ≡ false))
+
+-- What reading a line answers and leaves.
+abbrev pub ReadsLine : ℕ → MixedModel → MixedModel → List ℕ → List ℕ → List ℕ → Result (Unit {0}) LineFault → Type 0
+ReadsLine number old new old_lines new_lines line result =
+    (before : List Equation) → IsBetween before number old old_lines
+    → MatchResult result
+      (λ _. ((is_bare line && are_plain_words before (words_of line)) ≡ true)
+        × IsBetween (before ++ equation_of (words_of line)) (number + 1) new new_lines)
+      (λ fault. OnNotPlain fault ((is_bare line && are_plain_words before (words_of line)) ≡ false))

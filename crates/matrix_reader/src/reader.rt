@@ -1,7 +1,9 @@
-ghost use Rattle.std.specs.Prelude.{◌≡◌, ◌≢◌, ◌<◌, ◌≤◌, length, vec_len, position, IsTrue, IfOk, IfErr, OnOk};
+ghost use Rattle.std.specs.Prelude.{◌≡◌, ◌≢◌, ◌<◌, ◌≤◌, length, map, vec_len, position, IsTrue, IfOk, IfErr, OnOk};
 ghost use Rattle.std.specs.Str.{bytes_eq};
 ghost use Rattle.mixed_model.specs.Names.{is_label};
-ghost use Rattle.matrix_reader.specs.ReaderStates.{MarkedFrom, UnmarkedFrom, OnNotPlain, ReadsItem};
+ghost use Rattle.mixed_model.specs.Models.{IsModel, with_equation};
+ghost use Rattle.matrix_reader.specs.EquationLists.{is_bare};
+ghost use Rattle.matrix_reader.specs.ReaderStates.{MarkedFrom, UnmarkedFrom, OnNotPlain, ReadsItem, AddsEquation, ReadsEquation, ReadsLine};
 
 use crate::item::read_term;
 use line_lexer::{Line, Tokens, name, tokens};
@@ -58,46 +60,56 @@ impl Reader {
         })
     }
 
+    #[tactic(auto, using(crate::proofs::LineSteps::bare_is_clean))]
     pub(crate) fn read_line(&mut self, line: Line<'_>) -> Result<(), LineFault>
         requires { vec_len self.old.last_lines ≡ length self.old.model.unknowns }
-        ensures { OnOk result (vec_len self.new.last_lines ≡ length self.new.model.unknowns) }
+        ensures lengths { OnOk result (vec_len self.new.last_lines ≡ length self.new.model.unknowns) }
+        ensures read { ReadsLine line.entry.number self.old.model self.new.model self.old.last_lines.items self.new.last_lines.items line.entry.bytes.now result }
     {
-        if line.bytes.contains(&b'#') {
+        if !is_bare(line.bytes) {
             return Err(LineFault::NotPlain);
         }
-        let Ok(mut tokens) = tokens(line) else {
+        let Ok(mut words) = tokens(line) else {
             return Err(LineFault::NotPlain);
         };
-        let Some(word) = tokens.next() else {
+        let Some(word) = words.next() else {
             return Ok(());
         };
         if word.text != "eq" {
             return Err(LineFault::NotPlain);
         }
-        let Some(equation) = tokens.next() else {
+        let Some(equation) = words.next() else {
             return Err(LineFault::NotPlain);
         };
-        self.read_equation(line.number, equation.text, tokens)
+        self.read_equation(line.number, equation.text, words)
     }
 
     #[tactic(auto, using(crate::proofs::LabelLaws::name_is_label))]
-    fn read_equation(
-        &mut self,
-        line: u32,
-        equation: &str,
-        items: Tokens<'_>,
-    ) -> Result<(), LineFault>
+    fn read_equation(&mut self, line: u32, equation: &str, items: Tokens<'_>) -> Result<(), LineFault>
         requires { vec_len self.old.last_lines ≡ length self.old.model.unknowns }
-        ensures { OnOk result (vec_len self.new.last_lines ≡ length self.new.model.unknowns) }
+        ensures lengths { OnOk result (vec_len self.new.last_lines ≡ length self.new.model.unknowns) }
+        ensures read { ReadsEquation line self.old.model self.new.model self.old.last_lines.items self.new.last_lines.items equation.now (map (λ item. item.1) items.entry) result }
     {
-        if name(equation).is_err() {
-            return Err(LineFault::NotPlain);
-        }
-        let i = self.model.add_equation(equation)?;
+        let i = self.add_equation(equation)?;
         for item in items {
             self.read_item(line, i, item.text)?;
         }
         Ok(())
+    }
+
+    #[tactic(auto, using(crate::proofs::LabelLaws::name_is_label))]
+    fn add_equation(&mut self, equation: &str) -> Result<usize, LineFault>
+        requires { vec_len self.old.last_lines ≡ length self.old.model.unknowns }
+        ensures within { IfOk result (λ i. i < length self.new.model.equations) }
+        ensures lengths { OnOk result (vec_len self.new.last_lines ≡ length self.new.model.unknowns) }
+        ensures lines { OnOk result (self.new.last_lines.items ≡ self.old.last_lines.items) }
+        ensures added { OnOk result ((self.new.model ≡ with_equation self.old.model equation.now) × IsModel self.new.model) }
+        ensures answer { AddsEquation self.old.model equation.now result }
+    {
+        if name(equation).is_err() {
+            return Err(LineFault::NotPlain);
+        }
+        Ok(self.model.add_equation(equation)?)
     }
 
     // Puts what an item says into equation `i`, in the line of this number.
@@ -145,4 +157,12 @@ impl Reader {
             }
         }
     }
+}
+
+// Whether each byte is a tab or prints, and none starts a comment.
+fn is_bare(line: &[u8]) -> bool
+    ensures { result ≡ is_bare line.now }
+{
+    line.iter()
+        .all(|byte| (*byte == b'\t' || 32 <= *byte && *byte <= 126) && *byte != b'#')
 }
