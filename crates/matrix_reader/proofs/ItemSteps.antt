@@ -1,5 +1,5 @@
 -- One item read: what it leaves, and why it is not read.
-use Rattle.std.proofs.Common.{◌≡◌, ◌≢◌, ℕ, ◌+◌, ◌<◌, ◌≤◌, Bool, true, false, cond, not, ◌&&◌, ◌||◌, List, [], ◌∷◌, ◌++◌, length, map, get_or, position, Option, Some, None, Result, Ok, Err, unwrap_or, refl, sym, ap, subst, ◌∙◌, arith, eqb, eqb-true, eq-eqb, ltb, le-ltb}
+use Rattle.std.proofs.Common.{◌≡◌, ℕ, ◌<◌, Bool, true, false, cond, not, ◌&&◌, ◌||◌, List, [], ◌∷◌, ◌++◌, length, map, get_or, position, Option, Some, None, Err, unwrap_or, refl, sym, ap, subst, ◌∙◌, arith, eqb, eqb-true, eq-eqb, ltb, le-ltb}
 use Rattle.std.specs.Str.{bytes_eq}
 use Rattle.mixed_model.specs.declared.errors.AddError.{AddError}
 use Rattle.mixed_model.specs.declared.errors.AddError.TheVariants.{Twice, TooMany, NoMemory as OutOfMemory}
@@ -9,7 +9,7 @@ use Rattle.mixed_model.specs.Models.{MixedModel, IsModel, PutsAt, constant_of, r
 use Rattle.mixed_model.proofs.RowLaws.{putting-Ok}
 use Rattle.matrix_reader.specs.Items.{is_item, unknown_of, item_constant}
 use Rattle.matrix_reader.specs.EquationLists.{Equation}
-use Rattle.matrix_reader.specs.Models.{IsModelOf, constant_at}
+use Rattle.matrix_reader.specs.Models.{constant_at}
 use Rattle.matrix_reader.specs.Faults.{fault_of}
 use Rattle.matrix_reader.specs.ReaderStates.{IsWithin, UnmarkedFrom, OnNotPlain, may_follow, with_item}
 use Rattle.matrix_reader.proofs.MarkLaws.{Marks, has_name-Some, has_name-None}
@@ -28,7 +28,7 @@ module _ (before : List Equation) (current : Equation) (line : ℕ) (old : Mixed
       by (Some k) e stood =
           let at = has_name-Some old.unknowns (unknown_of item) k e in
           let twice : has_name (map unknown_of current.items) (unknown_of item) ≡ true =
-              ap (has_name (map unknown_of current.items)) (sym at.1) ∙ sym (at_line.marks k at.0) ∙ eq-eqb (get_or old_lines k 0) line stood in
+          ap (has_name (map unknown_of current.items)) (sym at.1) ∙ sym (at_line.marks k at.0) ∙ eq-eqb (get_or old_lines k 0) line stood in
           rw twice (all_false (is_item item))
         where
           all_false : (b : Bool) → (b && false && (has_name old.unknowns (unknown_of item) || ltb (length old.unknowns) 4096)) ≡ false
@@ -54,11 +54,11 @@ module _ (before : List Equation) (current : Equation) (line : ℕ) (old : Mixed
     fresh_place = same_constants (length before) j ∙ constant_of-fresh before current item old new j at_line.gives marks.fresh marks.is_model marks.equations marks.unknowns marks.within marks.place
 
     grown : (last : MixedModel) → IsModel last → last.equations ≡ new.equations → last.unknowns ≡ new.unknowns
-      → ((i c : ℕ) → constant_at last i c ≡ cond (eqb (length before) i && eqb j c) (item_constant item) (constant_at old i c))
-      → IsWithin before (with_item current item) line last new_lines
+        → ((i c : ℕ) → constant_at last i c ≡ cond (eqb (length before) i && eqb j c) (item_constant item) (constant_at old i c))
+        → IsWithin before (with_item current item) line last new_lines
     grown last is equations unknowns constants = record {
       gives = IsModelOf-item before current item old last j at_line.gives marks.fresh is (equations ∙ marks.equations) (unknowns ∙ marks.unknowns)
-        (subst (λ names. j < length names) (sym unknowns) marks.within) (ap (λ names. get_or names j []) unknowns ∙ marks.place) (λ i c within. constants i c);
+          (subst (λ names. j < length names) (sym unknowns) marks.within) (ap (λ names. get_or names j []) unknowns ∙ marks.place) (λ i c within. constants i c);
       lengths = marks.lengths ∙ ap length (sym unknowns);
       earlier = marks.earlier;
       marks = λ k within. marks.marks k (omega (arith, ap length unknowns)) ∙ ap (λ names. has_name (map unknown_of (current.items ++ item ∷ [])) (get_or names k [])) (sym unknowns);
@@ -80,7 +80,7 @@ module _ (before : List Equation) (current : Equation) (line : ℕ) (old : Mixed
     -- an item whose constant is put at its place
     pub grown_by_put : (last : MixedModel) → IsModel last → PutsAt new last (length before) j (item_constant item) → IsWithin before (with_item current item) line last new_lines
     grown_by_put last is puts = grown last is puts.equations puts.unknowns
-      (λ i c. ap (λ o. unwrap_or o 0) (puts.constants i c) ∙ by i c (eqb (length before) i && eqb j c))
+        (λ i c. ap (λ o. unwrap_or o 0) (puts.constants i c) ∙ by i c (eqb (length before) i && eqb j c))
       where
         by : (i c : ℕ) (b : Bool) → unwrap_or (cond b (Some (item_constant item)) (constant_of new i c)) 0 ≡ cond b (item_constant item) (constant_at old i c)
         by i c true = refl

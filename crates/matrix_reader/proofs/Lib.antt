@@ -1,6 +1,7 @@
 pub mod ItemSteps
 pub mod LabelLaws
 pub mod LineSteps
+pub mod ListSteps
 pub mod MarkLaws
 pub mod ModelSteps
 pub mod SaidLaws

@@ -1,5 +1,5 @@
 -- One line read: how it begins, goes on by an item, breaks off and ends.
-use Rattle.std.proofs.Common.{◌≡◌, ◌≢◌, ℕ, zero, suc, take, ◌+◌, ◌<◌, ◌≤◌, Bool, true, false, cond, not, ◌&&◌, ◌||◌, List, [], ◌∷◌, ◌++◌, length, map, fold, get_or, refl, sym, ap, subst, ◌∙◌, arith, eqb, ne_eqb, ltb, ltb-false, le-leb, leb-true, length-append, nat_lt}
+use Rattle.std.proofs.Common.{◌≡◌, ℕ, zero, suc, take, ◌+◌, ◌≤◌, Bool, true, false, cond, not, ◌&&◌, ◌||◌, List, [], ◌∷◌, ◌++◌, length, map, fold, get_or, refl, sym, ap, subst, ◌∙◌, arith, ne_eqb, ltb-false, le-leb, leb-true, length-append, nat_lt}
 use Rattle.std.specs.Prelude.{nat_le}
 use Rattle.std.specs.List.{list_all, position_or_len}
 use Rattle.std.specs.Str.{bytes_eq}
@@ -15,7 +15,6 @@ use Rattle.mixed_model.specs.Names.{has_name}
 use Rattle.mixed_model.specs.Models.{MixedModel, IsModel, with_equation}
 use Rattle.matrix_reader.specs.Items.{is_item, unknown_of}
 use Rattle.matrix_reader.specs.EquationLists.{Equation, is_bare, unknowns_in, see, are_distinct, is_new_equation, are_new_items}
-use Rattle.matrix_reader.specs.Models.{IsModelOf}
 use Rattle.matrix_reader.specs.ReaderStates.{IsBetween, IsWithin, may_follow, may_be_added, with_item}
 use Rattle.matrix_reader.proofs.ModelSteps.{IsModelOf-equation}
 use Rattle.matrix_reader.proofs.SeenLaws.{unknowns_in-push, length-fold-see}
@@ -34,9 +33,9 @@ are_distinct-push (first ∷ names) name distinct new =
     by false p true q d n more = let bad : true ≡ false = rw q at n in let f : ⊥ = cc in absurd f
     by false p false q d n more =
         let other : bytes_eq first name ≡ false = false_from_ne_true (bytes_eq first name) (λ same.
-            let e : first ≡ name = (bytes_eq-Decides first name).0 same in
-            let back : bytes_eq name first ≡ true = (bytes_eq-Decides name first).1 (sym e) in
-            let f : ⊥ = cc in f) in
+        let e : first ≡ name = (bytes_eq-Decides first name).0 same in
+        let back : bytes_eq name first ≡ true = (bytes_eq-Decides name first).1 (sym e) in
+        let f : ⊥ = cc in f) in
         let last : has_name (names ++ name ∷ []) first ≡ false = has_name-append names (name ∷ []) first ∙ rw (p, other) refl in
         rw last (more (rw p at d) (rw q at n))
 
@@ -48,9 +47,11 @@ are_distinct-again (first ∷ names) name rest there =
     and_false : (b : Bool) → (b && false) ≡ false
     and_false true = refl
     and_false false = refl
+
     or_true : (b : Bool) → (b || true) ≡ true
     or_true true = refl
     or_true false = refl
+
     by : (b : Bool) → bytes_eq name first ≡ b → (bytes_eq name first || has_name names name) ≡ true → (has_name names name ≡ true → are_distinct (names ++ name ∷ rest) ≡ false) → (not (has_name (names ++ name ∷ rest) first) && are_distinct (names ++ name ∷ rest)) ≡ false
     by true q t more =
         let e : name ≡ first = (bytes_eq-Decides name first).0 q in
@@ -102,7 +103,7 @@ module _ (before : List Equation) (current : Equation) (line : ℕ) (model : Mix
       let fresh : has_name (map unknown_of items) (unknown_of item) ≡ false = grind (arith, nat_tests) in
       let seen = after.gives.unknowns ∙ unknowns_in-push before (with_item current item) in
       let few : nat_le (length (fold see (unknowns_in before) (map unknown_of (items ++ item ∷ [])))) 4096 ≡ true =
-          le-leb (length (fold see (unknowns_in before) (map unknown_of (items ++ item ∷ [])))) 4096 (omega (arith, after.gives.is_model.unknowns.few, ap length seen)) in
+      le-leb (length (fold see (unknowns_in before) (map unknown_of (items ++ item ∷ [])))) 4096 (omega (arith, after.gives.is_model.unknowns.few, ap length seen)) in
       let all_more : list_all is_item (items ++ item ∷ []) ≡ true = list_all-append is_item items (item ∷ []) ∙ rw (all, one) refl in
       let distinct_more : are_distinct (map unknown_of (items ++ item ∷ [])) ≡ true = ap are_distinct (map-append unknown_of items (item ∷ [])) ∙ are_distinct-push (map unknown_of items) (unknown_of item) distinct fresh in
       rw (all_more, distinct_more, few) refl
@@ -114,26 +115,27 @@ module _ (before : List Equation) (current : Equation) (line : ℕ) (model : Mix
       and_false : (b : Bool) → (b && false) ≡ false
       and_false true = refl
       and_false false = refl
+
       by : (a : Bool) → is_item item ≡ a → (b : Bool) → has_name (map unknown_of current.items) (unknown_of item) ≡ b → (c : Bool) → has_name model.unknowns (unknown_of item) ≡ c → may_follow model.unknowns current.items item ≡ false → are_new_items before (current.items ++ item ∷ rest) ≡ false
       by false p b q c r why =
           let none : list_all is_item (current.items ++ item ∷ rest) ≡ false = list_all-append is_item current.items (item ∷ rest) ∙ rw p (and_false (list_all is_item current.items)) in
           rw none refl
       by true p true q c r why =
           let again : are_distinct (map unknown_of (current.items ++ item ∷ rest)) ≡ false =
-              ap are_distinct (map-append unknown_of current.items (item ∷ rest)) ∙ are_distinct-again (map unknown_of current.items) (unknown_of item) (map unknown_of rest) q in
+          ap are_distinct (map-append unknown_of current.items (item ∷ rest)) ∙ are_distinct-again (map unknown_of current.items) (unknown_of item) (map unknown_of rest) q in
           rw (again, and_false (list_all is_item (current.items ++ item ∷ rest))) refl
       by true p false q true r why = let bad : true ≡ false = rw (p, q, r) at why in let f : ⊥ = cc in absurd f
       by true p false q false r why =
           let full : 4096 ≤ length model.unknowns = ltb-false (length model.unknowns) 4096 (rw (p, q, r) at why) in
           let all : fold see (unknowns_in before) (map unknown_of (current.items ++ item ∷ rest)) ≡ fold see (see model.unknowns (unknown_of item)) (map unknown_of rest) =
-              ap (fold see (unknowns_in before)) (map-append unknown_of current.items (item ∷ rest))
-              ∙ fold-append see (unknowns_in before) (map unknown_of current.items) (unknown_of item ∷ map unknown_of rest)
-              ∙ ap (λ seen. fold see (see seen (unknown_of item)) (map unknown_of rest)) (sym seen_now) in
+          ap (fold see (unknowns_in before)) (map-append unknown_of current.items (item ∷ rest))
+          ∙ fold-append see (unknowns_in before) (map unknown_of current.items) (unknown_of item ∷ map unknown_of rest)
+          ∙ ap (λ seen. fold see (see seen (unknown_of item)) (map unknown_of rest)) (sym seen_now) in
           let one_more : length (see model.unknowns (unknown_of item)) ≡ length model.unknowns + 1 =
-              ap (λ b. length (cond b model.unknowns (model.unknowns ++ unknown_of item ∷ []))) r ∙ length-append model.unknowns (unknown_of item ∷ []) in
+          ap (λ b. length (cond b model.unknowns (model.unknowns ++ unknown_of item ∷ []))) r ∙ length-append model.unknowns (unknown_of item ∷ []) in
           let many = length-fold-see (see model.unknowns (unknown_of item)) (map unknown_of rest) in
           let too_many : nat_le (length (fold see (unknowns_in before) (map unknown_of (current.items ++ item ∷ rest)))) 4096 ≡ false =
-              false_from_ne_true _ (λ few. omega (arith, leb-true (length (fold see (unknowns_in before) (map unknown_of (current.items ++ item ∷ rest)))) 4096 few, ap length all)) in
+          false_from_ne_true _ (λ few. omega (arith, leb-true (length (fold see (unknowns_in before) (map unknown_of (current.items ++ item ∷ rest)))) 4096 few, ap length all)) in
           rw too_many (and_false (list_all is_item (current.items ++ item ∷ rest) && are_distinct (map unknown_of (current.items ++ item ∷ rest))))
 
 -- within an equation line: the items so far are right, and the reader is behind them

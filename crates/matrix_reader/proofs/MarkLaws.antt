@@ -1,6 +1,5 @@
 -- Unknowns that are found, marked and added.
-use Rattle.std.proofs.Common.{◌≡◌, ◌≢◌, ℕ, zero, suc, ◌+◌, ◌<◌, ◌≤◌, Bool, true, false, cond, not, ◌&&◌, ◌||◌, List, [], ◌∷◌, ◌++◌, length, map, set, get_or, position, Option, Some, None, Result, Ok, Err, refl, sym, ap, subst, ◌∙◌, arith, eqb, eq-eqb, ne_eqb, ltb, ltb-false, lt-ltb, ⊎_elim, length-append, length-set, get_or-set_same, get_or-set_other}
-use Rattle.std.specs.List.{list_any, position_or_len}
+use Rattle.std.proofs.Common.{◌≡◌, ◌≢◌, ℕ, ◌+◌, ◌<◌, ◌≤◌, Bool, true, false, cond, ◌||◌, List, [], ◌∷◌, ◌++◌, length, map, set, get_or, position, Option, Some, None, Ok, Err, refl, sym, ap, subst, ◌∙◌, arith, eqb, eq-eqb, ne_eqb, ltb, ltb-false, lt-ltb, ⊎_elim, length-append, length-set, get_or-set_same, get_or-set_other}
 use Rattle.std.specs.Str.{bytes_eq}
 use Rattle.std.proofs.lemmas.Bool.{cases_lt, cases_eq, false_from_ne_true}
 use Rattle.std.proofs.lemmas.List.{map-append, get_or_append_left, get_or_push, get_or_past}
@@ -14,8 +13,7 @@ use Rattle.mixed_model.specs.declared.errors.AddError.TheVariants.{Twice, TooMan
 use Rattle.mixed_model.specs.Names.{has_name, adding, AnswersAdd}
 use Rattle.mixed_model.specs.Models.{MixedModel, IsModel, with_unknown}
 use Rattle.matrix_reader.specs.Items.{unknown_of}
-use Rattle.matrix_reader.specs.EquationLists.{Equation, see, unknowns_in}
-use Rattle.matrix_reader.specs.Models.{IsModelOf, items_at}
+use Rattle.matrix_reader.specs.EquationLists.{Equation, see}
 use Rattle.matrix_reader.proofs.SaidLaws.{items_at-last, absent-unseen}
 use Rattle.matrix_reader.proofs.SeenLaws.{names_apart}
 use Rattle.matrix_reader.specs.Faults.{fault_of}
@@ -105,19 +103,19 @@ module _ (before : List Equation) (current : Equation) (line : ℕ) (old : Mixed
         place = at.1;
         lengths = length-set old_lines k line ∙ at_line.lengths;
         earlier = λ m. ⊎_elim
-          (λ same. subst (λ i. get_or (set old_lines k line) i 0 ≤ line) (sym same) (omega (arith, get_or-set_same old_lines k line 0 counted)))
-          (λ other. omega (arith, get_or-set_other old_lines k m line 0 other, at_line.earlier m))
-          (cases_eq m k);
+            (λ same. subst (λ i. get_or (set old_lines k line) i 0 ≤ line) (sym same) (omega (arith, get_or-set_same old_lines k line 0 counted)))
+            (λ other. omega (arith, get_or-set_other old_lines k m line 0 other, at_line.earlier m))
+            (cases_eq m k);
         marks = λ m within. ⊎_elim
-          (λ same. subst (λ i. eqb (get_or (set old_lines k line) i 0) line ≡ has_name (map unknown_of (current.items ++ item ∷ [])) (get_or old.unknowns i [])) (sym same)
+            (λ same. subst (λ i. eqb (get_or (set old_lines k line) i 0) line ≡ has_name (map unknown_of (current.items ++ item ∷ [])) (get_or old.unknowns i [])) (sym same)
             (eq-eqb (get_or (set old_lines k line) k 0) line (get_or-set_same old_lines k line 0 counted) ∙ sym (has_name-push_same current.items item (get_or old.unknowns k []) at.1)))
-          (λ other.
+            (λ other.
             let differs : get_or old.unknowns m [] ≢ unknown_of item = λ same.
-                let apart = names_apart old.unknowns m k at_line.gives.is_model.unknowns.distinct other within at.0 in
-                let equal : bytes_eq (get_or old.unknowns m []) (get_or old.unknowns k []) ≡ true = (bytes_eq-Decides (get_or old.unknowns m []) (get_or old.unknowns k [])).1 (same ∙ sym at.1) in
-                let f : ⊥ = cc in f in
+            let apart = names_apart old.unknowns m k at_line.gives.is_model.unknowns.distinct other within at.0 in
+            let equal : bytes_eq (get_or old.unknowns m []) (get_or old.unknowns k []) ≡ true = (bytes_eq-Decides (get_or old.unknowns m []) (get_or old.unknowns k [])).1 (same ∙ sym at.1) in
+            let f : ⊥ = cc in f in
             ap (λ n. eqb n line) (get_or-set_other old_lines k m line 0 other) ∙ at_line.marks m within ∙ sym (has_name-push_other current.items item (get_or old.unknowns m []) differs))
-          (cases_eq m k);
+            (cases_eq m k);
       }
 
   -- a new unknown
@@ -126,7 +124,7 @@ module _ (before : List Equation) (current : Equation) (line : ℕ) (old : Mixed
       let absent = has_name-None old.unknowns (unknown_of item) none in
       record {
         fresh = ap (λ items. has_name (map unknown_of items) (unknown_of item)) (sym (items_at-last before current (length before) refl))
-          ∙ absent-unseen (before ++ current ∷ []) (unknown_of item) (length before) (subst (λ names. has_name names (unknown_of item) ≡ false) at_line.gives.unknowns absent);
+            ∙ absent-unseen (before ++ current ∷ []) (unknown_of item) (length before) (subst (λ names. has_name names (unknown_of item) ≡ false) at_line.gives.unknowns absent);
         room = rw (absent, lt-ltb (length old.unknowns) 4096 room) refl;
         is_model = is;
         equations = refl;
@@ -136,25 +134,25 @@ module _ (before : List Equation) (current : Equation) (line : ℕ) (old : Mixed
         place = get_or_push old.unknowns (unknown_of item) [] (length old.unknowns) refl;
         lengths = length-append old_lines (line ∷ []) ∙ ap (λ n. n + 1) at_line.lengths ∙ sym (length-append old.unknowns (unknown_of item ∷ []));
         earlier = λ m. ⊎_elim
-          (λ less. omega (arith, get_or_append_left old_lines (line ∷ []) 0 m less, at_line.earlier m))
-          (λ more. ⊎_elim
+            (λ less. omega (arith, get_or_append_left old_lines (line ∷ []) 0 m less, at_line.earlier m))
+            (λ more. ⊎_elim
             (λ last. omega (arith, get_or_push old_lines line 0 m (sym last)))
             (λ past. omega (arith, get_or_past (old_lines ++ line ∷ []) m 0 (omega (arith, length-append old_lines (line ∷ [])))))
             (cases_eq m (length old_lines)))
-          (cases_lt m (length old_lines));
+            (cases_lt m (length old_lines));
         marks = λ m within. ⊎_elim
-          (λ less.
+            (λ less.
             let differs : get_or old.unknowns m [] ≢ unknown_of item = λ same.
-                let there : has_name old.unknowns (unknown_of item) ≡ true = list_any_at (bytes_eq (unknown_of item)) old.unknowns m [] less ((bytes_eq-Decides (unknown_of item) (get_or old.unknowns m [])).1 (sym same)) in
-                let f : ⊥ = cc in f in
+            let there : has_name old.unknowns (unknown_of item) ≡ true = list_any_at (bytes_eq (unknown_of item)) old.unknowns m [] less ((bytes_eq-Decides (unknown_of item) (get_or old.unknowns m [])).1 (sym same)) in
+            let f : ⊥ = cc in f in
             ap (λ n. eqb n line) (get_or_append_left old_lines (line ∷ []) 0 m (omega (arith, at_line.lengths)))
             ∙ at_line.marks m less
             ∙ sym (ap (has_name (map unknown_of (current.items ++ item ∷ []))) (get_or_append_left old.unknowns (unknown_of item ∷ []) [] m less) ∙ has_name-push_other current.items item (get_or old.unknowns m []) differs))
-          (λ more.
+            (λ more.
             let last : length old.unknowns ≡ m = omega (arith, length-append old.unknowns (unknown_of item ∷ [])) in
             eq-eqb (get_or (old_lines ++ line ∷ []) m 0) line (get_or_push old_lines line 0 m (at_line.lengths ∙ last))
             ∙ sym (has_name-push_same current.items item (get_or (old.unknowns ++ unknown_of item ∷ []) m []) (get_or_push old.unknowns (unknown_of item) [] m last)))
-          (cases_lt m (length old.unknowns));
+            (cases_lt m (length old.unknowns));
       }
 
   pub Marks-from_mark : (new : MixedModel) (new_lines : List ℕ) (j : ℕ) → MarkedFrom (position (bytes_eq (unknown_of item)) old.unknowns) line old new old_lines new_lines (unknown_of item) j → Marks before current line old new new_lines item j

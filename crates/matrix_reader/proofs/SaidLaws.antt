@@ -1,13 +1,13 @@
 -- What the items of a line say of an unknown.
-use Rattle.std.proofs.Common.{◌≡◌, ℕ, zero, suc, ◌+◌, ◌<◌, ◌≤◌, Bool, true, false, cond, ◌||◌, List, [], ◌∷◌, ◌++◌, length, map, fold, get_or, sum_by, refl, sym, ap, ◌∙◌, arith}
-use Rattle.std.specs.List.{flat_map, list_any}
+use Rattle.std.proofs.Common.{◌≡◌, ℕ, zero, suc, ◌+◌, ◌<◌, Bool, true, false, cond, ◌||◌, List, [], ◌∷◌, ◌++◌, length, map, fold, get_or, refl, sym, ap, ◌∙◌, arith}
+use Rattle.std.specs.List.{flat_map}
 use Rattle.std.specs.Str.{bytes_eq}
-use Rattle.std.proofs.lemmas.List.{map-append, get_or_append_left, get_or_push, get_or_past, length-map}
+use Rattle.std.proofs.lemmas.List.{map-append, get_or_append_left, get_or_push, length-map}
 use Rattle.std.proofs.lemmas.List.Folds.{list_any-append}
 use Rattle.std.proofs.lemmas.List.Sums.{sum_by-append}
 use Rattle.mixed_model.specs.Names.{has_name}
 use Rattle.matrix_reader.specs.Items.{unknown_of, item_constant}
-use Rattle.matrix_reader.specs.EquationLists.{Equation, unknowns_in, see}
+use Rattle.matrix_reader.specs.EquationLists.{Equation, unknowns_in}
 use Rattle.matrix_reader.specs.Models.{said_of, items_at}
 use Rattle.matrix_reader.proofs.SeenLaws.{has_name-unseen}
 

@@ -1,6 +1,6 @@
 -- Names in the order in which they first stand.
-use Rattle.std.proofs.Common.{◌≡◌, ◌≢◌, ℕ, ◌+◌, ◌<◌, ◌≤◌, Bool, true, false, cond, ◌||◌, List, [], ◌∷◌, ◌++◌, length, map, fold, get_or, refl, sym, ap, subst, ◌∙◌, arith, ⊎_elim, length-append, append_assoc}
-use Rattle.std.specs.List.{flat_map, list_any, IsDistinct}
+use Rattle.std.proofs.Common.{◌≡◌, ◌≢◌, ℕ, ◌<◌, ◌≤◌, Bool, true, false, cond, List, [], ◌∷◌, ◌++◌, length, map, fold, get_or, refl, sym, ap, subst, ◌∙◌, arith, ⊎_elim, length-append}
+use Rattle.std.specs.List.{flat_map, IsDistinct}
 use Rattle.std.specs.Str.{bytes_eq}
 use Rattle.std.proofs.lemmas.Bool.{cases_lt, false_from_ne_true}
 use Rattle.std.proofs.lemmas.List.{append-nil}
@@ -52,7 +52,7 @@ has_name-unseen seen (new ∷ names) name unseen =
     by true e rest =
         let same : name ≡ new = (bytes_eq-Decides name new).0 e in
         let seen_now : has_name (fold see (see seen new) names) name ≡ true =
-            has_name-fold (see seen new) names name (subst (λ other. has_name (see seen other) name ≡ true) same (has_name-last seen name)) in
+        has_name-fold (see seen new) names name (subst (λ other. has_name (see seen other) name ≡ true) same (has_name-last seen name)) in
         let f : ⊥ = cc in absurd f
 
 -- seeing more names makes the list no shorter
@@ -74,9 +74,9 @@ pub names_apart : (names : List (List ℕ)) (i j : ℕ) → IsDistinct bytes_eq 
 names_apart names i j distinct differs here there = ⊎_elim
     (λ less. apart_from_distinct bytes_eq names i j [] distinct less there)
     (λ more.
-      let apart = apart_from_distinct bytes_eq names j i [] distinct (omega arith) here in
-      false_from_ne_true (bytes_eq (get_or names i []) (get_or names j [])) (λ same.
-        let e : get_or names i [] ≡ get_or names j [] = (bytes_eq-Decides (get_or names i []) (get_or names j [])).0 same in
-        let back : bytes_eq (get_or names j []) (get_or names i []) ≡ true = (bytes_eq-Decides (get_or names j []) (get_or names i [])).1 (sym e) in
-        let f : ⊥ = cc in f))
+    let apart = apart_from_distinct bytes_eq names j i [] distinct (omega arith) here in
+    false_from_ne_true (bytes_eq (get_or names i []) (get_or names j [])) (λ same.
+    let e : get_or names i [] ≡ get_or names j [] = (bytes_eq-Decides (get_or names i []) (get_or names j [])).0 same in
+    let back : bytes_eq (get_or names j []) (get_or names i []) ≡ true = (bytes_eq-Decides (get_or names j []) (get_or names i [])).1 (sym e) in
+    let f : ⊥ = cc in f))
     (cases_lt i j)

@@ -1,7 +1,11 @@
 -- Equation lists of constants: which lines are plain, given the lines before them.
-use Rattle.std.specs.Prelude.{◌≡◌, ℕ, ◌-◌, ◌<◌, ◌≤◌, Bool, true, false, not, ◌&&◌, List, [], ◌∷◌, ◌++◌, length, map, fold, take, if◌then◌else◌, nat_le, nat_lt, codes, slice_index_or}
-use Rattle.std.specs.List.{flat_map, list_all, list_any}
+use Rattle.std.specs.Prelude.{◌≡◌, ℕ, ◌+◌, ◌<◌, Bool, true, false, not, ◌&&◌, List, [], ◌∷◌, ◌++◌, length, map, fold, take, if◌then◌else◌, nat_le, nat_lt, codes, slice_index_or}
+use Rattle.std.specs.List.{flat_map, list_all}
 use Rattle.std.specs.Str.{bytes_eq}
+use Rattle.refusals.specs.declared.Place.TheVariants.{Line}
+use Rattle.refusals.specs.declared.Why.TheVariants.{Later}
+use Rattle.refusals.specs.declared.ReadModel.{ReadModel}
+use Rattle.refusals.specs.declared.ReadModel.TheVariants.{Refused, NoMemory}
 use Rattle.line_lexer.specs.Names.{is_name}
 use Rattle.line_lexer.specs.Tokens.{is_text_byte, is_comment_sign, words_of}
 use Rattle.mixed_model.specs.Names.{has_name}
@@ -61,13 +65,22 @@ is_bare line = list_all (λ byte. is_text_byte byte && not (is_comment_sign byte
 abbrev pub is_plain : List (List ℕ) → List ℕ → Bool
 is_plain before line = is_bare line && are_plain_words (equations_in before) (words_of line)
 
--- Each of the lines is plain.
-abbrev pub AllPlain : List (List ℕ) → Type 0
-AllPlain lines = (k : ℕ) → k < length lines → is_plain (take k lines) (slice_index_or lines k []) ≡ true
+-- The first n lines are plain, each after the lines before it.
+abbrev pub ArePlainBefore : ℕ → List (List ℕ) → Type 0
+ArePlainBefore n lines = (k : ℕ) → k < n → is_plain (take k lines) (slice_index_or lines k []) ≡ true
 
--- Line k, counted from 1, is the first that is not plain.
-pub record IsFirstNotPlain (lines : List (List ℕ)) (k : ℕ) : Type 0 where
-  pub counted : 1 ≤ k
-  pub within : k ≤ length lines
-  pub before : AllPlain (take (k - 1) lines)
-  pub here : is_plain (take (k - 1) lines) (slice_index_or lines (k - 1) []) ≡ false
+-- Each line is plain.
+abbrev pub AllPlain : List (List ℕ) → Type 0
+AllPlain lines = ArePlainBefore (length lines) lines
+
+-- Line n, counted from 0, is the first that is not plain.
+pub record IsFirstNotPlain (n : ℕ) (lines : List (List ℕ)) : Type 0 where
+  pub within : n < length lines
+  pub before : ArePlainBefore n lines
+  pub here : is_plain (take n lines) (slice_index_or lines n []) ≡ false
+
+-- Why a list is not read: its first line that is not plain comes later, or memory ran out.
+abbrev pub IsRefusal : List (List ℕ) → ReadModel → Type 0
+IsRefusal lines (Refused refused) =
+    (n : ℕ) × (refused ≡ record { place = Line (n + 1); why = Later }) × IsFirstNotPlain n lines
+IsRefusal lines NoMemory = Unit {0}

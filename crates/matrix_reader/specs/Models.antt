@@ -24,7 +24,7 @@ pub record IsModelOf (list : List Equation) (model : MixedModel) : Type 0 where
   pub equations : model.equations ≡ map (λ equation. equation.name) list
   pub unknowns : model.unknowns ≡ unknowns_in list
   pub constants : (i j : ℕ) → i < length list → j < length model.unknowns
-    → constant_at model i j ≡ said_of (items_at list i) (slice_index_or model.unknowns j [])
+      → constant_at model i j ≡ said_of (items_at list i) (slice_index_or model.unknowns j [])
 
 -- The model of some lines.
 abbrev pub GivesModel : List (List ℕ) → MixedModel → Type 0

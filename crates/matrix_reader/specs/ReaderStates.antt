@@ -1,5 +1,5 @@
 -- What the reader knows between two lines, and within one.
-use Rattle.std.specs.Prelude.{◌≡◌, ◌≢◌, ℕ, ◌+◌, ◌<◌, ◌≤◌, Bool, not, ◌&&◌, ◌||◌, List, [], ◌∷◌, ◌++◌, length, map, nat_eq, nat_lt, slice_index, slice_index_or, slice_set, Option, Some, None, Result, Ok, Err, MatchResult, true, false}
+use Rattle.std.specs.Prelude.{◌≡◌, ◌≢◌, ℕ, ◌+◌, ◌<◌, ◌≤◌, Bool, not, ◌&&◌, ◌||◌, List, [], ◌∷◌, ◌++◌, length, map, nat_eq, nat_lt, slice_index, slice_index_or, slice_set, Option, Some, None, Result, MatchResult, true, false}
 use Rattle.mixed_model.specs.Names.{has_name}
 use Rattle.mixed_model.specs.Models.{MixedModel, IsModel, with_unknown}
 use Rattle.matrix_reader.specs.Items.{is_item, unknown_of}
@@ -22,7 +22,7 @@ pub record IsWithin (before : List Equation) (current : Equation) (line : ℕ) (
   pub lengths : length last_lines ≡ length model.unknowns
   pub earlier : (j : ℕ) → slice_index last_lines j ≤ line
   pub marks : (j : ℕ) → j < length model.unknowns
-    → nat_eq (slice_index last_lines j) line ≡ has_name (map unknown_of current.items) (slice_index_or model.unknowns j [])
+      → nat_eq (slice_index last_lines j) line ≡ has_name (map unknown_of current.items) (slice_index_or model.unknowns j [])
 
 -- an equation with one item more
 abbrev pub with_item : Equation → List ℕ → Equation
@@ -56,8 +56,8 @@ abbrev pub ReadsItem : ℕ → ℕ → MixedModel → MixedModel → List ℕ �
 ReadsItem line i old new old_lines new_lines item result =
     (before : List Equation) (current : Equation) → i ≡ length before → IsWithin before current line old old_lines
     → MatchResult result
-      (λ _. (may_follow old.unknowns current.items item ≡ true) × IsWithin before (with_item current item) line new new_lines)
-      (λ fault. OnNotPlain fault (may_follow old.unknowns current.items item ≡ false))
+    (λ _. (may_follow old.unknowns current.items item ≡ true) × IsWithin before (with_item current item) line new new_lines)
+    (λ fault. OnNotPlain fault (may_follow old.unknowns current.items item ≡ false))
 
 -- whether a name may be that of the next equation of a model
 abbrev pub may_be_added : MixedModel → List ℕ → Bool
@@ -75,15 +75,15 @@ abbrev pub ReadsEquation : ℕ → MixedModel → MixedModel → List ℕ → Li
 ReadsEquation line old new old_lines new_lines name items result =
     (before : List Equation) → IsBetween before line old old_lines
     → MatchResult result
-      (λ _. ((is_new_equation before name && are_new_items before items) ≡ true)
-        × IsBetween (before ++ record { name = name; items = items } ∷ []) (line + 1) new new_lines)
-      (λ fault. OnNotPlain fault ((is_new_equation before name && are_new_items before items) ≡ false))
+    (λ _. ((is_new_equation before name && are_new_items before items) ≡ true)
+    × IsBetween (before ++ record { name = name; items = items } ∷ []) (line + 1) new new_lines)
+    (λ fault. OnNotPlain fault ((is_new_equation before name && are_new_items before items) ≡ false))
 
 -- What reading a line answers and leaves.
 abbrev pub ReadsLine : ℕ → MixedModel → MixedModel → List ℕ → List ℕ → List ℕ → Result (Unit {0}) LineFault → Type 0
 ReadsLine number old new old_lines new_lines line result =
     (before : List Equation) → IsBetween before number old old_lines
     → MatchResult result
-      (λ _. ((is_bare line && are_plain_words before (words_of line)) ≡ true)
-        × IsBetween (before ++ equation_of (words_of line)) (number + 1) new new_lines)
-      (λ fault. OnNotPlain fault ((is_bare line && are_plain_words before (words_of line)) ≡ false))
+    (λ _. ((is_bare line && are_plain_words before (words_of line)) ≡ true)
+    × IsBetween (before ++ equation_of (words_of line)) (number + 1) new new_lines)
+    (λ fault. OnNotPlain fault ((is_bare line && are_plain_words before (words_of line)) ≡ false))

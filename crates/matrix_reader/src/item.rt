@@ -14,11 +14,9 @@ pub(crate) struct Term<'a> {
 
 /// An item `UNKNOWN=NUMBER`, cut at its first `=`.
 pub(crate) fn read_term(item: &str) -> Option<Term<'_>>
-    ensures {
-        MatchOption result
+    ensures { MatchOption result
         (is_item item.now ≡ false)
-        (λ term. (is_item item.now ≡ true) × (is_name term.unknown.now ≡ true) × (term.unknown.now ≡ unknown_of item.now) × (term.constant ≡ item_constant item.now))
-    }
+        (λ term. (is_item item.now ≡ true) × (is_name term.unknown.now ≡ true) × (term.unknown.now ≡ unknown_of item.now) × (term.constant ≡ item_constant item.now)) }
 {
     let (unknown, text) = item.split_once('=')?;
     name(unknown).ok()?;

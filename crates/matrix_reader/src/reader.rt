@@ -1,7 +1,7 @@
-ghost use Rattle.std.specs.Prelude.{◌≡◌, ◌≢◌, ◌<◌, ◌≤◌, length, map, vec_len, position, IsTrue, IfOk, IfErr, OnOk};
+ghost use Rattle.std.specs.Prelude.{◌≡◌, ◌≢◌, ◌<◌, [], length, map, vec_len, position, IsTrue, IfOk, IfErr, OnOk};
 ghost use Rattle.std.specs.Str.{bytes_eq};
 ghost use Rattle.mixed_model.specs.Names.{is_label};
-ghost use Rattle.mixed_model.specs.Models.{IsModel, with_equation};
+ghost use Rattle.mixed_model.specs.Models.{IsModel, empty_model, with_equation};
 ghost use Rattle.matrix_reader.specs.EquationLists.{is_bare};
 ghost use Rattle.matrix_reader.specs.ReaderStates.{MarkedFrom, UnmarkedFrom, OnNotPlain, ReadsItem, AddsEquation, ReadsEquation, ReadsLine};
 
@@ -52,7 +52,9 @@ pub(crate) struct Reader {
 
 impl Reader {
     pub(crate) fn new(alloc: Global) -> Result<Reader, NoMemory>
-        ensures { IfOk result (λ r. vec_len r.last_lines ≡ length r.model.unknowns) }
+        ensures lengths { IfOk result (λ r. vec_len r.last_lines ≡ length r.model.unknowns) }
+        ensures model { IfOk result (λ r. (r.model ≡ empty_model) × IsModel r.model) }
+        ensures lines { IfOk result (λ r. r.last_lines.items ≡ []) }
     {
         Ok(Reader {
             model: Mixed::new(alloc)?,
@@ -85,7 +87,12 @@ impl Reader {
     }
 
     #[tactic(auto, using(crate::proofs::LabelLaws::name_is_label))]
-    fn read_equation(&mut self, line: u32, equation: &str, items: Tokens<'_>) -> Result<(), LineFault>
+    fn read_equation(
+        &mut self,
+        line: u32,
+        equation: &str,
+        items: Tokens<'_>,
+    ) -> Result<(), LineFault>
         requires { vec_len self.old.last_lines ≡ length self.old.model.unknowns }
         ensures lengths { OnOk result (vec_len self.new.last_lines ≡ length self.new.model.unknowns) }
         ensures read { ReadsEquation line self.old.model self.new.model self.old.last_lines.items self.new.last_lines.items equation.now (map (λ item. item.1) items.entry) result }
@@ -163,6 +170,5 @@ impl Reader {
 fn is_bare(line: &[u8]) -> bool
     ensures { result ≡ is_bare line.now }
 {
-    line.iter()
-        .all(|byte| (*byte == b'\t' || 32 <= *byte && *byte <= 126) && *byte != b'#')
+    line.iter().all(|byte| (*byte == b'\t' || 32 <= *byte && *byte <= 126) && *byte != b'#')
 }

@@ -1,4 +1,4 @@
-use Rattle.std.proofs.Common.{◌≡◌, position, Option, sym, subst}
+use Rattle.std.proofs.Common.{position, sym, subst}
 use Rattle.std.specs.Str.{bytes_eq}
 use Rattle.std.proofs.lemmas.Result.{err_from_is_err_and}
 use Rattle.matrix_reader.specs.Faults.{fault_of}

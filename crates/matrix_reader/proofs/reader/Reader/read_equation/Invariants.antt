@@ -10,5 +10,5 @@ invariant-loop-item l = record {
   equation : l.i < length l.self.model.equations;
   items : map (λ item. item.1) l.fn.items ≡ map (λ token. token.text.now) l.yielded ++ map (λ item. item.1) l.item-iterator;
   progress : (before : List Equation) → IsBetween before l.line l.fn.self.model l.fn.self.last_lines.items
-    → (l.i ≡ length before) × Progress before l.equation (map (λ token. token.text.now) l.yielded) l.line l.self.model l.self.last_lines.items;
+      → (l.i ≡ length before) × Progress before l.equation (map (λ token. token.text.now) l.yielded) l.line l.self.model l.self.last_lines.items;
 }
