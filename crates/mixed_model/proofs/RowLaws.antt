@@ -38,7 +38,7 @@ constant_in-place first (entry ∷ row) rises column (suc place) d at same =
     rw (ne_eqb entry.column column differs) (constant_in-place (entry.column + 1) row rises.3 column place d (omega arith) same)
 
 -- a column at which no entry stands has no constant
-constant_in-None : (row : List Entry) (column : ℕ) → ((i : ℕ) (d : Entry) → i < length row → (get_or row i d).column ≢ column) → constant_in row column ≡ None
+pub constant_in-None : (row : List Entry) (column : ℕ) → ((i : ℕ) (d : Entry) → i < length row → (get_or row i d).column ≢ column) → constant_in row column ≡ None
 constant_in-None [] column absent = refl
 constant_in-None (entry ∷ row) column absent =
     rw (ne_eqb entry.column column (absent 0 entry (omega arith)))
@@ -152,3 +152,13 @@ putting-Twice row column constant there = rw there refl
 
 pub putting-Ok : (row : List Entry) (column : ℕ) → constant_in row column ≡ None → putting row column ≡ Ok tt
 putting-Ok row column absent = rw absent refl
+
+-- constants are not 0
+pub constant_in-positive : (first : ℕ) (row : List Entry) → RisesFrom first row → (column constant : ℕ) → constant_in row column ≡ Some constant → 0 < constant
+constant_in-positive first [] rises column constant at = let f : ⊥ = cc in absurd f
+constant_in-positive first (entry ∷ row) rises column constant at =
+    by (eqb entry.column column) at (λ rest. constant_in-positive (entry.column + 1) row rises.3 column constant rest)
+  where
+    by : (b : Bool) → cond b (Some entry.constant) (constant_in row column) ≡ Some constant → (constant_in row column ≡ Some constant → 0 < constant) → 0 < constant
+    by true here rest = let same : entry.constant ≡ constant = cc in omega (arith, rises.1, same)
+    by false there rest = rest there

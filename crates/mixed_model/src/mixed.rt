@@ -39,7 +39,8 @@ impl Model for Mixed {
 impl Mixed {
     /// A model without equations and unknowns.
     pub fn new(alloc: Global) -> Result<Mixed, NoMemory>
-        ensures { IfOk result (λ m. m ≡ empty_model) }
+        ensures empty { IfOk result (λ m. m ≡ empty_model) }
+        ensures model { IfOk result IsModel }
     {
         Ok(Mixed {
             equations: Names::new(alloc),

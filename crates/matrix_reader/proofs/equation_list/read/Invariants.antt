@@ -1,5 +1,10 @@
 use Rattle.std.proofs.Common.{◌≡◌, length, vec_len}
+use Rattle.line_lexer.specs.Lines.{lines_of}
+use Rattle.matrix_reader.proofs.ListSteps.{ListProgress}
 use Rattle.matrix_reader.proofs.equation_list.read.Given as goal
 
 abbrev pub invariant-loop-line : goal.invariant-loop-line
-invariant-loop-line l = vec_len l.reader.last_lines ≡ length l.reader.model.unknowns
+invariant-loop-line l = record {
+  lengths : vec_len l.reader.last_lines ≡ length l.reader.model.unknowns;
+  progress : ListProgress (lines_of l.bytes) (length l.yielded) l.line-iterator l.reader.model l.reader.last_lines.items;
+}

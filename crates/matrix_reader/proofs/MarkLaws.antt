@@ -1,0 +1,174 @@
+-- Unknowns that are found, marked and added.
+use Rattle.std.proofs.Common.{◌≡◌, ◌≢◌, ℕ, ◌+◌, ◌<◌, ◌≤◌, Bool, true, false, cond, ◌||◌, List, [], ◌∷◌, ◌++◌, length, map, set, get_or, position, Option, Some, None, Ok, Err, refl, sym, ap, subst, ◌∙◌, arith, eqb, eq-eqb, ne_eqb, ltb, ltb-false, lt-ltb, ⊎_elim, length-append, length-set, get_or-set_same, get_or-set_other}
+use Rattle.std.specs.Str.{bytes_eq}
+use Rattle.std.proofs.lemmas.Bool.{cases_lt, cases_eq, false_from_ne_true}
+use Rattle.std.proofs.lemmas.List.{map-append, get_or_append_left, get_or_push, get_or_past}
+use Rattle.std.proofs.lemmas.List.Folds.{list_any-append, list_any_at, list_any_none}
+use Rattle.std.proofs.lemmas.List.Quantifiers.{position-Some}
+use Rattle.std.proofs.lemmas.List.Sums.{fails_before_first}
+use Rattle.std.proofs.lemmas.Slice.Eq.{bytes_eq-Decides}
+use Rattle.line_lexer.proofs.PlaceLaws.{position_or_len-None}
+use Rattle.mixed_model.specs.declared.errors.AddError.{AddError}
+use Rattle.mixed_model.specs.declared.errors.AddError.TheVariants.{Twice, TooMany, NoMemory as OutOfMemory}
+use Rattle.mixed_model.specs.Names.{has_name, adding, AnswersAdd}
+use Rattle.mixed_model.specs.Models.{MixedModel, IsModel, with_unknown}
+use Rattle.matrix_reader.specs.Items.{unknown_of}
+use Rattle.matrix_reader.specs.EquationLists.{Equation, see}
+use Rattle.matrix_reader.proofs.SaidLaws.{items_at-last, absent-unseen}
+use Rattle.matrix_reader.proofs.SeenLaws.{names_apart}
+use Rattle.matrix_reader.specs.Faults.{fault_of}
+use Rattle.matrix_reader.specs.declared.reader.LineFault.{LineFault}
+use Rattle.matrix_reader.specs.declared.reader.LineFault.TheVariants.{NotPlain, NoMemory}
+use Rattle.matrix_reader.specs.ReaderStates.{IsWithin, MarkedFrom, UnmarkedFrom, OnNotPlain}
+
+pub has_name-Some : (names : List (List ℕ)) (name : List ℕ) (k : ℕ) → position (bytes_eq name) names ≡ Some k → (k < length names) × (get_or names k [] ≡ name) × (has_name names name ≡ true)
+has_name-Some names name k found =
+    let at = position-Some (bytes_eq name) names k [] found in
+    (at.0, sym ((bytes_eq-Decides name (get_or names k [])).0 at.1), list_any_at (bytes_eq name) names k [] at.0 at.1)
+
+pub has_name-None : (names : List (List ℕ)) (name : List ℕ) → position (bytes_eq name) names ≡ None → has_name names name ≡ false
+has_name-None names name none =
+    let whole = position_or_len-None (bytes_eq name) names none in
+    list_any_none (bytes_eq name) names (λ k d at. fails_before_first (bytes_eq name) names k d (omega arith))
+
+-- an unknown that isn't there is refused as one too many alone
+pub unmarked_new : (old : MixedModel) (lines : List ℕ) (line : ℕ) (unknown : List ℕ) (error : AddError) → position (bytes_eq unknown) old.unknowns ≡ None → AnswersAdd {T = ℕ} (Err error) (adding old.unknowns unknown) → OnNotPlain (fault_of error) (UnmarkedFrom None line old lines)
+unmarked_new old lines line unknown OutOfMemory none answer = tt
+unmarked_new old lines line unknown Twice none answer =
+    let absent = has_name-None old.unknowns unknown none in
+    by (ltb (length old.unknowns) 4096) (rw absent at answer)
+  where
+    by : (b : Bool) → cond b (Ok (length old.unknowns)) (Err TooMany) ≡ Err Twice → 4096 ≤ length old.unknowns
+    by true e = let f : ⊥ = cc in absurd f
+    by false e = let f : ⊥ = cc in absurd f
+unmarked_new old lines line unknown TooMany none answer =
+    let absent = has_name-None old.unknowns unknown none in
+    by (ltb (length old.unknowns) 4096) refl (rw absent at answer)
+  where
+    by : (b : Bool) → ltb (length old.unknowns) 4096 ≡ b → cond b (Ok (length old.unknowns)) (Err TooMany) ≡ Err TooMany → 4096 ≤ length old.unknowns
+    by true full e = let f : ⊥ = cc in absurd f
+    by false full e = ltb-false (length old.unknowns) 4096 full
+
+-- what is known after an unknown is marked
+pub record Marks (before : List Equation) (current : Equation) (line : ℕ) (old new : MixedModel) (new_lines : List ℕ) (item : List ℕ) (j : ℕ) : Type 0 where
+  pub fresh : has_name (map unknown_of current.items) (unknown_of item) ≡ false
+  pub room : (has_name old.unknowns (unknown_of item) || ltb (length old.unknowns) 4096) ≡ true
+  pub is_model : IsModel new
+  pub equations : new.equations ≡ old.equations
+  pub rows : new.rows ≡ old.rows
+  pub unknowns : new.unknowns ≡ see old.unknowns (unknown_of item)
+  pub within : j < length new.unknowns
+  pub place : get_or new.unknowns j [] ≡ unknown_of item
+  pub lengths : length new_lines ≡ length new.unknowns
+  pub earlier : (k : ℕ) → get_or new_lines k 0 ≤ line
+  pub marks : (k : ℕ) → k < length new.unknowns → eqb (get_or new_lines k 0) line ≡ has_name (map unknown_of (current.items ++ item ∷ [])) (get_or new.unknowns k [])
+
+-- a name among those of one item more
+has_name-push : (items : List (List ℕ)) (item name : List ℕ) → has_name (map unknown_of (items ++ item ∷ [])) name ≡ (has_name (map unknown_of items) name || (bytes_eq name (unknown_of item) || false))
+has_name-push items item name =
+    ap (λ names. has_name names name) (map-append unknown_of items (item ∷ []))
+    ∙ list_any-append (bytes_eq name) (map unknown_of items) (unknown_of item ∷ [])
+
+bytes_eq-false : (name other : List ℕ) → name ≢ other → bytes_eq name other ≡ false
+bytes_eq-false name other differs = false_from_ne_true (bytes_eq name other) (λ same. differs ((bytes_eq-Decides name other).0 same))
+
+has_name-push_same : (items : List (List ℕ)) (item name : List ℕ) → name ≡ unknown_of item → has_name (map unknown_of (items ++ item ∷ [])) name ≡ true
+has_name-push_same items item name same = has_name-push items item name ∙ rw ((bytes_eq-Decides name (unknown_of item)).1 same) (by (has_name (map unknown_of items) name))
+  where
+    by : (b : Bool) → (b || true) ≡ true
+    by true = refl
+    by false = refl
+
+has_name-push_other : (items : List (List ℕ)) (item name : List ℕ) → name ≢ unknown_of item → has_name (map unknown_of (items ++ item ∷ [])) name ≡ has_name (map unknown_of items) name
+has_name-push_other items item name differs = has_name-push items item name ∙ rw (bytes_eq-false name (unknown_of item) differs) (by (has_name (map unknown_of items) name))
+  where
+    by : (b : Bool) → (b || false) ≡ b
+    by true = refl
+    by false = refl
+
+module _ (before : List Equation) (current : Equation) (line : ℕ) (old : MixedModel) (old_lines : List ℕ) (item : List ℕ) (at_line : IsWithin before current line old old_lines) where
+  -- an unknown that was there
+  marks_known : (k : ℕ) → position (bytes_eq (unknown_of item)) old.unknowns ≡ Some k → get_or old_lines k 0 ≢ line → Marks before current line old old (set old_lines k line) item k
+  marks_known k found elsewhere =
+      let at = has_name-Some old.unknowns (unknown_of item) k found in
+      let counted : k < length old_lines = omega (arith, at.0, at_line.lengths) in
+      record {
+        fresh = ap (has_name (map unknown_of current.items)) (sym at.1) ∙ sym (at_line.marks k at.0) ∙ ne_eqb (get_or old_lines k 0) line elsewhere;
+        room = rw at.2 refl;
+        is_model = at_line.gives.is_model;
+        equations = refl;
+        rows = refl;
+        unknowns = sym (ap (λ b. cond b old.unknowns (old.unknowns ++ unknown_of item ∷ [])) at.2);
+        within = at.0;
+        place = at.1;
+        lengths = length-set old_lines k line ∙ at_line.lengths;
+        earlier = λ m. ⊎_elim
+            (λ same. subst (λ i. get_or (set old_lines k line) i 0 ≤ line) (sym same) (omega (arith, get_or-set_same old_lines k line 0 counted)))
+            (λ other. omega (arith, get_or-set_other old_lines k m line 0 other, at_line.earlier m))
+            (cases_eq m k);
+        marks = λ m within. ⊎_elim
+            (λ same. subst (λ i. eqb (get_or (set old_lines k line) i 0) line ≡ has_name (map unknown_of (current.items ++ item ∷ [])) (get_or old.unknowns i [])) (sym same)
+            (eq-eqb (get_or (set old_lines k line) k 0) line (get_or-set_same old_lines k line 0 counted) ∙ sym (has_name-push_same current.items item (get_or old.unknowns k []) at.1)))
+            (λ other.
+            let differs : get_or old.unknowns m [] ≢ unknown_of item = λ same.
+            let apart = names_apart old.unknowns m k at_line.gives.is_model.unknowns.distinct other within at.0 in
+            let equal : bytes_eq (get_or old.unknowns m []) (get_or old.unknowns k []) ≡ true = (bytes_eq-Decides (get_or old.unknowns m []) (get_or old.unknowns k [])).1 (same ∙ sym at.1) in
+            let f : ⊥ = cc in f in
+            ap (λ n. eqb n line) (get_or-set_other old_lines k m line 0 other) ∙ at_line.marks m within ∙ sym (has_name-push_other current.items item (get_or old.unknowns m []) differs))
+            (cases_eq m k);
+      }
+
+  -- a new unknown
+  marks_new : position (bytes_eq (unknown_of item)) old.unknowns ≡ None → length old.unknowns < 4096 → IsModel (with_unknown old (unknown_of item)) → Marks before current line old (with_unknown old (unknown_of item)) (old_lines ++ line ∷ []) item (length old.unknowns)
+  marks_new none room is =
+      let absent = has_name-None old.unknowns (unknown_of item) none in
+      record {
+        fresh = ap (λ items. has_name (map unknown_of items) (unknown_of item)) (sym (items_at-last before current (length before) refl))
+            ∙ absent-unseen (before ++ current ∷ []) (unknown_of item) (length before) (subst (λ names. has_name names (unknown_of item) ≡ false) at_line.gives.unknowns absent);
+        room = rw (absent, lt-ltb (length old.unknowns) 4096 room) refl;
+        is_model = is;
+        equations = refl;
+        rows = refl;
+        unknowns = sym (ap (λ b. cond b old.unknowns (old.unknowns ++ unknown_of item ∷ [])) absent);
+        within = omega (arith, length-append old.unknowns (unknown_of item ∷ []));
+        place = get_or_push old.unknowns (unknown_of item) [] (length old.unknowns) refl;
+        lengths = length-append old_lines (line ∷ []) ∙ ap (λ n. n + 1) at_line.lengths ∙ sym (length-append old.unknowns (unknown_of item ∷ []));
+        earlier = λ m. ⊎_elim
+            (λ less. omega (arith, get_or_append_left old_lines (line ∷ []) 0 m less, at_line.earlier m))
+            (λ more. ⊎_elim
+            (λ last. omega (arith, get_or_push old_lines line 0 m (sym last)))
+            (λ past. omega (arith, get_or_past (old_lines ++ line ∷ []) m 0 (omega (arith, length-append old_lines (line ∷ [])))))
+            (cases_eq m (length old_lines)))
+            (cases_lt m (length old_lines));
+        marks = λ m within. ⊎_elim
+            (λ less.
+            let differs : get_or old.unknowns m [] ≢ unknown_of item = λ same.
+            let there : has_name old.unknowns (unknown_of item) ≡ true = list_any_at (bytes_eq (unknown_of item)) old.unknowns m [] less ((bytes_eq-Decides (unknown_of item) (get_or old.unknowns m [])).1 (sym same)) in
+            let f : ⊥ = cc in f in
+            ap (λ n. eqb n line) (get_or_append_left old_lines (line ∷ []) 0 m (omega (arith, at_line.lengths)))
+            ∙ at_line.marks m less
+            ∙ sym (ap (has_name (map unknown_of (current.items ++ item ∷ []))) (get_or_append_left old.unknowns (unknown_of item ∷ []) [] m less) ∙ has_name-push_other current.items item (get_or old.unknowns m []) differs))
+            (λ more.
+            let last : length old.unknowns ≡ m = omega (arith, length-append old.unknowns (unknown_of item ∷ [])) in
+            eq-eqb (get_or (old_lines ++ line ∷ []) m 0) line (get_or_push old_lines line 0 m (at_line.lengths ∙ last))
+            ∙ sym (has_name-push_same current.items item (get_or (old.unknowns ++ unknown_of item ∷ []) m []) (get_or_push old.unknowns (unknown_of item) [] m last)))
+            (cases_lt m (length old.unknowns));
+      }
+
+  pub Marks-from_mark : (new : MixedModel) (new_lines : List ℕ) (j : ℕ) → MarkedFrom (position (bytes_eq (unknown_of item)) old.unknowns) line old new old_lines new_lines (unknown_of item) j → Marks before current line old new new_lines item j
+  Marks-from_mark new new_lines j marked = by (position (bytes_eq (unknown_of item)) old.unknowns) refl marked
+    where
+      by : (o : Option ℕ) → position (bytes_eq (unknown_of item)) old.unknowns ≡ o → MarkedFrom o line old new old_lines new_lines (unknown_of item) j → Marks before current line old new new_lines item j
+      by (Some k) e m =
+          subst (λ i. Marks before current line old new new_lines item i) (sym m.0)
+          (subst (λ n. Marks before current line old n new_lines item k) (sym m.1)
+          (subst (λ lines. Marks before current line old old lines item k) (sym m.2) (marks_known k e m.3)))
+      by None e m =
+          subst (λ i. Marks before current line old new new_lines item i) (sym m.0)
+          (subst (λ n. Marks before current line old n new_lines item (length old.unknowns)) (sym m.2)
+          (subst (λ lines. Marks before current line old (with_unknown old (unknown_of item)) lines item (length old.unknowns)) (sym m.4) (marks_new e m.1 (subst IsModel m.2 m.3))))
+
+-- what a fault says, from what it says
+pub on_not_plain : (fault : LineFault) (P Q : Type 0) → (P → Q) → OnNotPlain fault P → OnNotPlain fault Q
+on_not_plain NotPlain P Q follows said = follows said
+on_not_plain NoMemory P Q follows said = tt

@@ -1,0 +1,82 @@
+-- Names in the order in which they first stand.
+use Rattle.std.proofs.Common.{◌≡◌, ◌≢◌, ℕ, ◌<◌, ◌≤◌, Bool, true, false, cond, List, [], ◌∷◌, ◌++◌, length, map, fold, get_or, refl, sym, ap, subst, ◌∙◌, arith, ⊎_elim, length-append}
+use Rattle.std.specs.List.{flat_map, IsDistinct}
+use Rattle.std.specs.Str.{bytes_eq}
+use Rattle.std.proofs.lemmas.Bool.{cases_lt, false_from_ne_true}
+use Rattle.std.proofs.lemmas.List.{append-nil}
+use Rattle.std.proofs.lemmas.List.Concat.{flat_map-append}
+use Rattle.std.proofs.lemmas.List.Folds.{list_any-append}
+use Rattle.std.proofs.lemmas.List.Sums.{fold-append}
+use Rattle.std.proofs.lemmas.Map.Keys.{apart_from_distinct}
+use Rattle.std.proofs.lemmas.Slice.Eq.{bytes_eq-Decides}
+use Rattle.mixed_model.specs.Names.{has_name}
+use Rattle.matrix_reader.specs.Items.{unknown_of}
+use Rattle.matrix_reader.specs.EquationLists.{Equation, see, unknowns_in}
+
+-- the unknowns with one more equation
+pub unknowns_in-push : (list : List Equation) (equation : Equation) → unknowns_in (list ++ equation ∷ []) ≡ fold see (unknowns_in list) (map unknown_of equation.items)
+unknowns_in-push list equation =
+    ap (fold see []) (flat_map-append (λ e. map unknown_of e.items) list (equation ∷ []) ∙ ap (λ names. flat_map (λ e. map unknown_of e.items) list ++ names) (append-nil (map unknown_of equation.items)))
+    ∙ fold-append see [] (flat_map (λ e. map unknown_of e.items) list) (map unknown_of equation.items)
+
+-- what is seen after one more name
+has_name-see : (seen : List (List ℕ)) (new name : List ℕ) → has_name seen name ≡ true → has_name (see seen new) name ≡ true
+has_name-see seen new name there = by (has_name seen new)
+  where
+    by : (b : Bool) → has_name (cond b seen (seen ++ new ∷ [])) name ≡ true
+    by true = there
+    by false = list_any-append (bytes_eq name) seen (new ∷ []) ∙ rw there refl
+
+has_name-fold : (seen names : List (List ℕ)) (name : List ℕ) → has_name seen name ≡ true → has_name (fold see seen names) name ≡ true
+has_name-fold seen [] name there = there
+has_name-fold seen (new ∷ names) name there = has_name-fold (see seen new) names name (has_name-see seen new name there)
+
+bytes_eq-refl : (name : List ℕ) → bytes_eq name name ≡ true
+bytes_eq-refl name = (bytes_eq-Decides name name).1 refl
+
+has_name-last : (seen : List (List ℕ)) (name : List ℕ) → has_name (see seen name) name ≡ true
+has_name-last seen name = by (has_name seen name) refl
+  where
+    by : (b : Bool) → has_name seen name ≡ b → has_name (see seen name) name ≡ true
+    by true e = rw e e
+    by false e = rw e (list_any-append (bytes_eq name) seen (name ∷ []) ∙ rw (e, bytes_eq-refl name) refl)
+
+-- a name that is not seen is none of the names
+pub has_name-unseen : (seen names : List (List ℕ)) (name : List ℕ) → has_name (fold see seen names) name ≡ false → has_name names name ≡ false
+has_name-unseen seen [] name unseen = refl
+has_name-unseen seen (new ∷ names) name unseen =
+    by (bytes_eq name new) refl (has_name-unseen (see seen new) names name unseen)
+  where
+    by : (b : Bool) → bytes_eq name new ≡ b → has_name names name ≡ false → has_name (new ∷ names) name ≡ false
+    by false e rest = rw e rest
+    by true e rest =
+        let same : name ≡ new = (bytes_eq-Decides name new).0 e in
+        let seen_now : has_name (fold see (see seen new) names) name ≡ true =
+        has_name-fold (see seen new) names name (subst (λ other. has_name (see seen other) name ≡ true) same (has_name-last seen name)) in
+        let f : ⊥ = cc in absurd f
+
+-- seeing more names makes the list no shorter
+pub length-fold-see : (seen names : List (List ℕ)) → length seen ≤ length (fold see seen names)
+length-fold-see seen [] = omega arith
+length-fold-see seen (new ∷ names) =
+    let rest = length-fold-see (see seen new) names in
+    omega (arith, rest, longer seen new)
+  where
+    longer : (seen : List (List ℕ)) (new : List ℕ) → length seen ≤ length (see seen new)
+    longer seen new = by (has_name seen new)
+      where
+        by : (b : Bool) → length seen ≤ length (cond b seen (seen ++ new ∷ []))
+        by true = omega arith
+        by false = omega (arith, length-append seen (new ∷ []))
+
+-- names at different places differ
+pub names_apart : (names : List (List ℕ)) (i j : ℕ) → IsDistinct bytes_eq names → i ≢ j → i < length names → j < length names → bytes_eq (get_or names i []) (get_or names j []) ≡ false
+names_apart names i j distinct differs here there = ⊎_elim
+    (λ less. apart_from_distinct bytes_eq names i j [] distinct less there)
+    (λ more.
+    let apart = apart_from_distinct bytes_eq names j i [] distinct (omega arith) here in
+    false_from_ne_true (bytes_eq (get_or names i []) (get_or names j [])) (λ same.
+    let e : get_or names i [] ≡ get_or names j [] = (bytes_eq-Decides (get_or names i []) (get_or names j [])).0 same in
+    let back : bytes_eq (get_or names j []) (get_or names i []) ≡ true = (bytes_eq-Decides (get_or names j []) (get_or names i [])).1 (sym e) in
+    let f : ⊥ = cc in f))
+    (cases_lt i j)
