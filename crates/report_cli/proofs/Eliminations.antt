@@ -1,6 +1,5 @@
 -- One column more is closed.
 use Rattle.std.proofs.Common.{◌≡◌, ◌≢◌, ℕ, ◌+◌, ◌<◌, ◌≤◌, ◌%◌, List, [], ◌∷◌, ◌++◌, ◌⊎◌, inl, inr, Bool, true, false, not, IsTrue, ◌↔◌, refl, ap, sym, ◌∙◌, subst, arith}
-use Rattle.std.proofs.Math.Nat.{zero-mod, mod-eq_of_lt}
 use Rattle.std.specs.Bool.{MatchBool}
 use Rattle.linear_algebra.specs.RowOperations.{IsPivoted}
 use Rattle.linear_algebra.specs.Bases.{IsBase}
@@ -54,6 +53,6 @@ closed-pivot modulus t n r j inside free opened pivot closed i k within below ba
     apart same = bare j (subst (λ m. j < m) (sym pivot.columns_same) inside) pivot.taken.member (pivot.taken.at_row ∙ sym same)
 
 -- what a test of an entry says
-pub entry-told : (b : Bool) (number entry modulus : ℕ) → (IsTrue b ↔ (number ≡ 0)) → number ≡ entry → number < modulus → MatchBool (not b) (entry % modulus ≢ 0) (entry % modulus ≡ 0)
-entry-told true number entry modulus zero is below = ap (λ e. e % modulus) (sym is ∙ zero.0 refl) ∙ zero-mod modulus
-entry-told false number entry modulus zero is below = λ vanishes. differ refl (zero.1 (is ∙ sym (mod-eq_of_lt (subst (λ e. e < modulus) is below)) ∙ vanishes))
+pub entry-told : (b : Bool) (number residue : ℕ) → (IsTrue b ↔ (number ≡ 0)) → number ≡ residue → MatchBool (not b) (residue ≢ 0) (residue ≡ 0)
+entry-told true number residue zero is = sym is ∙ zero.0 refl
+entry-told false number residue zero is = λ vanishes. differ refl (zero.1 (is ∙ vanishes))

@@ -49,9 +49,7 @@ fn has_entry<F: Field, T: Tableau<F>>(tableau: &T, row: usize, column: usize) ->
     requires column { column < (T.state tableau.now).columns }
     ensures { MatchBool result ((T.state tableau.now).p row column % F.modulus ≢ 0) ((T.state tableau.now).p row column % F.modulus ≡ 0) }
 {
-    let entry = tableau.entry(row, column);
-    entry.in_field();
-    !entry.is_zero()
+    !tableau.entry(row, column).is_zero()
 }
 
 /// Each row with a base column, and that column, by rising row.
