@@ -1,13 +1,14 @@
 -- What one changed row leaves of a model.
-use Rattle.std.proofs.Common.{◌≡◌, ◌≢◌, ℕ, ◌<◌, Bool, true, false, cond, ◌&&◌, List, [], length, map, get_or, set, Some, refl, sym, ap, subst, ◌∙◌, arith, eqb, eqb-true, get_or-set_same, get_or-set_other, length-set, Vec}
+use Rattle.std.proofs.Common.{◌≡◌, ◌≢◌, ℕ, ◌<◌, Bool, true, false, cond, ◌&&◌, List, [], length, map, get_or, set, Some, refl, sym, ap, subst, ◌∙◌, arith, eqb, eqb-true, get_or-set_same, get_or-set_other, length-set, Vec, None, ⊎_elim, ◌≤◌}
 use Rattle.std.specs.Prelude.{All}
-use Rattle.std.proofs.lemmas.Bool.{eqb-false}
+use Rattle.std.proofs.lemmas.Bool.{cases_lt, eqb-false}
 use Rattle.std.proofs.Math.Seq.{map-set_same}
-use Rattle.std.proofs.lemmas.List.{get_or-map, length-map, map-set}
+use Rattle.std.proofs.lemmas.List.{get_or-map, length-map, map-set, ext_get_or}
 use Rattle.std.proofs.lemmas.List.Elements.{All-set}
+use Rattle.mixed_model.proofs.RowLaws.{constant_in-None, same_rows}
 use Rattle.mixed_model.specs.declared.entry.Entry.{Entry}
 use Rattle.mixed_model.specs.Rows.{IsRow, IsWithin, PutsConstant, PutsInRow, constant_in}
-use Rattle.mixed_model.specs.Models.{MixedModel, IsModel, PutsAt}
+use Rattle.mixed_model.specs.Models.{MixedModel, IsModel, PutsAt, constant_of}
 
 -- rows that are vectors
 pub rows_are_rows : {A : Type 0} (rows : List (Vec Entry A)) (columns : ℕ) → All (λ row. IsRow row × IsWithin columns row) (map (λ row. row.items) rows) → All (λ row. IsRow row.items) rows
@@ -56,3 +57,22 @@ PutsInRow-set rows i column constant old new within is puts = record {
 -- or keeps its items
 pub rows_kept : {A : Type 0} (rows : List (Vec Entry A)) (i : ℕ) (old new : Vec Entry A) → old ≡ get_or rows i old → new.items ≡ old.items → map (λ row. row.items) (set rows i new) ≡ map (λ row. row.items) rows
 rows_kept rows i old new is same = map-set_same (λ row. row.items) rows i new old (same ∙ ap (λ row. row.items) is)
+
+-- a column past the unknowns has no constant
+beyond_unknowns : (columns : ℕ) (row : List Entry) (j : ℕ) → IsWithin columns row → columns ≤ j → constant_in row j ≡ None
+beyond_unknowns columns row j within beyond = constant_in-None row j (λ k d at same. omega (arith, within k d at, same))
+
+-- models with the same names and constants are the same
+pub same_models : (a b : MixedModel) → IsModel a → IsModel b → a.equations ≡ b.equations → a.unknowns ≡ b.unknowns → ((i j : ℕ) → i < length a.equations → j < length a.unknowns → constant_of a i j ≡ constant_of b i j) → a ≡ b
+same_models a b is_a is_b equations unknowns constants = λ i. record { equations = equations i; unknowns = unknowns i; rows = rows i }
+  where
+    rows : a.rows ≡ b.rows
+    rows = ext_get_or [] a.rows b.rows (is_a.one_row_each ∙ ap length equations ∙ sym is_b.one_row_each) (λ k at.
+        let here = is_a.rows k [] at in
+        let there = is_b.rows k [] (omega (arith, is_a.one_row_each, is_b.one_row_each, ap length equations)) in
+        same_rows 0 0 (get_or a.rows k []) (get_or b.rows k []) here.0 there.0 (λ j. ⊎_elim
+        (λ within. constants k j (omega (arith, is_a.one_row_each)) within)
+        (λ beyond.
+        beyond_unknowns (length a.unknowns) (get_or a.rows k []) j here.1 beyond
+        ∙ sym (beyond_unknowns (length b.unknowns) (get_or b.rows k []) j there.1 (omega (arith, ap length unknowns))))
+        (cases_lt j (length a.unknowns))))

@@ -1,5 +1,5 @@
 -- Rows: what stands at a column, and what an entry put between the others leaves.
-use Rattle.std.proofs.Common.{◌≡◌, ◌≢◌, ℕ, zero, suc, ◌+◌, ◌-◌, ◌<◌, ◌≤◌, Bool, true, false, cond, List, [], ◌∷◌, length, get_or, Some, None, Result, Ok, Err, refl, sym, subst, arith, eqb, ne_eqb, eq-eqb, eqb-true, ⊎_elim}
+use Rattle.std.proofs.Common.{◌≡◌, ◌≢◌, ℕ, zero, suc, ◌+◌, ◌-◌, ◌<◌, ◌≤◌, Bool, true, false, cond, List, [], ◌∷◌, length, get_or, Some, None, Result, Ok, Err, refl, sym, subst, ◌∙◌, arith, eqb, ne_eqb, eq-eqb, eqb-true, ⊎_elim}
 use Rattle.std.specs.Prelude.{MatchResult}
 use Rattle.std.specs.Cmp.{ranks}
 use Rattle.std.specs.List.{AllWithin, insert}
@@ -162,3 +162,47 @@ constant_in-positive first (entry ∷ row) rises column constant at =
     by : (b : Bool) → cond b (Some entry.constant) (constant_in row column) ≡ Some constant → (constant_in row column ≡ Some constant → 0 < constant) → 0 < constant
     by true here rest = let same : entry.constant ≡ constant = cc in omega (arith, rises.1, same)
     by false there rest = rest there
+
+-- no constant stands before the first column
+constant_in-before : (first : ℕ) (row : List Entry) → RisesFrom first row → (column : ℕ) → column < first → constant_in row column ≡ None
+constant_in-before first row rises column before =
+    constant_in-None row column (λ i d at same. let from = rises_from first row rises i d at in omega (arith, from, same))
+
+-- rows with the same constants are the same
+pub same_rows : (first second : ℕ) (a b : List Entry) → RisesFrom first a → RisesFrom second b → ((column : ℕ) → constant_in a column ≡ constant_in b column) → a ≡ b
+same_rows first second [] [] up vp same = refl
+same_rows first second [] (e ∷ b) up vp same =
+    let there : None ≡ Some e.constant = same e.column ∙ rw (eq-eqb e.column e.column refl) refl in
+    let f : ⊥ = cc in absurd f
+same_rows first second (d ∷ a) [] up vp same =
+    let there : Some d.constant ≡ None = sym (rw (eq-eqb d.column d.column refl) refl) ∙ same d.column in
+    let f : ⊥ = cc in absurd f
+same_rows first second (d ∷ a) (e ∷ b) up vp same = ⊎_elim
+    (λ less.
+    let none = constant_in-before e.column (e ∷ b) (omega arith, vp.1, vp.2, vp.3) d.column less in
+    let some : constant_in (d ∷ a) d.column ≡ Some d.constant = rw (eq-eqb d.column d.column refl) refl in
+    let there = same d.column in
+    let f : ⊥ = cc in absurd f)
+    (λ not_less. ⊎_elim
+    (λ more.
+    let none = constant_in-before d.column (d ∷ a) (omega arith, up.1, up.2, up.3) e.column more in
+    let some : constant_in (e ∷ b) e.column ≡ Some e.constant = rw (eq-eqb e.column e.column refl) refl in
+    let there = same e.column in
+    let f : ⊥ = cc in absurd f)
+    (λ not_more. at_one (λ rest. same_rows (d.column + 1) (e.column + 1) a b up.3 vp.3 rest) (omega arith))
+    (cases_lt e.column d.column))
+    (cases_lt d.column e.column)
+  where
+    at_one : (((c : ℕ) → constant_in a c ≡ constant_in b c) → a ≡ b) → d.column ≡ e.column → d ∷ a ≡ e ∷ b
+    at_one rest column =
+        let here : Some d.constant ≡ Some e.constant =
+        sym (rw (eq-eqb d.column d.column refl) refl) ∙ same d.column ∙ rw (eq-eqb e.column d.column (sym column)) refl in
+        let constant : d.constant ≡ e.constant = cc in
+        let others : a ≡ b = rest (λ c. ⊎_elim
+        (λ later.
+        let differs : eqb d.column c ≡ false = ne_eqb d.column c (λ p. omega (arith, p)) in
+        let differs_too : eqb e.column c ≡ false = ne_eqb e.column c (λ p. omega (arith, p)) in
+        sym (rw differs refl) ∙ same c ∙ rw differs_too refl)
+        (λ not_later. constant_in-before (d.column + 1) a up.3 c (omega arith) ∙ sym (constant_in-before (e.column + 1) b vp.3 c (omega arith)))
+        (cases_lt d.column c)) in
+        (λ i. record { column = column i; constant = constant i } ∷ others i)

@@ -9,7 +9,7 @@ mod rows;
 
 pub use entry::{Entries, Entry};
 pub use errors::{AddError, NoMemory};
-pub use mixed::Mixed;
+pub use mixed::{Mixed, constants_tell_a_model};
 pub use names::is_label;
 pub use refusals::{Place, ReadModel, Refused, Why};
 

@@ -1,4 +1,4 @@
-ghost use Rattle.std.specs.Prelude.{◌≡◌, ◌≢◌, ◌<◌, IsTrue, [], length, position, slice_get, Some, IfOk, OnOk, OnErr};
+ghost use Rattle.std.specs.Prelude.{ℕ, ◌≡◌, ◌≢◌, ◌<◌, IsTrue, [], length, position, slice_get, Some, IfOk, OnOk, OnErr};
 ghost use Rattle.std.specs.Str.{bytes_eq};
 ghost use Rattle.mixed_model.specs.Names.{is_label, adding, AnswersAdd};
 ghost use Rattle.mixed_model.specs.Rows.{putting};
@@ -154,3 +154,9 @@ impl Mixed {
         rows::put_in_row(&mut self.rows, i, j, value)
     }
 }
+
+/// Models with the same names and the same constants are the same.
+pub fn constants_tell_a_model()
+    ensures { (a b : MixedModel) → IsModel a → IsModel b → a.equations ≡ b.equations → a.unknowns ≡ b.unknowns
+        → ((i j : ℕ) → i < length a.equations → j < length a.unknowns → constant_of a i j ≡ constant_of b i j) → a ≡ b }
+{}
