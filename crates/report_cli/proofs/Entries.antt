@@ -2,7 +2,7 @@
 use Rattle.std.proofs.Common.{◌≡◌, ◌≢◌, ℕ, ◌+◌, ◌<◌, ◌≤◌, ◌⊎◌, inl, inr, List, [], length, get_or, set, get_or-set_same, get_or-set_other, length-set, refl, ap, sym, ◌∙◌, subst, arith}
 use Rattle.dense_q.specs.Tables.{Table, height, row_at, entry, with_entry}
 use Rattle.mixed_model.specs.Models.{MixedModel}
-use Rattle.report_cli.specs.Right.{constants}
+use Rattle.matrix_reader.specs.Models.{constant_at}
 use Rattle.report_cli.specs.Filling.{FillsRow}
 use Rattle.residue_theory.proofs.SumLaws.{nat_cases}
 
@@ -20,12 +20,12 @@ with_entry-other m i j x a b other = ap (λ (row : List ℕ). get_or row b 0) (g
 
 -- one more place of the row is filled
 pub fills-next : (model : MixedModel) (old now next : Table) (i j x : ℕ) → i < height old → j < length (row_at old i) → FillsRow model old now i j →
-    next ≡ with_entry now i j x → x ≡ constants model i j → FillsRow model old next i (j + 1)
+    next ≡ with_entry now i j x → x ≡ constant_at model i j → FillsRow model old next i (j + 1)
 fills-next model old now next i j x within inside fills is value = subst (λ t. FillsRow model old t i (j + 1)) (sym is) (record {
   size = record { height_same = length-set now.rows i (set (row_at now i) j x) ∙ fills.size.height_same; width_same = fills.size.width_same };
   long = ap length (with_entry-row now i j x here) ∙ length-set (row_at now i) j x ∙ fills.long;
   filled = λ b below. elim (nat_cases b j) [
-    | inl same ↦ subst (λ k. entry (with_entry now i j x) i k ≡ constants model i k) (sym same) (with_entry-same now i j x here (subst (λ k. j < k) (sym fills.long) inside) ∙ value)
+    | inl same ↦ subst (λ k. entry (with_entry now i j x) i k ≡ constant_at model i k) (sym same) (with_entry-same now i j x here (subst (λ k. j < k) (sym fills.long) inside) ∙ value)
     | inr other ↦ with_entry-column now i j x b here other ∙ fills.filled b (omega arith)
   ];
   others = λ a b low other. with_entry-other now i j x a b other ∙ fills.others a b low other;

@@ -3,6 +3,7 @@ pub mod Pieces
 pub mod Puts
 pub mod Noting
 pub mod Written
+pub mod Refusals
 pub mod Runs
 pub mod Entries
 pub mod Eliminations

@@ -16,7 +16,8 @@ use Rattle.linear_algebra_laws.proofs.Tableaus.{tableau-independent, tableau-ran
 use Rattle.row_transform.specs.Tableaus.{State, IsTableau, IsBare, IsBaseColumn, IsOpened, AreParts}
 use Rattle.report_cli.specs.Certificates.{Contents, pair_at}
 use Rattle.report_cli.specs.Elimination.{AreClosed, IsEliminated, IsEliminatedOf, ListsBase}
-use Rattle.report_cli.specs.Right.{constants, in_base, IsPairList, IsUnitColumn, IsTransform, HasPair, IsRight}
+use Rattle.matrix_reader.specs.Models.{constant_at}
+use Rattle.report_cli.specs.Right.{in_base, IsPairList, IsUnitColumn, IsTransform, HasPair, IsRight}
 use Rattle.report_cli.specs.declared.shape.Shape.{Shape}
 use Rattle.dense_q.specs.Tables.{Table, IsMatrix, IsTableOf, height, entry}
 use Rattle.mixed_model.specs.Models.{MixedModel}
@@ -111,7 +112,7 @@ product-entries p m n S T a P R s r same i j il jl = ap (λ x. x % p) (r i j il 
 
 -- the parts of an eliminated tableau of a model's constants, and the list of its base columns, are a right certificate
 pub right-certificate : (p : ℕ) → IsPrime p → (model : MixedModel) (t : State) (echo : List ℕ) (shape : Shape) (pairs : List (ℕ × ℕ)) (s u P : Table) →
-    IsEliminatedOf p (length model.equations) (length model.unknowns) (constants model) t → IsTableau p t → ListsBase t t.rows pairs → AreParts t s u P →
+    IsEliminatedOf p (length model.equations) (length model.unknowns) (constant_at model) t → IsTableau p t → ListsBase t t.rows pairs → AreParts t s u P →
     IsMatrix s → IsMatrix u → IsMatrix P →
     shape ≡ record { equations = height s; unknowns = P.width; q_rows = height u; t_rows = 0; columns = P.width } →
     IsRight p model (record { echo = echo; shape = shape; base = pairs; s = s.rows; u = u.rows; p = P.rows })
@@ -124,7 +125,7 @@ right-certificate p prime model t echo shape pairs s u P of_model tableau lists 
 }
   where
     a : ℕ → ℕ → ℕ
-    a = constants model
+    a = constant_at model
 
     c : Contents
     c = record { echo = echo; shape = shape; base = pairs; s = s.rows; u = u.rows; p = P.rows }

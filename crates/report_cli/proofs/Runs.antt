@@ -1,11 +1,16 @@
--- What a run answers, and that nothing else is an answer.
+-- A whole input has one answer.
 use Rattle.std.proofs.Common.{◌≡◌, ℕ, ◌+◌, ◌≤◌, ◌<◌, ◌⊎◌, List, [], ◌++◌, length, Option, Some, None, refl, sym, ◌∙◌, ap, subst, arith, inl, inr, append-nil}
 use Rattle.std.proofs.lemmas.List.{length-append}
 use Rattle.port_io.specs.Bytes.{Took, Ended}
+use Rattle.refusals.specs.declared.Refused.{Refused as Refusal}
+use Rattle.line_lexer.specs.Lines.{lines_of}
+use Rattle.matrix_reader.specs.EquationLists.{AllPlain}
 use Rattle.report_cli.specs.declared.status.Status.{Status}
 use Rattle.report_cli.specs.declared.status.Status.TheVariants.{Done, Usage, Refused, TooLong, ReadFault, WriteFault, Memory}
 use Rattle.report_cli.specs.Words.{AskForAnalysis}
-use Rattle.report_cli.specs.Answer.{IsAnswer, IsOfInput, Agrees, Answered, OnlyAnswer, Tells, model_limit}
+use Rattle.report_cli.specs.RightFor.{IsRefused}
+use Rattle.report_cli.proofs.Refusals.{plain-unrefused, refused-alone}
+use Rattle.report_cli.specs.Answer.{IsAnswer, Answered, OnlyAnswer, Tells, model_limit}
 
 -- what was taken of a known input is no longer than it
 took_prefix : (input : List ℕ) (after : Option (List ℕ)) (read : List ℕ) → Took (Some input) after read → length read ≤ length input
@@ -23,8 +28,11 @@ at_input left after input read is took = let P : Option (List ℕ) → Type 0 = 
 pub read_is : (left after : Option (List ℕ)) (input read : List ℕ) → left ≡ Some input → Took left after read → Ended after → read ≡ input
 read_is left after input read is took ended = took_whole input after read (at_input left after input read is took) ended
 
--- words that ask for nothing have no other answer
-usage_only : (words : List (List ℕ)) (input : List ℕ) (answer : Status) (text : List ℕ) → (AskForAnalysis words → ⊥) → IsAnswer words input answer text → Agrees answer Usage
+too_long : {A : Type 0} (input : List ℕ) → model_limit < length input → length input ≤ model_limit → A
+too_long {A} input long short = absurd (omega (arith, long, short))
+
+-- words that ask for nothing
+usage_only : (words : List (List ℕ)) (input : List ℕ) (answer : Status) (text : List ℕ) → (AskForAnalysis words → ⊥) → IsAnswer words input answer text → Usage ≡ answer
 usage_only words input Usage text never a = refl
 usage_only words input Done text never a = absurd (never a.0)
 usage_only words input (Refused refused) text never a = absurd (never a.0)
@@ -33,12 +41,9 @@ usage_only words input ReadFault text never a = absurd a
 usage_only words input WriteFault text never a = absurd a
 usage_only words input Memory text never a = absurd a
 
-too_long : {A : Type 0} (input : List ℕ) → model_limit < length input → length input ≤ model_limit → A
-too_long {A} input long short = absurd (omega (arith, long, short))
-
--- an input past the limit has no other answer
+-- an input past the limit
 long_only : (words : List (List ℕ)) (input : List ℕ) (limit : ℕ) (answer : Status) (text : List ℕ) → AskForAnalysis words → limit ≡ model_limit → model_limit < length input →
-    IsAnswer words input answer text → Agrees answer (TooLong limit)
+    IsAnswer words input answer text → TooLong limit ≡ answer
 long_only words input limit Usage text asks is long a = absurd (a.0 asks)
 long_only words input limit Done text asks is long a = too_long input long a.1
 long_only words input limit (Refused refused) text asks is long a = too_long input long a.1
@@ -47,16 +52,27 @@ long_only words input limit ReadFault text asks is long a = absurd a
 long_only words input limit WriteFault text asks is long a = absurd a
 long_only words input limit Memory text asks is long a = absurd a
 
--- an input within the limit is answered by a status of the input
-input_only : (words : List (List ℕ)) (input : List ℕ) (status answer : Status) (text : List ℕ) → IsOfInput status → AskForAnalysis words → length input ≤ model_limit →
-    IsAnswer words input answer text → Agrees answer status
-input_only words input status Usage text of_input asks short a = absurd (a.0 asks)
-input_only words input status Done text of_input asks short a = of_input
-input_only words input status (Refused refused) text of_input asks short a = of_input
-input_only words input status (TooLong other) text of_input asks short a = too_long input a.2 short
-input_only words input status ReadFault text of_input asks short a = absurd a
-input_only words input status WriteFault text of_input asks short a = absurd a
-input_only words input status Memory text of_input asks short a = absurd a
+-- an input with a line that is not plain
+refused_only : (words : List (List ℕ)) (input : List ℕ) (refused : Refusal) (answer : Status) (text : List ℕ) → AskForAnalysis words → length input ≤ model_limit → IsRefused input refused →
+    IsAnswer words input answer text → Refused refused ≡ answer
+refused_only words input refused Usage text asks short is a = absurd (a.0 asks)
+refused_only words input refused Done text asks short is a = plain-unrefused input refused a.2.right.plain is
+refused_only words input refused (Refused other) text asks short is a = ap Refused (refused-alone input refused other is a.2)
+refused_only words input refused (TooLong limit) text asks short is a = too_long input a.2 short
+refused_only words input refused ReadFault text asks short is a = absurd a
+refused_only words input refused WriteFault text asks short is a = absurd a
+refused_only words input refused Memory text asks short is a = absurd a
+
+-- an input of plain lines
+done_only : (words : List (List ℕ)) (input : List ℕ) (answer : Status) (text : List ℕ) → AskForAnalysis words → length input ≤ model_limit → AllPlain (lines_of input) →
+    IsAnswer words input answer text → Done ≡ answer
+done_only words input Usage text asks short plain a = absurd (a.0 asks)
+done_only words input Done text asks short plain a = refl
+done_only words input (Refused refused) text asks short plain a = plain-unrefused input refused plain a.2
+done_only words input (TooLong limit) text asks short plain a = too_long input a.2 short
+done_only words input ReadFault text asks short plain a = absurd a
+done_only words input WriteFault text asks short plain a = absurd a
+done_only words input Memory text asks short plain a = absurd a
 
 -- where no fault came, no other answer than the one given is one
 pub only : (words : List (List ℕ)) (left after written written' : Option (List ℕ)) (status : Status) → Tells status (Answered words left after written written' status) →
@@ -68,10 +84,12 @@ only words left after written written' (TooLong limit) a no_read no_write = λ i
     inl (long_only words input limit answer text a.answer.0 a.answer.1 (omega (arith, short, long)) given)
 only words left after written written' (Refused refused) a no_read no_write = λ input answer text is given.
     let same : a.read ≡ input = read_is left after input a.read is a.took a.ended in
-    inl (input_only words input (Refused refused) answer text tt a.answer.0 (subst (λ r. length r ≤ model_limit) same a.answer.1) given)
+    let own : IsAnswer words input (Refused refused) a.text = subst (λ r. IsAnswer words r (Refused refused) a.text) same a.answer in
+    inl (refused_only words input refused answer text own.0 own.1 own.2 given)
 only words left after written written' Done a no_read no_write = λ input answer text is given.
     let same : a.read ≡ input = read_is left after input a.read is a.took a.ended in
-    inl (input_only words input Done answer text tt a.answer.0 (subst (λ r. length r ≤ model_limit) same a.answer.1) given)
+    let own : IsAnswer words input Done a.text = subst (λ r. IsAnswer words r Done a.text) same a.answer in
+    inl (done_only words input answer text own.0 own.1 own.2.right.plain given)
 only words left after written written' ReadFault a no_read no_write = absurd (no_read refl)
 only words left after written written' WriteFault a no_read no_write = absurd (no_write refl)
 only words left after written written' Memory a no_read no_write = λ input answer text is given. inr refl

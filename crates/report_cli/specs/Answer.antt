@@ -2,7 +2,7 @@
 use Rattle.std.specs.Prelude.{◌≡◌, ℕ, ◌+◌, ◌≤◌, ◌<◌, ◌⊎◌, List, [], ◌++◌, length, Option, Some, None}
 use Rattle.port_io.specs.Bytes.{Took, Appended, Ended}
 use Rattle.report_cli.specs.Certificates.{Contents, certificate_text}
-use Rattle.report_cli.specs.RightFor.{IsRightFor}
+use Rattle.report_cli.specs.RightFor.{IsRightFor, IsRefused}
 use Rattle.report_cli.specs.Words.{AskForAnalysis}
 use Rattle.report_cli.specs.Writing.{PartWritten}
 use Rattle.report_cli.specs.declared.status.Status.{Status}
@@ -22,7 +22,7 @@ pub record IsCertified (input text : List ℕ) : Type 0 where
 abbrev pub IsAnswer : List (List ℕ) → List ℕ → Status → List ℕ → Type 0
 IsAnswer words input Usage text = (AskForAnalysis words → ⊥) × (text ≡ [])
 IsAnswer words input (TooLong limit) text = AskForAnalysis words × (limit ≡ model_limit) × (model_limit < length input) × (text ≡ [])
-IsAnswer words input (Refused refusal) text = AskForAnalysis words × (length input ≤ model_limit) × (text ≡ [])
+IsAnswer words input (Refused refusal) text = AskForAnalysis words × (length input ≤ model_limit) × IsRefused input refusal × (text ≡ [])
 IsAnswer words input Done text = AskForAnalysis words × (length input ≤ model_limit) × IsCertified input text
 IsAnswer words input ReadFault text = ⊥
 IsAnswer words input WriteFault text = ⊥
@@ -65,22 +65,10 @@ pub record CutShort (words : List (List ℕ)) (left left' written written' : Opt
   pub cut : PartWritten written written' text
   pub answer : IsAnswer words read Done text
 
--- the input was within the limit, and was read
-abbrev pub IsOfInput : Status → Type 0
-IsOfInput Done = Unit {0}
-IsOfInput (Refused refusal) = Unit {0}
-IsOfInput _ = ⊥
-
--- the status is that of the answer; of `Refused` and `Done` it is not told yet which of the two
-abbrev pub Agrees : Status → Status → Type 0
-Agrees Done status = IsOfInput status
-Agrees (Refused refusal) status = IsOfInput status
-Agrees answer status = status ≡ answer
-
--- where the whole input has an answer, no status comes that disagrees with it, but for want of memory
+-- where the whole input has an answer, the status is that of the answer, but for want of memory
 abbrev pub OnlyAnswer : List (List ℕ) → Option (List ℕ) → Status → Type 0
 OnlyAnswer words left status =
-    (input : List ℕ) (answer : Status) (text : List ℕ) → left ≡ Some input → IsAnswer words input answer text → Agrees answer status ⊎ (status ≡ Memory)
+    (input : List ℕ) (answer : Status) (text : List ℕ) → left ≡ Some input → IsAnswer words input answer text → (status ≡ answer) ⊎ (status ≡ Memory)
 
 -- a sink takes each text that a run may write for this input
 abbrev pub TakesAnyText : List (List ℕ) → List ℕ → (ℕ → Type 0) → Type 0

@@ -1,16 +1,13 @@
 -- What makes a certificate right for a model of constants. (Murota, chapters 2 and 4.)
-use Rattle.std.specs.Prelude.{ℕ, ◌<◌, ◌≡◌, ◌≢◌, ◌%◌, eqb, Bool, List, [], length, slice_index, slice_index_or, unwrap_or, All}
+use Rattle.std.specs.Prelude.{ℕ, ◌<◌, ◌≡◌, ◌≢◌, ◌%◌, eqb, Bool, List, [], length, slice_index, slice_index_or, All}
 use Rattle.residue_theory.specs.Sets.{everything, some_below}
 use Rattle.residue_theory.specs.Sums.{size_on}
 use Rattle.linear_algebra.specs.Columns.{IsIndependent, IsRank}
 use Rattle.linear_algebra.specs.Products.{product, Agree, IsInverse}
-use Rattle.mixed_model.specs.Models.{MixedModel, constant_of}
+use Rattle.mixed_model.specs.Models.{MixedModel}
+use Rattle.matrix_reader.specs.Models.{constant_at}
 use Rattle.report_cli.specs.Certificates.{Contents, pair_at}
 use Rattle.report_cli.specs.declared.shape.Shape.{Shape}
-
--- the matrix of a model's constants, with 0 where there is none
-abbrev pub constants : MixedModel → ℕ → ℕ → ℕ
-constants model i j = unwrap_or (constant_of model i j) 0
 
 -- the matrix with these rows
 abbrev pub matrix : List (List ℕ) → ℕ → ℕ → ℕ
@@ -65,5 +62,5 @@ pub record HasPair (p m n : ℕ) (a : ℕ → ℕ → ℕ) (c : Contents) : Type
 -- a certificate is right for a model
 pub record IsRight (p : ℕ) (model : MixedModel) (c : Contents) : Type 0 where
   pub shape : c.shape ≡ shape_of model
-  pub transform : IsTransform p (length model.equations) (length model.unknowns) (constants model) c
-  pub pair : HasPair p (length model.equations) (length model.unknowns) (constants model) c
+  pub transform : IsTransform p (length model.equations) (length model.unknowns) (constant_at model) c
+  pub pair : HasPair p (length model.equations) (length model.unknowns) (constant_at model) c

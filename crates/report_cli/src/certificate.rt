@@ -9,7 +9,8 @@ ghost use Rattle.dense_q.specs.Tables.{IsMatrix, height};
 ghost use Rattle.row_transform.specs.Dense.{state_of};
 ghost use Rattle.report_cli.specs.Certificates.{lines_text, certificate_text};
 ghost use Rattle.report_cli.specs.Elimination.{IsEliminatedOf};
-ghost use Rattle.report_cli.specs.Right.{IsRight, constants};
+ghost use Rattle.matrix_reader.specs.Models.{constant_at};
+ghost use Rattle.report_cli.specs.Right.{IsRight};
 ghost use Rattle.report_cli.specs.Writing.{IsPut, PartWritten};
 
 use crate::constants::constants_of;
@@ -101,7 +102,7 @@ pub fn certificate_of(alloc: Global, model: &Mixed, echo: Vec<u8>) -> Result<Cer
 
 /// The tableau of a model's constants, eliminated.
 fn eliminated(alloc: Global, model: &Mixed) -> Result<DenseTableau<Res>, NoMemory>
-    ensures { IfOk result (λ t. IsEliminatedOf res_modulus (length model.now.equations) (length model.now.unknowns) (constants model.now) (state_of res_modulus t)) }
+    ensures { IfOk result (λ t. IsEliminatedOf res_modulus (length model.now.equations) (length model.now.unknowns) (constant_at model.now) (state_of res_modulus t)) }
 {
     let q = constants_of(alloc, model)?;
     let mut tableau = DenseTableau::open(alloc, &q)?;

@@ -2,7 +2,7 @@
 
 ghost use Rattle.std.specs.Prelude.{◌≡◌, ◌<◌, length, IfOk};
 ghost use Rattle.dense_q.specs.Tables.{IsTableOf, HasSameSize, height, entry};
-ghost use Rattle.report_cli.specs.Right.{constants};
+ghost use Rattle.matrix_reader.specs.Models.{constant_at};
 ghost use Rattle.report_cli.specs.Filling.{FillsRow};
 
 use dense_q::{Mat, NoMemory};
@@ -13,7 +13,7 @@ use std::alloc::Global;
 /// The matrix of a model's constants, a row for each equation and a column for each unknown, with 0 where there is
 /// no constant.
 pub fn constants_of(alloc: Global, model: &Mixed) -> Result<Mat<Res>, NoMemory>
-    ensures { IfOk result (λ q. IsTableOf (length model.now.equations) (length model.now.unknowns) (constants model.now) q) }
+    ensures { IfOk result (λ q. IsTableOf (length model.now.equations) (length model.now.unknowns) (constant_at model.now) q) }
 {
     let mut q = Mat::zeros(alloc, model.equations(), model.unknowns())?;
     for equation in 0..model.equations() {
