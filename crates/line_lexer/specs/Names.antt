@@ -3,6 +3,7 @@ use Rattle.std.specs.Prelude.{ℕ, ◌%◌, Bool, false, not, ◌&&◌, ◌||◌
 use Rattle.std.specs.Char.{is_ascii_alphabetic, is_ascii_digit}
 use Rattle.std.specs.List.{list_all}
 use Rattle.std.specs.Str.Parse.{digits_value}
+use Rattle.residue_field.specs.Modulus.{res_modulus}
 use Rattle.refusals.specs.declared.Why.{Why}
 use Rattle.refusals.specs.declared.Why.TheVariants.{BadNumber, Vanish}
 
@@ -23,9 +24,9 @@ is_name (byte ∷ bytes) = begins_name byte && list_all continues_name bytes && 
 abbrev pub is_numeral : List ℕ → Bool
 is_numeral text = nat_le 1 (length text) && nat_le (length text) 18 && list_all is_ascii_digit text
 
--- the residue of a whole number modulo 65521, where only 0 has the residue 0
+-- the residue of a whole number, where only 0 has the residue 0
 abbrev pub residue_of : ℕ → Result ℕ Why
-residue_of n = if nat_eq (n % 65521) 0 && not (nat_eq n 0) then Err Vanish else Ok (n % 65521)
+residue_of n = if nat_eq (n % res_modulus) 0 && not (nat_eq n 0) then Err Vanish else Ok (n % res_modulus)
 
 -- The residue of the number that a text is.
 abbrev pub number_of : List ℕ → Result ℕ Why

@@ -9,7 +9,7 @@ use Rattle.mixed_model.specs.Models.{MixedModel, IsModel, PutsAt, constant_of, r
 use Rattle.mixed_model.proofs.RowLaws.{putting-Ok}
 use Rattle.matrix_reader.specs.Items.{is_item, unknown_of, item_constant}
 use Rattle.matrix_reader.specs.EquationLists.{Equation}
-use Rattle.matrix_reader.specs.Models.{constant_at}
+use Rattle.mixed_model.specs.Models.{constant_at}
 use Rattle.matrix_reader.specs.Faults.{fault_of}
 use Rattle.matrix_reader.specs.ReaderStates.{IsWithin, UnmarkedFrom, OnNotPlain, may_follow, with_item}
 use Rattle.matrix_reader.proofs.MarkLaws.{Marks, has_name-Some, has_name-None}

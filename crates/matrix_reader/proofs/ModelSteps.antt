@@ -11,7 +11,8 @@ use Rattle.mixed_model.proofs.RowLaws.{constant_in-None, constant_in-positive}
 use Rattle.matrix_reader.specs.Items.{unknown_of, item_constant}
 use Rattle.matrix_reader.specs.EquationLists.{Equation, unknowns_in, see}
 use Rattle.matrix_reader.specs.ReaderStates.{with_item}
-use Rattle.matrix_reader.specs.Models.{IsModelOf, constant_at, said_of, items_at}
+use Rattle.mixed_model.specs.Models.{constant_at}
+use Rattle.matrix_reader.specs.Models.{IsModelOf, said_of, items_at}
 use Rattle.matrix_reader.proofs.SaidLaws.{said_of-push, said_of-absent, items_at-before, items_at-last, said_of-unseen}
 use Rattle.matrix_reader.proofs.SeenLaws.{unknowns_in-push, names_apart}
 

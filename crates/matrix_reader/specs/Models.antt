@@ -1,7 +1,7 @@
 -- The model that equations give.
-use Rattle.std.specs.Prelude.{◌≡◌, ℕ, ◌<◌, List, [], length, map, sum_by, if◌then◌else◌, unwrap_or, slice_index_or}
+use Rattle.std.specs.Prelude.{◌≡◌, ℕ, ◌<◌, List, [], length, map, sum_by, if◌then◌else◌, slice_index_or}
 use Rattle.std.specs.Str.{bytes_eq}
-use Rattle.mixed_model.specs.Models.{MixedModel, IsModel, constant_of}
+use Rattle.mixed_model.specs.Models.{MixedModel, IsModel, constant_at}
 use Rattle.matrix_reader.specs.Items.{unknown_of, item_constant}
 use Rattle.matrix_reader.specs.EquationLists.{Equation, equations_in, unknowns_in}
 
@@ -12,10 +12,6 @@ said_of items unknown = sum_by (λ item. if bytes_eq unknown (unknown_of item) t
 -- the items of equation i
 abbrev pub items_at : List Equation → ℕ → List (List ℕ)
 items_at equations i = slice_index_or (map (λ equation. equation.items) equations) i []
-
--- the constant of a model at the place (i, j), 0 where there is none
-abbrev pub constant_at : MixedModel → ℕ → ℕ → ℕ
-constant_at model i j = unwrap_or (constant_of model i j) 0
 
 -- The model of some equations: their names, their unknowns in first-seen order, and at each place what the
 -- equation's items say of the unknown.

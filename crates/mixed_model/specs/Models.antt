@@ -1,5 +1,5 @@
 -- Models, seen as data, and what the calls of `Mixed` leave.
-use Rattle.std.specs.Prelude.{◌≡◌, ℕ, ◌&&◌, List, [], ◌∷◌, ◌++◌, length, nat_eq, if◌then◌else◌, Option, Some, slice_index_or, All}
+use Rattle.std.specs.Prelude.{◌≡◌, ℕ, ◌&&◌, List, [], ◌∷◌, ◌++◌, length, nat_eq, if◌then◌else◌, Option, Some, unwrap_or, slice_index_or, All}
 use Rattle.mixed_model.specs.declared.entry.Entry.{Entry}
 use Rattle.mixed_model.specs.Names.{IsNameList}
 use Rattle.mixed_model.specs.Rows.{IsRow, IsWithin, constant_in}
@@ -17,6 +17,10 @@ row_of model i = slice_index_or model.rows i []
 -- the constant of equation i at unknown j, where there is one
 abbrev pub constant_of : MixedModel → ℕ → ℕ → Option ℕ
 constant_of model i j = constant_in (row_of model i) j
+
+-- the matrix of a model's constants, with 0 where there is none
+abbrev pub constant_at : MixedModel → ℕ → ℕ → ℕ
+constant_at model i j = unwrap_or (constant_of model i j) 0
 
 -- Names are few and differ, each equation has a row, and the columns of the rows are unknowns.
 pub record IsModel (model : MixedModel) : Type 0 where

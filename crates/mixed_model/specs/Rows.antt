@@ -2,6 +2,7 @@
 use Rattle.std.specs.Prelude.{◌≡◌, ℕ, ◌+◌, ◌<◌, ◌≤◌, List, [], ◌∷◌, nat_eq, if◌then◌else◌, Option, Some, None, is_some, length, map, slice_index_or, slice_set, Result, Ok, Err, All}
 use Rattle.std.specs.List.{AllWithin}
 use Rattle.std.specs.declared.vec.Vec.{Vec}
+use Rattle.residue_field.specs.Modulus.{res_modulus}
 use Rattle.mixed_model.specs.declared.errors.AddError.{AddError}
 use Rattle.mixed_model.specs.declared.errors.AddError.TheVariants.{Twice}
 use Rattle.mixed_model.specs.declared.entry.Entry.{Entry}
@@ -15,7 +16,7 @@ constant_in (entry ∷ row) column = if nat_eq entry.column column then Some ent
 abbrev pub RisesFrom : ℕ → List Entry → Type 0
 RisesFrom first [] = Unit {0}
 RisesFrom first (entry ∷ row) =
-    (first ≤ entry.column) × (0 < entry.constant) × (entry.constant < 65521) × RisesFrom (entry.column + 1) row
+    (first ≤ entry.column) × (0 < entry.constant) × (entry.constant < res_modulus) × RisesFrom (entry.column + 1) row
 
 -- A row: entries by rising column, each a residue other than 0.
 abbrev pub IsRow : List Entry → Type 0

@@ -1,8 +1,7 @@
 -- The entries of a table with one entry put.
 use Rattle.std.proofs.Common.{◌≡◌, ◌≢◌, ℕ, ◌+◌, ◌<◌, ◌≤◌, ◌⊎◌, inl, inr, List, [], length, get_or, set, get_or-set_same, get_or-set_other, length-set, refl, ap, sym, ◌∙◌, subst, arith}
 use Rattle.dense_q.specs.Tables.{Table, height, row_at, entry, with_entry}
-use Rattle.mixed_model.specs.Models.{MixedModel}
-use Rattle.matrix_reader.specs.Models.{constant_at}
+use Rattle.mixed_model.specs.Models.{MixedModel, constant_at}
 use Rattle.report_cli.specs.Filling.{FillsRow}
 use Rattle.residue_theory.proofs.SumLaws.{nat_cases}
 

@@ -16,7 +16,7 @@ use Rattle.linear_algebra_laws.proofs.Tableaus.{tableau-independent, tableau-ran
 use Rattle.row_transform.specs.Tableaus.{State, IsTableau, IsBare, IsBaseColumn, IsOpened, AreParts}
 use Rattle.report_cli.specs.Certificates.{Contents, pair_at}
 use Rattle.report_cli.specs.Elimination.{AreClosed, IsEliminated, IsEliminatedOf, ListsBase}
-use Rattle.matrix_reader.specs.Models.{constant_at}
+use Rattle.mixed_model.specs.Models.{constant_at}
 use Rattle.report_cli.specs.Right.{in_base, IsPairList, IsUnitColumn, IsTransform, HasPair, IsRight}
 use Rattle.report_cli.specs.declared.shape.Shape.{Shape}
 use Rattle.dense_q.specs.Tables.{Table, IsMatrix, IsTableOf, height, entry}

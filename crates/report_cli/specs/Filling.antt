@@ -1,8 +1,7 @@
 -- A matrix whose row is filled with the constants of an equation.
 use Rattle.std.specs.Prelude.{ℕ, ◌<◌, ◌≡◌, ◌≢◌, length}
 use Rattle.dense_q.specs.Tables.{Table, HasSameSize, height, row_at, entry}
-use Rattle.mixed_model.specs.Models.{MixedModel}
-use Rattle.matrix_reader.specs.Models.{constant_at}
+use Rattle.mixed_model.specs.Models.{MixedModel, constant_at}
 
 -- the first n places of a row have the constants of its equation, and the other rows stay
 pub record FillsRow (model : MixedModel) (old new : Table) (row n : ℕ) : Type 0 where

@@ -4,8 +4,7 @@ use Rattle.residue_theory.specs.Sets.{everything, some_below}
 use Rattle.residue_theory.specs.Sums.{size_on}
 use Rattle.linear_algebra.specs.Columns.{IsIndependent, IsRank}
 use Rattle.linear_algebra.specs.Products.{product, Agree, IsInverse}
-use Rattle.mixed_model.specs.Models.{MixedModel}
-use Rattle.matrix_reader.specs.Models.{constant_at}
+use Rattle.mixed_model.specs.Models.{MixedModel, constant_at}
 use Rattle.report_cli.specs.Certificates.{Contents, pair_at}
 use Rattle.report_cli.specs.declared.shape.Shape.{Shape}
 

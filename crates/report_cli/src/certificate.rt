@@ -9,7 +9,7 @@ ghost use Rattle.dense_q.specs.Tables.{IsMatrix, height};
 ghost use Rattle.row_transform.specs.Dense.{state_of};
 ghost use Rattle.report_cli.specs.Certificates.{lines_text, certificate_text};
 ghost use Rattle.report_cli.specs.Elimination.{IsEliminatedOf};
-ghost use Rattle.matrix_reader.specs.Models.{constant_at};
+ghost use Rattle.mixed_model.specs.Models.{constant_at};
 ghost use Rattle.report_cli.specs.Right.{IsRight};
 ghost use Rattle.report_cli.specs.Writing.{IsPut, PartWritten};
 

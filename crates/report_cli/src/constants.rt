@@ -2,7 +2,7 @@
 
 ghost use Rattle.std.specs.Prelude.{◌≡◌, ◌<◌, length, IfOk};
 ghost use Rattle.dense_q.specs.Tables.{IsTableOf, HasSameSize, height, entry};
-ghost use Rattle.matrix_reader.specs.Models.{constant_at};
+ghost use Rattle.mixed_model.specs.Models.{constant_at};
 ghost use Rattle.report_cli.specs.Filling.{FillsRow};
 
 use dense_q::{Mat, NoMemory};

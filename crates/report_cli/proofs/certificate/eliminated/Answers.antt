@@ -1,7 +1,7 @@
 use Rattle.std.proofs.Common.{length}
 use Rattle.residue_field.specs.Modulus.{res_modulus}
 use Rattle.row_transform.specs.Dense.{state_of}
-use Rattle.matrix_reader.specs.Models.{constant_at}
+use Rattle.mixed_model.specs.Models.{constant_at}
 use Rattle.report_cli.proofs.RightLaws.{eliminated-of}
 use Rattle.report_cli.proofs.certificate.eliminated.Goals as goal
 

@@ -1,6 +1,6 @@
 use Rattle.std.proofs.Common.{◌≡◌, ℕ, ◌<◌, ◌≤◌, length}
 use Rattle.dense_q.specs.Tables.{height, entry}
-use Rattle.matrix_reader.specs.Models.{constant_at}
+use Rattle.mixed_model.specs.Models.{constant_at}
 use Rattle.report_cli.proofs.constants.constants_of.Given as goal
 
 abbrev pub invariant-loop-equation : goal.invariant-loop-equation

@@ -2,7 +2,7 @@ use Rattle.std.proofs.Common.{◌≡◌, ◌<◌, length, subst, sym, ap, ◌∙
 use Rattle.std.specs.Option.{unwrap_or}
 use Rattle.dense_q.specs.Tables.{height, row_at}
 use Rattle.mixed_model.specs.Models.{constant_of}
-use Rattle.matrix_reader.specs.Models.{constant_at}
+use Rattle.mixed_model.specs.Models.{constant_at}
 use Rattle.report_cli.proofs.Pieces.{row_long}
 use Rattle.report_cli.proofs.Entries.{fills-next}
 use Rattle.report_cli.proofs.constants.fill_row.Goals as goal
