@@ -4,10 +4,9 @@
 use port_io::{StdSink, StdSource};
 use report_cli::{Status, run};
 use std::alloc::Global;
-use std::env;
-use std::io;
 use std::process::ExitCode;
 use std::rt::Env;
+use std::{env, io};
 
 fn main(rt: HostRuntime) -> ExitCode {
     let status = match words(&rt) {

@@ -1,12 +1,10 @@
 -- One column more is closed.
-use Rattle.std.proofs.Common.{◌≡◌, ◌≢◌, ℕ, ◌+◌, ◌<◌, ◌≤◌, ◌%◌, List, [], ◌∷◌, ◌++◌, ◌⊎◌, inl, inr, Bool, true, false, not, IsTrue, ◌↔◌, refl, ap, sym, ◌∙◌, subst, arith}
+use Rattle.std.proofs.Common.{◌≡◌, ◌≢◌, ℕ, ◌+◌, ◌<◌, ◌%◌, ◌⊎◌, inl, inr, Bool, true, false, not, IsTrue, ◌↔◌, refl, sym, ◌∙◌, subst, arith}
 use Rattle.std.specs.Bool.{MatchBool}
-use Rattle.linear_algebra.specs.RowOperations.{IsPivoted}
-use Rattle.linear_algebra.specs.Bases.{IsBase}
 use Rattle.residue_theory.proofs.SumLaws.{nat_cases}
 use Rattle.residue_theory.proofs.SetLaws.{differ}
-use Rattle.row_transform.specs.Tableaus.{State, IsTableau, IsBare, IsBaseColumn, IsPivot}
-use Rattle.report_cli.specs.Elimination.{IsOpenAt, AreClosed, Closes, ListsBase}
+use Rattle.row_transform.specs.Tableaus.{State, IsTableau, IsBare, IsPivot}
+use Rattle.report_cli.specs.Elimination.{IsOpenAt, AreClosed}
 
 -- a number is 0 modulo p or is not
 zero_or_not : (x : ℕ) → (x ≡ 0) ⊎ (x ≢ 0)
@@ -35,8 +33,8 @@ bare-before : (modulus : ℕ) (t n : State) (r j i : ℕ) → IsPivot modulus t 
 bare-before modulus t n r j i pivot free apart bare y inside base at_i = elim (nat_cases y j) [
   | inl same ↦ differ free (subst (λ k. t.base k ≡ true) same base)
   | inr other ↦
-    let member : n.base y ≡ true = pivot.taken.kept y inside other base (λ at_r. apart (sym at_i ∙ at_r)) in
-    bare y (subst (λ m. y < m) (sym pivot.columns_same) inside) member ((pivot.taken.only y inside other member).2 ∙ at_i)
+      let member : n.base y ≡ true = pivot.taken.kept y inside other base (λ at_r. apart (sym at_i ∙ at_r)) in
+      bare y (subst (λ m. y < m) (sym pivot.columns_same) inside) member ((pivot.taken.only y inside other member).2 ∙ at_i)
 ]
 
 -- a pivot at the next column closes it

@@ -1,5 +1,5 @@
 -- The entries of a table with one entry put.
-use Rattle.std.proofs.Common.{◌≡◌, ◌≢◌, ℕ, ◌+◌, ◌<◌, ◌≤◌, ◌⊎◌, inl, inr, List, [], length, get_or, set, get_or-set_same, get_or-set_other, length-set, refl, ap, sym, ◌∙◌, subst, arith}
+use Rattle.std.proofs.Common.{◌≡◌, ◌≢◌, ℕ, ◌+◌, ◌<◌, inl, inr, List, [], length, get_or, set, get_or-set_same, get_or-set_other, length-set, ap, sym, ◌∙◌, subst, arith}
 use Rattle.dense_q.specs.Tables.{Table, height, row_at, entry, with_entry}
 use Rattle.mixed_model.specs.Models.{MixedModel, constant_at}
 use Rattle.report_cli.specs.Filling.{FillsRow}

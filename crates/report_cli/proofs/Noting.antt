@@ -1,5 +1,5 @@
 -- What is noted, once the line was put and the buffer was handed on.
-use Rattle.std.proofs.Common.{◌≡◌, ℕ, ◌≤◌, ◌⊎◌, inl, inr, List, [], ◌++◌, Option, Result, Ok, Err, is_ok, OnOk, Bool, true, false, append-nil, refl, sym, subst}
+use Rattle.std.proofs.Common.{◌≡◌, ℕ, inl, inr, List, [], ◌++◌, Option, Result, Ok, Err, is_ok, OnOk, true, false, append-nil, refl, sym, subst}
 use Rattle.port_io.specs.Causes.{HasCause, Rose}
 use Rattle.port_io.specs.Gathering.{Gathering, Gathered, GatheredPart, nothing_gathered}
 use Rattle.port_io.proofs.Gatherings.{gathered_more, gathered_is, gathered_front, appended_whole, appended_front}

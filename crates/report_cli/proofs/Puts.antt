@@ -1,8 +1,8 @@
 -- Texts that are put one after the other.
-use Rattle.std.proofs.Common.{◌≡◌, ℕ, ◌+◌, ◌≤◌, List, [], ◌∷◌, ◌++◌, length, append_assoc, append-nil, Option, Result, Ok, Err, IsOk, IsErr, Bool, true, false, refl, ap, sym, subst, ◌∙◌, arith}
+use Rattle.std.proofs.Common.{◌≡◌, ℕ, ◌+◌, ◌≤◌, List, [], ◌++◌, length, append_assoc, append-nil, Option, Result, Ok, Err, IsOk, IsErr, true, false, refl, ap, sym, subst, ◌∙◌, arith}
 use Rattle.std.proofs.lemmas.List.{length-append}
-use Rattle.port_io.specs.Causes.{HasCause, Rose, one_more}
-use Rattle.port_io.specs.Gathering.{Gathering, Gathered, GatheredPart}
+use Rattle.port_io.specs.Causes.{Rose}
+use Rattle.port_io.specs.Gathering.{Gathering}
 use Rattle.port_io.proofs.Gatherings.{gathered_nothing, gathered_more, gathered_part_of, gathered_part_more}
 use Rattle.report_cli.specs.Writing.{IsPut, IsPutUpTo}
 

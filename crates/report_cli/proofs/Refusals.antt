@@ -1,5 +1,5 @@
 -- An input has one first line that is not plain, or none.
-use Rattle.std.proofs.Common.{◌≡◌, ℕ, ◌+◌, List, ap, sym, ◌∙◌, arith, inl, inr}
+use Rattle.std.proofs.Common.{◌≡◌, ℕ, ◌+◌, List, ap, sym, ◌∙◌, inl, inr}
 use Rattle.std.proofs.lemmas.Bool.{cases_order}
 use Rattle.residue_theory.proofs.SetLaws.{differ}
 use Rattle.refusals.specs.declared.Refused.{Refused}

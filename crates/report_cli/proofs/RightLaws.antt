@@ -1,19 +1,18 @@
 -- An eliminated tableau and the list of its base columns show the rank, and make a right certificate.
-use Rattle.std.proofs.Common.{◌≡◌, ◌≢◌, ℕ, ◌+◌, ◌*◌, ◌<◌, ◌≤◌, ◌%◌, ◌⊎◌, inl, inr, Bool, true, false, ◌&&◌, eqb, List, length, All, refl, ap, sym, ◌∙◌, subst, arith}
+use Rattle.std.proofs.Common.{◌≡◌, ℕ, ◌*◌, ◌<◌, ◌≤◌, ◌%◌, inl, inr, Bool, true, false, ◌&&◌, eqb, List, length, All, refl, ap, sym, ◌∙◌, subst, arith}
 use Rattle.std.proofs.lemmas.List.Elements.{All-from_get_or}
-use Rattle.residue_theory.specs.Sets.{everything, both, some_below, IsWithin}
-use Rattle.residue_theory.specs.Sums.{size_on, sum_below}
+use Rattle.residue_theory.specs.Sets.{everything, both}
+use Rattle.residue_theory.specs.Sums.{size_on}
 use Rattle.residue_theory.specs.Residues.{IsPrime}
-use Rattle.residue_theory.proofs.SumLaws.{sum_on-same, sum_on-ext, nat_cases}
+use Rattle.residue_theory.proofs.SumLaws.{sum_on-same, sum_on-ext}
 use Rattle.residue_theory.proofs.SetLaws.{differ, not_true, eqb_true, eqb_from, some_below-found, some_below-holds, lt_cases}
 use Rattle.residue_theory.proofs.CountLaws.{size-everything, size-injection, size-surjection}
 use Rattle.residue_theory.proofs.ResidueLaws.{agree-sum, agree-mul}
 use Rattle.linear_algebra.specs.Columns.{IsIndependent, IsRank}
 use Rattle.linear_algebra.specs.Products.{product, Agree, IsInverse}
-use Rattle.linear_algebra.specs.Bases.{HasNoBase}
 use Rattle.linear_algebra_laws.proofs.Ranks.{independent-within}
 use Rattle.linear_algebra_laws.proofs.Tableaus.{tableau-independent, tableau-rank}
-use Rattle.row_transform.specs.Tableaus.{State, IsTableau, IsBare, IsBaseColumn, IsOpened, AreParts}
+use Rattle.row_transform.specs.Tableaus.{State, IsTableau, IsOpened, AreParts}
 use Rattle.report_cli.specs.Certificates.{Contents, pair_at}
 use Rattle.report_cli.specs.Elimination.{AreClosed, IsEliminated, IsEliminatedOf, ListsBase}
 use Rattle.mixed_model.specs.Models.{constant_at}
@@ -88,7 +87,7 @@ module _ (p : ℕ) (prime : IsPrime p) (a : ℕ → ℕ → ℕ) (t : State) (q 
     base_rank : AreClosed p t t.columns → IsRank p a t.rows t.columns everything (length pairs)
     base_rank closed = subst (λ r. IsRank p a t.rows t.columns everything r) counted
         (tableau-rank p prime t.rows t.columns t.s t.u a t.p t.base t.row tableau.inverse transformed tableau.unit_columns everything (λ i j il jl _ bare.
-            closed i j il jl (λ b bl h at. bare b bl (both_everything b h) at)))
+        closed i j il jl (λ b bl h at. bare b bl (both_everything b h) at)))
       where
         both_everything : (b : ℕ) → t.base b ≡ true → both t.base everything b ≡ true
         both_everything b h = ap (λ x. x && true) h

@@ -1,5 +1,5 @@
 -- A text that was put whole, and then handed on to the sink.
-use Rattle.std.proofs.Common.{◌≡◌, ℕ, ◌+◌, ◌≤◌, List, [], ◌++◌, length, append-nil, Option, Result, Ok, Err, IsOk, OnOk, OnErr, sym, ap, subst, ◌∙◌, arith}
+use Rattle.std.proofs.Common.{◌≡◌, ℕ, ◌+◌, List, [], ◌++◌, length, append-nil, Option, Result, Ok, Err, IsOk, OnOk, OnErr, sym, ap, subst, ◌∙◌, arith}
 use Rattle.port_io.specs.Bytes.{Appended}
 use Rattle.port_io.specs.Gathering.{Gathering, Gathered, GatheredPart, nothing_gathered}
 use Rattle.port_io.proofs.Gatherings.{gathered_more, gathered_is, gathered_front, appended_whole, appended_front}

@@ -1,5 +1,5 @@
 -- What a run answers.
-use Rattle.std.specs.Prelude.{◌≡◌, ℕ, ◌+◌, ◌≤◌, ◌<◌, ◌⊎◌, List, [], ◌++◌, length, Option, Some, None}
+use Rattle.std.specs.Prelude.{◌≡◌, ℕ, ◌≤◌, ◌<◌, ◌⊎◌, List, [], length, Option, Some}
 use Rattle.port_io.specs.Bytes.{Took, Appended, Ended}
 use Rattle.report_cli.specs.Certificates.{Contents, certificate_text}
 use Rattle.report_cli.specs.RightFor.{IsRightFor, IsRefused}

@@ -1,6 +1,6 @@
 -- Putting a text into a buffer and a sink. Of each: what was written, what the buffer holds,
 -- the count of faults, and how many more bytes the sink is known to take.
-use Rattle.std.specs.Prelude.{◌≡◌, ℕ, ◌+◌, ◌≤◌, List, ◌++◌, length, Option, Result, Ok, IsOk, OnOk, OnErr}
+use Rattle.std.specs.Prelude.{◌≡◌, ℕ, ◌+◌, List, ◌++◌, length, Option, Result, Ok, IsOk, OnOk, OnErr}
 use Rattle.port_io.specs.Bytes.{Appended}
 use Rattle.port_io.specs.Causes.{HasCause}
 use Rattle.port_io.specs.Gathering.{Gathering, Gathered, GatheredPart}

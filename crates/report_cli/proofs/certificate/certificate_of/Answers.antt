@@ -1,4 +1,4 @@
-use Rattle.std.proofs.Common.{◌≤◌, ◌<◌, ◌^◌, List, ℕ, All, length, subst, arith}
+use Rattle.std.proofs.Common.{◌^◌, arith}
 use Rattle.residue_theory.proofs.Primes.{prime_65521}
 use Rattle.residue_field.specs.Modulus.{res_modulus}
 use Rattle.row_transform.specs.Dense.{state_of}

@@ -1,4 +1,4 @@
-use Rattle.std.proofs.Common.{◌≡◌, ℕ, ◌<◌, ◌≤◌, length}
+use Rattle.std.proofs.Common.{◌≡◌, ℕ, ◌<◌, length}
 use Rattle.dense_q.specs.Tables.{height, entry}
 use Rattle.mixed_model.specs.Models.{constant_at}
 use Rattle.report_cli.proofs.constants.constants_of.Given as goal

@@ -1,8 +1,8 @@
-use Rattle.std.proofs.Common.{◌≡◌, ◌<◌, ◌+◌, ◌++◌, ap, sym, ◌∙◌, drop, length, subst, arith}
-use Rattle.dense_q.specs.Tables.{row_at, entry}
+use Rattle.std.proofs.Common.{◌<◌, ◌+◌, ◌++◌, ap, sym, ◌∙◌, drop, length, arith}
+use Rattle.dense_q.specs.Tables.{row_at}
 use Rattle.report_cli.specs.Certificates.{entries_text, entry_text}
 use Rattle.report_cli.proofs.Pieces.{entries_left, row_long, entries_end}
-use Rattle.report_cli.proofs.Puts.{loop_goes_on, loop_breaks, loop_begins, loop_ends, put_failed, put_is}
+use Rattle.report_cli.proofs.Puts.{loop_goes_on, loop_breaks, loop_begins, loop_ends, put_failed}
 use Rattle.report_cli.proofs.rows.put_entries.Goals as goal
 
 pub loop-column-init : goal.loop-column-init

@@ -1,5 +1,4 @@
 use Rattle.std.proofs.Common.{[], drop, ◌+◌, ◌<◌, arith, length}
-use Rattle.dense_q.specs.Tables.{row_at}
 use Rattle.report_cli.specs.Certificates.{rows_text}
 use Rattle.report_cli.proofs.Pieces.{rows_left, rows_end}
 use Rattle.report_cli.proofs.Puts.{loop_goes_on, loop_breaks, loop_begins, loop_ends, put_failed}

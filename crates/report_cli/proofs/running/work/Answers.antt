@@ -1,4 +1,4 @@
-use Rattle.std.proofs.Common.{◌≡◌, ◌≤◌, ℕ, List, map, refl, subst, ◌∙◌, sym, arith, length}
+use Rattle.std.proofs.Common.{◌≡◌, ◌≤◌, ℕ, List, map, refl, subst, arith, length}
 use Rattle.std.proofs.lemmas.Grind.{common_steps}
 use Rattle.std.specs.String.{string_bytes}
 use Rattle.report_cli.specs.Analyses.{IsAnalysis}
