@@ -43,21 +43,21 @@ module _ (modulus : ℕ) (t : State) (m v : ℕ) (pairs : List (ℕ × ℕ)) (ta
   rising_more : (k l : ℕ) → k < l → l < length (pairs ++ (m, v) ∷ []) → (pair_at (pairs ++ (m, v) ∷ []) k).0 < (pair_at (pairs ++ (m, v) ∷ []) l).0
   rising_more k l less within = elim (pushed_cases pairs (m, v) l within) [
     | inl old ↦
-      let low : k < length pairs = omega (arith, old.0) in
-      omega (arith, ap (λ (x : ℕ × ℕ). x.0) old.1, ap (λ (x : ℕ × ℕ). x.0) (get_or_append_left pairs ((m, v) ∷ []) (0, 0) k low), lists.rising k l less old.0)
+        let low : k < length pairs = omega (arith, old.0) in
+        omega (arith, ap (λ (x : ℕ × ℕ). x.0) old.1, ap (λ (x : ℕ × ℕ). x.0) (get_or_append_left pairs ((m, v) ∷ []) (0, 0) k low), lists.rising k l less old.0)
     | inr last ↦
-      let low : k < length pairs = omega (arith, last.0) in
-      omega (arith, ap (λ (x : ℕ × ℕ). x.0) last.1, ap (λ (x : ℕ × ℕ). x.0) (get_or_append_left pairs ((m, v) ∷ []) (0, 0) k low), lists.below k low)
+        let low : k < length pairs = omega (arith, last.0) in
+        omega (arith, ap (λ (x : ℕ × ℕ). x.0) last.1, ap (λ (x : ℕ × ℕ). x.0) (get_or_append_left pairs ((m, v) ∷ []) (0, 0) k low), lists.below k low)
   ]
 
   all_more : (r y : ℕ) → r < m + 1 → IsBaseColumn t r y → (k : ℕ) × (k < length (pairs ++ (m, v) ∷ [])) × (pair_at (pairs ++ (m, v) ∷ []) k ≡ (r, y))
   all_more r y low other = elim (nat_cases r m) [
     | inl same ↦
-      let column : y ≡ v = (tableau.unit_columns).distinct y v other.below base.below other.member base.member (other.at_row ∙ same ∙ sym base.at_row) in
-      (length pairs, omega (arith, length_push pairs (m, v)), get_or_push pairs (m, v) (0, 0) (length pairs) refl ∙ ap (λ i. (i, v)) (sym same) ∙ ap (λ j. (r, j)) (sym column))
+        let column : y ≡ v = (tableau.unit_columns).distinct y v other.below base.below other.member base.member (other.at_row ∙ same ∙ sym base.at_row) in
+        (length pairs, omega (arith, length_push pairs (m, v)), get_or_push pairs (m, v) (0, 0) (length pairs) refl ∙ ap (λ i. (i, v)) (sym same) ∙ ap (λ j. (r, j)) (sym column))
     | inr apart ↦
-      let found = lists.all r y (omega arith) other in
-      (found.0, omega (arith, found.1, length_push pairs (m, v)), get_or_append_left pairs ((m, v) ∷ []) (0, 0) found.0 found.1 ∙ found.2)
+        let found = lists.all r y (omega arith) other in
+        (found.0, omega (arith, found.1, length_push pairs (m, v)), get_or_append_left pairs ((m, v) ∷ []) (0, 0) found.0 found.1 ∙ found.2)
   ]
 
   pub lists-some : ListsBase t (m + 1) (pairs ++ (m, v) ∷ [])

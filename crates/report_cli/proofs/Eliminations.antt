@@ -35,8 +35,8 @@ bare-before : (modulus : ℕ) (t n : State) (r j i : ℕ) → IsPivot modulus t 
 bare-before modulus t n r j i pivot free apart bare y inside base at_i = elim (nat_cases y j) [
   | inl same ↦ differ free (subst (λ k. t.base k ≡ true) same base)
   | inr other ↦
-    let member : n.base y ≡ true = pivot.taken.kept y inside other base (λ at_r. apart (sym at_i ∙ at_r)) in
-    bare y (subst (λ m. y < m) (sym pivot.columns_same) inside) member ((pivot.taken.only y inside other member).2 ∙ at_i)
+      let member : n.base y ≡ true = pivot.taken.kept y inside other base (λ at_r. apart (sym at_i ∙ at_r)) in
+      bare y (subst (λ m. y < m) (sym pivot.columns_same) inside) member ((pivot.taken.only y inside other member).2 ∙ at_i)
 ]
 
 -- a pivot at the next column closes it
