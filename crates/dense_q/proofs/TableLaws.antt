@@ -1,15 +1,15 @@
 -- Tables of numbers: what a change of one row does to the entries.
-use Rattle.std.proofs.Common.{◌≡◌, ℕ, ◌+◌, ◌*◌, ◌%◌, ◌<◌, ◌≢◌, List, [], ◌∷◌, map, length, slice_index, slice_index_or, slice_set, refl, sym, subst, ap, ◌∙◌, Vec, vec_len, arith}
-use Rattle.std.specs.List.{All, swap}
+use Rattle.std.proofs.Common.{◌≡◌, ℕ, ◌+◌, ◌*◌, ◌%◌, ◌<◌, ◌≤◌, ◌≢◌, List, [], ◌∷◌, map, length, slice_index, slice_index_or, slice_set, refl, sym, subst, ap, ◌∙◌, Vec, vec_len, arith}
+use Rattle.std.specs.List.{All, AllWithin, swap}
 use Rattle.std.specs.Vec.{with_item, with_items}
 use Rattle.std.proofs.lemmas.List.{map-set, get_or-map, get_or-set_same, get_or-set_other, length-map, length-set, set-set, with_items_is}
 use Rattle.std.proofs.lemmas.List.Edits.{length-swap}
-use Rattle.std.proofs.lemmas.List.Elements.{All-map, All-set}
+use Rattle.std.proofs.lemmas.List.Elements.{All-map, All-set, All-from_all_within, AllWithin-upto}
 use Rattle.std.proofs.Math.Nat.{mod-mod}
 use Rattle.linear_algebra.specs.RowOperations.{IsRowAdded, IsRowScaled}
 use Rattle.dense_q.specs.Rows.{plus_multiple, multiple}
 use Rattle.dense_q.specs.Storage.{IsStored}
-use Rattle.dense_q.specs.Tables.{Table, IsMatrix, HasSameSize, height, row_at, entry, with_row}
+use Rattle.dense_q.specs.Tables.{Table, IsMatrix, AreResidues, HasSameSize, height, row_at, entry, with_row}
 use Rattle.dense_q.proofs.RowLaws.{plus_multiple-at, multiple-at}
 
 module _ {A Z : Type 0} (number : A → ℕ) where
@@ -107,3 +107,14 @@ module _ (p k : ℕ) (old : Table) (t : ℕ) (good : IsMatrix old) (tl : t < hei
 
       others : (i j : ℕ) → i < height old → j < old.width → i ≢ t → entry (with_row old t (multiple p k (row_at old t))) i j % p ≡ entry old i j % p
       others i j il jl ne = ap (λ r. slice_index r j % p) (get_or-set_other old.rows t i (multiple p k (row_at old t)) [] ne)
+
+-- rows have residues, if the numbers of the values of each row seen are below p, and all rows are seen
+pub residues-told : {R X : Type 0} (items : R → List X) (number : X → ℕ) (p : ℕ) (rows seen : List R) (n : ℕ) → seen ≡ rows → length seen ≤ n → AllWithin (λ row. All (λ value. number value < p) (items row)) seen 0 n →
+    AreResidues p (map (λ row. map number (items row)) rows)
+residues-told {R} items number p rows seen n same whole told = All-map (λ row. All (λ x. x < p) row) (λ row. map number (items row)) rows (λ k d less. All-map (λ x. x < p) number (items (slice_index_or rows k d)) (all k d less))
+  where
+    P : R → Type 0
+    P row = All (λ value. number value < p) (items row)
+
+    all : All P rows
+    all = subst (λ rs. All P rs) same (All-from_all_within P seen (AllWithin-upto P seen 0 n (length seen) whole told))

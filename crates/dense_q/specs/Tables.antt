@@ -26,6 +26,10 @@ pub record IsMatrix (m : Table) : Type 0 where
   pub few : height m ≤ 8192
   pub narrow : m.width ≤ 8192
 
+-- each number of the rows is below p
+abbrev pub AreResidues : ℕ → List (List ℕ) → Type 0
+AreResidues p rows = All (λ row. All (λ number. number < p) row) rows
+
 -- m and n have as many rows and as many columns
 pub record HasSameSize (m n : Table) : Type 0 where
   pub height_same : height m ≡ height n

@@ -2,7 +2,7 @@ ghost use Rattle.std.specs.Prelude.{◌≡◌, ℕ, ◌<◌, ◌≤◌, ◌≢�
 ghost use Rattle.linear_algebra.specs.Products.{identity};
 ghost use Rattle.linear_algebra.specs.RowOperations.{IsRowAdded, IsRowScaled};
 ghost use Rattle.dense_q.specs.Rows.{plus_multiple, multiple};
-ghost use Rattle.dense_q.specs.Tables.{Table, IsMatrix, HasSameSize, IsTableOf, IsProduct, height, row_at, entry, zero_table, with_row, with_entry, with_rows_swapped, with_last_row};
+ghost use Rattle.dense_q.specs.Tables.{Table, IsMatrix, AreResidues, HasSameSize, IsTableOf, IsProduct, height, row_at, entry, zero_table, with_row, with_entry, with_rows_swapped, with_last_row};
 
 use crate::memory::NoMemory;
 use crate::rows;
@@ -132,6 +132,15 @@ impl<F: Field> Mat<F> {
         ensures { F.number result ≡ entry self.now i j }
     {
         self.rows[i][j]
+    }
+
+    /// Tells a proof that the number of each entry is below the modulus. It does nothing when it runs.
+    pub fn in_field(&self)
+        ensures { AreResidues F.modulus self.now.rows }
+    {
+        for row in &self.rows {
+            rows::in_field(row);
+        }
     }
 
     /// Puts an entry at row i and column j.

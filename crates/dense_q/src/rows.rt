@@ -56,6 +56,15 @@ pub(crate) fn combination<F: Field>(
     Ok(sum)
 }
 
+// Tells a proof that the number of each value is below the modulus.
+pub(crate) fn in_field<F: Field>(row: &[F])
+    ensures { All (λ value. F.number value < F.modulus) row.now }
+{
+    for value in row {
+        value.in_field();
+    }
+}
+
 // The values at one column.
 pub(crate) fn column<F: Field>(
     alloc: Global,

@@ -18,7 +18,7 @@ use Rattle.report_cli.specs.Elimination.{AreClosed, IsEliminated, IsEliminatedOf
 use Rattle.mixed_model.specs.Models.{constant_at}
 use Rattle.report_cli.specs.Right.{in_base, IsPairList, IsUnitColumn, IsTransform, HasPair, IsRight}
 use Rattle.report_cli.specs.declared.shape.Shape.{Shape}
-use Rattle.dense_q.specs.Tables.{Table, IsMatrix, IsTableOf, height, entry}
+use Rattle.dense_q.specs.Tables.{Table, IsMatrix, IsTableOf, AreResidues, height, entry}
 use Rattle.mixed_model.specs.Models.{MixedModel}
 
 -- equal right factors give equal products
@@ -112,10 +112,10 @@ product-entries p m n S T a P R s r same i j il jl = ap (λ x. x % p) (r i j il 
 -- the parts of an eliminated tableau of a model's constants, and the list of its base columns, are a right certificate
 pub right-certificate : (p : ℕ) → IsPrime p → (model : MixedModel) (t : State) (echo : List ℕ) (shape : Shape) (pairs : List (ℕ × ℕ)) (s u P : Table) →
     IsEliminatedOf p (length model.equations) (length model.unknowns) (constant_at model) t → IsTableau p t → ListsBase t t.rows pairs → AreParts t s u P →
-    IsMatrix s → IsMatrix u → IsMatrix P →
+    IsMatrix s → IsMatrix u → IsMatrix P → AreResidues p s.rows → AreResidues p u.rows → AreResidues p P.rows →
     shape ≡ record { equations = height s; unknowns = P.width; q_rows = height u; t_rows = 0; columns = P.width } →
     IsRight p model (record { echo = echo; shape = shape; base = pairs; s = s.rows; u = u.rows; p = P.rows })
-right-certificate p prime model t echo shape pairs s u P of_model tableau lists parts s_full u_full p_full is = record {
+right-certificate p prime model t echo shape pairs s u P of_model tableau lists parts s_full u_full p_full s_residues u_residues p_residues is = record {
   shape = is ∙ ap (λ e. record { equations = e; unknowns = P.width; q_rows = height u; t_rows = 0; columns = P.width }) (parts.s_height ∙ of_model.rows_are)
       ∙ ap (λ n. record { equations = length model.equations; unknowns = n; q_rows = height u; t_rows = 0; columns = n }) (parts.p_width ∙ of_model.columns_are)
       ∙ ap (λ m. record { equations = length model.equations; unknowns = length model.unknowns; q_rows = m; t_rows = 0; columns = length model.unknowns }) (parts.u_height ∙ of_model.rows_are);
@@ -134,9 +134,9 @@ right-certificate p prime model t echo shape pairs s u P of_model tableau lists 
 
     transform : IsTransform p t.rows t.columns a c
     transform = record {
-      s = record { count = parts.s_height; long = subst (λ n. All (λ row. length row ≡ n) s.rows) parts.s_width s_full.full };
-      u = record { count = parts.u_height; long = subst (λ n. All (λ row. length row ≡ n) u.rows) parts.u_width u_full.full };
-      p_rows = record { count = parts.p_height; long = subst (λ n. All (λ row. length row ≡ n) P.rows) parts.p_width p_full.full };
+      s = record { count = parts.s_height; long = subst (λ n. All (λ row. length row ≡ n) s.rows) parts.s_width s_full.full; residues = s_residues };
+      u = record { count = parts.u_height; long = subst (λ n. All (λ row. length row ≡ n) u.rows) parts.u_width u_full.full; residues = u_residues };
+      p_rows = record { count = parts.p_height; long = subst (λ n. All (λ row. length row ≡ n) P.rows) parts.p_width p_full.full; residues = p_residues };
       inverse = inverse-entries p t.rows (entry s) t.s (entry u) t.u parts.s_entries parts.u_entries tableau.inverse;
       product_is = product-entries p t.rows t.columns (entry s) t.s a (entry P) t.p parts.s_entries parts.p_entries (transformed p prime a t q tableau);
     }

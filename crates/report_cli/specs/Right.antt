@@ -4,6 +4,7 @@ use Rattle.residue_theory.specs.Sets.{everything, some_below}
 use Rattle.residue_theory.specs.Sums.{size_on}
 use Rattle.linear_algebra.specs.Columns.{IsIndependent, IsRank}
 use Rattle.linear_algebra.specs.Products.{product, Agree, IsInverse}
+use Rattle.dense_q.specs.Tables.{AreResidues}
 use Rattle.mixed_model.specs.Models.{MixedModel, constant_at}
 use Rattle.report_cli.specs.Certificates.{Contents, pair_at}
 use Rattle.report_cli.specs.declared.shape.Shape.{Shape}
@@ -12,10 +13,11 @@ use Rattle.report_cli.specs.declared.shape.Shape.{Shape}
 abbrev pub matrix : List (List ℕ) → ℕ → ℕ → ℕ
 matrix rows i j = slice_index (slice_index_or rows i []) j
 
--- so many rows, each of so many numbers
-pub record AreRows (m n : ℕ) (rows : List (List ℕ)) : Type 0 where
+-- so many rows, each of so many residues
+pub record AreRows (p m n : ℕ) (rows : List (List ℕ)) : Type 0 where
   pub count : length rows ≡ m
   pub long : All (λ row. length row ≡ n) rows
+  pub residues : AreResidues p rows
 
 -- column j is the column of an item of the base
 abbrev pub in_base : List (ℕ × ℕ) → ℕ → Bool
@@ -33,9 +35,9 @@ shape_of model = record {
 
 -- S is invertible with the inverse U, and P is S times the matrix of constants; a has m rows and n columns
 pub record IsTransform (p m n : ℕ) (a : ℕ → ℕ → ℕ) (c : Contents) : Type 0 where
-  pub s : AreRows m m c.s
-  pub u : AreRows m m c.u
-  pub p_rows : AreRows m n c.p
+  pub s : AreRows p m m c.s
+  pub u : AreRows p m m c.u
+  pub p_rows : AreRows p m n c.p
   pub inverse : IsInverse p m (matrix c.s) (matrix c.u)
   pub product_is : Agree p m n (matrix c.p) (product m (matrix c.s) a)
 

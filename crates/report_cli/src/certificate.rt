@@ -5,7 +5,7 @@ ghost use Rattle.std.specs.List.{All};
 ghost use Rattle.port_io.specs.Bytes.{Appended};
 ghost use Rattle.port_io.specs.Causes.{HasCause};
 ghost use Rattle.residue_field.specs.Modulus.{res_modulus};
-ghost use Rattle.dense_q.specs.Tables.{IsMatrix, height};
+ghost use Rattle.dense_q.specs.Tables.{IsMatrix, AreResidues, height};
 ghost use Rattle.row_transform.specs.Dense.{state_of};
 ghost use Rattle.report_cli.specs.Certificates.{lines_text, certificate_text};
 ghost use Rattle.report_cli.specs.Elimination.{IsEliminatedOf};
@@ -90,6 +90,7 @@ pub fn certificate_of(alloc: Global, model: &Mixed, echo: Vec<u8>) -> Result<Cer
     let tableau = eliminated(alloc, model)?;
     let base = base_pairs(alloc, &tableau)?;
     let parts = tableau.parts()?;
+    tell_residues(&parts);
     Ok(Certificate {
         echo,
         shape: shape_of(&parts),
@@ -108,6 +109,17 @@ fn eliminated(alloc: Global, model: &Mixed) -> Result<DenseTableau<Res>, NoMemor
     let mut tableau = DenseTableau::open(alloc, &q)?;
     eliminate(&mut tableau);
     Ok(tableau)
+}
+
+/// Tells a proof that the entries are residues. It does nothing when it runs.
+fn tell_residues(parts: &TableauParts<Res>)
+    ensures s { AreResidues res_modulus parts.now.s.rows }
+    ensures u { AreResidues res_modulus parts.now.u.rows }
+    ensures p { AreResidues res_modulus parts.now.p.rows }
+{
+    parts.s.in_field();
+    parts.u.in_field();
+    parts.p.in_field();
 }
 
 /// The shape that goes with the matrices of a model of constants.

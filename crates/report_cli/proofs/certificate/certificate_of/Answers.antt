@@ -14,4 +14,4 @@ pub returns-clause-right : goal.returns-clause-right
 returns-clause-right c =
     let t = state_of res_modulus c.in_ok-tableau.tableau in
     right-certificate res_modulus prime_65521 c.args.model.now t c.args.echo.items c.shape_of.result c.in_ok-base.base.items c.in_ok-parts.parts.s c.in_ok-parts.parts.u c.in_ok-parts.parts.p
-    c.in_ok-tableau.ensures c.in_ok-base.ensures.tableau c.in_ok-base.ensures.base c.in_ok-parts.ensures c.shape_of.ensures.s c.shape_of.ensures.u c.shape_of.ensures.p c.shape_of.ensures.shape
+    c.in_ok-tableau.ensures c.in_ok-base.ensures.tableau c.in_ok-base.ensures.base c.in_ok-parts.ensures c.shape_of.ensures.s c.shape_of.ensures.u c.shape_of.ensures.p c.tell_residues.ensures.s c.tell_residues.ensures.u c.tell_residues.ensures.p c.shape_of.ensures.shape
