@@ -3,6 +3,7 @@ pub mod LabelLaws
 pub mod LineSteps
 pub mod ListSteps
 pub mod MarkLaws
+pub mod ModelLaws
 pub mod ModelSteps
 pub mod SaidLaws
 pub mod SeenLaws

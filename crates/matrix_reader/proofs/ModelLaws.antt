@@ -1,0 +1,32 @@
+-- A list gives at most one model.
+use Rattle.std.proofs.Common.{◌≡◌, ℕ, ◌<◌, List, length, Option, Some, None, unwrap_or, refl, sym, ap, ◌∙◌, arith, get_or, []}
+use Rattle.std.proofs.lemmas.List.{length-map}
+use Rattle.mixed_model.specs.Models.{MixedModel, IsModel, constant_of}
+use Rattle.mixed_model.proofs.ModelLaws.{same_models}
+use Rattle.matrix_reader.specs.EquationLists.{Equation}
+use Rattle.matrix_reader.specs.Models.{IsModelOf, constant_at, said_of, items_at}
+use Rattle.matrix_reader.proofs.ModelSteps.{constant_of-None}
+
+-- constants are the same where they are, 0 for none
+same_constant : (a b : MixedModel) → IsModel a → IsModel b → (i j : ℕ) → constant_at a i j ≡ constant_at b i j → constant_of a i j ≡ constant_of b i j
+same_constant a b is_a is_b i j same = by (constant_of a i j) refl (constant_of b i j) refl
+  where
+    by : (x : Option ℕ) → constant_of a i j ≡ x → (y : Option ℕ) → constant_of b i j ≡ y → constant_of a i j ≡ constant_of b i j
+    by None p y q = p ∙ sym (constant_of-None b is_b i j (sym same ∙ ap (λ o. unwrap_or o 0) p))
+    by (Some x) p None q = constant_of-None a is_a i j (same ∙ ap (λ o. unwrap_or o 0) q) ∙ sym q
+    by (Some x) p (Some y) q = p ∙ ap Some (sym (ap (λ o. unwrap_or o 0) p) ∙ same ∙ ap (λ o. unwrap_or o 0) q) ∙ sym q
+
+pub one_model : (list : List Equation) (a b : MixedModel) → IsModelOf list a → IsModelOf list b → a ≡ b
+one_model list a b gives_a gives_b =
+    same_models a b gives_a.is_model gives_b.is_model equations unknowns (λ i j at col.
+    let here : i < length list = omega (arith, ap length gives_a.equations, length-map list (λ (e : Equation). e.name)) in
+    same_constant a b gives_a.is_model gives_b.is_model i j
+    (gives_a.constants i j here col
+    ∙ ap (λ names. said_of (items_at list i) (get_or names j [])) unknowns
+    ∙ sym (gives_b.constants i j here (omega (arith, ap length unknowns)))))
+  where
+    equations : a.equations ≡ b.equations
+    equations = gives_a.equations ∙ sym gives_b.equations
+
+    unknowns : a.unknowns ≡ b.unknowns
+    unknowns = gives_a.unknowns ∙ sym gives_b.unknowns
