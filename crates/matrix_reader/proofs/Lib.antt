@@ -1,3 +1,4 @@
+pub mod FirstLines
 pub mod ItemSteps
 pub mod LabelLaws
 pub mod LineSteps

@@ -1,10 +1,10 @@
 -- A list gives at most one model.
 use Rattle.std.proofs.Common.{◌≡◌, ℕ, ◌<◌, List, length, Option, Some, None, unwrap_or, refl, sym, ap, ◌∙◌, arith, get_or, []}
 use Rattle.std.proofs.lemmas.List.{length-map}
-use Rattle.mixed_model.specs.Models.{MixedModel, IsModel, constant_of}
+use Rattle.mixed_model.specs.Models.{MixedModel, IsModel, constant_of, constant_at}
 use Rattle.mixed_model.proofs.ModelLaws.{same_models}
 use Rattle.matrix_reader.specs.EquationLists.{Equation}
-use Rattle.matrix_reader.specs.Models.{IsModelOf, constant_at, said_of, items_at}
+use Rattle.matrix_reader.specs.Models.{IsModelOf, said_of, items_at}
 use Rattle.matrix_reader.proofs.ModelSteps.{constant_of-None}
 
 -- constants are the same where they are, 0 for none
