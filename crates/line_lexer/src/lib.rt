@@ -10,3 +10,6 @@ pub use cuts::{lines, tokens};
 pub use line::{Line, Lines};
 pub use token::{Token, Tokens};
 pub use words::{name, number};
+
+#[cfg(test)]
+mod tests;

@@ -1,0 +1,51 @@
+use super::*;
+use refusals::Why;
+use residue_field::Res;
+use std::test::Fail;
+
+#[test]
+fn lines_are_cut_at_line_feeds(rt: HostRuntime) -> Result<(), Fail> {
+    let mut found = Vec::new(rt.alloc());
+    for line in lines(b"a\n\nb\r\nc") {
+        found.push((line.number, line.bytes.len()))?;
+    }
+    assert_eq!(rt;
+        found.as_slice(),
+        [(1, 1), (2, 0), (3, 2), (4, 1)].as_slice()
+    );
+    assert_eq!(rt; lines(b"x\n").count(), 1);
+    assert_eq!(rt; lines(b"").count(), 0);
+    Ok(())
+}
+
+#[test]
+fn tokens_stand_between_blanks(rt: HostRuntime) -> Result<(), Fail> {
+    let bytes = b"\teq  a x=1 # no\xfftes";
+    let line = Line { number: 1, bytes };
+    let mut found = Vec::new(rt.alloc());
+    for token in tokens(line).ok().ok_or("a bad byte")? {
+        found.push((token.start, token.text.len()))?;
+    }
+    assert_eq!(rt; found.as_slice(), [(1, 2), (5, 1), (7, 3)].as_slice());
+    let bytes = b"a\r";
+    let line = Line { number: 1, bytes };
+    assert!(rt; tokens(line).is_err());
+    Ok(())
+}
+
+#[test]
+fn names_and_numbers_are_told(rt: HostRuntime) {
+    for text in ["x", "_", "v.R1", "A_9."] {
+        assert_eq!(rt; name(text), Ok(()), "{text}");
+    }
+    for text in ["", "1a", ".a", "a-b", "a b"] {
+        assert_eq!(rt; name(text), Err(Why::BadName), "{text}");
+    }
+    for (text, residue) in [("0", 0), ("000", 0), ("65520", 65_520), ("65522", 1)] {
+        assert_eq!(rt; number(text), Ok(Res::of(residue)), "{text}");
+    }
+    for text in ["", "+1", "1.5", "1234567890123456789"] {
+        assert_eq!(rt; number(text), Err(Why::BadNumber), "{text}");
+    }
+    assert_eq!(rt; number("65521"), Err(Why::Vanish));
+}
