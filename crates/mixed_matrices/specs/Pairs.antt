@@ -1,5 +1,5 @@
 -- Pairs: columns independent in Q, and other columns matched in T (Murota, chapter 2, independent matching).
-use Rattle.std.specs.Prelude.{ℕ, ◌+◌, ◌<◌, ◌≤◌, ◌≡◌, Bool, true}
+use Rattle.std.specs.Prelude.{ℕ, ◌+◌, ◌<◌, ◌≤◌, ◌≡◌, Bool, true, cond, eqb, ◌&&◌}
 use Rattle.residue_theory.specs.Sets.{IsApart}
 use Rattle.residue_theory.specs.Sums.{size_on}
 use Rattle.linear_algebra.specs.Columns.{IsIndependent}
@@ -23,3 +23,7 @@ pair_size L I J = size_on I L.columns + size_on J L.columns
 -- no pair is larger
 abbrev pub IsBest : ℕ → Layered → (ℕ → Bool) → (ℕ → Bool) → Type 0
 IsBest p L I J = (A B : ℕ → Bool) (mate : ℕ → ℕ) → IsPair p L A B mate → pair_size L A B ≤ pair_size L I J
+
+-- the values of a matching: 1 where a column of J has its mate, and 0 elsewhere
+abbrev pub matching_values : (ℕ → Bool) → (ℕ → ℕ) → ℕ → ℕ → ℕ
+matching_values J mate i j = cond (J j && eqb (mate j) i) 1 0

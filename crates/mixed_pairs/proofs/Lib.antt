@@ -1,0 +1,6 @@
+pub mod ArcFacts
+pub mod PairBounds
+pub mod ClosedSets
+pub mod Minimisers
+pub mod PairRank
+pub mod TableauParts
