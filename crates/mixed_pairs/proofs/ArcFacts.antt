@@ -93,8 +93,12 @@ module _ (p : ℕ) (L : Layered) (F : Tableau) where
   end-tells x h = go (either_cases (some_below L.q_rows (end_row x)) (some_below L.t_rows (end_t_row x)) h)
     where
       in_q : (i : ℕ) × (i < L.q_rows) × (end_row x i ≡ true) → EndsInQ x
-      in_q (i, il, e) = (i, il, nonzero_tells (F.P i x % p) (both-first (not (eqb (F.P i x % p) 0)) (not (has_base L F i)) e),
-          not_tells (has_base L F i) (both-second (not (eqb (F.P i x % p) 0)) (not (has_base L F i)) e))
+      in_q (i, il, e) = (
+        i,
+        il,
+        nonzero_tells (F.P i x % p) (both-first (not (eqb (F.P i x % p) 0)) (not (has_base L F i)) e),
+        not_tells (has_base L F i) (both-second (not (eqb (F.P i x % p) 0)) (not (has_base L F i)) e),
+      )
 
       in_t : (i : ℕ) × (i < L.t_rows) × (end_t_row x i ≡ true) → EndsInT x
       in_t (i, il, e) = (i, il, both-first (L.t i x) (not (has_match L F i)) e, not_tells (has_match L F i) (both-second (L.t i x) (not (has_match L F i)) e))

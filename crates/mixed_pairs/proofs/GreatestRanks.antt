@@ -1,4 +1,19 @@
 -- A family of matrices over finitely many values has a greatest rank: the values are searched, one place after the other.
+use Rattle.std.proofs.Common.{◌≡◌, ◌+◌, ◌%◌, ◌<◌, ◌≤◌, ◌≢◌, ◌⊎◌, ◌∙◌, ℕ, zero, suc, Bool, true, false, cond, eqb, inl, inr, refl, ap, sym, subst, arith}
+use Rattle.std.proofs.Math.Nat.{mod-lt, mod-eq_of_lt}
+use Rattle.residue_theory.proofs.CountLaws.{size-everything}
+use Rattle.residue_theory.proofs.ResidueLaws.{agree-add}
+use Rattle.residue_theory.proofs.SetLaws.{eqb_false, eqb_true, search_below}
+use Rattle.residue_theory.proofs.SumLaws.{nat_cases}
+use Rattle.residue_theory.specs.Residues.{IsPrime}
+use Rattle.residue_theory.specs.Sets.{everything}
+use Rattle.linear_algebra.specs.Columns.{IsRank}
+use Rattle.linear_algebra.specs.Products.{Agree}
+use Rattle.linear_algebra_laws.proofs.Kernels.{kernel_of-agree, rank_of-kernel}
+use Rattle.linear_algebra_laws.proofs.RankLaws.{rank-rows, rank-size}
+use Rattle.linear_algebra_laws.proofs.Ranks.{rank-unique, rank_exists}
+use Rattle.mixed_matrices.specs.Models.{Mixed, numbers, value}
+use Rattle.mixed_matrices.specs.StructuralRanks.{IsGreatestRank, IsStructuralRank}
 
 -- ---- searching
 -- K is searched up to R: a property that R keeps and that is decided holds somewhere, or nowhere
@@ -14,7 +29,7 @@ residues-searched p pos D keeps decide = go (search_below p D (λ k _. decide k)
   where
     go : ((k : ℕ) × (k < p) × D k) ⊎ ((k : ℕ) → k < p → D k → ⊥) → ((a : ℕ) × D a) ⊎ ((a : ℕ) → D a → ⊥)
     go (inl (k, _, d)) = inl (k, d)
-    go (inr none) = inr (λ a d. none (a % p) (mod-below a p pos) (keeps a (a % p) (sym (mod-twice a p pos)) d))
+    go (inr none) = inr (λ a d. none (a % p) (mod-lt a pos) (keeps a (a % p) (sym (mod-eq_of_lt (mod-lt a pos))) d))
 
 -- a function below n, where each of its values is searched
 abbrev AgreesBelow : (K : Type 0) → (K → K → Type 0) → ℕ → (ℕ → K) → (ℕ → K) → Type 0
@@ -57,9 +72,6 @@ module _ (K : Type 0) (R : K → K → Type 0) (same : (a : K) → R a a) (defau
   ]
   functions-searched (suc n) D keeps decide = go (λ a. functions-searched n (λ f. D (put f n a)) (λ f g h d. keeps (put f n a) (put g n a) (put-agrees n f g a a h (same a)) d) (λ f. decide (put f n a)))
     where
-      some : K → Type 0
-      some a = (f : ℕ → K) × D (put f n a)
-
       decided : (a : K) → ((f : ℕ → K) × D (put f n a)) ⊎ ((f : ℕ → K) → D (put f n a) → ⊥) → ((f : ℕ → K) × D (put f n a)) ⊎ (((f : ℕ → K) × D (put f n a)) → ⊥)
       decided a (inl found) = inl found
       decided a (inr none) = inr (λ (f, d). none f d)

@@ -5,4 +5,6 @@ pub mod Minimisers
 pub mod PairRank
 pub mod DroppedSymbols
 pub mod BestPairs
+pub mod GreatestRanks
+pub mod RemovedRows
 pub mod TableauParts

@@ -6,7 +6,9 @@ use Rattle.residue_theory.specs.Sums.{size_on}
 use Rattle.linear_algebra_laws.proofs.Bases.{base-independent}
 use Rattle.linear_algebra_laws.proofs.Kernels.{independent_of-kernel, kernel-sym}
 use Rattle.linear_algebra_laws.proofs.Ranks.{rank-unique, rank_exists}
-use Rattle.mixed_matrices.specs.Arcs.{IsClosedIn}
+use Rattle.closed_sets.proofs.ClosedLaws.{least-closed}
+use Rattle.closed_sets.proofs.Hulls.{reached}
+use Rattle.mixed_matrices.specs.Arcs.{HasNoWalk, IsClosedIn, is_end, is_free, leads_to}
 use Rattle.mixed_matrices.specs.LayeredMatrices.{Layered}
 use Rattle.mixed_matrices.specs.Pairs.{IsPair, pair_size}
 use Rattle.mixed_matrices.specs.SetFunctions.{IsMinimiser, IsRho, gamma}
@@ -52,3 +54,11 @@ module _ (p : ℕ) (prime : IsPrime p) (L : Layered) (F : Tableau) (tab : HasTab
       where
         go : (r : ℕ) × IsRho p L X r → (s : ℕ) × IsRho p L Y s → IsClosedIn p L F Y
         go (r, R) (s, S) = equal-closed Y s S (omega (arith, closed-equal X r R C, bound p L F.base F.matched F.mate Y s tableau-pair S, least X s r S R))
+
+-- where no end is reached from a free column, what is reached is a closed set
+pub least_set : ℕ → Layered → Tableau → ℕ → Bool
+least_set p L F = reached (leads_to p L F) L.columns (is_free F)
+
+pub least_set-closed : (p : ℕ) (L : Layered) (F : Tableau) → HasNoWalk p L F → IsClosedIn p L F (least_set p L F)
+unfolding least_set
+least_set-closed p L F clear = least-closed (leads_to p L F) L.columns (is_free F) (is_end p L F) clear

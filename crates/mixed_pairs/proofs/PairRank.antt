@@ -11,7 +11,6 @@ use Rattle.residue_theory.specs.Sums.{size_on}
 use Rattle.linear_algebra.specs.Columns.{CombinesToZero, IsIndependent, IsRank}
 use Rattle.linear_algebra_laws.proofs.Ranks.{independent-within, rank_exists}
 use Rattle.linear_algebra_laws.proofs.Stacked.{above-rows, low-zero, top-zero}
-use Rattle.closed_sets.proofs.Hulls.{reached}
 use Rattle.mixed_matrices.specs.Arcs.{IsClosedIn}
 use Rattle.mixed_matrices.specs.LayeredMatrices.{Layered, layered_value}
 use Rattle.mixed_matrices.specs.Models.{numbers}

@@ -1,4 +1,18 @@
 -- A model without an equation or an unknown has the structural rank of the model where it is emptied.
+use Rattle.std.proofs.Common.{◌≡◌, ◌+◌, ◌-◌, ◌%◌, ◌<◌, ◌&&◌, ℕ, Bool, true, false, cond, refl, ap, sym, subst}
+use Rattle.residue_theory.specs.Residues.{IsPrime}
+use Rattle.residue_theory.specs.Sets.{everything, without}
+use Rattle.linear_algebra.specs.Columns.{CombinesToZero, IsRank}
+use Rattle.linear_algebra.specs.Parts.{part, skip, without_column, without_row}
+use Rattle.linear_algebra_laws.proofs.ColumnRemoval.{removed_column-rank}
+use Rattle.linear_algebra_laws.proofs.Kernels.{kernel_of-agree, rank_of-kernel}
+use Rattle.linear_algebra_laws.proofs.PartLaws.{part_columns-rank}
+use Rattle.linear_algebra_laws.proofs.Ranks.{rank-unique, rank_exists}
+use Rattle.linear_algebra_laws.proofs.RowRemoval.{IsRowRemoved, part-removed, without_row-removed}
+use Rattle.linear_algebra_laws.proofs.SkipLaws.{unskip, unskip-skip}
+use Rattle.mixed_matrices.specs.Models.{Mixed, value}
+use Rattle.mixed_matrices.specs.Removals.{mixed_part, without_equation, without_unknown}
+use Rattle.mixed_matrices.specs.StructuralRanks.{IsGreatestRank, IsStructuralRank}
 
 -- ---- one matrix
 -- matrices with the same columns, whose equations say the same, have the same ranks
@@ -73,15 +87,21 @@ module _ (p : ℕ) (prime : IsPrime p) (M : Mixed) where
 
     row_there : (w : ℕ → ℕ → ℕ) (r : ℕ) → IsRank p (value (mixed_part (without everything e) everything M) w) M.rows M.columns everything r →
         (v : ℕ → ℕ → ℕ) × IsRank p (value (without_equation e M) v) (M.rows - 1) M.columns everything r
-    row_there w r R = ((λ k j. w (skip e k) j), emptied_row-rank p M.rows M.columns (value M w) e el r
-        (same-rank M.rows M.columns (value (mixed_part (without everything e) everything M) w) (part (without everything e) everything (value M w)) (λ i j _ _. mixed_part-value M (without everything e) everything w i j) r R))
+    row_there w r R = (
+      (λ k j. w (skip e k) j),
+      emptied_row-rank p M.rows M.columns (value M w) e el r
+          (same-rank M.rows M.columns (value (mixed_part (without everything e) everything M) w) (part (without everything e) everything (value M w)) (λ i j _ _. mixed_part-value M (without everything e) everything w i j) r R),
+    )
 
     row_back : (v : ℕ → ℕ → ℕ) (r : ℕ) → IsRank p (value (without_equation e M) v) (M.rows - 1) M.columns everything r →
         (w : ℕ → ℕ → ℕ) × IsRank p (value (mixed_part (without everything e) everything M) w) M.rows M.columns everything r
-    row_back v r R = (spread_rows v, same-rank M.rows M.columns (part (without everything e) everything (value M (spread_rows v))) (value (mixed_part (without everything e) everything M) (spread_rows v))
-        (λ i j _ _. sym (mixed_part-value M (without everything e) everything (spread_rows v) i j)) r
-        (left_row-rank p M.rows M.columns (value M (spread_rows v)) e el r
-        (same-rank (M.rows - 1) M.columns (value (without_equation e M) v) (without_row e (value M (spread_rows v))) spread r R)))
+    row_back v r R = (
+      spread_rows v,
+      same-rank M.rows M.columns (part (without everything e) everything (value M (spread_rows v))) (value (mixed_part (without everything e) everything M) (spread_rows v))
+          (λ i j _ _. sym (mixed_part-value M (without everything e) everything (spread_rows v) i j)) r
+          (left_row-rank p M.rows M.columns (value M (spread_rows v)) e el r
+          (same-rank (M.rows - 1) M.columns (value (without_equation e M) v) (without_row e (value M (spread_rows v))) spread r R)),
+    )
       where
         spread : (k j : ℕ) → k < M.rows - 1 → j < M.columns → value (without_equation e M) v k j ≡ without_row e (value M (spread_rows v)) k j
         spread k j _ _ = ap (λ l. M.constant (skip e k) j + cond (M.symbol (skip e k) j) (v l j) 0) (sym (unskip-skip e k))
@@ -99,15 +119,21 @@ module _ (p : ℕ) (prime : IsPrime p) (M : Mixed) where
 
     column_there : (w : ℕ → ℕ → ℕ) (r : ℕ) → IsRank p (value (mixed_part everything (without everything u) M) w) M.rows M.columns everything r →
         (v : ℕ → ℕ → ℕ) × IsRank p (value (without_unknown u M) v) M.rows (M.columns - 1) everything r
-    column_there w r R = ((λ i k. w i (skip u k)), emptied_column-rank p prime M.rows M.columns (value M w) u ul r
-        (same-rank M.rows M.columns (value (mixed_part everything (without everything u) M) w) (part everything (without everything u) (value M w)) (λ i j _ _. mixed_part-value M everything (without everything u) w i j) r R))
+    column_there w r R = (
+      (λ i k. w i (skip u k)),
+      emptied_column-rank p prime M.rows M.columns (value M w) u ul r
+          (same-rank M.rows M.columns (value (mixed_part everything (without everything u) M) w) (part everything (without everything u) (value M w)) (λ i j _ _. mixed_part-value M everything (without everything u) w i j) r R),
+    )
 
     column_back : (v : ℕ → ℕ → ℕ) (r : ℕ) → IsRank p (value (without_unknown u M) v) M.rows (M.columns - 1) everything r →
         (w : ℕ → ℕ → ℕ) × IsRank p (value (mixed_part everything (without everything u) M) w) M.rows M.columns everything r
-    column_back v r R = (spread_columns v, same-rank M.rows M.columns (part everything (without everything u) (value M (spread_columns v))) (value (mixed_part everything (without everything u) M) (spread_columns v))
-        (λ i j _ _. sym (mixed_part-value M everything (without everything u) (spread_columns v) i j)) r
-        (left_column-rank p prime M.rows M.columns (value M (spread_columns v)) u ul r
-        (same-rank M.rows (M.columns - 1) (value (without_unknown u M) v) (without_column u (value M (spread_columns v))) spread r R)))
+    column_back v r R = (
+      spread_columns v,
+      same-rank M.rows M.columns (part everything (without everything u) (value M (spread_columns v))) (value (mixed_part everything (without everything u) M) (spread_columns v))
+          (λ i j _ _. sym (mixed_part-value M everything (without everything u) (spread_columns v) i j)) r
+          (left_column-rank p prime M.rows M.columns (value M (spread_columns v)) u ul r
+          (same-rank M.rows (M.columns - 1) (value (without_unknown u M) v) (without_column u (value M (spread_columns v))) spread r R)),
+    )
       where
         spread : (i k : ℕ) → i < M.rows → k < M.columns - 1 → value (without_unknown u M) v i k ≡ without_column u (value M (spread_columns v)) i k
         spread i k _ _ = ap (λ l. M.constant i (skip u k) + cond (M.symbol i (skip u k)) (v i l) 0) (sym (unskip-skip u k))

@@ -1,5 +1,5 @@
 -- The tableau of a part of a layered matrix, and the structural ranks of two kinds of parts.
-use Rattle.std.proofs.Common.{◌≡◌, ◌%◌, ◌<◌, ◌≢◌, ◌&&◌, ◌⊎◌, ◌∙◌, ℕ, zero, Bool, true, false, cond, not, inl, inr, refl, ap, sym, arith}
+use Rattle.std.proofs.Common.{◌≡◌, ◌%◌, ◌<◌, ◌≢◌, ◌&&◌, ◌⊎◌, ◌∙◌, ℕ, Bool, true, false, cond, not, inl, inr, refl, ap, sym, arith}
 use Rattle.std.proofs.Math.Nat.{zero-mod}
 use Rattle.residue_theory.proofs.SetLaws.{both-first, both-second, differ}
 use Rattle.residue_theory.specs.Residues.{IsPrime}
