@@ -1,0 +1,7 @@
+pub mod CheckedParts
+pub mod Canonical
+pub mod IdealLaws
+pub mod CheckedForms
+pub mod DiagonalRanks
+pub mod FirstParts
+pub mod Finest
