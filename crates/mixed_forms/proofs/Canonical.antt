@@ -60,8 +60,11 @@ module _ (p : ℕ) (prime : IsPrime p) (L : Layered) (F : Tableau) (tab : HasTab
 
   -- where one column of block l reaches one of block k, each minimiser that holds l holds k
   reached-below : (k l x y : ℕ) → k ≢ l → IsOfBlock L G k x → IsOfBlock L G l y → Reaches (leads_to p L F) L.columns y x → IsBlockBelow p L G k l
-  reached-below k l x y ne ox oy r = (ne, λ u v ou ov. reached-held u v ou.0 ov.0
-      (reaches-join (leads_to p L F) L.columns v y u (same_block l v y ov oy).0 (reaches-join (leads_to p L F) L.columns y x u r (same_block k x u ox ou).0)))
+  reached-below k l x y ne ox oy r = (
+    ne,
+    λ u v ou ov. reached-held u v ou.0 ov.0
+        (reaches-join (leads_to p L F) L.columns v y u (same_block l v y ov oy).0 (reaches-join (leads_to p L F) L.columns y x u r (same_block k x u ox ou).0)),
+  )
 
   block-together : (k l x y : ℕ) → IsOfBlock L G k x → IsOfBlock L G l y → (k ≡ l) ↔ ((X : ℕ → Bool) → IsMinimiser p L X → X x ≡ X y)
   block-together k l x y ox oy = (
@@ -115,8 +118,11 @@ module _ (p : ℕ) (prime : IsPrime p) (L : Layered) (F : Tableau) (tab : HasTab
 
   -- ---- the order of the blocks, and the lower lists
   pub below-block : (k l : ℕ) → k < G.blocks → l < G.blocks → below k l ≡ true → IsBlockBelow p L G k l
-  below-block k l kl ll h = (K.order.apart k l kl ll h, λ x y ox oy. reached-held x y ox.0 oy.0
-      (K.order.tells y x (middle l y oy) (middle k x ox) (subst (λ i. below i (block_of G y) ≡ true) (sym (number k x ox)) (subst (λ i. below k i ≡ true) (sym (number l y oy)) h))))
+  below-block k l kl ll h = (
+    K.order.apart k l kl ll h,
+    λ x y ox oy. reached-held x y ox.0 oy.0
+        (K.order.tells y x (middle l y oy) (middle k x ox) (subst (λ i. below i (block_of G y) ≡ true) (sym (number k x ox)) (subst (λ i. below k i ≡ true) (sym (number l y oy)) h))),
+  )
 
   pub block-below : (k l : ℕ) → k < G.blocks → l < G.blocks → IsBlockBelow p L G k l → below k l ≡ true
   block-below k l kl ll b = go (block-held p L F G below lower K k kl) (block-held p L F G below lower K l ll)

@@ -77,15 +77,32 @@ module _ (p : ℕ) (prime : IsPrime p) (L : Layered) (S U : ℕ → ℕ → ℕ)
       ∙ ap (λ s. s + part_rank p prime (transformed S L) G tri (suc G.blocks)) (rank-sum G.blocks (omega arith))
       ∙ ap (λ s. first_rows G.blocks + s) (ap (λ h. part_rank p prime (transformed S L) G tri h) (let q : suc G.blocks ≡ G.blocks + 1 = omega arith in q) ∙ late-rank p prime (transformed S L) G tri)
 
+  -- summed over the parts
+  row-sum : (k : ℕ) → k ≤ G.blocks → sum_below (suc k) (λ h. part_rows (transformed S L) G h) ≡ first_rows k
+  row-sum zero le = omega (arith, levels-first G.q_row L.q_rows (λ _. 1), levels-first G.t_row L.t_rows (λ _. 1))
+  row-sum (suc k) le = omega (arith, row-sum k (omega arith), levels G.q_row L.q_rows k (λ _. 1), levels G.t_row L.t_rows k (λ _. 1))
+
   -- L and its transformed matrix have the same structural rank
   transformed-rank : (r : ℕ) → IsLayeredRank p L r → IsLayeredRank p (transformed S L) r
   transformed-rank = greatest-moved p (L.q_rows + L.t_rows) L.columns (L.q_rows + L.t_rows) L.columns (layered_value L) (layered_value (transformed S L))
       (λ w r R. (w, rank_of-kernel p (L.q_rows + L.t_rows) L.columns (layered_value L w) (layered_value (transformed S L) w) everything r (stacked w) R))
-      (λ w r R. (w, rank_of-kernel p (L.q_rows + L.t_rows) L.columns (layered_value (transformed S L) w) (layered_value L w) everything r
-      (kernel-sym p (L.q_rows + L.t_rows) L.columns (layered_value L w) (layered_value (transformed S L) w) (stacked w)) R))
+      (λ w r R. (
+        w,
+        rank_of-kernel p (L.q_rows + L.t_rows) L.columns (layered_value (transformed S L) w) (layered_value L w) everything r
+            (kernel-sym p (L.q_rows + L.t_rows) L.columns (layered_value L w) (layered_value (transformed S L) w) (stacked w)) R,
+      ))
     where
       stacked : (w : ℕ → ℕ → ℕ) → SameKernel p (L.q_rows + L.t_rows) L.columns (layered_value L w) (layered_value (transformed S L) w)
       stacked w = above-kernel p L.q_rows L.t_rows L.columns L.q (product L.q_rows S L.q) (numbers L.t w) kernel
+
+  pub form-ranks : (r : ℕ) → IsLayeredRank p L r → sum_below (G.blocks + 1) (λ k. part_rows (transformed S L) G k) + part_columns (transformed S L) G (G.blocks + 1) ≤ r
+  form-ranks r R = omega (
+    arith,
+    ap (λ n. sum_below n (λ k. part_rows (transformed S L) G k)) (let q : G.blocks + 1 ≡ suc G.blocks = omega arith in q),
+    row-sum G.blocks (omega arith),
+    whole-sum,
+    diagonal-ranks p prime (transformed S L) G tri r (transformed-rank r R),
+  )
 
   pub first_parts-minimiser : (k : ℕ) → k ≤ G.blocks → IsMinimiser p L (upto k)
   first_parts-minimiser k le Y r s R K = go (optimal p prime L)

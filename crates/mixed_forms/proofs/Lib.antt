@@ -5,3 +5,4 @@ pub mod CheckedForms
 pub mod DiagonalRanks
 pub mod FirstParts
 pub mod Finest
+pub mod OneListing

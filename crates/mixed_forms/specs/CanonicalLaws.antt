@@ -1,0 +1,42 @@
+-- Laws of parts that keep the rules beside a tableau: they are the canonical parts, with their order and lower lists.
+use Rattle.std.specs.Prelude.{◌≡◌, ◌<◌, ◌↔◌, ℕ, Bool, true}
+use Rattle.residue_theory.specs.Residues.{IsPrime}
+use Rattle.mixed_matrices.specs.Arcs.{HasNoWalk}
+use Rattle.mixed_matrices.specs.CanonicalParts.{AreCanonical, IsBlockBelow, IsIdealOf, IsLowerBlock}
+use Rattle.mixed_matrices.specs.CheckerRules.{KeepsPartRules}
+use Rattle.mixed_matrices.specs.Forms.{Parts}
+use Rattle.mixed_matrices.specs.LayeredMatrices.{Layered}
+use Rattle.mixed_matrices.specs.SetFunctions.{IsMinimiser}
+use Rattle.mixed_matrices.specs.Tableaus.{HasTableau, Tableau}
+
+abbrev pub CheckedPartsAreCanonical : Type 0
+CheckedPartsAreCanonical =
+    (p : ℕ) → IsPrime p → (L : Layered) (F : Tableau) → HasTableau p L F →
+    (G : Parts) (below lower : ℕ → ℕ → Bool) → KeepsPartRules p L F G below lower → AreCanonical p L G
+
+-- below is the order of the canonical parts
+abbrev pub CheckedOrderIsCanonical : Type 0
+CheckedOrderIsCanonical =
+    (p : ℕ) → IsPrime p → (L : Layered) (F : Tableau) → HasTableau p L F →
+    (G : Parts) (below lower : ℕ → ℕ → Bool) → KeepsPartRules p L F G below lower → (k l : ℕ) → k < G.blocks → l < G.blocks →
+    (below k l ≡ true) ↔ IsBlockBelow p L G k l
+
+-- the printed lists are the lower lists
+abbrev pub CheckedListsAreCanonical : Type 0
+CheckedListsAreCanonical =
+    (p : ℕ) → IsPrime p → (L : Layered) (F : Tableau) → HasTableau p L F →
+    (G : Parts) (below lower : ℕ → ℕ → Bool) → KeepsPartRules p L F G below lower → (k l : ℕ) → k < G.blocks → l < G.blocks →
+    (lower l k ≡ true) ↔ IsLowerBlock p L G k l
+
+-- a column set is a minimiser exactly where it is an ideal
+abbrev pub IdealsAreTheMinimisers : Type 0
+IdealsAreTheMinimisers =
+    (p : ℕ) → IsPrime p → (L : Layered) (F : Tableau) → HasTableau p L F →
+    (G : Parts) (below lower : ℕ → ℕ → Bool) → KeepsPartRules p L F G below lower → (X : ℕ → Bool) →
+    IsMinimiser p L X ↔ ((B : ℕ → Bool) × IsIdealOf L G below B X)
+
+-- a layered matrix with a tableau in which no end is reached has one choice of canonical parts
+abbrev pub CanonicalPartsAreOne : Type 0
+CanonicalPartsAreOne =
+    (p : ℕ) → IsPrime p → (L : Layered) (F : Tableau) → HasTableau p L F → HasNoWalk p L F → (G H : Parts) → AreCanonical p L G → AreCanonical p L H →
+    (G.blocks ≡ H.blocks) × ((x : ℕ) → x < L.columns → G.column x ≡ H.column x)

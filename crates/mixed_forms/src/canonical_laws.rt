@@ -1,0 +1,27 @@
+//! Parts that keep the rules beside a tableau are the canonical parts, and their ideals the minimisers.
+ghost use Rattle.mixed_forms.specs.CanonicalLaws.{CheckedPartsAreCanonical, CheckedOrderIsCanonical, CheckedListsAreCanonical, IdealsAreTheMinimisers, CanonicalPartsAreOne};
+
+/// Parts that keep the rules are the canonical parts.
+pub fn checked_parts_are_canonical()
+    ensures { CheckedPartsAreCanonical }
+{}
+
+/// Their order is the canonical one.
+pub fn checked_order_is_canonical()
+    ensures { CheckedOrderIsCanonical }
+{}
+
+/// Their lists are the lower lists.
+pub fn checked_lists_are_canonical()
+    ensures { CheckedListsAreCanonical }
+{}
+
+/// A column set is a minimiser exactly where it is an ideal of the blocks.
+pub fn ideals_are_the_minimisers()
+    ensures { IdealsAreTheMinimisers }
+{}
+
+/// There is only one choice of canonical parts.
+pub fn canonical_parts_are_one()
+    ensures { CanonicalPartsAreOne }
+{}
