@@ -10,3 +10,4 @@ pub mod Arcs
 pub mod Forms
 pub mod CanonicalParts
 pub mod CheckerRules
+pub mod Examples

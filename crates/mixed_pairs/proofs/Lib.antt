@@ -7,4 +7,5 @@ pub mod DroppedSymbols
 pub mod BestPairs
 pub mod GreatestRanks
 pub mod RemovedRows
+pub mod ExampleFacts
 pub mod TableauParts

@@ -2,6 +2,7 @@
 //! (Murota, Matrices and Matroids for Systems Analysis, chapters 2 and 4). No code.
 #![tactic(auto)]
 
+pub mod examples;
 pub mod minimiser_laws;
 pub mod pair_laws;
 pub mod part_laws;
