@@ -6,3 +6,4 @@ pub mod DiagonalRanks
 pub mod FirstParts
 pub mod Finest
 pub mod OneListing
+pub mod ExampleFacts

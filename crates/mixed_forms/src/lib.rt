@@ -3,5 +3,6 @@
 #![tactic(auto)]
 
 pub mod canonical_laws;
+pub mod examples;
 pub mod finest_laws;
 pub mod form_laws;

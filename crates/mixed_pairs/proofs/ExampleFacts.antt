@@ -214,7 +214,7 @@ triangle-has_tableau = record {
       distinct = λ b c bl cl bh ch e. absurd (differ refl bh);
     }
 
-triangle-no_free : (x : ℕ) → x < 2 → is_free triangle_tableau x ≡ false
+pub triangle-no_free : (x : ℕ) → x < 2 → is_free triangle_tableau x ≡ false
 unfolding is_free
 triangle-no_free = below_two (λ x. is_free triangle_tableau x ≡ false) refl refl
 
