@@ -5,12 +5,10 @@ use Rattle.residue_theory.proofs.SumLaws.{nat_cases}
 use Rattle.residue_theory.specs.Residues.{IsPrime}
 use Rattle.closed_sets.proofs.ClosedLaws.{closed-from, closed-reaches, closed-to, holds_with, in_every, in_none, mutual-together, together-mutual}
 use Rattle.closed_sets.proofs.WalkLaws.{reaches-join}
-use Rattle.closed_sets.specs.Blocks.{IsListing}
-use Rattle.closed_sets.specs.Closed.{IsMiddle}
-use Rattle.closed_sets.specs.Walks.{Mutual, Reaches}
-use Rattle.mixed_matrices.specs.Arcs.{HasNoWalk, IsClosedIn, is_end, is_free, leads_to}
+use Rattle.closed_sets.specs.Walks.{Mutual}
+use Rattle.mixed_matrices.specs.Arcs.{HasNoWalk, IsClosedIn, IsOfMiddle, ReachesIn, is_end, is_free, leads_to}
 use Rattle.mixed_matrices.specs.CanonicalParts.{AreCanonical, IsBlockBelow, IsHeldWith, IsLeastColumn, IsLowerBlock, IsOfBlock, IsReadyAt}
-use Rattle.mixed_matrices.specs.CheckerRules.{KeepsPartRules, block_of}
+use Rattle.mixed_matrices.specs.CheckerRules.{IsListingIn, KeepsPartRules, block_of}
 use Rattle.mixed_matrices.specs.Forms.{Parts}
 use Rattle.mixed_matrices.specs.LayeredMatrices.{Layered}
 use Rattle.mixed_matrices.specs.SetFunctions.{IsMinimiser}
@@ -22,10 +20,10 @@ module _ (p : ℕ) (prime : IsPrime p) (L : Layered) (F : Tableau) (tab : HasTab
   clear : HasNoWalk p L F
   clear = checked-clear p L F G below lower K
 
-  listing : IsListing (leads_to p L F) L.columns (is_free F) (is_end p L F) (block_of G) G.blocks
+  listing : IsListingIn p L F G
   listing = checked-listing p L F G below lower K
 
-  middle : (k x : ℕ) → IsOfBlock L G k x → IsMiddle (leads_to p L F) L.columns (is_free F) (is_end p L F) x
+  middle : (k x : ℕ) → IsOfBlock L G k x → IsOfMiddle p L F x
   middle = of_block-middle p L F G below lower K
 
   number : (k x : ℕ) → IsOfBlock L G k x → block_of G x ≡ k
@@ -49,17 +47,17 @@ module _ (p : ℕ) (prime : IsPrime p) (L : Layered) (F : Tableau) (tab : HasTab
   same_block k x y ox oy = listing.shared x y (middle k x ox) (middle k y oy) (number k x ox ∙ sym (number k y oy))
 
   -- a column that each minimiser with y holds is reached from y
-  held-reached : (k l x y : ℕ) → IsOfBlock L G k x → IsOfBlock L G l y → IsHeldWith p L y x → Reaches (leads_to p L F) L.columns y x
+  held-reached : (k l x y : ℕ) → IsOfBlock L G k x → IsOfBlock L G l y → IsHeldWith p L y x → ReachesIn p L F y x
   held-reached k l x y ox oy held = elim (holds_with (leads_to p L F) L.columns (is_free F) (is_end p L F) clear y x oy.0 ox.0 (middle l y oy).2 (λ X C. held X (checked-minimiser X C))) [
     | inl r ↦ r
     | inr f ↦ absurd ((middle k x ox).1 f)
   ]
 
-  reached-held : (x y : ℕ) → x < L.columns → y < L.columns → Reaches (leads_to p L F) L.columns y x → IsHeldWith p L y x
+  reached-held : (x y : ℕ) → x < L.columns → y < L.columns → ReachesIn p L F y x → IsHeldWith p L y x
   reached-held x y xl yl r X least h = closed-reaches (leads_to p L F) L.columns (is_free F) (is_end p L F) X (checked-closed X least) y x yl xl h r
 
   -- where one column of block l reaches one of block k, each minimiser that holds l holds k
-  reached-below : (k l x y : ℕ) → k ≢ l → IsOfBlock L G k x → IsOfBlock L G l y → Reaches (leads_to p L F) L.columns y x → IsBlockBelow p L G k l
+  reached-below : (k l x y : ℕ) → k ≢ l → IsOfBlock L G k x → IsOfBlock L G l y → ReachesIn p L F y x → IsBlockBelow p L G k l
   reached-below k l x y ne ox oy r = (
     ne,
     λ u v ou ov. reached-held u v ou.0 ov.0
@@ -89,14 +87,14 @@ module _ (p : ℕ) (prime : IsPrime p) (L : Layered) (F : Tableau) (tab : HasTab
   least-first : (k l x y : ℕ) → k < l → IsReadyAt p L G k l → IsLeastColumn L G k x → IsLeastColumn L G l y → x < y
   least-first k l x y kl ready least_x least_y = go (listing.least y k (middle l y least_y.0) (omega (arith, number l y least_y.0)) lower_ones)
     where
-      lower_ones : (z : ℕ) → IsMiddle (leads_to p L F) L.columns (is_free F) (is_end p L F) z → Reaches (leads_to p L F) L.columns y z → (block_of G z < k) ⊎ (block_of G z ≡ block_of G y)
+      lower_ones : (z : ℕ) → IsOfMiddle p L F z → ReachesIn p L F y z → (block_of G z < k) ⊎ (block_of G z ≡ block_of G y)
       lower_ones z mz r = elim (nat_cases (block_of G z) l) [
         | inl q ↦ inr (q ∙ sym (number l y least_y.0))
         | inr ne ↦ let oz : IsOfBlock L G (block_of G z) z = middle-of_block p L F G below lower K z mz in
             inl (ready (block_of G z) oz.1 (reached-below (block_of G z) l z y ne oz least_y.0 r))
       ]
 
-      go : (z : ℕ) × (z < y) × IsMiddle (leads_to p L F) L.columns (is_free F) (is_end p L F) z × (block_of G z ≡ k) → x < y
+      go : (z : ℕ) × (z < y) × IsOfMiddle p L F z × (block_of G z ≡ k) → x < y
       go (z, less, mz, q) = omega (arith, less, least_x.1 z (subst (λ h. IsOfBlock L G h z) q (middle-of_block p L F G below lower K z mz)))
 
   pub checked-canonical : AreCanonical p L G

@@ -9,8 +9,7 @@ use Rattle.residue_theory.specs.Sums.{size_on}
 use Rattle.linear_algebra.specs.Parts.{in_part}
 use Rattle.linear_algebra_laws.proofs.Products.{inverse-swap}
 use Rattle.closed_sets.proofs.WalkLaws.{reaches-arc, reaches-self}
-use Rattle.closed_sets.specs.Walks.{FromSome, ToSome}
-use Rattle.mixed_matrices.specs.Arcs.{has_base, has_match, is_end, is_free, leads_to}
+use Rattle.mixed_matrices.specs.Arcs.{IsFromFree, ReachesEnd, has_base, has_match, leads_to}
 use Rattle.mixed_matrices.specs.CanonicalParts.{IsOfBlock}
 use Rattle.mixed_matrices.specs.CheckerRules.{KeepsPartRules, block_of}
 use Rattle.mixed_matrices.specs.Forms.{IsEmptyAt, IsForm, IsOrdered, Parts, diagonal_part, part_columns, part_rows, transformed}
@@ -25,7 +24,8 @@ use Rattle.mixed_forms.proofs.CheckedParts.{block-held, end-last, entry-falls, f
 zero_or : (x : ℕ) → (x ≡ 0) ⊎ (0 < x)
 zero_or x = grind arith
 
-module _ (p : ℕ) (prime : IsPrime p) (L : Layered) (S U : ℕ → ℕ → ℕ) (F : Tableau) (tab : IsTableau p L S U F) (G : Parts) (below lower : ℕ → ℕ → Bool) (K : KeepsPartRules p L F G below lower) where
+module _ (p : ℕ) (prime : IsPrime p) (L : Layered) (S U : ℕ → ℕ → ℕ) (F : Tableau) (tab : IsTableau p L S U F) (G : Parts) (below lower : ℕ → ℕ → Bool)
+    (K : KeepsPartRules p L F G below lower) where
   abbrev C : ℕ → ℕ → Bool
   C k = in_part G.column k
 
@@ -132,14 +132,16 @@ module _ (p : ℕ) (prime : IsPrime p) (L : Layered) (S U : ℕ → ℕ → ℕ)
     arith,
     t_least (G.blocks + 1),
     q_into (G.blocks + 1) (without (in_part G.q_row (G.blocks + 1)) i) (λ b bl h. member-without (in_part G.q_row (G.blocks + 1)) i (F.row b)
-        (row_in (G.blocks + 1) b bl (both-first (F.base b) (C (G.blocks + 1) b) h) (both-second (F.base b) (C (G.blocks + 1) b) h)) (no_base L F i none b bl (both-first (F.base b) (C (G.blocks + 1) b) h))),
+        (row_in (G.blocks + 1) b bl (both-first (F.base b) (C (G.blocks + 1) b) h) (both-second (F.base b) (C (G.blocks + 1) b) h))
+        (no_base L F i none b bl (both-first (F.base b) (C (G.blocks + 1) b) h))),
     sum_on-without (in_part G.q_row (G.blocks + 1)) L.q_rows i (λ _. 1) il (eqb_from (G.q_row i) (G.blocks + 1) (K.rows.other_q i il none)),
   )
   more_rows e (inr (i, il, s, none)) = omega (
     arith,
     q_least (G.blocks + 1),
     t_into (G.blocks + 1) (without (in_part G.t_row (G.blocks + 1)) i) (λ b bl h. member-without (in_part G.t_row (G.blocks + 1)) i (F.mate b)
-        (mate_in (G.blocks + 1) b bl (both-first (F.matched b) (C (G.blocks + 1) b) h) (both-second (F.matched b) (C (G.blocks + 1) b) h)) (no_match L F i none b bl (both-first (F.matched b) (C (G.blocks + 1) b) h))),
+        (mate_in (G.blocks + 1) b bl (both-first (F.matched b) (C (G.blocks + 1) b) h) (both-second (F.matched b) (C (G.blocks + 1) b) h))
+        (no_match L F i none b bl (both-first (F.matched b) (C (G.blocks + 1) b) h))),
     sum_on-without (in_part G.t_row (G.blocks + 1)) L.t_rows i (λ _. 1) il (eqb_from (G.t_row i) (G.blocks + 1) (K.rows.other_t i il none)),
   )
 
@@ -149,14 +151,15 @@ module _ (p : ℕ) (prime : IsPrime p) (L : Layered) (S U : ℕ → ℕ → ℕ)
     | inr none ↦ inr (omega (arith, rows-pairs 0 (omega arith), pair-columns F.base F.matched (C 0) L.columns tab.apart, size-zero (C 0) L.columns none), size-zero (C 0) L.columns none)
   ]
     where
-      fewer : {x : ℕ} → FromSome (leads_to p L F) L.columns (is_free F) x → part_rows (transformed S L) G 0 < part_columns (transformed S L) G 0
+      fewer : {x : ℕ} → IsFromFree p L F x → part_rows (transformed S L) G 0 < part_columns (transformed S L) G 0
       fewer (s, sl, sh, _) = let free : (F.base s ≡ false) × (F.matched s ≡ false) = free-tells F s sh in omega (
         arith,
         rows-pairs 0 (omega arith),
         pair-columns-less F.base F.matched (C 0) L.columns tab.apart s sl (eqb_from (G.column s) 0 (free-first p L F G below lower K s sl free.0 free.1)) free.0 free.1,
       )
 
-  last_size : (part_columns (transformed S L) G (G.blocks + 1) < part_rows (transformed S L) G (G.blocks + 1)) ⊎ ((part_rows (transformed S L) G (G.blocks + 1) ≡ 0) × (part_columns (transformed S L) G (G.blocks + 1) ≡ 0))
+  last_size : (part_columns (transformed S L) G (G.blocks + 1) < part_rows (transformed S L) G (G.blocks + 1)) ⊎
+      ((part_rows (transformed S L) G (G.blocks + 1) ≡ 0) × (part_columns (transformed S L) G (G.blocks + 1) ≡ 0))
   last_size = elim (first_on (C (G.blocks + 1)) L.columns) [
     | inl f ↦ inl (more (last-to p L F G below lower K f.0 f.1 (eqb_true (G.column f.0) (G.blocks + 1) f.2)))
     | inr none ↦ elim (zero_or (part_rows (transformed S L) G (G.blocks + 1))) [
@@ -165,7 +168,7 @@ module _ (p : ℕ) (prime : IsPrime p) (L : Layered) (S U : ℕ → ℕ → ℕ)
     ]
   ]
     where
-      more : {x : ℕ} → ToSome (leads_to p L F) L.columns (is_end p L F) x → part_columns (transformed S L) G (G.blocks + 1) < part_rows (transformed S L) G (G.blocks + 1)
+      more : {x : ℕ} → ReachesEnd p L F x → part_columns (transformed S L) G (G.blocks + 1) < part_rows (transformed S L) G (G.blocks + 1)
       more (e, el, eh, _) = omega (arith, more_rows e (end-tells p L F e eh), columns-pairs (G.blocks + 1) (omega arith))
 
   square : (k : ℕ) → 1 ≤ k → k ≤ G.blocks → (part_rows (transformed S L) G k ≡ part_columns (transformed S L) G k) × (0 < part_columns (transformed S L) G k)
@@ -196,7 +199,8 @@ module _ (p : ℕ) (prime : IsPrime p) (L : Layered) (S U : ℕ → ℕ → ℕ)
   -- ---- the order of the blocks
   -- an arc from a column of block l to one of block k shows that k is below l
   arc-below : (k l x y : ℕ) → k ≢ l → IsOfBlock L G l x → IsOfBlock L G k y → leads_to p L F x y ≡ true → below k l ≡ true
-  arc-below k l x y ne ox oy a = subst (λ i. below i l ≡ true) (of_block-number p L F G below lower K k y oy) (subst (λ i. below (block_of G y) i ≡ true) (of_block-number p L F G below lower K l x ox)
+  arc-below k l x y ne ox oy a = subst (λ i. below i l ≡ true) (of_block-number p L F G below lower K k y oy)
+      (subst (λ i. below (block_of G y) i ≡ true) (of_block-number p L F G below lower K l x ox)
       (K.order.made x y (of_block-middle p L F G below lower K l x ox) (of_block-middle p L F G below lower K k y oy)
       (reaches-arc (leads_to p L F) L.columns x x y (reaches-self (leads_to p L F) L.columns x) ox.0 a)
       (λ q. ne (sym (of_block-number p L F G below lower K k y oy) ∙ q ∙ of_block-number p L F G below lower K l x ox))))

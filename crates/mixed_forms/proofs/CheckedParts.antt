@@ -5,13 +5,10 @@ use Rattle.residue_theory.proofs.SetLaws.{eqb_false, eqb_from, eqb_true}
 use Rattle.residue_theory.proofs.SumLaws.{nat_cases}
 use Rattle.closed_sets.proofs.RuleLaws.{block-middle, first-reached, last-reaches, middle-block, rules-clear, rules-listing}
 use Rattle.closed_sets.proofs.WalkLaws.{reaches-arc, reaches-self, reaches-to}
-use Rattle.closed_sets.specs.Blocks.{IsListing}
-use Rattle.closed_sets.specs.Closed.{IsMiddle}
 use Rattle.closed_sets.specs.Rules.{InBlock}
-use Rattle.closed_sets.specs.Walks.{FromSome, ToSome}
-use Rattle.mixed_matrices.specs.Arcs.{HasNoWalk, is_end, is_free, leads_to}
+use Rattle.mixed_matrices.specs.Arcs.{HasNoWalk, IsFromFree, IsOfMiddle, ReachesEnd, is_end, is_free, leads_to}
 use Rattle.mixed_matrices.specs.CanonicalParts.{IsOfBlock}
-use Rattle.mixed_matrices.specs.CheckerRules.{KeepsPartRules, block_of, in_first, in_last}
+use Rattle.mixed_matrices.specs.CheckerRules.{IsListingIn, KeepsPartRules, block_of, in_first, in_last}
 use Rattle.mixed_matrices.specs.Forms.{Parts}
 use Rattle.mixed_matrices.specs.LayeredMatrices.{Layered}
 use Rattle.mixed_matrices.specs.Tableaus.{Tableau}
@@ -23,21 +20,21 @@ module _ (p : ℕ) (L : Layered) (F : Tableau) (G : Parts) (below lower : ℕ �
   checked-clear = rules-clear (leads_to p L F) L.columns (is_free F) (is_end p L F) (in_first G) (in_last G) (block_of G) G.blocks lower K.rules
 
   -- the blocks are the listing of the middle
-  pub checked-listing : IsListing (leads_to p L F) L.columns (is_free F) (is_end p L F) (block_of G) G.blocks
+  pub checked-listing : IsListingIn p L F G
   checked-listing = rules-listing (leads_to p L F) L.columns (is_free F) (is_end p L F) (in_first G) (in_last G) (block_of G) G.blocks lower K.rules
 
   -- the first tail is what is reached from a free column, the last what reaches an end
-  pub first-from : (x : ℕ) → x < L.columns → G.column x ≡ 0 → FromSome (leads_to p L F) L.columns (is_free F) x
+  pub first-from : (x : ℕ) → x < L.columns → G.column x ≡ 0 → IsFromFree p L F x
   first-from x xl q = K.rules.first_from x xl (eqb_from (G.column x) 0 q)
 
-  pub from-first : (x : ℕ) → x < L.columns → FromSome (leads_to p L F) L.columns (is_free F) x → G.column x ≡ 0
+  pub from-first : (x : ℕ) → x < L.columns → IsFromFree p L F x → G.column x ≡ 0
   from-first x xl f = eqb_true (G.column x) 0
       ((first-reached (leads_to p L F) L.columns (is_free F) (is_end p L F) (in_first G) (in_last G) (block_of G) G.blocks lower K.rules x xl).1 f)
 
-  pub last-to : (x : ℕ) → x < L.columns → G.column x ≡ G.blocks + 1 → ToSome (leads_to p L F) L.columns (is_end p L F) x
+  pub last-to : (x : ℕ) → x < L.columns → G.column x ≡ G.blocks + 1 → ReachesEnd p L F x
   last-to x xl q = K.rules.last_to x xl (eqb_from (G.column x) (G.blocks + 1) q)
 
-  pub to-last : (x : ℕ) → x < L.columns → ToSome (leads_to p L F) L.columns (is_end p L F) x → G.column x ≡ G.blocks + 1
+  pub to-last : (x : ℕ) → x < L.columns → ReachesEnd p L F x → G.column x ≡ G.blocks + 1
   to-last x xl t = eqb_true (G.column x) (G.blocks + 1)
       (last-reaches (leads_to p L F) L.columns (is_free F) (is_end p L F) (in_first G) (in_last G) (block_of G) G.blocks lower K.rules x xl t)
 
@@ -48,7 +45,7 @@ module _ (p : ℕ) (L : Layered) (F : Tableau) (G : Parts) (below lower : ℕ �
   pub of_block-number : (k x : ℕ) → IsOfBlock L G k x → block_of G x ≡ k
   of_block-number k x o = omega (arith, o.2)
 
-  pub of_block-middle : (k x : ℕ) → IsOfBlock L G k x → IsMiddle (leads_to p L F) L.columns (is_free F) (is_end p L F) x
+  pub of_block-middle : (k x : ℕ) → IsOfBlock L G k x → IsOfMiddle p L F x
   of_block-middle k x o = block-middle (leads_to p L F) L.columns (is_free F) (is_end p L F) (in_first G) (in_last G) (block_of G) G.blocks lower K.rules x (record {
     below = o.0;
     not_first = unequal (G.column x) 0 (λ q. omega (arith, q, o.2));
@@ -58,7 +55,7 @@ module _ (p : ℕ) (L : Layered) (F : Tableau) (G : Parts) (below lower : ℕ �
   in_block-of : (x : ℕ) → InBlock L.columns (in_first G) (in_last G) x → IsOfBlock L G (block_of G x) x
   in_block-of x i = let low : G.column x ≢ 0 = eqb_false (G.column x) 0 i.not_first in (i.below, K.rules.number x i, omega arith)
 
-  pub middle-of_block : (x : ℕ) → IsMiddle (leads_to p L F) L.columns (is_free F) (is_end p L F) x → IsOfBlock L G (block_of G x) x
+  pub middle-of_block : (x : ℕ) → IsOfMiddle p L F x → IsOfBlock L G (block_of G x) x
   middle-of_block x m = in_block-of x (middle-block (leads_to p L F) L.columns (is_free F) (is_end p L F) (in_first G) (in_last G) (block_of G) G.blocks lower K.rules x m)
 
   -- each block has a column
@@ -72,7 +69,8 @@ module _ (p : ℕ) (L : Layered) (F : Tableau) (G : Parts) (below lower : ℕ �
   pub place : (x : ℕ) → x < L.columns → (G.column x ≡ 0) ⊎ (IsOfBlock L G (block_of G x) x ⊎ (G.column x ≡ G.blocks + 1))
   place x xl = go (nat_cases (G.column x) 0) (nat_cases (G.column x) (G.blocks + 1))
     where
-      go : (G.column x ≡ 0) ⊎ (G.column x ≢ 0) → (G.column x ≡ G.blocks + 1) ⊎ (G.column x ≢ G.blocks + 1) → (G.column x ≡ 0) ⊎ (IsOfBlock L G (block_of G x) x ⊎ (G.column x ≡ G.blocks + 1))
+      go : (G.column x ≡ 0) ⊎ (G.column x ≢ 0) → (G.column x ≡ G.blocks + 1) ⊎ (G.column x ≢ G.blocks + 1) → (G.column x ≡ 0) ⊎
+          (IsOfBlock L G (block_of G x) x ⊎ (G.column x ≡ G.blocks + 1))
       go (inl z) _ = inl z
       go (inr ne) (inl q) = inr (inr q)
       go (inr ne) (inr no_last) = inr (inl (xl, omega (arith, K.rows.columns x xl), omega arith))
@@ -99,7 +97,8 @@ module _ (p : ℕ) (L : Layered) (F : Tableau) (G : Parts) (below lower : ℕ �
         arith,
         o.2,
         q.2,
-        checked-listing.lower_before x y (of_block-middle (block_of G x) x o) (of_block-middle (block_of G y) y q) (reaches-arc (leads_to p L F) L.columns x x y (reaches-self (leads_to p L F) L.columns x) xl a),
+        checked-listing.lower_before x y (of_block-middle (block_of G x) x o) (of_block-middle (block_of G y) y q)
+            (reaches-arc (leads_to p L F) L.columns x x y (reaches-self (leads_to p L F) L.columns x) xl a),
       )
       from_block o (inr (inr last)) = absurd ((of_block-middle (block_of G x) x o).2
           (reaches-to (leads_to p L F) L.columns (is_end p L F) x y (reaches-arc (leads_to p L F) L.columns x x y (reaches-self (leads_to p L F) L.columns x) xl a) (last-to y yl last)))

@@ -67,11 +67,16 @@ module _ (p : ℕ) (prime : IsPrime p) (P : Layered) (G : Parts) (tri : IsTriang
 
     -- what holds at each Q row and at each T row holds at each row
     at_rows : (E : ℕ → Type 0) → ((i : ℕ) → i < P.q_rows → E i) → ((k : ℕ) → k < P.t_rows → E (P.q_rows + k)) → (i : ℕ) → i < P.q_rows + P.t_rows → E i
-    at_rows E top low i il = elim (lt_cases i P.q_rows) [ inl less ↦ top i less | inr more ↦ subst E (let q : P.q_rows + (i - P.q_rows) ≡ i = omega arith in q) (low (i - P.q_rows) (omega arith)) ]
+    at_rows E top low i il = elim (lt_cases i P.q_rows) [
+      | inl less ↦ top i less
+      | inr more ↦ subst E (let q : P.q_rows + (i - P.q_rows) ≡ i = omega arith in q)
+          (low (i - P.q_rows) (omega arith))
+    ]
 
     triangular : IsBlockTriangular p (layered_value P values) (P.q_rows + P.t_rows) P.columns row_part G.column
     triangular i j il jl less = at_rows (λ i. G.column j < row_part i → layered_value P values i j % p ≡ 0)
-        (λ i l h. ap (λ s. s % p) (above-top P.q_rows P.q (numbers P.t values) i j l) ∙ (tri.empty (G.q_row i) (G.column j) (subst (λ k. G.column j < k) (row_part-top i l) h)).q i j l jl refl refl)
+        (λ i l h. ap (λ s. s % p) (above-top P.q_rows P.q (numbers P.t values) i j l) ∙
+        (tri.empty (G.q_row i) (G.column j) (subst (λ k. G.column j < k) (row_part-top i l) h)).q i j l jl refl refl)
         (λ k kl h. ap (λ s. s % p) (above-low P.q_rows P.q (numbers P.t values) k j)
         ∙ ap (λ b. cond b (values k j) 0 % p) ((tri.empty (G.t_row k) (G.column j) (subst (λ l. G.column j < l) (row_part-low k) h)).t k j kl jl refl refl) ∙ zero-mod p)
         i il less
@@ -94,21 +99,27 @@ module _ (p : ℕ) (prime : IsPrime p) (P : Layered) (G : Parts) (tri : IsTriang
         t_entry false b t x y e = refl
 
     ranks-below : (s : ℕ) → IsRank p (layered_value P values) (P.q_rows + P.t_rows) P.columns everything s → sum_below (G.blocks + 2) part_rank ≤ s
-    ranks-below s S = triangular-rank p prime (P.q_rows + P.t_rows) P.columns (G.blocks + 2) (layered_value P values) row_part G.column (λ j jl. omega (arith, tri.columns j jl)) triangular part_rank
-        (λ h hl. rank_of-kernel p (P.q_rows + P.t_rows) P.columns (layered_value (diagonal_part P G h) (f h)) (diagonal row_part G.column (layered_value P values) h) everything (part_rank h)
-        (kernel_of-agree p (P.q_rows + P.t_rows) P.columns (layered_value (diagonal_part P G h) (f h)) (diagonal row_part G.column (layered_value P values) h) (λ i j il jl. ap (λ x. x % p) (diagonal-agrees h i j il))) (ranked h hl))
+    ranks-below s S = triangular-rank p prime (P.q_rows + P.t_rows) P.columns (G.blocks + 2) (layered_value P values) row_part G.column
+        (λ j jl. omega (arith, tri.columns j jl)) triangular part_rank
+        (λ h hl. rank_of-kernel p (P.q_rows + P.t_rows) P.columns (layered_value (diagonal_part P G h) (f h))
+        (diagonal row_part G.column (layered_value P values) h) everything (part_rank h)
+        (kernel_of-agree p (P.q_rows + P.t_rows) P.columns (layered_value (diagonal_part P G h) (f h)) (diagonal row_part G.column (layered_value P values) h)
+        (λ i j il jl. ap (λ x. x % p) (diagonal-agrees h i j il))) (ranked h hl))
         s S
 
     values-reach : (s : ℕ) × IsRank p (layered_value P values) (P.q_rows + P.t_rows) P.columns everything s × (sum_below (G.blocks + 2) part_rank ≤ s)
     values-reach = go (rank_exists p prime (layered_value P values) (P.q_rows + P.t_rows) P.columns everything)
       where
-        go : (s : ℕ) × IsRank p (layered_value P values) (P.q_rows + P.t_rows) P.columns everything s → (s : ℕ) × IsRank p (layered_value P values) (P.q_rows + P.t_rows) P.columns everything s × (sum_below (G.blocks + 2) part_rank ≤ s)
+        go : (s : ℕ) × IsRank p (layered_value P values) (P.q_rows + P.t_rows) P.columns everything s → (s : ℕ) × IsRank p (layered_value P values)
+            (P.q_rows + P.t_rows) P.columns everything s × (sum_below (G.blocks + 2) part_rank ≤ s)
         go (s, S) = (s, S, ranks-below s S)
 
   pub diagonal-ranks : (r : ℕ) → IsLayeredRank p P r → sum_below (G.blocks + 2) part_rank ≤ r
   diagonal-ranks r R = go (choose (G.blocks + 2) (ℕ → ℕ → ℕ) (λ _ _. 0) (λ h w. IsRank p (layered_value (diagonal_part P G h) w) (P.q_rows + P.t_rows) P.columns everything (part_rank h))
       (λ h hl. (each-rank h hl).reached))
     where
-      go : (f : ℕ → ℕ → ℕ → ℕ) × ((h : ℕ) → h < G.blocks + 2 → IsRank p (layered_value (diagonal_part P G h) (f h)) (P.q_rows + P.t_rows) P.columns everything (part_rank h)) → sum_below (G.blocks + 2) part_rank ≤ r
-      go (f, ranked) = let v : (s : ℕ) × IsRank p (layered_value P (values f ranked)) (P.q_rows + P.t_rows) P.columns everything s × (sum_below (G.blocks + 2) part_rank ≤ s) = values-reach f ranked in
+      go : (f : ℕ → ℕ → ℕ → ℕ) × ((h : ℕ) → h < G.blocks + 2 → IsRank p (layered_value (diagonal_part P G h) (f h)) (P.q_rows + P.t_rows) P.columns everything
+          (part_rank h)) → sum_below (G.blocks + 2) part_rank ≤ r
+      go (f, ranked) = let v : (s : ℕ) × IsRank p (layered_value P (values f ranked)) (P.q_rows + P.t_rows) P.columns everything s ×
+          (sum_below (G.blocks + 2) part_rank ≤ s) = values-reach f ranked in
           omega (arith, v.2, R.greatest (values f ranked) v.0 v.1)

@@ -7,8 +7,8 @@ use Rattle.residue_theory.specs.Sets.{only}
 use Rattle.linear_algebra.specs.Products.{identity}
 use Rattle.closed_sets.proofs.WalkLaws.{follows-reaches, reaches-arc, reaches-self}
 use Rattle.closed_sets.specs.Rules.{InBlock, KeepsRules}
-use Rattle.closed_sets.specs.Walks.{Mutual, Reaches, ReachesOn, ToSome}
-use Rattle.mixed_matrices.specs.Arcs.{has_base, has_match, is_end, is_free, leads_to}
+use Rattle.closed_sets.specs.Walks.{Mutual, ReachesOn}
+use Rattle.mixed_matrices.specs.Arcs.{ReachesEnd, ReachesIn, has_base, has_match, is_end, is_free, leads_to}
 use Rattle.mixed_matrices.specs.CanonicalParts.{AreCanonical, IsBlockBelow, IsHeldWith, IsLowerBlock, IsOfBlock}
 use Rattle.mixed_matrices.specs.CheckerRules.{HasRows, KeepsPartRules, block_of, in_first, in_last}
 use Rattle.mixed_matrices.specs.Examples.{symbol_triangle, tall_parts, tall_symbols, tall_tableau, triangle_below, triangle_lower, triangle_parts, triangle_tableau, turned_parts, whole_parts}
@@ -34,12 +34,12 @@ all_match = below_two (λ i. has_match symbol_triangle triangle_tableau i ≡ tr
 below-is : (k l : ℕ) → triangle_below k l ≡ true → (k ≡ 0) × (l ≡ 1)
 below-is k l h = (eqb_true k 0 (both-first (eqb k 0) (eqb l 1) h), eqb_true l 1 (both-second (eqb k 0) (eqb l 1) h))
 
-triangle-reaches : (x y : ℕ) → x ≡ 0 → y ≡ 1 → Reaches (leads_to 65521 symbol_triangle triangle_tableau) 2 x y
+triangle-reaches : (x y : ℕ) → x ≡ 0 → y ≡ 1 → ReachesIn 65521 symbol_triangle triangle_tableau x y
 triangle-reaches x y p q = reaches-arc (leads_to 65521 symbol_triangle triangle_tableau) 2 x x y (reaches-self (leads_to 65521 symbol_triangle triangle_tableau) 2 x) (omega arith)
     (subst (λ i. leads_to 65521 symbol_triangle triangle_tableau i y ≡ true) (sym p) (subst (λ j. leads_to 65521 symbol_triangle triangle_tableau 0 j ≡ true) (sym q) triangle-leads))
 
 -- a walk from one column to another goes from column 0 to column 1
-walk-is : (x y : ℕ) → x < 2 → y < 2 → Reaches (leads_to 65521 symbol_triangle triangle_tableau) 2 x y → y ≢ x → (x ≡ 0) × (y ≡ 1)
+walk-is : (x y : ℕ) → x < 2 → y < 2 → ReachesIn 65521 symbol_triangle triangle_tableau x y → y ≢ x → (x ≡ 0) × (y ≡ 1)
 walk-is x y xl yl r ne = go (nat_cases x 1)
   where
     go : (x ≡ 1) ⊎ (x ≢ 1) → (x ≡ 0) × (y ≡ 1)
@@ -62,7 +62,8 @@ list-reaches x y p q = subst (λ i. ReachesOn triangle_lower 2 (block_of triangl
 in_block : (x : ℕ) → x < 2 → InBlock 2 (in_first triangle_parts) (in_last triangle_parts) x
 in_block x xl = record { below = xl; not_first = no_first x xl; not_last = no_last x xl }
 
-triangle-rules : KeepsRules (leads_to 65521 symbol_triangle triangle_tableau) 2 (is_free triangle_tableau) (is_end 65521 symbol_triangle triangle_tableau) (in_first triangle_parts) (in_last triangle_parts) (block_of triangle_parts) 2 triangle_lower
+triangle-rules : KeepsRules (leads_to 65521 symbol_triangle triangle_tableau) 2 (is_free triangle_tableau) (is_end 65521 symbol_triangle triangle_tableau)
+    (in_first triangle_parts) (in_last triangle_parts) (block_of triangle_parts) 2 triangle_lower
 triangle-rules = record {
   apart = λ x xl f l. differ (no_first x xl) f;
   starts_first = λ x xl h. absurd (differ (triangle-no_free x xl) h);
@@ -83,7 +84,8 @@ triangle-rules = record {
         (reaches-self (leads_to 65521 symbol_triangle triangle_tableau) 2 x, reaches-self (leads_to 65521 symbol_triangle triangle_tableau) 2 x)
 
     least : (x k : ℕ) → InBlock 2 (in_first triangle_parts) (in_last triangle_parts) x → k < block_of triangle_parts x →
-        ((y : ℕ) → InBlock 2 (in_first triangle_parts) (in_last triangle_parts) y → Reaches (leads_to 65521 symbol_triangle triangle_tableau) 2 x y → (block_of triangle_parts y < k) ⊎ (block_of triangle_parts y ≡ block_of triangle_parts x)) →
+        ((y : ℕ) → InBlock 2 (in_first triangle_parts) (in_last triangle_parts) y → ReachesIn 65521 symbol_triangle triangle_tableau x y →
+        (block_of triangle_parts y < k) ⊎ (block_of triangle_parts y ≡ block_of triangle_parts x)) →
         (z : ℕ) × (z < x) × InBlock 2 (in_first triangle_parts) (in_last triangle_parts) z × (block_of triangle_parts z ≡ k)
     least x k i kl lower = absurd (elim (lower 1 (in_block 1 (omega arith)) (triangle-reaches x 1 (omega arith) refl)) [ inl less ↦ omega arith | inr q ↦ omega arith ])
 
@@ -103,11 +105,12 @@ triangle-rules_kept = record {
   };
 }
   where
-    tells : (x y : ℕ) → x < 2 → y < 2 → (block_of triangle_parts y ≡ 0) × (block_of triangle_parts x ≡ 1) → Reaches (leads_to 65521 symbol_triangle triangle_tableau) 2 x y
+    tells : (x y : ℕ) → x < 2 → y < 2 → (block_of triangle_parts y ≡ 0) × (block_of triangle_parts x ≡ 1) → ReachesIn 65521 symbol_triangle triangle_tableau x y
     tells x y xl yl (q, r) = triangle-reaches x y (omega arith) (omega arith)
 
     made : (x y : ℕ) → (x ≡ 0) × (y ≡ 1) → triangle_below (block_of triangle_parts y) (block_of triangle_parts x) ≡ true
-    made x y (p, q) = subst (λ i. triangle_below (block_of triangle_parts y) (block_of triangle_parts i) ≡ true) (sym p) (subst (λ j. triangle_below (block_of triangle_parts j) 1 ≡ true) (sym q) refl)
+    made x y (p, q) = subst (λ i. triangle_below (block_of triangle_parts y) (block_of triangle_parts i) ≡ true) (sym p)
+        (subst (λ j. triangle_below (block_of triangle_parts j) 1 ≡ true) (sym q) refl)
 
 pub triangle-is_tableau : IsTableau 65521 symbol_triangle identity identity triangle_tableau
 triangle-is_tableau = record {
@@ -138,7 +141,8 @@ pub triangle-minimiser : IsMinimiser 65521 symbol_triangle (only 1)
 triangle-minimiser = closed-minimiser 65521 prime_65521 symbol_triangle triangle_tableau triangle-has_tableau (only 1) triangle-closed
 
 pub triangle-held : IsHeldWith 65521 symbol_triangle 0 1
-triangle-held X least h = (minimiser-closed 65521 prime_65521 symbol_triangle triangle_tableau triangle-has_tableau (only 1) triangle-closed X least).follows 0 1 (omega arith) (omega arith) h triangle-leads
+triangle-held X least h = (minimiser-closed 65521 prime_65521 symbol_triangle triangle_tableau triangle-has_tableau (only 1) triangle-closed X least).follows 0 1
+    (omega arith) (omega arith) h triangle-leads
 
 pub triangle-not_held : IsHeldWith 65521 symbol_triangle 1 0 → ⊥
 triangle-not_held held = differ refl (held (only 1) triangle-minimiser refl)
@@ -151,7 +155,8 @@ pub turned-not_canonical : AreCanonical 65521 symbol_triangle turned_parts → �
 turned-not_canonical C = omega (arith, C.ready 0 (omega arith) 1 (omega arith) ((λ q. absurd (omega arith)), λ x y ox oy. held x y ox oy))
   where
     held : (x y : ℕ) → IsOfBlock symbol_triangle turned_parts 1 x → IsOfBlock symbol_triangle turned_parts 0 y → IsHeldWith 65521 symbol_triangle y x
-    held x y ox oy = subst (λ i. IsHeldWith 65521 symbol_triangle y i) (let e : 1 ≡ x = omega (arith, ox.2) in e) (subst (λ i. IsHeldWith 65521 symbol_triangle i 1) (let e : 0 ≡ y = omega (arith, oy.2) in e) triangle-held)
+    held x y ox oy = subst (λ i. IsHeldWith 65521 symbol_triangle y i) (let e : 1 ≡ x = omega (arith, ox.2) in e)
+        (subst (λ i. IsHeldWith 65521 symbol_triangle i 1) (let e : 0 ≡ y = omega (arith, oy.2) in e) triangle-held)
 
 -- both columns in one block
 pub whole-not_canonical : AreCanonical 65521 symbol_triangle whole_parts → ⊥
@@ -173,8 +178,8 @@ tall-match : has_match tall_symbols tall_tableau 0 ≡ true
 unfolding has_match
 tall-match = refl
 
-tall-reaches : (x : ℕ) → x < 1 → ToSome (leads_to 65521 tall_symbols tall_tableau) 1 (is_end 65521 tall_symbols tall_tableau) x
-tall-reaches = below_one (λ x. ToSome (leads_to 65521 tall_symbols tall_tableau) 1 (is_end 65521 tall_symbols tall_tableau) x) (0, omega arith, tall-end, reaches-self (leads_to 65521 tall_symbols tall_tableau) 1 0)
+tall-reaches : (x : ℕ) → x < 1 → ReachesEnd 65521 tall_symbols tall_tableau x
+tall-reaches = below_one (λ x. ReachesEnd 65521 tall_symbols tall_tableau x) (0, omega arith, tall-end, reaches-self (leads_to 65521 tall_symbols tall_tableau) 1 0)
 
 pub tall-rules_kept : KeepsPartRules 65521 tall_symbols tall_tableau tall_parts (λ k l. false) (λ l k. false)
 tall-rules_kept = record {

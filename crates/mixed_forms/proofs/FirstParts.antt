@@ -54,15 +54,31 @@ module _ (p : ℕ) (prime : IsPrime p) (L : Layered) (S U : ℕ → ℕ → ℕ)
       go : (i : ℕ) → i < L.t_rows → touches L (upto k) i ≡ true → (b : Bool) → leb (G.t_row i) k ≡ b → leb (G.t_row i) k ≡ true
       go i il h true e = e
       go i il h false e = let f : (j : ℕ) × (j < L.columns) × (both (upto k) (L.t i) j ≡ true) = some_below-found L.columns (both (upto k) (L.t i)) h in
-          absurd (differ ((tri.empty (G.t_row i) (G.column f.0) (omega (arith, leb_not (G.t_row i) k e, leb_is (G.column f.0) k (both-first (upto k f.0) (L.t i f.0) f.2)))).t i f.0 il f.1 refl refl) (both-second (upto k f.0) (L.t i f.0) f.2))
+          absurd (differ ((tri.empty (G.t_row i) (G.column f.0)
+          (omega (arith, leb_not (G.t_row i) k e, leb_is (G.column f.0) k (both-first (upto k f.0) (L.t i f.0) f.2)))).t i f.0 il f.1 refl refl)
+          (both-second (upto k f.0) (L.t i f.0) f.2))
 
   -- rows and columns of the first parts differ as those of the first tail
   sizes : (k : ℕ) → k ≤ G.blocks → first_rows k + part_columns (transformed S L) G 0 ≡ size_on (upto k) L.columns + part_rows (transformed S L) G 0
   sizes zero le = omega (arith, levels-first G.column L.columns (λ _. 1), levels-first G.q_row L.q_rows (λ _. 1), levels-first G.t_row L.t_rows (λ _. 1))
-  sizes (suc k) le = omega (arith, sizes k (omega arith), levels G.column L.columns k (λ _. 1), levels G.q_row L.q_rows k (λ _. 1), levels G.t_row L.t_rows k (λ _. 1), (tri.square (suc k) (omega arith) le).0)
+  sizes (suc k) le = omega (
+    arith,
+    sizes k (omega arith),
+    levels G.column L.columns k (λ _. 1),
+    levels G.q_row L.q_rows k (λ _. 1),
+    levels G.t_row L.t_rows k (λ _. 1),
+    (tri.square (suc k) (omega arith) le).0,
+  )
 
   all_columns : size_on (upto G.blocks) L.columns + part_columns (transformed S L) G (G.blocks + 1) ≡ L.columns
-  all_columns = omega (arith, sym (levels G.column L.columns G.blocks (λ _. 1)), levels-all G.column L.columns (suc G.blocks) (λ _. 1) (λ j jl. omega (arith, tri.columns j jl)), size-everything L.columns, last)
+  all_columns = omega (
+    arith,
+    sym (levels G.column L.columns G.blocks (λ _. 1)),
+    levels-all G.column L.columns (suc G.blocks) (λ _. 1)
+        (λ j jl. omega (arith, tri.columns j jl)),
+    size-everything L.columns,
+    last,
+  )
     where
       last : part_columns (transformed S L) G (G.blocks + 1) ≡ size_on (λ j. eqb (G.column j) (suc G.blocks)) L.columns
       last = ap (λ h. size_on (in_part G.column h) L.columns) (let q : G.blocks + 1 ≡ suc G.blocks = omega arith in q)
@@ -70,12 +86,19 @@ module _ (p : ℕ) (prime : IsPrime p) (L : Layered) (S U : ℕ → ℕ → ℕ)
   -- the ranks of the diagonal parts before the last are the first rows
   rank-sum : (k : ℕ) → k ≤ G.blocks → sum_below (suc k) (part_rank p prime (transformed S L) G tri) ≡ first_rows k
   rank-sum zero le = omega (arith, early-rank p prime (transformed S L) G tri 0 (omega arith), levels-first G.q_row L.q_rows (λ _. 1), levels-first G.t_row L.t_rows (λ _. 1))
-  rank-sum (suc k) le = omega (arith, rank-sum k (omega arith), early-rank p prime (transformed S L) G tri (suc k) le, levels G.q_row L.q_rows k (λ _. 1), levels G.t_row L.t_rows k (λ _. 1))
+  rank-sum (suc k) le = omega (
+    arith,
+    rank-sum k (omega arith),
+    early-rank p prime (transformed S L) G tri (suc k) le,
+    levels G.q_row L.q_rows k (λ _. 1),
+    levels G.t_row L.t_rows k (λ _. 1),
+  )
 
   whole-sum : sum_below (G.blocks + 2) (part_rank p prime (transformed S L) G tri) ≡ first_rows G.blocks + part_columns (transformed S L) G (G.blocks + 1)
   whole-sum = ap (λ n. sum_below n (part_rank p prime (transformed S L) G tri)) (let q : G.blocks + 2 ≡ suc (suc G.blocks) = omega arith in q)
       ∙ ap (λ s. s + part_rank p prime (transformed S L) G tri (suc G.blocks)) (rank-sum G.blocks (omega arith))
-      ∙ ap (λ s. first_rows G.blocks + s) (ap (λ h. part_rank p prime (transformed S L) G tri h) (let q : suc G.blocks ≡ G.blocks + 1 = omega arith in q) ∙ late-rank p prime (transformed S L) G tri)
+      ∙ ap (λ s. first_rows G.blocks + s) (ap (λ h. part_rank p prime (transformed S L) G tri h) (let q : suc G.blocks ≡ G.blocks + 1 = omega arith in q)
+      ∙ late-rank p prime (transformed S L) G tri)
 
   -- summed over the parts
   row-sum : (k : ℕ) → k ≤ G.blocks → sum_below (suc k) (λ h. part_rows (transformed S L) G h) ≡ first_rows k

@@ -6,12 +6,9 @@ use Rattle.residue_theory.specs.Residues.{IsPrime}
 use Rattle.closed_sets.proofs.ClosedLaws.{closed-from, closed-reaches, closed-to, holds_with, in_every, in_none, mutual-together, together-mutual}
 use Rattle.closed_sets.proofs.ListingUnique.{listing-same, listing-size}
 use Rattle.closed_sets.proofs.SetLaws.{least_of}
-use Rattle.closed_sets.specs.Blocks.{IsListing}
-use Rattle.closed_sets.specs.Closed.{IsMiddle}
-use Rattle.closed_sets.specs.Walks.{FromSome, Reaches, ToSome}
-use Rattle.mixed_matrices.specs.Arcs.{HasNoWalk, IsClosedIn, is_end, is_free, leads_to}
+use Rattle.mixed_matrices.specs.Arcs.{HasNoWalk, IsClosedIn, IsFromFree, IsOfMiddle, ReachesEnd, ReachesIn, is_end, is_free, leads_to}
 use Rattle.mixed_matrices.specs.CanonicalParts.{AreCanonical, IsBlockBelow, IsHeldWith, IsLeastColumn, IsOfBlock, IsReadyAt}
-use Rattle.mixed_matrices.specs.CheckerRules.{block_of}
+use Rattle.mixed_matrices.specs.CheckerRules.{IsListingIn, block_of}
 use Rattle.mixed_matrices.specs.Forms.{Parts}
 use Rattle.mixed_matrices.specs.LayeredMatrices.{Layered}
 use Rattle.mixed_matrices.specs.SetFunctions.{IsMinimiser}
@@ -26,22 +23,22 @@ module _ (p : ℕ) (prime : IsPrime p) (L : Layered) (F : Tableau) (tab : HasTab
   closed = minimiser-closed p prime L F tab (least_set p L F) (least_set-closed p L F clear)
 
   -- the first tail is what is reached from a free column, the last what reaches an end
-  first-from : (x : ℕ) → x < L.columns → (G.column x ≡ 0) ↔ FromSome (leads_to p L F) L.columns (is_free F) x
+  first-from : (x : ℕ) → x < L.columns → (G.column x ≡ 0) ↔ IsFromFree p L F x
   first-from x xl = (
     (λ q. in_every (leads_to p L F) L.columns (is_free F) (is_end p L F) clear x xl (λ X c. (C.first x xl).0 q X (least X c))),
     λ f. (C.first x xl).1 (λ X h. closed-from (leads_to p L F) L.columns (is_free F) (is_end p L F) X (closed X h) x xl f),
   )
 
-  last-to : (x : ℕ) → x < L.columns → (G.column x ≡ G.blocks + 1) ↔ ToSome (leads_to p L F) L.columns (is_end p L F) x
+  last-to : (x : ℕ) → x < L.columns → (G.column x ≡ G.blocks + 1) ↔ ReachesEnd p L F x
   last-to x xl = (
     (λ q. in_none (leads_to p L F) L.columns (is_free F) (is_end p L F) clear x xl (λ X c h. differ ((C.last x xl).0 q X (least X c)) h)),
     λ t. (C.last x xl).1 (λ X h. not_true (X x) (closed-to (leads_to p L F) L.columns (is_free F) (is_end p L F) X (closed X h) x xl t)),
   )
 
-  of_block-middle : (k x : ℕ) → IsOfBlock L G k x → IsMiddle (leads_to p L F) L.columns (is_free F) (is_end p L F) x
+  of_block-middle : (k x : ℕ) → IsOfBlock L G k x → IsOfMiddle p L F x
   of_block-middle k x o = (o.0, (λ f. omega (arith, o.2, (first-from x o.0).1 f)), λ t. omega (arith, o.1, o.2, (last-to x o.0).1 t))
 
-  middle-of_block : (x : ℕ) → IsMiddle (leads_to p L F) L.columns (is_free F) (is_end p L F) x → IsOfBlock L G (block_of G x) x
+  middle-of_block : (x : ℕ) → IsOfMiddle p L F x → IsOfBlock L G (block_of G x) x
   middle-of_block x m = go (nat_cases (G.column x) 0) (nat_cases (G.column x) (G.blocks + 1))
     where
       go : (G.column x ≡ 0) ⊎ (G.column x ≢ 0) → (G.column x ≡ G.blocks + 1) ⊎ (G.column x ≢ G.blocks + 1) → IsOfBlock L G (block_of G x) x
@@ -53,8 +50,8 @@ module _ (p : ℕ) (prime : IsPrime p) (L : Layered) (F : Tableau) (tab : HasTab
   number k x o = omega (arith, o.2)
 
   -- ---- reached is held
-  reached-below : (x y : ℕ) → IsMiddle (leads_to p L F) L.columns (is_free F) (is_end p L F) x → IsMiddle (leads_to p L F) L.columns (is_free F) (is_end p L F) y →
-      Reaches (leads_to p L F) L.columns x y → block_of G y ≢ block_of G x → IsBlockBelow p L G (block_of G y) (block_of G x)
+  reached-below : (x y : ℕ) → IsOfMiddle p L F x → IsOfMiddle p L F y →
+      ReachesIn p L F x y → block_of G y ≢ block_of G x → IsBlockBelow p L G (block_of G y) (block_of G x)
   reached-below x y mx my r ne = (ne, held)
     where
       held : (u v : ℕ) → IsOfBlock L G (block_of G y) u → IsOfBlock L G (block_of G x) v → IsHeldWith p L v u
@@ -73,20 +70,22 @@ module _ (p : ℕ) (prime : IsPrime p) (L : Layered) (F : Tableau) (tab : HasTab
       go (inl (x, xl, o, none)) = (x, (o, λ y oy. elim (lt_cases y x) [ inl less ↦ absurd (none y less oy) | inr le ↦ le ]))
       go (inr none) = absurd (none (C.held k kl).0 (C.held k kl).1.0 (C.held k kl).1)
 
-  lower-before : (x y : ℕ) → IsMiddle (leads_to p L F) L.columns (is_free F) (is_end p L F) x → IsMiddle (leads_to p L F) L.columns (is_free F) (is_end p L F) y →
-      Reaches (leads_to p L F) L.columns x y → block_of G y ≤ block_of G x
+  lower-before : (x y : ℕ) → IsOfMiddle p L F x → IsOfMiddle p L F y →
+      ReachesIn p L F x y → block_of G y ≤ block_of G x
   lower-before x y mx my r = elim (nat_cases (block_of G y) (block_of G x)) [
     | inl q ↦ omega (arith, q)
-    | inr ne ↦ let less : block_of G y < block_of G x = C.ready (block_of G x) (middle-of_block x mx).1 (block_of G y) (middle-of_block y my).1 (reached-below x y mx my r ne) in omega arith
+    | inr ne ↦ let less : block_of G y < block_of G x = C.ready (block_of G x) (middle-of_block x mx).1 (block_of G y) (middle-of_block y my).1
+        (reached-below x y mx my r ne) in omega arith
   ]
 
-  least-first : (x k : ℕ) → IsMiddle (leads_to p L F) L.columns (is_free F) (is_end p L F) x → k < block_of G x →
-      ((y : ℕ) → IsMiddle (leads_to p L F) L.columns (is_free F) (is_end p L F) y → Reaches (leads_to p L F) L.columns x y → (block_of G y < k) ⊎ (block_of G y ≡ block_of G x)) →
-      (z : ℕ) × (z < x) × IsMiddle (leads_to p L F) L.columns (is_free F) (is_end p L F) z × (block_of G z ≡ k)
+  least-first : (x k : ℕ) → IsOfMiddle p L F x → k < block_of G x →
+      ((y : ℕ) → IsOfMiddle p L F y → ReachesIn p L F x y → (block_of G y < k) ⊎ (block_of G y ≡ block_of G x)) →
+      (z : ℕ) × (z < x) × IsOfMiddle p L F z × (block_of G z ≡ k)
   least-first x k mx kl lower = go (least-column k (omega (arith, (middle-of_block x mx).1))) (least-column (block_of G x) (middle-of_block x mx).1)
     where
-      held-reached : (u : ℕ) → IsMiddle (leads_to p L F) L.columns (is_free F) (is_end p L F) u → IsHeldWith p L x u → Reaches (leads_to p L F) L.columns x u
-      held-reached u mu held = elim (holds_with (leads_to p L F) L.columns (is_free F) (is_end p L F) clear x u mx.0 mu.0 mx.2 (λ X c. held X (least X c))) [ inl r ↦ r | inr f ↦ absurd (mu.1 f) ]
+      held-reached : (u : ℕ) → IsOfMiddle p L F u → IsHeldWith p L x u → ReachesIn p L F x u
+      held-reached u mu held = elim (holds_with (leads_to p L F) L.columns (is_free F) (is_end p L F) clear x u mx.0 mu.0 mx.2
+          (λ X c. held X (least X c))) [ inl r ↦ r | inr f ↦ absurd (mu.1 f) ]
 
       ready : IsReadyAt p L G k (block_of G x)
       ready h hl b = at (C.held h hl)
@@ -97,10 +96,10 @@ module _ (p : ℕ) (prime : IsPrime p) (L : Layered) (F : Tableau) (tab : HasTab
             | inr q ↦ absurd (b.0 (sym (number h u o) ∙ q))
           ]
 
-      go : (z : ℕ) × IsLeastColumn L G k z → (y : ℕ) × IsLeastColumn L G (block_of G x) y → (z : ℕ) × (z < x) × IsMiddle (leads_to p L F) L.columns (is_free F) (is_end p L F) z × (block_of G z ≡ k)
+      go : (z : ℕ) × IsLeastColumn L G k z → (y : ℕ) × IsLeastColumn L G (block_of G x) y → (z : ℕ) × (z < x) × IsOfMiddle p L F z × (block_of G z ≡ k)
       go (z, lz) (y, ly) = (z, omega (arith, C.least k (block_of G x) z y kl ready lz ly, ly.1 x (middle-of_block x mx)), of_block-middle k z lz.0, number k z lz.0)
 
-  pub canonical-listing : IsListing (leads_to p L F) L.columns (is_free F) (is_end p L F) (block_of G) G.blocks
+  pub canonical-listing : IsListingIn p L F G
   canonical-listing = record {
     below_b = λ x m. (middle-of_block x m).1;
     each = λ k kl. ((C.held k kl).0, of_block-middle k (C.held k kl).0 (C.held k kl).1, number k (C.held k kl).0 (C.held k kl).1);
@@ -123,10 +122,11 @@ module _ (p : ℕ) (prime : IsPrime p) (L : Layered) (F : Tableau) (tab : HasTab
       go : (G.column x ≡ 0) ⊎ (G.column x ≢ 0) → (G.column x ≡ G.blocks + 1) ⊎ (G.column x ≢ G.blocks + 1) → G.column x ≡ H.column x
       go (inl z) _ = z ∙ sym ((D.first x xl).1 ((C.first x xl).0 z))
       go (inr ne) (inl q) = let last : H.column x ≡ H.blocks + 1 = (D.last x xl).1 ((C.last x xl).0 q) in omega (arith, same-blocks)
-      go (inr ne) (inr no_last) = inside (middle-of_block p prime L F tab clear H D x m) (listing-same (leads_to p L F) L.columns (is_free F) (is_end p L F) (block_of G) (block_of H) G.blocks H.blocks
+      go (inr ne) (inr no_last) = inside (middle-of_block p prime L F tab clear H D x m)
+          (listing-same (leads_to p L F) L.columns (is_free F) (is_end p L F) (block_of G) (block_of H) G.blocks H.blocks
           (canonical-listing p prime L F tab clear G C) (canonical-listing p prime L F tab clear H D) x m)
         where
-          m : IsMiddle (leads_to p L F) L.columns (is_free F) (is_end p L F) x
+          m : IsOfMiddle p L F x
           m = of_block-middle p prime L F tab clear G C (G.column x - 1) x (xl, omega (arith, C.columns x xl), omega arith)
 
           inside : IsOfBlock L H (block_of H x) x → block_of G x ≡ block_of H x → G.column x ≡ H.column x

@@ -2,7 +2,8 @@
 -- is said in the words of closed sets.
 use Rattle.std.specs.Prelude.{ℕ, ◌%◌, Bool, ◌&&◌, ◌||◌, not, eqb}
 use Rattle.residue_theory.specs.Sets.{some_below}
-use Rattle.closed_sets.specs.Closed.{IsClosed, NoEndReached, IsReachedSet}
+use Rattle.closed_sets.specs.Walks.{Reaches, FromSome, ToSome}
+use Rattle.closed_sets.specs.Closed.{IsClosed, NoEndReached, IsReachedSet, IsMiddle}
 use Rattle.mixed_matrices.specs.LayeredMatrices.{Layered}
 use Rattle.mixed_matrices.specs.Tableaus.{Tableau}
 
@@ -29,6 +30,22 @@ is_end p L F x =
 unfoldable pub leads_to : ℕ → Layered → Tableau → ℕ → ℕ → Bool
 leads_to p L F x y =
     not (eqb x y) && ((F.base y && not (eqb (F.P (F.row y) x % p) 0)) || (F.matched y && L.t (F.mate y) x))
+
+-- y is x, or is reached from it
+abbrev pub ReachesIn : ℕ → Layered → Tableau → ℕ → ℕ → Type 0
+ReachesIn p L F x y = Reaches (leads_to p L F) L.columns x y
+
+-- x is reached from a free column
+abbrev pub IsFromFree : ℕ → Layered → Tableau → ℕ → Type 0
+IsFromFree p L F x = FromSome (leads_to p L F) L.columns (is_free F) x
+
+-- x reaches an end
+abbrev pub ReachesEnd : ℕ → Layered → Tableau → ℕ → Type 0
+ReachesEnd p L F x = ToSome (leads_to p L F) L.columns (is_end p L F) x
+
+-- x is a column that is not reached from a free one and reaches no end
+abbrev pub IsOfMiddle : ℕ → Layered → Tableau → ℕ → Type 0
+IsOfMiddle p L F x = IsMiddle (leads_to p L F) L.columns (is_free F) (is_end p L F) x
 
 -- X holds every free column, no end, and all that its columns lead to
 abbrev pub IsClosedIn : ℕ → Layered → Tableau → (ℕ → Bool) → Type 0

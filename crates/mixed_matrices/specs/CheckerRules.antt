@@ -1,7 +1,7 @@
 -- The rules that parts printed beside a tableau must keep, so that a reader of them need not search.
 use Rattle.std.specs.Prelude.{ℕ, ◌+◌, ◌-◌, ◌<◌, ◌≤◌, ◌≡◌, Bool, true, false}
 use Rattle.linear_algebra.specs.Parts.{in_part}
-use Rattle.closed_sets.specs.Blocks.{IsBelow}
+use Rattle.closed_sets.specs.Blocks.{IsListing, IsBelow}
 use Rattle.closed_sets.specs.Orders.{IsCover}
 use Rattle.closed_sets.specs.Rules.{KeepsRules}
 use Rattle.mixed_matrices.specs.LayeredMatrices.{Layered}
@@ -26,6 +26,10 @@ pub record HasRows (L : Layered) (F : Tableau) (G : Parts) : Type 0 where
   pub matched : (j : ℕ) → j < L.columns → F.matched j ≡ true → G.t_row (F.mate j) ≡ G.column j
   pub other_q : (i : ℕ) → i < L.q_rows → has_base L F i ≡ false → G.q_row i ≡ G.blocks + 1
   pub other_t : (i : ℕ) → i < L.t_rows → has_match L F i ≡ false → G.t_row i ≡ G.blocks + 1
+
+-- the blocks are the listing of the columns that are neither reached from a free one nor reach an end
+abbrev pub IsListingIn : ℕ → Layered → Tableau → Parts → Type 0
+IsListingIn p L F G = IsListing (leads_to p L F) L.columns (is_free F) (is_end p L F) (block_of G) G.blocks
 
 -- below k l says that block k is below block l, and lower l k that k is in the list of l
 pub record KeepsPartRules (p : ℕ) (L : Layered) (F : Tableau) (G : Parts) (below lower : ℕ → ℕ → Bool) : Type 0 where

@@ -59,8 +59,10 @@ module _ (p : ℕ) (prime : IsPrime p) (L : Layered) where
       union-count = size_on-within (either (touches L A.X) (touches L B.X)) (touches L (either A.X B.X)) L.t_rows (λ k kl h.
           let f : (j : ℕ) × (j < L.columns) × (both (either A.X B.X) (L.t k) j ≡ true) = some_below-found L.columns (both (either A.X B.X) (L.t k)) h in
           elim (either_cases (A.X f.0) (B.X f.0) (both-first (either A.X B.X f.0) (L.t k f.0) f.2)) [
-            | inl x ↦ either-first (touches L A.X k) (touches L B.X k) (some_below-holds L.columns (both A.X (L.t k)) f.0 f.1 (both_true (A.X f.0) (L.t k f.0) x (both-second (either A.X B.X f.0) (L.t k f.0) f.2)))
-            | inr x ↦ either-second (touches L A.X k) (touches L B.X k) (some_below-holds L.columns (both B.X (L.t k)) f.0 f.1 (both_true (B.X f.0) (L.t k f.0) x (both-second (either A.X B.X f.0) (L.t k f.0) f.2)))
+            | inl x ↦ either-first (touches L A.X k) (touches L B.X k)
+                (some_below-holds L.columns (both A.X (L.t k)) f.0 f.1 (both_true (A.X f.0) (L.t k f.0) x (both-second (either A.X B.X f.0) (L.t k f.0) f.2)))
+            | inr x ↦ either-second (touches L A.X k) (touches L B.X k)
+                (some_below-holds L.columns (both B.X (L.t k)) f.0 f.1 (both_true (B.X f.0) (L.t k f.0) x (both-second (either A.X B.X f.0) (L.t k f.0) f.2)))
           ])
 
       common-count : gamma L (both A.X B.X) ≤ size_on (without (both (touches L A.X) (touches L B.X)) i) L.t_rows
@@ -143,7 +145,9 @@ module _ (p : ℕ) (prime : IsPrime p) (L : Layered) where
 
     plain : Optimal p L
     unfolding J
-    plain = go (choice L.columns J (λ j c. (c 0 < L.t_rows) × (L.t (c 0) j ≡ true)) (λ j jl jh. let f : (i : ℕ) × (i < L.t_rows) × (L.t i j ≡ true) = some_below-found L.t_rows (λ i. L.t i j) jh in ((λ _. f.0), (f.1, f.2)))) (rank_exists p prime L.q L.q_rows L.columns (λ j. not (J j)))
+    plain = go (choice L.columns J (λ j c. (c 0 < L.t_rows) × (L.t (c 0) j ≡ true))
+        (λ j jl jh. let f : (i : ℕ) × (i < L.t_rows) × (L.t i j ≡ true) = some_below-found L.t_rows (λ i. L.t i j) jh in ((λ _. f.0), (f.1, f.2))))
+        (rank_exists p prime L.q L.q_rows L.columns (λ j. not (J j)))
       where
         no_both : (b : Bool) → not b ≡ true → b ≡ false
         no_both b h = grind arith
@@ -181,13 +185,29 @@ module _ (p : ℕ) (prime : IsPrime p) (L : Layered) where
 two_symbols : (L : Layered) → ((i : ℕ) × (i < L.t_rows) × ((a : ℕ) × (b : ℕ) × (a < L.columns) × (b < L.columns) × (L.t i a ≡ true) × (L.t i b ≡ true) × (a ≢ b))) ⊎
     ((i j k : ℕ) → i < L.t_rows → j < L.columns → k < L.columns → L.t i j ≡ true → L.t i k ≡ true → j ≡ k)
 two_symbols L = elim (first_on (λ i. some_below L.columns (λ a. L.t i a && some_below L.columns (λ b. L.t i b && not (eqb a b)))) L.t_rows) [
-  | inl f ↦ let g : (a : ℕ) × (a < L.columns) × (L.t f.0 a && some_below L.columns (λ b. L.t f.0 b && not (eqb a b)) ≡ true) = some_below-found L.columns (λ a. L.t f.0 a && some_below L.columns (λ b. L.t f.0 b && not (eqb a b))) f.2 in
-      let h : (b : ℕ) × (b < L.columns) × (L.t f.0 b && not (eqb g.0 b) ≡ true) = some_below-found L.columns (λ b. L.t f.0 b && not (eqb g.0 b)) (both-second (L.t f.0 g.0) (some_below L.columns (λ b. L.t f.0 b && not (eqb g.0 b))) g.2) in
-      inl (f.0, f.1, (g.0, h.0, g.1, h.1, both-first (L.t f.0 g.0) (some_below L.columns (λ b. L.t f.0 b && not (eqb g.0 b))) g.2, both-first (L.t f.0 h.0) (not (eqb g.0 h.0)) h.2, unequal g.0 h.0 (both-second (L.t f.0 h.0) (not (eqb g.0 h.0)) h.2)))
+  | inl f ↦ let g : (a : ℕ) × (a < L.columns) × (L.t f.0 a && some_below L.columns (λ b. L.t f.0 b && not (eqb a b)) ≡ true) = some_below-found L.columns
+      (λ a. L.t f.0 a && some_below L.columns (λ b. L.t f.0 b && not (eqb a b))) f.2 in
+      let h : (b : ℕ) × (b < L.columns) × (L.t f.0 b && not (eqb g.0 b) ≡ true) = some_below-found L.columns (λ b. L.t f.0 b && not (eqb g.0 b))
+      (both-second (L.t f.0 g.0) (some_below L.columns (λ b. L.t f.0 b && not (eqb g.0 b))) g.2) in
+      inl (
+        f.0,
+        f.1,
+        (
+          g.0,
+          h.0,
+          g.1,
+          h.1,
+          both-first (L.t f.0 g.0) (some_below L.columns (λ b. L.t f.0 b && not (eqb g.0 b))) g.2,
+          both-first (L.t f.0 h.0)
+              (not (eqb g.0 h.0)) h.2,
+          unequal g.0 h.0 (both-second (L.t f.0 h.0) (not (eqb g.0 h.0)) h.2),
+        ),
+      )
   | inr none ↦ inr (λ i j k il jl kl s t. elim (nat_cases j k) [
     | inl q ↦ q
     | inr ne ↦ absurd (differ (none i il) (some_below-holds L.columns (λ a. L.t i a && some_below L.columns (λ b. L.t i b && not (eqb a b))) j jl
-        (both_true (L.t i j) (some_below L.columns (λ b. L.t i b && not (eqb j b))) s (some_below-holds L.columns (λ b. L.t i b && not (eqb j b)) k kl (both_true (L.t i k) (not (eqb j k)) t (apart j k ne))))))
+        (both_true (L.t i j) (some_below L.columns (λ b. L.t i b && not (eqb j b))) s
+        (some_below-holds L.columns (λ b. L.t i b && not (eqb j b)) k kl (both_true (L.t i k) (not (eqb j k)) t (apart j k ne))))))
   ])
 ]
   where

@@ -57,11 +57,13 @@ module _ (L : Layered) (i a : ℕ) where
 
   pub touches-part : (X : ℕ → Bool) (k : ℕ) → touches (dropped L i a) X k ≡ true → touches L X k ≡ true
   touches-part X k h = let f : (j : ℕ) × (j < L.columns) × (both X ((dropped L i a).t k) j ≡ true) = some_below-found L.columns (both X ((dropped L i a).t k)) h in
-      some_below-holds L.columns (both X (L.t k)) f.0 f.1 (both_true (X f.0) (L.t k f.0) (both-first (X f.0) ((dropped L i a).t k f.0) f.2) (drop-part k f.0 (both-second (X f.0) ((dropped L i a).t k f.0) f.2)))
+      some_below-holds L.columns (both X (L.t k)) f.0 f.1
+      (both_true (X f.0) (L.t k f.0) (both-first (X f.0) ((dropped L i a).t k f.0) f.2) (drop-part k f.0 (both-second (X f.0) ((dropped L i a).t k f.0) f.2)))
 
   pub touches-other : (X : ℕ → Bool) (k : ℕ) → k ≢ i → touches L X k ≡ true → touches (dropped L i a) X k ≡ true
   touches-other X k ne h = let f : (j : ℕ) × (j < L.columns) × (both X (L.t k) j ≡ true) = some_below-found L.columns (both X (L.t k)) h in
-      some_below-holds L.columns (both X ((dropped L i a).t k)) f.0 f.1 (both_true (X f.0) ((dropped L i a).t k f.0) (both-first (X f.0) (L.t k f.0) f.2) (drop-keeps k f.0 (both-second (X f.0) (L.t k f.0) f.2) (inl ne)))
+      some_below-holds L.columns (both X ((dropped L i a).t k)) f.0 f.1
+      (both_true (X f.0) ((dropped L i a).t k f.0) (both-first (X f.0) (L.t k f.0) f.2) (drop-keeps k f.0 (both-second (X f.0) (L.t k f.0) f.2) (inl ne)))
 
   -- at most the row i is touched no longer
   pub gamma-drop : (X : ℕ → Bool) → i < L.t_rows → gamma L X ≤ gamma (dropped L i a) X + 1

@@ -61,7 +61,8 @@ pub cancelling-rank : IsStructuralRank 65521 cancelling_model 1
 cancelling-rank = constant-greatest 65521 2 2 (value cancelling_model) 1 (λ w. ones-rank)
 
 pub cancelling_narrow-rank : IsStructuralRank 65521 (without_unknown 0 cancelling_model) 1
-cancelling_narrow-rank = constant-greatest 65521 2 1 (value (without_unknown 0 cancelling_model)) 1 (λ w. column-rank 65521 2 (value (without_unknown 0 cancelling_model) w) (omega arith) refl)
+cancelling_narrow-rank = constant-greatest 65521 2 1 (value (without_unknown 0 cancelling_model)) 1
+    (λ w. column-rank 65521 2 (value (without_unknown 0 cancelling_model) w) (omega arith) refl)
 
 pub split_model-rank : IsStructuralRank 65521 split_model 1
 split_model-rank = record {
@@ -93,7 +94,8 @@ split-has_tableau = record { kernel = kernel-refl 65521 1 2 (λ i j. 1); base = 
 
 pub split-is_tableau : IsTableau 65521 split_matrix identity identity split_tableau
 split-is_tableau = record {
-  inverse = λ i j il jl. below_one (λ i. product 1 identity identity i j % 65521 ≡ identity i j % 65521) (below_one (λ j. product 1 identity identity 0 j % 65521 ≡ identity 0 j % 65521) refl j jl) i il;
+  inverse = λ i j il jl. below_one (λ i. product 1 identity identity i j % 65521 ≡ identity i j % 65521)
+      (below_one (λ j. product 1 identity identity 0 j % 65521 ≡ identity 0 j % 65521) refl j jl) i il;
   product = λ i j il jl. below_one (λ i. 1 % 65521 ≡ product 1 identity split_matrix.q i j % 65521) refl i il;
   base = split-base;
   matching = split-matching;
@@ -145,10 +147,12 @@ pub split-least : IsMinimiser 65521 split_matrix nothing
 split-least = closed-minimiser 65521 prime_65521 split_matrix split_tableau split-has_tableau nothing split-nothing
 
 pub split-no_minimiser : IsMinimiser 65521 split_matrix (only 0) → ⊥
-split-no_minimiser least = differ refl ((minimiser-closed 65521 prime_65521 split_matrix split_tableau split-has_tableau everything split-whole (only 0) least).follows 0 1 (omega arith) (omega arith) refl split-leads)
+split-no_minimiser least = differ refl ((minimiser-closed 65521 prime_65521 split_matrix split_tableau split-has_tableau everything split-whole
+    (only 0) least).follows 0 1 (omega arith) (omega arith) refl split-leads)
 
 pub split-rho : IsRho 65521 split_matrix everything 1
-split-rho = fits-rank 65521 prime_65521 split_matrix split_tableau split-has_tableau everything (closed-fits 65521 prime_65521 split_matrix split_tableau split-has_tableau everything split-whole)
+split-rho = fits-rank 65521 prime_65521 split_matrix split_tableau split-has_tableau everything
+    (closed-fits 65521 prime_65521 split_matrix split_tableau split-has_tableau everything split-whole)
 
 pub split_column-rho : IsRho 65521 split_matrix (only 0) 1
 split_column-rho = rank_of-independent 65521 (λ i j. 1) 1 2 (only 0) split-pair.independent

@@ -70,7 +70,8 @@ module _ (K : Type 0) (R : K → K → Type 0) (same : (a : K) → R a a) (defau
     | inl d ↦ inl ((λ _. default), d)
     | inr never ↦ inr (λ f d. never (keeps f (λ _. default) (λ j jl. absurd (omega arith)) d))
   ]
-  functions-searched (suc n) D keeps decide = go (λ a. functions-searched n (λ f. D (put f n a)) (λ f g h d. keeps (put f n a) (put g n a) (put-agrees n f g a a h (same a)) d) (λ f. decide (put f n a)))
+  functions-searched (suc n) D keeps decide = go (λ a. functions-searched n (λ f. D (put f n a))
+      (λ f g h d. keeps (put f n a) (put g n a) (put-agrees n f g a a h (same a)) d) (λ f. decide (put f n a)))
     where
       decided : (a : K) → ((f : ℕ → K) × D (put f n a)) ⊎ ((f : ℕ → K) → D (put f n a) → ⊥) → ((f : ℕ → K) × D (put f n a)) ⊎ (((f : ℕ → K) × D (put f n a)) → ⊥)
       decided a (inl found) = inl found
@@ -120,7 +121,8 @@ module _ (p : ℕ) (prime : IsPrime p) (m n : ℕ) (at : (ℕ → ℕ → ℕ) �
       go (r, K) = shown (greatest_of (λ k. (w : ℕ → ℕ → ℕ) × IsRank p (at w) m n everything k) (n + 1) (λ k. either_way k (ranked k))
           (λ k (w, S). omega (arith, rank-size p (at w) m n everything k S, size-everything n)) r ((λ _ _. 0), K))
         where
-          shown : (g : ℕ) × ((w : ℕ → ℕ → ℕ) × IsRank p (at w) m n everything g) × ((j : ℕ) → ((w : ℕ → ℕ → ℕ) × IsRank p (at w) m n everything j) → j ≤ g) → (r : ℕ) × IsGreatestRank p m n at r
+          shown : (g : ℕ) × ((w : ℕ → ℕ → ℕ) × IsRank p (at w) m n everything g) × ((j : ℕ) → ((w : ℕ → ℕ → ℕ) × IsRank p (at w) m n everything j) → j ≤ g) →
+              (r : ℕ) × IsGreatestRank p m n at r
           shown (g, found, most) = (g, record { reached = found; greatest = λ w s S. most s (w, S) })
 
 -- a greatest rank is at most the number of rows and of columns
@@ -137,7 +139,8 @@ greatest-size p prime m n at r G = go G.reached
     )
 
 pub mixed-rank_exists : (p : ℕ) → IsPrime p → (M : Mixed) → (r : ℕ) × IsStructuralRank p M r
-mixed-rank_exists p prime M = greatest_exists p prime M.rows M.columns (value M) (λ v w h i j il jl. agree-add p (M.constant i j) (M.constant i j) (numbers M.symbol v i j) (numbers M.symbol w i j) refl (chosen (M.symbol i j) (v i j) (w i j) (h i j il jl)))
+mixed-rank_exists p prime M = greatest_exists p prime M.rows M.columns (value M)
+    (λ v w h i j il jl. agree-add p (M.constant i j) (M.constant i j) (numbers M.symbol v i j) (numbers M.symbol w i j) refl (chosen (M.symbol i j) (v i j) (w i j) (h i j il jl)))
   where
     chosen : (b : Bool) (x y : ℕ) → x % p ≡ y % p → cond b x 0 % p ≡ cond b y 0 % p
     chosen true x y e = e

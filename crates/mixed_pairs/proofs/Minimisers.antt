@@ -20,7 +20,8 @@ module _ (p : ℕ) (prime : IsPrime p) (L : Layered) (F : Tableau) (tab : HasTab
   -- the tableau's base and matching are a pair
   pub tableau-pair : IsPair p L F.base F.matched F.mate
   tableau-pair = record {
-    independent = independent_of-kernel p L.q_rows L.columns F.P L.q F.base (kernel-sym p L.q_rows L.columns L.q F.P tab.kernel) (base-independent p prime F.P L.q_rows L.columns F.base F.row tab.base F.base (λ j l h. h));
+    independent = independent_of-kernel p L.q_rows L.columns F.P L.q F.base (kernel-sym p L.q_rows L.columns L.q F.P tab.kernel)
+        (base-independent p prime F.P L.q_rows L.columns F.base F.row tab.base F.base (λ j l h. h));
     matching = tab.matching;
     apart = tab.apart;
   }

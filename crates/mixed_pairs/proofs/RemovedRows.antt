@@ -47,7 +47,8 @@ module _ (p : ℕ) (prime : IsPrime p) (m n : ℕ) (a : ℕ → ℕ → ℕ) (v 
   other_columns : (s : ℕ) × IsRank p (part everything (without everything v) a) m n everything s × IsRank p (without_column v a) m (n - 1) everything s
   other_columns = go (rank_exists p prime a m n (without everything v))
     where
-      go : (s : ℕ) × IsRank p a m n (without everything v) s → (s : ℕ) × IsRank p (part everything (without everything v) a) m n everything s × IsRank p (without_column v a) m (n - 1) everything s
+      go : (s : ℕ) × IsRank p a m n (without everything v) s → (s : ℕ) × IsRank p (part everything (without everything v) a) m n everything s × IsRank p
+          (without_column v a) m (n - 1) everything s
       go (s, R) = (s, part_columns-rank p prime m n a (without everything v) everything s R, removed_column-rank p m n a v vl everything s R)
 
   emptied_column-rank : (r : ℕ) → IsRank p (part everything (without everything v) a) m n everything r → IsRank p (without_column v a) m (n - 1) everything r
@@ -90,7 +91,8 @@ module _ (p : ℕ) (prime : IsPrime p) (M : Mixed) where
     row_there w r R = (
       (λ k j. w (skip e k) j),
       emptied_row-rank p M.rows M.columns (value M w) e el r
-          (same-rank M.rows M.columns (value (mixed_part (without everything e) everything M) w) (part (without everything e) everything (value M w)) (λ i j _ _. mixed_part-value M (without everything e) everything w i j) r R),
+          (same-rank M.rows M.columns (value (mixed_part (without everything e) everything M) w) (part (without everything e) everything (value M w))
+          (λ i j _ _. mixed_part-value M (without everything e) everything w i j) r R),
     )
 
     row_back : (v : ℕ → ℕ → ℕ) (r : ℕ) → IsRank p (value (without_equation e M) v) (M.rows - 1) M.columns everything r →
@@ -122,7 +124,8 @@ module _ (p : ℕ) (prime : IsPrime p) (M : Mixed) where
     column_there w r R = (
       (λ i k. w i (skip u k)),
       emptied_column-rank p prime M.rows M.columns (value M w) u ul r
-          (same-rank M.rows M.columns (value (mixed_part everything (without everything u) M) w) (part everything (without everything u) (value M w)) (λ i j _ _. mixed_part-value M everything (without everything u) w i j) r R),
+          (same-rank M.rows M.columns (value (mixed_part everything (without everything u) M) w) (part everything (without everything u) (value M w))
+          (λ i j _ _. mixed_part-value M everything (without everything u) w i j) r R),
     )
 
     column_back : (v : ℕ → ℕ → ℕ) (r : ℕ) → IsRank p (value (without_unknown u M) v) M.rows (M.columns - 1) everything r →
@@ -139,7 +142,8 @@ module _ (p : ℕ) (prime : IsPrime p) (M : Mixed) where
         spread i k _ _ = ap (λ l. M.constant i (skip u k) + cond (M.symbol i (skip u k)) (v i l) 0) (sym (unskip-skip u k))
 
     pub emptied_unknown : (r : ℕ) → IsStructuralRank p (mixed_part everything (without everything u) M) r → IsStructuralRank p (without_unknown u M) r
-    emptied_unknown = greatest-moved p M.rows M.columns M.rows (M.columns - 1) (value (mixed_part everything (without everything u) M)) (value (without_unknown u M)) column_there column_back
+    emptied_unknown = greatest-moved p M.rows M.columns M.rows (M.columns - 1) (value (mixed_part everything (without everything u) M))
+        (value (without_unknown u M)) column_there column_back
 
     pub left_unknown : (r : ℕ) → IsStructuralRank p (without_unknown u M) r → IsStructuralRank p (mixed_part everything (without everything u) M) r
     left_unknown = greatest-moved p M.rows (M.columns - 1) M.rows M.columns (value (without_unknown u M)) (value (mixed_part everything (without everything u) M)) column_back column_there

@@ -33,16 +33,19 @@ module _ (p : ℕ) (prime : IsPrime p) (L : Layered) (S U : ℕ → ℕ → ℕ)
 
   pub part-has_tableau : HasTableau p the_part (tableau_part R X F)
   part-has_tableau = record {
-    kernel = kernel_of-agree p L.q_rows L.columns (λ i j. cond (R i && X j) (product L.q_rows S L.q i j) 0) (λ i j. cond (R i && X j) (F.P i j) 0) (λ i j il jl. masked (R i && X j) (product L.q_rows S L.q i j) (F.P i j) (sym (tab.product i j il jl)));
+    kernel = kernel_of-agree p L.q_rows L.columns (λ i j. cond (R i && X j) (product L.q_rows S L.q i j) 0) (λ i j. cond (R i && X j) (F.P i j) 0)
+        (λ i j il jl. masked (R i && X j) (product L.q_rows S L.q i j) (F.P i j) (sym (tab.product i j il jl)));
     base = record {
       row_below = λ b bl bh. tab.base.row_below b bl (both-first (F.base b) (X b) bh);
-      one = λ b bl bh. ap (λ s. s % p) (part-shown R X F.P (F.row b) b (rows b bl (both-first (F.base b) (X b) bh) (both-second (F.base b) (X b) bh)) (both-second (F.base b) (X b) bh)) ∙ tab.base.one b bl (both-first (F.base b) (X b) bh);
+      one = λ b bl bh. ap (λ s. s % p) (part-shown R X F.P (F.row b) b (rows b bl (both-first (F.base b) (X b) bh) (both-second (F.base b) (X b) bh))
+          (both-second (F.base b) (X b) bh)) ∙ tab.base.one b bl (both-first (F.base b) (X b) bh);
       zero = λ b i bl bh il ne. vanishing (R i && X b) (F.P i b) (tab.base.zero b i bl (both-first (F.base b) (X b) bh) il ne);
       distinct = λ b c bl cl bh ch. tab.base.distinct b c bl cl (both-first (F.base b) (X b) bh) (both-first (F.base c) (X c) ch);
     };
     matching = record {
       below = λ j jl jh. tab.matching.below j jl (both-first (F.matched j) (X j) jh);
-      symbol = λ j jl jh. three (D (F.mate j)) (X j) (L.t (F.mate j) j) (mates j jl (both-first (F.matched j) (X j) jh) (both-second (F.matched j) (X j) jh)) (both-second (F.matched j) (X j) jh) (tab.matching.symbol j jl (both-first (F.matched j) (X j) jh));
+      symbol = λ j jl jh. three (D (F.mate j)) (X j) (L.t (F.mate j) j) (mates j jl (both-first (F.matched j) (X j) jh) (both-second (F.matched j) (X j) jh))
+          (both-second (F.matched j) (X j) jh) (tab.matching.symbol j jl (both-first (F.matched j) (X j) jh));
       distinct = λ j k jl kl jh kh. tab.matching.distinct j k jl kl (both-first (F.matched j) (X j) jh) (both-first (F.matched k) (X k) kh);
     };
     apart = λ j jl jh. no_second (F.matched j) (X j) (tab.apart j jl (both-first (F.base j) (X j) jh));
@@ -84,7 +87,8 @@ module _ (p : ℕ) (prime : IsPrime p) (L : Layered) (S U : ℕ → ℕ → ℕ)
   })
     where
       no_end : (x : ℕ) → EndsInQ p the_part (tableau_part R X F) x ⊎ EndsInT p the_part (tableau_part R X F) x → ⊥
-      no_end x (inl (i, il, ne, none)) = let f : (b : ℕ) × (b < L.columns) × (both F.base X b ≡ true) × (F.row b ≡ i) = each_q i il (both-first (R i) (X x) (shown (R i && X x) (F.P i x) ne)) in
+      no_end x (inl (i, il, ne, none)) = let f : (b : ℕ) × (b < L.columns) × (both F.base X b ≡ true) × (F.row b ≡ i) = each_q i il
+          (both-first (R i) (X x) (shown (R i && X x) (F.P i x) ne)) in
           no_base the_part (tableau_part R X F) i none f.0 f.1 f.2 f.3
       no_end x (inr (i, il, s, none)) = let f : (j : ℕ) × (j < L.columns) × (both F.matched X j ≡ true) × (F.mate j ≡ i) = each_t i il (first_three (D i) (X x) (L.t i x) s) in
           no_match the_part (tableau_part R X F) i none f.0 f.1 f.2 f.3
@@ -93,7 +97,8 @@ module _ (p : ℕ) (prime : IsPrime p) (L : Layered) (S U : ℕ → ℕ → ℕ)
   pub full_columns-rank : ((j : ℕ) → j < L.columns → X j ≡ true → F.base j ≡ false → F.matched j ≡ false → ⊥) →
       IsLayeredRank p the_part (pair_size L (both F.base X) (both F.matched X))
   full_columns-rank each = closed-rank p prime the_part (tableau_part R X F) part-has_tableau (λ j. not (X j)) (record {
-    holds_starts = λ x l e. let f : (both F.base X x ≡ false) × (both F.matched X x ≡ false) = free-tells (tableau_part R X F) x e in outside (X x) (F.base x) (F.matched x) f.0 f.1 (λ h a b. each x l h a b);
+    holds_starts = λ x l e. let f : (both F.base X x ≡ false) × (both F.matched X x ≡ false) = free-tells (tableau_part R X F) x e in outside (X x) (F.base x)
+        (F.matched x) f.0 f.1 (λ h a b. each x l h a b);
     no_end = λ x xl xh e. clash (X x) xh (ended x (end-tells p the_part (tableau_part R X F) x e));
     follows = λ x y xl yl xh s. absurd (clash (X x) xh (led x y (leads-tells p the_part (tableau_part R X F) x y s)));
   })

@@ -6,7 +6,8 @@ use Rattle.mixed_forms.proofs.form_laws.parts_of_the_arcs_keep_the_rules.Goals a
 pub returns : goal.returns
 returns c p L F G below lower clear P W covers within rows = record {
   rows = rows;
-  rules = parts-keep (leads_to p L F) L.columns (is_free F) (is_end p L F) (block_of G) G.blocks P.listing below W (in_first G) (in_last G) clear P.first (λ x l. (P.last x l).0) (λ x l. (P.last x l).1) lower covers within;
+  rules = parts-keep (leads_to p L F) L.columns (is_free F) (is_end p L F) (block_of G) G.blocks P.listing below W (in_first G) (in_last G) clear P.first
+      (λ x l. (P.last x l).0) (λ x l. (P.last x l).1) lower covers within;
   order = W;
   lists = covers;
 }

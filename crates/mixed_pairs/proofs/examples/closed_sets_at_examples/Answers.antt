@@ -1,7 +1,6 @@
 use Rattle.std.proofs.Common.{refl, arith}
 use Rattle.residue_theory.proofs.SetLaws.{differ}
-use Rattle.closed_sets.specs.Walks.{FromSome}
-use Rattle.mixed_matrices.specs.Arcs.{is_free, leads_to}
+use Rattle.mixed_matrices.specs.Arcs.{IsFromFree}
 use Rattle.mixed_matrices.specs.Examples.{split_matrix, split_tableau}
 use Rattle.mixed_pairs.proofs.ExampleFacts.{empty-walk, split-clear, split-no_free, triangle-closed, triangle-open}
 use Rattle.mixed_pairs.proofs.examples.closed_sets_at_examples.Goals as goal
@@ -22,4 +21,4 @@ pub returns-clause-holds_reached : goal.returns-clause-holds_reached
 returns-clause-holds_reached c y yl = ((λ h. absurd (differ refl h)), λ f. absurd (differ (split-no_free f.0 f.1) f.2))
 
 pub returns-clause-fails_reached : goal.returns-clause-fails_reached
-returns-clause-fails_reached c R = let f : FromSome (leads_to 65521 split_matrix split_tableau) 2 (is_free split_tableau) 0 = (R 0 (omega arith)).0 refl in differ (split-no_free f.0 f.1) f.2
+returns-clause-fails_reached c R = let f : IsFromFree 65521 split_matrix split_tableau 0 = (R 0 (omega arith)).0 refl in differ (split-no_free f.0 f.1) f.2
