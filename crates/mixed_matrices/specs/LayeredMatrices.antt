@@ -1,5 +1,6 @@
 -- Layered mixed matrices: rows of constants alone above rows of symbols alone (Murota, chapter 4).
-use Rattle.std.specs.Prelude.{ℕ, Bool, ◌&&◌}
+use Rattle.std.specs.Prelude.{ℕ, ◌<◌, ◌≡◌, Bool, ◌&&◌}
+use Rattle.linear_algebra.specs.Products.{Agree}
 use Rattle.linear_algebra.specs.Parts.{above, part}
 use Rattle.mixed_matrices.specs.Models.{numbers}
 
@@ -24,3 +25,11 @@ layered_part R D X L = record {
   q = part R X L.q;
   t = λ i j. D i && X j && L.t i j;
 }
+
+-- L and K have the same sizes, the same constants modulo p, and the same symbols
+pub record AreSameLayers (p : ℕ) (L K : Layered) : Type 0 where
+  pub q_rows : L.q_rows ≡ K.q_rows
+  pub t_rows : L.t_rows ≡ K.t_rows
+  pub columns : L.columns ≡ K.columns
+  pub q : Agree p L.q_rows L.columns L.q K.q
+  pub t : (i j : ℕ) → i < L.t_rows → j < L.columns → L.t i j ≡ K.t i j

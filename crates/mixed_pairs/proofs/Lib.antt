@@ -7,5 +7,7 @@ pub mod DroppedSymbols
 pub mod BestPairs
 pub mod GreatestRanks
 pub mod RemovedRows
+pub mod MinMax
+pub mod SameEntries
 pub mod ExampleFacts
 pub mod TableauParts

@@ -1,5 +1,5 @@
--- Laws of minimisers, for a tableau in which no end is reached from a free column.
-use Rattle.std.specs.Prelude.{◌≡◌, ◌+◌, ◌↔◌, ℕ, Bool}
+-- Laws of minimisers: of every layered matrix, and read from a tableau in which no end is reached from a free column.
+use Rattle.std.specs.Prelude.{◌≡◌, ◌+◌, ◌≤◌, ◌↔◌, ℕ, Bool}
 use Rattle.residue_theory.specs.Residues.{IsPrime}
 use Rattle.residue_theory.specs.Sets.{IsWithin}
 use Rattle.residue_theory.specs.Sums.{size_on}
@@ -7,7 +7,14 @@ use Rattle.mixed_matrices.specs.Arcs.{HasNoWalk, IsClosedIn, IsReachedFromFree}
 use Rattle.mixed_matrices.specs.LayeredMatrices.{Layered}
 use Rattle.mixed_matrices.specs.Pairs.{pair_size}
 use Rattle.mixed_matrices.specs.SetFunctions.{IsMinimiser, IsRho, gamma}
+use Rattle.mixed_matrices.specs.StructuralRanks.{IsLayeredRank}
 use Rattle.mixed_matrices.specs.Tableaus.{HasTableau, Tableau}
+
+-- R(L) is the minimum of p, and N
+abbrev pub RankIsTheLeastBound : Type 0
+RankIsTheLeastBound =
+    (p : ℕ) → IsPrime p → (L : Layered) (X : ℕ → Bool) (r R : ℕ) → IsRho p L X r → IsLayeredRank p L R →
+    (R + size_on X L.columns ≤ r + gamma L X + L.columns) × (IsMinimiser p L X ↔ (R + size_on X L.columns ≡ r + gamma L X + L.columns))
 
 -- the minimum of p is |pair| - N
 abbrev pub MinimumIsSizeLessColumns : Type 0

@@ -28,10 +28,10 @@ ClosedSetsReachTheBound =
     (p : ℕ) → IsPrime p → (L : Layered) (F : Tableau) → HasTableau p L F → (X : ℕ → Bool) (r : ℕ) → IsRho p L X r →
     (pair_size L F.base F.matched + size_on X L.columns ≡ r + gamma L X + L.columns) ↔ IsClosedIn p L F X
 
--- where no end is reached from a free column, the pair is best
+-- the pair is best exactly where no end is reached from a free column
 abbrev pub PairsWithoutWalkAreBest : Type 0
 PairsWithoutWalkAreBest =
-    (p : ℕ) → IsPrime p → (L : Layered) (F : Tableau) → HasTableau p L F → HasNoWalk p L F → IsBest p L F.base F.matched
+    (p : ℕ) → IsPrime p → (L : Layered) (F : Tableau) → HasTableau p L F → IsBest p L F.base F.matched ↔ HasNoWalk p L F
 
 -- each layered matrix has a pair and a column set X with |pair| = p(X) + N: the greatest size of a pair is the least p + N
 abbrev pub SomePairReachesTheBound : Type 0

@@ -5,8 +5,8 @@ use Rattle.residue_theory.specs.Sets.{everything, without}
 use Rattle.residue_theory.specs.Sums.{size_on}
 use Rattle.linear_algebra.specs.Columns.{IsRank}
 use Rattle.mixed_matrices.specs.Arcs.{HasNoWalk}
-use Rattle.mixed_matrices.specs.LayeredMatrices.{Layered, layered_value}
-use Rattle.mixed_matrices.specs.Models.{Mixed}
+use Rattle.mixed_matrices.specs.LayeredMatrices.{AreSameLayers, Layered, layered_value}
+use Rattle.mixed_matrices.specs.Models.{AreSameModels, Mixed}
 use Rattle.mixed_matrices.specs.Pairs.{IsBest, IsPair, matching_values, pair_size}
 use Rattle.mixed_matrices.specs.Removals.{mixed_part, without_equation, without_unknown}
 use Rattle.mixed_matrices.specs.SetFunctions.{IsRho, gamma}
@@ -45,6 +45,13 @@ abbrev pub MatchingValuesReachThePair : Type 0
 MatchingValuesReachThePair =
     (p : ℕ) → IsPrime p → (L : Layered) (I J : ℕ → Bool) (mate : ℕ → ℕ) → IsPair p L I J mate → (s : ℕ) →
     IsRank p (layered_value L (matching_values J mate)) (L.q_rows + L.t_rows) L.columns everything s → pair_size L I J ≤ s
+
+-- the entries decide the structural rank: of models, and of layered matrices
+abbrev pub SameModelsHaveTheSameRank : Type 0
+SameModelsHaveTheSameRank = (p : ℕ) (M N : Mixed) → AreSameModels p M N → (r : ℕ) → IsStructuralRank p M r → IsStructuralRank p N r
+
+abbrev pub SameLayersHaveTheSameRank : Type 0
+SameLayersHaveTheSameRank = (p : ℕ) (L K : Layered) → AreSameLayers p L K → (r : ℕ) → IsLayeredRank p L r → IsLayeredRank p K r
 
 -- a model without its equation i has the rank of the model in which that equation is emptied
 abbrev pub EmptiedEquationsAreLeftOut : Type 0

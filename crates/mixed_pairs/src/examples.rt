@@ -4,9 +4,9 @@ ghost use Rattle.residue_theory.specs.Sets.{everything, nothing, only};
 ghost use Rattle.linear_algebra.specs.Products.{identity};
 ghost use Rattle.mixed_matrices.specs.Arcs.{HasNoWalk, IsClosedIn, IsReachedFromFree, has_base, has_match, is_end, is_free, leads_to};
 ghost use Rattle.mixed_matrices.specs.Examples.{cancelling_model, empty_tableau, split_matrix, split_model, split_origins, split_tableau, symbol_triangle, tall_model, triangle_tableau};
-ghost use Rattle.mixed_matrices.specs.LayeredMatrices.{layered_part, layered_value};
+ghost use Rattle.mixed_matrices.specs.LayeredMatrices.{AreSameLayers, layered_part, layered_value};
 ghost use Rattle.mixed_matrices.specs.Layerings.{AreMembers, IsLayeredMatrixOf};
-ghost use Rattle.mixed_matrices.specs.Models.{value};
+ghost use Rattle.mixed_matrices.specs.Models.{AreSameModels, value};
 ghost use Rattle.mixed_matrices.specs.Pairs.{IsBest, IsMatching, IsPair, matching_values, pair_size};
 ghost use Rattle.mixed_matrices.specs.Removals.{IsSurplus, IsUndetermined, mixed_part};
 ghost use Rattle.mixed_matrices.specs.SetFunctions.{IsMinimiser, IsNoGreater, IsRho, gamma, touches};
@@ -18,6 +18,14 @@ pub fn values_at_examples()
     ensures holds { value split_model (λ i j. 2) 0 0 ≡ 3 }
     ensures other { value split_model (λ i j. 0) 0 0 ≡ 1 }
     ensures no_symbol { value tall_model (λ i j. 2) 0 0 ≡ 1 }
+{}
+
+/// A constant may change by the modulus, and not by 1.
+pub fn same_entries_at_examples()
+    ensures holds { AreSameModels 65521 split_model (record split_model { constant = λ i j. 65522 }) }
+    ensures fails { AreSameModels 65521 split_model (record split_model { constant = λ i j. 2 }) → ⊥ }
+    ensures holds_for_layers { AreSameLayers 65521 split_matrix (record split_matrix { q = λ i j. 65522 }) }
+    ensures fails_for_layers { AreSameLayers 65521 split_matrix symbol_triangle → ⊥ }
 {}
 
 /// The structural rank of one entry is 1 and not 0; that of 2 by 2 constants 1 is 1 and not 2.

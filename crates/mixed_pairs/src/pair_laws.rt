@@ -21,7 +21,7 @@ pub fn closed_sets_reach_the_bound()
     ensures { ClosedSetsReachTheBound }
 {}
 
-/// Where no end is reached from a free column, the pair is best.
+/// The pair of a tableau is best exactly where no end is reached from a free column.
 pub fn pairs_without_walk_are_best()
     ensures { PairsWithoutWalkAreBest }
 {}

@@ -1,5 +1,5 @@
 //! The structural rank of models and of layered matrices (Murota, chapter 4).
-ghost use Rattle.mixed_pairs.specs.StructuralRankLaws.{EachModelHasOneRank, EachLayeredMatrixHasOneRank, PairsThatReachTheBoundShowTheRank, PairsWithoutWalkShowTheRank, BestPairsShowTheRank, MatchingValuesReachThePair, EmptiedEquationsAreLeftOut, EmptiedUnknownsAreLeftOut};
+ghost use Rattle.mixed_pairs.specs.StructuralRankLaws.{EachModelHasOneRank, EachLayeredMatrixHasOneRank, PairsThatReachTheBoundShowTheRank, PairsWithoutWalkShowTheRank, BestPairsShowTheRank, MatchingValuesReachThePair, SameModelsHaveTheSameRank, SameLayersHaveTheSameRank, EmptiedEquationsAreLeftOut, EmptiedUnknownsAreLeftOut};
 
 /// Every mixed matrix has one structural rank, at most the number of its rows and of its columns.
 pub fn each_model_has_one_rank()
@@ -29,6 +29,16 @@ pub fn best_pairs_show_the_rank()
 /// 1 at the places of a matching and 0 elsewhere give a rank of at least the pair's size.
 pub fn matching_values_reach_the_pair()
     ensures { MatchingValuesReachThePair }
+{}
+
+/// Models with the same entries have the same structural rank.
+pub fn same_models_have_the_same_rank()
+    ensures { SameModelsHaveTheSameRank }
+{}
+
+/// Layered matrices with the same entries have the same structural rank.
+pub fn same_layers_have_the_same_rank()
+    ensures { SameLayersHaveTheSameRank }
 {}
 
 /// A model without an equation has the rank of the model in which that equation is emptied.
