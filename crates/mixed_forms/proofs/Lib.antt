@@ -7,3 +7,5 @@ pub mod FirstParts
 pub mod Finest
 pub mod OneListing
 pub mod ExampleFacts
+pub mod LooseExample
+pub mod StackedExample

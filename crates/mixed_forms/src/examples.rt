@@ -4,8 +4,12 @@ ghost use Rattle.residue_theory.specs.Sets.{only};
 ghost use Rattle.linear_algebra.specs.Products.{identity};
 ghost use Rattle.mixed_matrices.specs.CanonicalParts.{AreCanonical, IsBlockBelow, IsHeldWith, IsIdealOf, IsLeastColumn, IsLowerBlock, IsOfBlock, IsReadyAt};
 ghost use Rattle.mixed_matrices.specs.CheckerRules.{HasRows, KeepsPartRules, block_of, in_first, in_last};
-ghost use Rattle.mixed_matrices.specs.Examples.{symbol_triangle, tall_parts, tall_symbols, tall_tableau, triangle_below, triangle_lower, triangle_parts, triangle_tableau, turned_parts, whole_parts};
+ghost use Rattle.mixed_matrices.specs.Examples.{loose_parts, loose_symbols, loose_tableau, stacked_inverse, stacked_matrix, stacked_model, stacked_origins, stacked_parts, stacked_tableau, stacked_transform, symbol_triangle, tall_parts, tall_symbols, tall_tableau, triangle_below, triangle_lower, triangle_parts, triangle_tableau, turned_parts, whole_parts};
 ghost use Rattle.mixed_matrices.specs.Forms.{IsAsFine, IsEmptyAt, IsForm, IsOrdered, IsTriangular, diagonal_part, part_columns, part_rows};
+ghost use Rattle.mixed_matrices.specs.Layerings.{IsLayeredMatrixOf};
+ghost use Rattle.mixed_matrices.specs.SetFunctions.{IsMinimiser};
+ghost use Rattle.mixed_matrices.specs.StructuralRanks.{IsLayeredRank};
+ghost use Rattle.mixed_matrices.specs.Tableaus.{IsTableau};
 
 /// Part 1 of the triangle has one column and one row, and as one block it has two of each.
 pub fn part_sizes_at_examples()
@@ -88,4 +92,26 @@ pub fn rules_at_examples()
     ensures no_last { in_last triangle_parts 0 ≡ false }
     ensures no_first { in_first triangle_parts 0 ≡ false }
     ensures block { block_of triangle_parts 0 ≡ 1 }
+{}
+
+/// Of two loose symbols every column set is a minimiser, so each column is a block of its own, and both are not one block.
+pub fn loose_symbols_at_examples()
+    ensures holds { (X : ℕ → Bool) → IsMinimiser 65521 loose_symbols X }
+    ensures canonical { AreCanonical 65521 loose_symbols loose_parts }
+    ensures fails { AreCanonical 65521 loose_symbols whole_parts → ⊥ }
+    ensures kept { KeepsPartRules 65521 loose_symbols loose_tableau loose_parts (λ k l. false) (λ l k. false) }
+{}
+
+/// The equation x + y over x and a symbol at y: its layered matrix has rank 3, and with an S that is no permutation
+/// it has a form with two blocks. Column 0 is a minimiser, and column 1 is none.
+pub fn stacked_equations_at_examples()
+    ensures layered { IsLayeredMatrixOf stacked_model stacked_matrix stacked_origins }
+    ensures rank { IsLayeredRank 65521 stacked_matrix 3 }
+    ensures transformed_by { IsTableau 65521 stacked_matrix stacked_transform stacked_inverse stacked_tableau }
+    ensures form { IsForm 65521 stacked_matrix stacked_transform stacked_parts }
+    ensures no_form { IsForm 65521 stacked_matrix identity stacked_parts → ⊥ }
+    ensures canonical { AreCanonical 65521 stacked_matrix stacked_parts }
+    ensures kept { KeepsPartRules 65521 stacked_matrix stacked_tableau stacked_parts triangle_below triangle_lower }
+    ensures minimiser { IsMinimiser 65521 stacked_matrix (only 0) }
+    ensures no_minimiser { IsMinimiser 65521 stacked_matrix (only 1) → ⊥ }
 {}

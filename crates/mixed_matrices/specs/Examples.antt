@@ -1,6 +1,6 @@
 -- Small models and layered matrices, with tableaus and parts, at which the definitions are shown to hold and to fail.
 -- Columns, rows and blocks are numbered from 0.
-use Rattle.std.specs.Prelude.{ℕ, ◌+◌, ◌-◌, Bool, true, false, eqb, ltb, ◌&&◌}
+use Rattle.std.specs.Prelude.{ℕ, ◌+◌, ◌-◌, Bool, cond, true, false, eqb, ltb, ◌&&◌}
 use Rattle.residue_theory.specs.Sets.{everything, nothing, only}
 use Rattle.mixed_matrices.specs.Models.{Mixed}
 use Rattle.mixed_matrices.specs.LayeredMatrices.{Layered}
@@ -69,3 +69,56 @@ tall_tableau = record { P = λ i j. 0; base = nothing; row = λ b. 0; matched = 
 
 abbrev pub tall_parts : Parts
 tall_parts = record { blocks = 0; column = λ j. 1; q_row = λ i. 1; t_row = λ i. 1 }
+
+-- ---- two T rows with a symbol in a column each: nothing leads to anything
+abbrev pub loose_symbols : Layered
+loose_symbols = record { q_rows = 0; t_rows = 2; columns = 2; q = λ i j. 0; t = λ i j. eqb i j }
+
+abbrev pub loose_tableau : Tableau
+loose_tableau = record { P = λ i j. 0; base = nothing; row = λ b. 0; matched = everything; mate = λ j. j }
+
+abbrev pub loose_parts : Parts
+loose_parts = record { blocks = 2; column = λ j. j + 1; q_row = λ i. 3; t_row = λ i. i + 1 }
+
+-- ---- the equation x + y over x and a symbol at y
+abbrev pub stacked_model : Mixed
+stacked_model = record {
+  rows = 2;
+  columns = 2;
+  constant = λ i j. cond (eqb (i + j) 2) 0 1;
+  symbol = λ i j. eqb (i + j) 2;
+}
+
+-- Q has the rows 1 1 0 and 1 0 1, T the row of two symbols at columns 1 and 2
+abbrev pub stacked_matrix : Layered
+stacked_matrix = record {
+  q_rows = 2;
+  t_rows = 1;
+  columns = 3;
+  q = λ i j. cond (eqb j 0) 1 (cond (eqb (i + 1) j) 1 0);
+  t = λ i j. ltb 0 j;
+}
+
+abbrev pub stacked_origins : Origins
+stacked_origins = record { of_q = λ k. k; of_t = λ k. 1; of_z = λ k. 1; split = 1 }
+
+-- S has the rows 0 1 and 1 -1, its inverse the rows 1 1 and 1 0
+abbrev pub stacked_transform : ℕ → ℕ → ℕ
+stacked_transform i j = cond (eqb (i + j) 0) 0 (cond (eqb (i + j) 1) 1 65520)
+
+abbrev pub stacked_inverse : ℕ → ℕ → ℕ
+stacked_inverse i j = cond (ltb (i + j) 2) 1 0
+
+-- P has the rows 1 0 1 and 0 1 -1; columns 0 and 1 are its base, and column 2 is matched
+abbrev pub stacked_tableau : Tableau
+stacked_tableau = record {
+  P = λ i j. cond (eqb j 2) (cond (eqb i 0) 1 65520) (cond (eqb i j) 1 0);
+  base = λ b. ltb b 2;
+  row = λ b. b;
+  matched = only 2;
+  mate = λ j. 0;
+}
+
+-- block 0 is column 0 with the first row of P, block 1 the rest; block 0 is below block 1
+abbrev pub stacked_parts : Parts
+stacked_parts = record { blocks = 2; column = λ j. cond (eqb j 0) 1 2; q_row = λ i. i + 1; t_row = λ i. 2 }

@@ -5,6 +5,7 @@ use Rattle.residue_theory.proofs.SetLaws.{both-first, both-second, both_true, di
 use Rattle.residue_theory.proofs.SumLaws.{nat_cases}
 use Rattle.residue_theory.specs.Sets.{some_below}
 use Rattle.linear_algebra.specs.Bases.{HasNoBase}
+use Rattle.closed_sets.proofs.SetLaws.{not-make, not-true}
 use Rattle.closed_sets.specs.Closed.{Follows}
 use Rattle.mixed_matrices.specs.Arcs.{has_base, has_match, is_end, is_free, leads_to}
 use Rattle.mixed_matrices.specs.LayeredMatrices.{Layered}
@@ -18,12 +19,6 @@ nonzero_tells x h = grind (arith, nat_tests)
 
 other_test : (x y : ℕ) → x ≢ y → not (eqb x y) ≡ true
 other_test x y ne = grind (arith, nat_tests)
-
-not_holds : (a : Bool) → a ≡ false → not a ≡ true
-not_holds a h = grind arith
-
-not_tells : (a : Bool) → not a ≡ true → a ≡ false
-not_tells a h = grind arith
 
 -- ---- rows with a base, and rows with a match
 module _ (L : Layered) (F : Tableau) where
@@ -58,11 +53,11 @@ module _ (L : Layered) (F : Tableau) where
 -- ---- free columns
 pub free-tells : (F : Tableau) (x : ℕ) → is_free F x ≡ true → (F.base x ≡ false) × (F.matched x ≡ false)
 unfolding is_free
-free-tells F x h = (not_tells (F.base x) (both-first (not (F.base x)) (not (F.matched x)) h), not_tells (F.matched x) (both-second (not (F.base x)) (not (F.matched x)) h))
+free-tells F x h = (not-true (F.base x) (both-first (not (F.base x)) (not (F.matched x)) h), not-true (F.matched x) (both-second (not (F.base x)) (not (F.matched x)) h))
 
 pub free-holds : (F : Tableau) (x : ℕ) → F.base x ≡ false → F.matched x ≡ false → is_free F x ≡ true
 unfolding is_free
-free-holds F x a b = both_true (not (F.base x)) (not (F.matched x)) (not_holds (F.base x) a) (not_holds (F.matched x) b)
+free-holds F x a b = both_true (not (F.base x)) (not (F.matched x)) (not-make (F.base x) a) (not-make (F.matched x) b)
 
 module _ (p : ℕ) (L : Layered) (F : Tableau) where
   -- ---- ends
@@ -81,12 +76,12 @@ module _ (p : ℕ) (L : Layered) (F : Tableau) where
   pub end-q : (x i : ℕ) → i < L.q_rows → F.P i x % p ≢ 0 → has_base L F i ≡ false → is_end p L F x ≡ true
   unfolding is_end
   end-q x i il ne none = either-first (some_below L.q_rows (end_row x)) (some_below L.t_rows (end_t_row x))
-      (some_below-holds L.q_rows (end_row x) i il (both_true (not (eqb (F.P i x % p) 0)) (not (has_base L F i)) (nonzero_test (F.P i x % p) ne) (not_holds (has_base L F i) none)))
+      (some_below-holds L.q_rows (end_row x) i il (both_true (not (eqb (F.P i x % p) 0)) (not (has_base L F i)) (nonzero_test (F.P i x % p) ne) (not-make (has_base L F i) none)))
 
   pub end-t : (x i : ℕ) → i < L.t_rows → L.t i x ≡ true → has_match L F i ≡ false → is_end p L F x ≡ true
   unfolding is_end
   end-t x i il s none = either-second (some_below L.q_rows (end_row x)) (some_below L.t_rows (end_t_row x))
-      (some_below-holds L.t_rows (end_t_row x) i il (both_true (L.t i x) (not (has_match L F i)) s (not_holds (has_match L F i) none)))
+      (some_below-holds L.t_rows (end_t_row x) i il (both_true (L.t i x) (not (has_match L F i)) s (not-make (has_match L F i) none)))
 
   pub end-tells : (x : ℕ) → is_end p L F x ≡ true → EndsInQ x ⊎ EndsInT x
   unfolding is_end
@@ -97,11 +92,11 @@ module _ (p : ℕ) (L : Layered) (F : Tableau) where
         i,
         il,
         nonzero_tells (F.P i x % p) (both-first (not (eqb (F.P i x % p) 0)) (not (has_base L F i)) e),
-        not_tells (has_base L F i) (both-second (not (eqb (F.P i x % p) 0)) (not (has_base L F i)) e),
+        not-true (has_base L F i) (both-second (not (eqb (F.P i x % p) 0)) (not (has_base L F i)) e),
       )
 
       in_t : (i : ℕ) × (i < L.t_rows) × (end_t_row x i ≡ true) → EndsInT x
-      in_t (i, il, e) = (i, il, both-first (L.t i x) (not (has_match L F i)) e, not_tells (has_match L F i) (both-second (L.t i x) (not (has_match L F i)) e))
+      in_t (i, il, e) = (i, il, both-first (L.t i x) (not (has_match L F i)) e, not-true (has_match L F i) (both-second (L.t i x) (not (has_match L F i)) e))
 
       go : (some_below L.q_rows (end_row x) ≡ true) ⊎ (some_below L.t_rows (end_t_row x) ≡ true) → EndsInQ x ⊎ EndsInT x
       go (inl q) = inl (in_q (some_below-found L.q_rows (end_row x) q))
