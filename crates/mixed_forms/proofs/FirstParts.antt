@@ -13,6 +13,7 @@ use Rattle.linear_algebra.specs.Products.{IsInverse, product}
 use Rattle.linear_algebra_laws.proofs.Kernels.{kernel-sym, rank_of-kernel}
 use Rattle.linear_algebra_laws.proofs.Products.{product-kernel}
 use Rattle.linear_algebra_laws.proofs.RankLaws.{rank-rows}
+use Rattle.linear_algebra_laws.proofs.Ranks.{rank_exists}
 use Rattle.linear_algebra_laws.proofs.Stacked.{above-kernel}
 use Rattle.mixed_matrices.specs.Forms.{IsTriangular, Parts, part_columns, part_rows, transformed}
 use Rattle.mixed_matrices.specs.LayeredMatrices.{Layered, layered_value}
@@ -21,6 +22,7 @@ use Rattle.mixed_matrices.specs.Pairs.{pair_size}
 use Rattle.mixed_matrices.specs.SetFunctions.{IsMinimiser, IsRho, gamma, touches}
 use Rattle.mixed_matrices.specs.StructuralRanks.{IsLayeredRank}
 use Rattle.mixed_pairs.proofs.BestPairs.{Optimal, optimal, optimal-rank}
+use Rattle.mixed_pairs.proofs.MinMax.{rank-at_most}
 use Rattle.mixed_pairs.proofs.PairBounds.{bound}
 use Rattle.mixed_pairs.proofs.RemovedRows.{greatest-moved}
 use Rattle.mixed_forms.proofs.DiagonalRanks.{diagonal-ranks, early-rank, late-rank, part_rank}
@@ -39,7 +41,7 @@ module _ (p : ℕ) (prime : IsPrime p) (L : Layered) (S U : ℕ → ℕ → ℕ)
   upto k j = leb (G.column j) k
 
   -- the rows of the first parts
-  abbrev first_rows : ℕ → ℕ
+  abbrev pub first_rows : ℕ → ℕ
   first_rows k = size_on (λ i. leb (G.q_row i) k) L.q_rows + size_on (λ i. leb (G.t_row i) k) L.t_rows
 
   -- later rows are empty at the first columns: rho and gamma are at most the first rows
@@ -59,7 +61,7 @@ module _ (p : ℕ) (prime : IsPrime p) (L : Layered) (S U : ℕ → ℕ → ℕ)
           (both-second (upto k f.0) (L.t i f.0) f.2))
 
   -- rows and columns of the first parts differ as those of the first tail
-  sizes : (k : ℕ) → k ≤ G.blocks → first_rows k + part_columns (transformed S L) G 0 ≡ size_on (upto k) L.columns + part_rows (transformed S L) G 0
+  pub sizes : (k : ℕ) → k ≤ G.blocks → first_rows k + part_columns (transformed S L) G 0 ≡ size_on (upto k) L.columns + part_rows (transformed S L) G 0
   sizes zero le = omega (arith, levels-first G.column L.columns (λ _. 1), levels-first G.q_row L.q_rows (λ _. 1), levels-first G.t_row L.t_rows (λ _. 1))
   sizes (suc k) le = omega (
     arith,
@@ -126,6 +128,22 @@ module _ (p : ℕ) (prime : IsPrime p) (L : Layered) (S U : ℕ → ℕ → ℕ)
     whole-sum,
     diagonal-ranks p prime (transformed S L) G tri r (transformed-rank r R),
   )
+
+  -- so R(L) is N less the columns that the first tail has more than rows
+  pub form-rank : (r : ℕ) → IsLayeredRank p L r → r + part_columns (transformed S L) G 0 ≡ L.columns + part_rows (transformed S L) G 0
+  form-rank r R = go (rank_exists p prime L.q L.q_rows L.columns (upto G.blocks))
+    where
+      go : (s : ℕ) × IsRho p L (upto G.blocks) s → r + part_columns (transformed S L) G 0 ≡ L.columns + part_rows (transformed S L) G 0
+      go (s, K) = omega (
+        arith,
+        rank-at_most p prime L (upto G.blocks) s r K R,
+        rho-rows G.blocks s K,
+        gamma-rows G.blocks,
+        sizes G.blocks (omega arith),
+        all_columns,
+        whole-sum,
+        diagonal-ranks p prime (transformed S L) G tri r (transformed-rank r R),
+      )
 
   pub first_parts-minimiser : (k : ℕ) → k ≤ G.blocks → IsMinimiser p L (upto k)
   first_parts-minimiser k le Y r s R K = go (optimal p prime L)

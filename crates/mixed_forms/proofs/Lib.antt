@@ -6,6 +6,8 @@ pub mod DiagonalRanks
 pub mod FirstParts
 pub mod Finest
 pub mod OneListing
+pub mod RightRows
+pub mod RightParts
 pub mod ExampleFacts
 pub mod LooseExample
 pub mod StackedExample
