@@ -129,6 +129,22 @@ module _ (p : ℕ) (prime : IsPrime p) (L : Layered) (S U : ℕ → ℕ → ℕ)
     diagonal-ranks p prime (transformed S L) G tri r (transformed-rank r R),
   )
 
+  -- the rows of the last tail are all others
+  pub last-rows : first_rows G.blocks + part_rows (transformed S L) G (G.blocks + 1) ≡ L.q_rows + L.t_rows
+  last-rows = omega (
+    arith,
+    sym (levels G.q_row L.q_rows G.blocks (λ _. 1)),
+    sym (levels G.t_row L.t_rows G.blocks (λ _. 1)),
+    levels-all G.q_row L.q_rows (suc G.blocks) (λ _. 1) (λ i il. omega (arith, tri.q_rows i il)),
+    levels-all G.t_row L.t_rows (suc G.blocks) (λ _. 1) (λ i il. omega (arith, tri.t_rows i il)),
+    size-everything L.q_rows,
+    size-everything L.t_rows,
+    last,
+  )
+    where
+      last : part_rows (transformed S L) G (G.blocks + 1) ≡ size_on (λ i. eqb (G.q_row i) (suc G.blocks)) L.q_rows + size_on (λ i. eqb (G.t_row i) (suc G.blocks)) L.t_rows
+      last = ap (λ h. part_rows (transformed S L) G h) (let q : G.blocks + 1 ≡ suc G.blocks = omega arith in q)
+
   -- so R(L) is N less the columns that the first tail has more than rows
   pub form-rank : (r : ℕ) → IsLayeredRank p L r → r + part_columns (transformed S L) G 0 ≡ L.columns + part_rows (transformed S L) G 0
   form-rank r R = go (rank_exists p prime L.q L.q_rows L.columns (upto G.blocks))

@@ -6,6 +6,7 @@ pub mod DiagonalRanks
 pub mod FirstParts
 pub mod Finest
 pub mod OneListing
+pub mod RowSizes
 pub mod RightRows
 pub mod RightParts
 pub mod ExampleFacts

@@ -52,7 +52,8 @@ module _ (p : ℕ) (prime : IsPrime p) (L : Layered) (S U : ℕ → ℕ → ℕ)
   pub right-kept : KeepsPartRules p L F G below lower
   right-kept = record {
     rows = form-rows p prime L S U F tab clear G form.1;
-    rules = parts-keep (leads_to p L F) L.columns (is_free F) (is_end p L F) (block_of G) G.blocks (canonical-listing p prime L F has clear G C) below order (in_first G) (in_last G) clear first
+    rules = parts-keep (leads_to p L F) L.columns (is_free F) (is_end p L F) (block_of G) G.blocks (canonical-listing p prime L F has clear G C) below order (in_first G)
+        (in_last G) clear first
         (λ x xl h. (last-told p prime L F has clear G C x xl).0 (eqb_true (G.column x) (G.blocks + 1) h))
         (λ x xl t. eqb_from (G.column x) (G.blocks + 1) ((last-told p prime L F has clear G C x xl).1 t)) lower lists within;
     order = order;

@@ -106,7 +106,8 @@ module _ (p : ℕ) (prime : IsPrime p) (L : Layered) (S U : ℕ → ℕ → ℕ)
         arith,
         counted,
         t_into t_first first-mate,
-        q_into (without q_first i) (λ b bl h. member-without q_first i (F.row b) (first-row b bl h) (eqb_false (F.row b) i (both-refused (both F.base X b) (eqb (F.row b) i) (none b bl) h))),
+        q_into (without q_first i) (λ b bl h. member-without q_first i (F.row b) (first-row b bl h)
+            (eqb_false (F.row b) i (both-refused (both F.base X b) (eqb (F.row b) i) (none b bl) h))),
         sum_on-without q_first L.q_rows i (λ _. 1) il (leb_from (G.q_row i) k low),
       ))
     ]
@@ -124,7 +125,8 @@ module _ (p : ℕ) (prime : IsPrime p) (L : Layered) (S U : ℕ → ℕ → ℕ)
         arith,
         counted,
         q_into q_first first-row,
-        t_into (without t_first i) (λ b bl h. member-without t_first i (F.mate b) (first-mate b bl h) (eqb_false (F.mate b) i (both-refused (both F.matched X b) (eqb (F.mate b) i) (none b bl) h))),
+        t_into (without t_first i) (λ b bl h. member-without t_first i (F.mate b) (first-mate b bl h)
+            (eqb_false (F.mate b) i (both-refused (both F.matched X b) (eqb (F.mate b) i) (none b bl) h))),
         sum_on-without t_first L.t_rows i (λ _. 1) il (leb_from (G.t_row i) k low),
       ))
     ]

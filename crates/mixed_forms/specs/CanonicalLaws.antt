@@ -2,12 +2,13 @@
 use Rattle.std.specs.Prelude.{◌≡◌, ◌<◌, ◌↔◌, ℕ, Bool, true}
 use Rattle.residue_theory.specs.Residues.{IsPrime}
 use Rattle.mixed_matrices.specs.Arcs.{HasNoWalk}
-use Rattle.mixed_matrices.specs.CanonicalParts.{AreCanonical, IsBlockBelow, IsIdealOf, IsLowerBlock}
+use Rattle.mixed_matrices.specs.CanonicalParts.{AreCanonical, AreRightParts, IsBlockBelow, IsIdealOf, IsLowerBlock}
 use Rattle.mixed_matrices.specs.CheckerRules.{KeepsPartRules}
 use Rattle.mixed_matrices.specs.Forms.{Parts}
 use Rattle.mixed_matrices.specs.LayeredMatrices.{Layered}
+use Rattle.mixed_matrices.specs.Pairs.{IsBest}
 use Rattle.mixed_matrices.specs.SetFunctions.{IsMinimiser}
-use Rattle.mixed_matrices.specs.Tableaus.{HasTableau, Tableau}
+use Rattle.mixed_matrices.specs.Tableaus.{HasTableau, IsTableau, Tableau}
 
 abbrev pub CheckedPartsAreCanonical : Type 0
 CheckedPartsAreCanonical =
@@ -40,3 +41,10 @@ abbrev pub CanonicalPartsAreOne : Type 0
 CanonicalPartsAreOne =
     (p : ℕ) → IsPrime p → (L : Layered) (F : Tableau) → HasTableau p L F → HasNoWalk p L F → (G H : Parts) → AreCanonical p L G → AreCanonical p L H →
     (G.blocks ≡ H.blocks) × ((x : ℕ) → x < L.columns → G.column x ≡ H.column x)
+
+-- beside a tableau, parts keep the rules exactly where its pair is best and they are right
+abbrev pub RulesAreKeptByRightParts : Type 0
+RulesAreKeptByRightParts =
+    (p : ℕ) → IsPrime p → (L : Layered) (S U : ℕ → ℕ → ℕ) (F : Tableau) → IsTableau p L S U F →
+    (G : Parts) (below lower : ℕ → ℕ → Bool) → ((k l : ℕ) → lower l k ≡ true → (k < G.blocks) × (l < G.blocks)) →
+    KeepsPartRules p L F G below lower ↔ (IsBest p L F.base F.matched × AreRightParts p L S G below lower)

@@ -1,5 +1,5 @@
 //! Parts that keep the rules beside a tableau are the canonical parts, and their ideals the minimisers.
-ghost use Rattle.mixed_forms.specs.CanonicalLaws.{CheckedPartsAreCanonical, CheckedOrderIsCanonical, CheckedListsAreCanonical, IdealsAreTheMinimisers, CanonicalPartsAreOne};
+ghost use Rattle.mixed_forms.specs.CanonicalLaws.{CheckedPartsAreCanonical, CheckedOrderIsCanonical, CheckedListsAreCanonical, IdealsAreTheMinimisers, CanonicalPartsAreOne, RulesAreKeptByRightParts};
 
 /// Parts that keep the rules are the canonical parts.
 pub fn checked_parts_are_canonical()
@@ -24,4 +24,9 @@ pub fn ideals_are_the_minimisers()
 /// There is only one choice of canonical parts.
 pub fn canonical_parts_are_one()
     ensures { CanonicalPartsAreOne }
+{}
+
+/// Parts keep the rules exactly where the tableau's pair is best and they are right.
+pub fn rules_are_kept_by_right_parts()
+    ensures { RulesAreKeptByRightParts }
 {}

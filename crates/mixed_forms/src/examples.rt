@@ -2,7 +2,7 @@
 ghost use Rattle.std.specs.Prelude.{◌≡◌, ℕ, Bool, true, false};
 ghost use Rattle.residue_theory.specs.Sets.{only};
 ghost use Rattle.linear_algebra.specs.Products.{identity};
-ghost use Rattle.mixed_matrices.specs.CanonicalParts.{AreCanonical, IsBlockBelow, IsHeldWith, IsIdealOf, IsLeastColumn, IsLowerBlock, IsOfBlock, IsReadyAt};
+ghost use Rattle.mixed_matrices.specs.CanonicalParts.{AreCanonical, AreRightParts, IsBlockBelow, IsHeldWith, IsIdealOf, IsLeastColumn, IsLowerBlock, IsOfBlock, IsReadyAt};
 ghost use Rattle.mixed_matrices.specs.CheckerRules.{HasRows, KeepsPartRules, block_of, in_first, in_last};
 ghost use Rattle.mixed_matrices.specs.Examples.{loose_parts, loose_symbols, loose_tableau, stacked_inverse, stacked_matrix, stacked_model, stacked_origins, stacked_parts, stacked_tableau, stacked_transform, symbol_triangle, tall_parts, tall_symbols, tall_tableau, triangle_below, triangle_lower, triangle_parts, triangle_tableau, turned_parts, whole_parts};
 ghost use Rattle.mixed_matrices.specs.Forms.{IsAsFine, IsEmptyAt, IsForm, IsOrdered, IsTriangular, diagonal_part, part_columns, part_rows};
@@ -92,6 +92,12 @@ pub fn rules_at_examples()
     ensures no_last { in_last triangle_parts 0 ≡ false }
     ensures no_first { in_first triangle_parts 0 ≡ false }
     ensures block { block_of triangle_parts 0 ≡ 1 }
+{}
+
+/// The triangle's parts are right with their lower list, and not with empty lists.
+pub fn right_parts_at_examples()
+    ensures holds { AreRightParts 65521 symbol_triangle identity triangle_parts triangle_below triangle_lower }
+    ensures fails { AreRightParts 65521 symbol_triangle identity triangle_parts triangle_below (λ l k. false) → ⊥ }
 {}
 
 /// Of two loose symbols every column set is a minimiser, so each column is a block of its own, and both are not one block.

@@ -2,7 +2,7 @@
 use Rattle.std.specs.Prelude.{ℕ, ◌+◌, ◌<◌, ◌≤◌, ◌≡◌, ◌≢◌, ◌↔◌, Bool, true, false}
 use Rattle.mixed_matrices.specs.LayeredMatrices.{Layered}
 use Rattle.mixed_matrices.specs.SetFunctions.{IsMinimiser}
-use Rattle.mixed_matrices.specs.Forms.{Parts}
+use Rattle.mixed_matrices.specs.Forms.{Parts, IsForm}
 
 -- column x is in block k
 abbrev pub IsOfBlock : Layered → Parts → ℕ → ℕ → Type 0
@@ -47,3 +47,10 @@ pub record IsIdealOf (L : Layered) (G : Parts) (below : ℕ → ℕ → Bool) (K
   pub first : (x : ℕ) → x < L.columns → G.column x ≡ 0 → X x ≡ true
   pub block : (k x : ℕ) → IsOfBlock L G k x → X x ≡ K k
   pub last : (x : ℕ) → x < L.columns → G.column x ≡ G.blocks + 1 → X x ≡ false
+
+-- the parts are a form with this S, and canonical; below is the order of their blocks, and lower l k says that k is in the lower list of l
+pub record AreRightParts (p : ℕ) (L : Layered) (S : ℕ → ℕ → ℕ) (G : Parts) (below lower : ℕ → ℕ → Bool) : Type 0 where
+  pub form : IsForm p L S G
+  pub canonical : AreCanonical p L G
+  pub order : (k l : ℕ) → k < G.blocks → l < G.blocks → (below k l ≡ true) ↔ IsBlockBelow p L G k l
+  pub lists : (k l : ℕ) → k < G.blocks → l < G.blocks → (lower l k ≡ true) ↔ IsLowerBlock p L G k l
