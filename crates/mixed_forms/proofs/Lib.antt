@@ -9,6 +9,7 @@ pub mod OneListing
 pub mod RowSizes
 pub mod RightRows
 pub mod RightParts
+pub mod FormExists
 pub mod ExampleFacts
 pub mod LooseExample
 pub mod StackedExample

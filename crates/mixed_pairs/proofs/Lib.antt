@@ -10,5 +10,6 @@ pub mod RemovedRows
 pub mod MinMax
 pub mod SameEntries
 pub mod PivotedBases
+pub mod Transforms
 pub mod ExampleFacts
 pub mod TableauParts

@@ -39,3 +39,10 @@ SomePairReachesTheBound =
     (p : ℕ) → IsPrime p → (L : Layered) →
     (I : ℕ → Bool) × (J : ℕ → Bool) × (mate : ℕ → ℕ) × (X : ℕ → Bool) × (r : ℕ) ×
     IsPair p L I J mate × IsRho p L X r × (pair_size L I J + size_on X L.columns ≡ r + gamma L X + L.columns)
+
+-- each pair stands in a tableau
+abbrev pub EachPairHasATableau : Type 0
+EachPairHasATableau =
+    (p : ℕ) → IsPrime p → (L : Layered) (I J : ℕ → Bool) (mate : ℕ → ℕ) → IsPair p L I J mate →
+    (S : ℕ → ℕ → ℕ) × (U : ℕ → ℕ → ℕ) × (P : ℕ → ℕ → ℕ) × (row : ℕ → ℕ) ×
+    IsTableau p L S U (record { P = P; base = I; row = row; matched = J; mate = mate })

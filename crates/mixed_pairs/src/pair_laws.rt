@@ -1,5 +1,5 @@
 //! Pairs, and the bound that the set function p gives for their size (Murota, chapter 2, independent matching).
-ghost use Rattle.mixed_pairs.specs.PairLaws.{PairsAreBounded, TableausHoldPairs, TransformsKeepTheKernel, ClosedSetsReachTheBound, PairsWithoutWalkAreBest, SomePairReachesTheBound};
+ghost use Rattle.mixed_pairs.specs.PairLaws.{PairsAreBounded, TableausHoldPairs, TransformsKeepTheKernel, ClosedSetsReachTheBound, PairsWithoutWalkAreBest, SomePairReachesTheBound, EachPairHasATableau};
 
 /// No pair is larger than p(X) and the number of columns together, for any column set X.
 pub fn pairs_are_bounded()
@@ -29,4 +29,9 @@ pub fn pairs_without_walk_are_best()
 /// Each layered matrix has a pair and a column set at which it reaches the bound.
 pub fn some_pair_reaches_the_bound()
     ensures { SomePairReachesTheBound }
+{}
+
+/// Row operations bring the independent columns of any pair into unit columns.
+pub fn each_pair_has_a_tableau()
+    ensures { EachPairHasATableau }
 {}
