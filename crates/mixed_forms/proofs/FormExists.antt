@@ -19,9 +19,6 @@ use Rattle.mixed_pairs.proofs.ArcFacts.{base_found, base_holds, match_found, mat
 module _ (p : ℕ) (L : Layered) (F : Tableau) (base : (b c : ℕ) → b < L.columns → c < L.columns → F.base b ≡ true → F.base c ≡ true → F.row b ≡ F.row c → b ≡ c)
     (match : (b c : ℕ) → b < L.columns → c < L.columns → F.matched b ≡ true → F.matched c ≡ true → F.mate b ≡ F.mate c → b ≡ c)
     (clear : HasNoWalk p L F) (blocks : ℕ) (block : ℕ → ℕ) (listing : IsListing (leads_to p L F) L.columns (is_free F) (is_end p L F) block blocks) where
-  reach : ℕ → ℕ → Bool
-  reach = reaches (leads_to p L F) L.columns
-
   first : ℕ → Bool
   first = reached (leads_to p L F) L.columns (is_free F)
 
@@ -41,8 +38,12 @@ module _ (p : ℕ) (L : Layered) (F : Tableau) (base : (b c : ℕ) → b < L.col
   last-to x xl h = go (some_below-found L.columns (λ e. is_end p L F e && reaches (leads_to p L F) L.columns x e) h)
     where
       go : (e : ℕ) × (e < L.columns) × (is_end p L F e && reaches (leads_to p L F) L.columns x e ≡ true) → ReachesEnd p L F x
-      go (e, el, h) = (e, el, both-first (is_end p L F e) (reaches (leads_to p L F) L.columns x e) h,
-          reaches-tells (leads_to p L F) L.columns x e el (both-second (is_end p L F e) (reaches (leads_to p L F) L.columns x e) h))
+      go (e, el, h) = (
+        e,
+        el,
+        both-first (is_end p L F e) (reaches (leads_to p L F) L.columns x e) h,
+        reaches-tells (leads_to p L F) L.columns x e el (both-second (is_end p L F e) (reaches (leads_to p L F) L.columns x e) h),
+      )
 
   to-last : (x : ℕ) → x < L.columns → ReachesEnd p L F x → last x ≡ true
   unfolding last
@@ -75,7 +76,8 @@ module _ (p : ℕ) (L : Layered) (F : Tableau) (base : (b c : ℕ) → b < L.col
   part_cases : (x : ℕ) → x < L.columns → (IsFromFree p L F x × (part_of x ≡ 0)) ⊎ ((ReachesEnd p L F x × (part_of x ≡ blocks + 1)) ⊎ (IsOfMiddle p L F x × (part_of x ≡ block x + 1)))
   part_cases x xl = go (first x) refl (last x) refl
     where
-      go : (a : Bool) → first x ≡ a → (b : Bool) → last x ≡ b → (IsFromFree p L F x × (part_of x ≡ 0)) ⊎ ((ReachesEnd p L F x × (part_of x ≡ blocks + 1)) ⊎ (IsOfMiddle p L F x × (part_of x ≡ block x + 1)))
+      go : (a : Bool) → first x ≡ a → (b : Bool) → last x ≡ b → (IsFromFree p L F x × (part_of x ≡ 0)) ⊎
+          ((ReachesEnd p L F x × (part_of x ≡ blocks + 1)) ⊎ (IsOfMiddle p L F x × (part_of x ≡ block x + 1)))
       go true f b l = inl (first-from x xl f, part-first x f)
       go false f true l = inr (inl (last-to x xl l, part-last x f l))
       go false f false l = inr (inr (between x xl f l, part-block x f l))
@@ -180,18 +182,31 @@ module _ (p : ℕ) (L : Layered) (F : Tableau) (base : (b c : ℕ) → b < L.col
 
   below-tells : (k l : ℕ) → found_below k l ≡ true → (k ≢ l) × ((x : ℕ) × (y : ℕ) × (x < L.columns) × (y < L.columns) × (part_of x ≡ k + 1) × (part_of y ≡ l + 1) × ReachesIn p L F y x)
   unfolding found_below
-  below-tells k l h = (unequal k l (both-first (not (eqb k l)) (some_below L.columns (λ x. some_below L.columns (λ y. joins k l x y))) h),
-      outer (some_below-found L.columns (λ x. some_below L.columns (λ y. joins k l x y)) (both-second (not (eqb k l)) (some_below L.columns (λ x. some_below L.columns (λ y. joins k l x y))) h)))
+  below-tells k l h = (
+    unequal k l (both-first (not (eqb k l)) (some_below L.columns (λ x. some_below L.columns (λ y. joins k l x y))) h),
+    outer (some_below-found L.columns (λ x. some_below L.columns (λ y. joins k l x y))
+        (both-second (not (eqb k l)) (some_below L.columns (λ x. some_below L.columns (λ y. joins k l x y))) h)),
+  )
     where
       unequal : (k l : ℕ) → not (eqb k l) ≡ true → k ≢ l
       unequal k l h = grind (arith, nat_tests)
 
-      inner : (x : ℕ) → x < L.columns → (y : ℕ) × (y < L.columns) × (joins k l x y ≡ true) → (x : ℕ) × (y : ℕ) × (x < L.columns) × (y < L.columns) × (part_of x ≡ k + 1) × (part_of y ≡ l + 1) × ReachesIn p L F y x
-      inner x xl (y, yl, h) = let e : eqb (part_of x) (k + 1) && eqb (part_of y) (l + 1) ≡ true = both-first (eqb (part_of x) (k + 1) && eqb (part_of y) (l + 1)) (reaches (leads_to p L F) L.columns y x) h in
-          (x, y, xl, yl, eqb_true (part_of x) (k + 1) (both-first (eqb (part_of x) (k + 1)) (eqb (part_of y) (l + 1)) e), eqb_true (part_of y) (l + 1) (both-second (eqb (part_of x) (k + 1)) (eqb (part_of y) (l + 1)) e),
-          reaches-tells (leads_to p L F) L.columns y x xl (both-second (eqb (part_of x) (k + 1) && eqb (part_of y) (l + 1)) (reaches (leads_to p L F) L.columns y x) h))
+      inner : (x : ℕ) → x < L.columns → (y : ℕ) × (y < L.columns) × (joins k l x y ≡ true) → (x : ℕ) × (y : ℕ) × (x < L.columns) × (y < L.columns) × (part_of x ≡ k + 1) ×
+          (part_of y ≡ l + 1) × ReachesIn p L F y x
+      inner x xl (y, yl, h) = let e : eqb (part_of x) (k + 1) && eqb (part_of y) (l + 1) ≡ true = both-first (eqb (part_of x) (k + 1) && eqb (part_of y) (l + 1))
+          (reaches (leads_to p L F) L.columns y x) h in (
+            x,
+            y,
+            xl,
+            yl,
+            eqb_true (part_of x) (k + 1) (both-first (eqb (part_of x) (k + 1)) (eqb (part_of y) (l + 1)) e),
+            eqb_true (part_of y) (l + 1)
+                (both-second (eqb (part_of x) (k + 1)) (eqb (part_of y) (l + 1)) e),
+            reaches-tells (leads_to p L F) L.columns y x xl (both-second (eqb (part_of x) (k + 1) && eqb (part_of y) (l + 1)) (reaches (leads_to p L F) L.columns y x) h),
+          )
 
-      outer : (x : ℕ) × (x < L.columns) × (some_below L.columns (λ y. joins k l x y) ≡ true) → (x : ℕ) × (y : ℕ) × (x < L.columns) × (y < L.columns) × (part_of x ≡ k + 1) × (part_of y ≡ l + 1) × ReachesIn p L F y x
+      outer : (x : ℕ) × (x < L.columns) × (some_below L.columns (λ y. joins k l x y) ≡ true) → (x : ℕ) × (y : ℕ) × (x < L.columns) × (y < L.columns) ×
+          (part_of x ≡ k + 1) × (part_of y ≡ l + 1) × ReachesIn p L F y x
       outer (x, xl, h) = inner x xl (some_below-found L.columns (λ y. joins k l x y) h)
 
   below-made : (k l x y : ℕ) → k ≢ l → x < L.columns → y < L.columns → part_of x ≡ k + 1 → part_of y ≡ l + 1 → ReachesIn p L F y x → found_below k l ≡ true
@@ -199,7 +214,8 @@ module _ (p : ℕ) (L : Layered) (F : Tableau) (base : (b c : ℕ) → b < L.col
   below-made k l x y ne xl yl px py r = both_true (not (eqb k l)) (some_below L.columns (λ x. some_below L.columns (λ y. joins k l x y))) (other k l ne)
       (some_below-holds L.columns (λ x. some_below L.columns (λ y. joins k l x y)) x xl (some_below-holds L.columns (λ y. joins k l x y) y yl
       (both_true (eqb (part_of x) (k + 1) && eqb (part_of y) (l + 1)) (reaches (leads_to p L F) L.columns y x)
-      (both_true (eqb (part_of x) (k + 1)) (eqb (part_of y) (l + 1)) (eqb_from (part_of x) (k + 1) px) (eqb_from (part_of y) (l + 1) py)) (reaches-make (leads_to p L F) L.columns y x yl xl r))))
+      (both_true (eqb (part_of x) (k + 1)) (eqb (part_of y) (l + 1)) (eqb_from (part_of x) (k + 1) px) (eqb_from (part_of y) (l + 1) py))
+      (reaches-make (leads_to p L F) L.columns y x yl xl r))))
     where
       other : (k l : ℕ) → k ≢ l → not (eqb k l) ≡ true
       other k l ne = grind (arith, nat_tests)
@@ -215,7 +231,8 @@ module _ (p : ℕ) (L : Layered) (F : Tableau) (base : (b c : ℕ) → b < L.col
       placed x m = omega (arith, middle-part x m)
 
       tells : (x y : ℕ) → IsOfMiddle p L F x → IsOfMiddle p L F y →
-          (u : ℕ) × (v : ℕ) × (u < L.columns) × (v < L.columns) × (part_of u ≡ block_of found_parts y + 1) × (part_of v ≡ block_of found_parts x + 1) × ReachesIn p L F v u → ReachesIn p L F x y
+          (u : ℕ) × (v : ℕ) × (u < L.columns) × (v < L.columns) × (part_of u ≡ block_of found_parts y + 1) ×
+          (part_of v ≡ block_of found_parts x + 1) × ReachesIn p L F v u → ReachesIn p L F x y
       tells x y mx my (u, v, ul, vl, pu, pv, r) =
           let mu : IsOfMiddle p L F u = part-middle u (block_of found_parts y) ul (found-listing.below_b y my) pu in
           let mv : IsOfMiddle p L F v = part-middle v (block_of found_parts x) vl (found-listing.below_b x mx) pv in
@@ -237,13 +254,19 @@ module _ (p : ℕ) (L : Layered) (F : Tableau) (base : (b c : ℕ) → b < L.col
       below k b h = grind (arith, nat_tests)
 
       four : (a b c d : Bool) → (a && b) && (c && not d) ≡ true → (a ≡ true → k < blocks) → (b ≡ true → l < blocks) → (k < blocks) × (l < blocks) × (c ≡ true) × (d ≡ false)
-      four a b c d h f g = (f (both-first a b (both-first (a && b) (c && not d) h)), g (both-second a b (both-first (a && b) (c && not d) h)), both-first c (not d) (both-second (a && b) (c && not d) h),
-          not-true d (both-second c (not d) (both-second (a && b) (c && not d) h)))
+      four a b c d h f g = (
+        f (both-first a b (both-first (a && b) (c && not d) h)),
+        g (both-second a b (both-first (a && b) (c && not d) h)),
+        both-first c (not d)
+            (both-second (a && b) (c && not d) h),
+        not-true d (both-second c (not d) (both-second (a && b) (c && not d) h)),
+      )
 
   lower-made : (k l : ℕ) → k < blocks → l < blocks → found_below k l ≡ true → some_below blocks (λ m. middles k l m) ≡ false → found_lower l k ≡ true
   unfolding found_lower
   lower-made k l kl ll h none = both_true (ltb k blocks && ltb l blocks) (found_below k l && not (some_below blocks (λ m. middles k l m)))
-      (both_true (ltb k blocks) (ltb l blocks) (less k blocks kl) (less l blocks ll)) (both_true (found_below k l) (not (some_below blocks (λ m. middles k l m))) h (not-make (some_below blocks (λ m. middles k l m)) none))
+      (both_true (ltb k blocks) (ltb l blocks) (less k blocks kl) (less l blocks ll))
+      (both_true (found_below k l) (not (some_below blocks (λ m. middles k l m))) h (not-make (some_below blocks (λ m. middles k l m)) none))
     where
       less : (k b : ℕ) → k < b → ltb k b ≡ true
       less k b l = grind (arith, nat_tests)
@@ -260,7 +283,8 @@ module _ (p : ℕ) (L : Layered) (F : Tableau) (base : (b c : ℕ) → b < L.col
   pub found-kept : KeepsPartRules p L F found_parts found_below found_lower
   found-kept = record {
     rows = found-rows;
-    rules = parts-keep (leads_to p L F) L.columns (is_free F) (is_end p L F) (block_of found_parts) blocks found-listing found_below found-order (in_first found_parts) (in_last found_parts) clear found-first
+    rules = parts-keep (leads_to p L F) L.columns (is_free F) (is_end p L F) (block_of found_parts) blocks found-listing found_below found-order (in_first found_parts)
+        (in_last found_parts) clear found-first
         found-last last-found found_lower found-lists (λ k l h. ((lower-tells k l h).0, (lower-tells k l h).1));
     order = found-order;
     lists = found-lists;

@@ -10,6 +10,7 @@ pub mod RowSizes
 pub mod RightRows
 pub mod RightParts
 pub mod FormExists
+pub mod CanonicalForm
 pub mod ExampleFacts
 pub mod LooseExample
 pub mod StackedExample

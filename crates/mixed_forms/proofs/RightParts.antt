@@ -6,12 +6,14 @@ use Rattle.closed_sets.proofs.BlockOrder.{parts-keep}
 use Rattle.closed_sets.specs.Blocks.{IsBelow}
 use Rattle.closed_sets.specs.Orders.{IsCover}
 use Rattle.mixed_matrices.specs.Arcs.{HasNoWalk, IsOfMiddle, IsReachedFromFree, is_end, is_free, leads_to}
-use Rattle.mixed_matrices.specs.CanonicalParts.{AreCanonical, IsBlockBelow, IsLowerBlock, IsOfBlock}
+use Rattle.mixed_matrices.specs.CanonicalParts.{AreCanonical, AreRightParts, IsBlockBelow, IsLowerBlock, IsOfBlock}
 use Rattle.mixed_matrices.specs.CheckerRules.{KeepsPartRules, block_of, in_first, in_last}
 use Rattle.mixed_matrices.specs.Forms.{IsForm, Parts}
 use Rattle.mixed_matrices.specs.LayeredMatrices.{Layered}
 use Rattle.mixed_matrices.specs.Tableaus.{HasTableau, IsTableau, Tableau}
 use Rattle.mixed_pairs.proofs.TableauParts.{tableau}
+use Rattle.mixed_forms.proofs.Canonical.{below-block, block-below, block-lower, checked-canonical, lower-block}
+use Rattle.mixed_forms.proofs.CheckedForms.{checked-form}
 use Rattle.mixed_forms.proofs.OneListing.{block-middle_told, canonical-listing, first-told, held-reached, last-told, middle-block_told, reached-below}
 use Rattle.mixed_forms.proofs.RightRows.{form-rows}
 
@@ -59,3 +61,16 @@ module _ (p : ℕ) (prime : IsPrime p) (L : Layered) (S U : ℕ → ℕ → ℕ)
     order = order;
     lists = lists;
   }
+
+-- and parts that keep the rules are right
+pub kept-right : (p : ℕ) → IsPrime p → (L : Layered) (S U : ℕ → ℕ → ℕ) (F : Tableau) → IsTableau p L S U F → (G : Parts) (below lower : ℕ → ℕ → Bool) →
+    KeepsPartRules p L F G below lower → AreRightParts p L S G below lower
+kept-right p prime L S U F tab G below lower K = record {
+  form = checked-form p prime L S U F tab G below lower K;
+  canonical = checked-canonical p prime L F has G below lower K;
+  order = λ k l kl ll. (below-block p prime L F has G below lower K k l kl ll, block-below p prime L F has G below lower K k l kl ll);
+  lists = λ k l kl ll. (lower-block p prime L F has G below lower K k l kl ll, block-lower p prime L F has G below lower K k l kl ll);
+}
+  where
+    has : HasTableau p L F
+    has = tableau p prime L S U F tab

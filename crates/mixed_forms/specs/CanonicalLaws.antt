@@ -1,7 +1,6 @@
 -- Laws of parts that keep the rules beside a tableau: they are the canonical parts, with their order and lower lists.
 use Rattle.std.specs.Prelude.{◌≡◌, ◌<◌, ◌↔◌, ℕ, Bool, true}
 use Rattle.residue_theory.specs.Residues.{IsPrime}
-use Rattle.mixed_matrices.specs.Arcs.{HasNoWalk}
 use Rattle.mixed_matrices.specs.CanonicalParts.{AreCanonical, AreRightParts, IsBlockBelow, IsIdealOf, IsLowerBlock}
 use Rattle.mixed_matrices.specs.CheckerRules.{KeepsPartRules}
 use Rattle.mixed_matrices.specs.Forms.{Parts}
@@ -36,10 +35,16 @@ IdealsAreTheMinimisers =
     (G : Parts) (below lower : ℕ → ℕ → Bool) → KeepsPartRules p L F G below lower → (X : ℕ → Bool) →
     IsMinimiser p L X ↔ ((B : ℕ → Bool) × IsIdealOf L G below B X)
 
--- a layered matrix with a tableau in which no end is reached has one choice of canonical parts
+-- every layered matrix has its canonical form
+abbrev pub EachLayeredMatrixHasACanonicalForm : Type 0
+EachLayeredMatrixHasACanonicalForm =
+    (p : ℕ) → IsPrime p → (L : Layered) →
+    (S : ℕ → ℕ → ℕ) × (G : Parts) × (below : ℕ → ℕ → Bool) × (lower : ℕ → ℕ → Bool) × AreRightParts p L S G below lower
+
+-- and only one choice of canonical parts
 abbrev pub CanonicalPartsAreOne : Type 0
 CanonicalPartsAreOne =
-    (p : ℕ) → IsPrime p → (L : Layered) (F : Tableau) → HasTableau p L F → HasNoWalk p L F → (G H : Parts) → AreCanonical p L G → AreCanonical p L H →
+    (p : ℕ) → IsPrime p → (L : Layered) (G H : Parts) → AreCanonical p L G → AreCanonical p L H →
     (G.blocks ≡ H.blocks) × ((x : ℕ) → x < L.columns → G.column x ≡ H.column x)
 
 -- beside a tableau, parts keep the rules exactly where its pair is best and they are right

@@ -1,5 +1,5 @@
 //! Parts that keep the rules beside a tableau are the canonical parts, and their ideals the minimisers.
-ghost use Rattle.mixed_forms.specs.CanonicalLaws.{CheckedPartsAreCanonical, CheckedOrderIsCanonical, CheckedListsAreCanonical, IdealsAreTheMinimisers, CanonicalPartsAreOne, RulesAreKeptByRightParts};
+ghost use Rattle.mixed_forms.specs.CanonicalLaws.{CheckedPartsAreCanonical, CheckedOrderIsCanonical, CheckedListsAreCanonical, IdealsAreTheMinimisers, EachLayeredMatrixHasACanonicalForm, CanonicalPartsAreOne, RulesAreKeptByRightParts};
 
 /// Parts that keep the rules are the canonical parts.
 pub fn checked_parts_are_canonical()
@@ -19,6 +19,11 @@ pub fn checked_lists_are_canonical()
 /// A column set is a minimiser exactly where it is an ideal of the blocks.
 pub fn ideals_are_the_minimisers()
     ensures { IdealsAreTheMinimisers }
+{}
+
+/// Every layered matrix has its canonical form.
+pub fn each_layered_matrix_has_a_canonical_form()
+    ensures { EachLayeredMatrixHasACanonicalForm }
 {}
 
 /// There is only one choice of canonical parts.

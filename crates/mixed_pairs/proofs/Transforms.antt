@@ -1,5 +1,5 @@
 -- Row operations are a product with an invertible S: pivots on Q with the identity matrix beside it leave S in place of the identity.
-use Rattle.std.proofs.Common.{◌≡◌, ◌+◌, ◌-◌, ◌*◌, ◌%◌, ◌<◌, ◌≤◌, ◌&&◌, ◌∙◌, zero-add, ℕ, zero, Bool, true, false, cond, ltb, refl, ap, sym, subst, arith}
+use Rattle.std.proofs.Common.{◌≡◌, ◌+◌, ◌-◌, ◌*◌, ◌%◌, ◌<◌, ◌≤◌, ◌&&◌, ◌∙◌, zero-add, ℕ, Bool, true, false, cond, ltb, refl, ap, sym, subst, arith}
 use Rattle.std.proofs.lemmas.Bool.Decides.{nat_tests}
 use Rattle.residue_theory.proofs.CountLaws.{size-everything, sum_on-join}
 use Rattle.residue_theory.proofs.ResidueLaws.{agree_of, lacks, vanishes-rest, vanishes-sum}
@@ -63,8 +63,10 @@ module _ (n : ℕ) (c d : ℕ → ℕ) where
   -- what they combine to in a matrix with n + m columns
   joined-sum : (m : ℕ) (f : ℕ → ℕ) → sum_below (n + m) (λ j. joined n c d j * f j) ≡ sum_below n (λ j. c j * f j) + sum_below m (λ t. d t * f (n + t))
   joined-sum m f = sum_on-join everything n m (λ j. joined n c d j * f j)
-      ∙ ap (λ s. s + sum_below m (λ t. joined n c d (n + t) * f (n + t))) (sum_on-ext everything n (λ j. joined n c d j * f j) (λ j. c j * f j) (λ j jl _. ap (λ x. x * f j) (joined-first j jl)))
-      ∙ ap (λ s. sum_below n (λ j. c j * f j) + s) (sum_on-ext everything m (λ t. joined n c d (n + t) * f (n + t)) (λ t. d t * f (n + t)) (λ t _ _. ap (λ x. x * f (n + t)) (joined-later t)))
+      ∙ ap (λ s. s + sum_below m (λ t. joined n c d (n + t) * f (n + t)))
+      (sum_on-ext everything n (λ j. joined n c d j * f j) (λ j. c j * f j) (λ j jl _. ap (λ x. x * f j) (joined-first j jl)))
+      ∙ ap (λ s. sum_below n (λ j. c j * f j) + s) (sum_on-ext everything m (λ t. joined n c d (n + t) * f (n + t)) (λ t. d t * f (n + t))
+      (λ t _ _. ap (λ x. x * f (n + t)) (joined-later t)))
 
 -- the sum with the unit column of i
 sum-unit : (k i : ℕ) (f : ℕ → ℕ) → i < k → sum_below k (λ t. f t * identity i t) ≡ f i
@@ -89,7 +91,8 @@ module _ (p : ℕ) (prime : IsPrime p) (m n : ℕ) (a : ℕ → ℕ → ℕ) (I 
       beyond s t h = let l : n + t < n = below (n + t) n (both-second s (ltb (n + t) n) h) in omega arith
 
       kept : (i : ℕ) → i < m → sum_on I n (λ j. c j * a i j) % p ≡ 0
-      kept i il = ap (λ s. s % p) (sym (sum_on-same early I n (λ j. c j * beside n a i j) (λ j jl. here (I j) j jl) ∙ sum_on-ext I n (λ j. c j * beside n a i j) (λ j. c j * a i j) (λ j jl _. ap (λ x. c j * x) (beside-first n a i j jl))))
+      kept i il = ap (λ s. s % p) (sym (sum_on-same early I n (λ j. c j * beside n a i j) (λ j jl. here (I j) j jl) ∙ sum_on-ext I n (λ j. c j * beside n a i j)
+          (λ j. c j * a i j) (λ j jl _. ap (λ x. c j * x) (beside-first n a i j jl))))
           ∙ vanishes-rest p (sum_on (λ t. early (n + t)) m (λ t. c (n + t) * beside n a i (n + t))) (sum_on early n (λ j. c j * beside n a i j))
           (ap (λ s. s % p) (omega arith) ∙ ap (λ s. s % p) (sym (sum_on-join early n m (λ j. c j * beside n a i j))) ∙ z i il)
           (vanishes-sum p (λ t. early (n + t)) m (λ t. c (n + t) * beside n a i (n + t)) (λ t _ h. absurd (beyond (I (n + t)) t h)))
@@ -103,13 +106,11 @@ module _ (p : ℕ) (prime : IsPrime p) (m n : ℕ) (a : ℕ → ℕ → ℕ) (W 
   pub left-product : Agree p m n W (product m left_matrix a)
   left-product i j il jl = agree_of p (W i j) ((p - 1) * product m left_matrix a i j) (product m left_matrix a i j) combined (lacks p prime (product m left_matrix a i j))
     where
-      d : ℕ → ℕ
-      d t = (p - 1) * a t j
-
       in_identity : CombinesToZero p (beside n a) m (n + m) everything (joined n (λ x. identity j x) (λ t. (p - 1) * a t j))
       in_identity k kl = ap (λ s. s % p) (joined-sum n (λ x. identity j x) (λ t. (p - 1) * a t j) m (λ x. beside n a k x)
           ∙ ap (λ s. s + sum_below m (λ t. (p - 1) * a t j * beside n a k (n + t))) (sum-identity n j (λ x. beside n a k x) jl ∙ beside-first n a k j jl)
-          ∙ ap (λ s. a k j + s) (sum_on-ext everything m (λ t. (p - 1) * a t j * beside n a k (n + t)) (λ t. (p - 1) * a t j * identity k t) (λ t _ _. ap (λ x. (p - 1) * a t j * x) (beside-later n a k t))
+          ∙ ap (λ s. a k j + s) (sum_on-ext everything m (λ t. (p - 1) * a t j * beside n a k (n + t)) (λ t. (p - 1) * a t j * identity k t)
+          (λ t _ _. ap (λ x. (p - 1) * a t j * x) (beside-later n a k t))
           ∙ sum-unit m k (λ t. (p - 1) * a t j) kl)) ∙ lacks p prime (a k j)
 
       combined : (W i j + (p - 1) * product m left_matrix a i j) % p ≡ 0
@@ -130,7 +131,8 @@ module _ (p : ℕ) (prime : IsPrime p) (m n : ℕ) (a : ℕ → ℕ → ℕ) (W 
       none f = sum_on-ext everything n (λ j. 0 * f j) (λ _. 0) (λ j _ _. omega arith) ∙ sum_on-none everything n
 
       in_left : CombinesToZero p W m (n + m) everything (joined n (λ _. 0) c)
-      in_left i il = ap (λ s. s % p) (joined-sum n (λ _. 0) c m (λ x. W i x) ∙ ap (λ s. s + sum_below m (λ t. c t * W i (n + t))) (none (λ j. W i j)) ∙ zero-add (sum_below m (λ t. c t * W i (n + t)))) ∙ z i il
+      in_left i il = ap (λ s. s % p) (joined-sum n (λ _. 0) c m (λ x. W i x) ∙ ap (λ s. s + sum_below m (λ t. c t * W i (n + t))) (none (λ j. W i j)) ∙ zero-add
+          (sum_below m (λ t. c t * W i (n + t)))) ∙ z i il
 
       value : (i : ℕ) → i < m → sum_below (n + m) (λ j. joined n (λ _. 0) c j * beside n a i j) ≡ c i
       value i il = joined-sum n (λ _. 0) c m (λ x. beside n a i x) ∙ ap (λ s. s + sum_below m (λ t. c t * beside n a i (n + t))) (none (λ j. beside n a i j))
@@ -153,7 +155,11 @@ module _ (p : ℕ) (prime : IsPrime p) (m n : ℕ) (a : ℕ → ℕ → ℕ) (W 
   left-inverse = go (choose m (ℕ → ℕ) (λ _. 0) (λ e c. (i : ℕ) → i < m → sum_below m (λ t. c t * left_matrix i t) % p ≡ identity i e % p) unit)
     where
       go : (f : ℕ → ℕ → ℕ) × ((e : ℕ) → e < m → (i : ℕ) → i < m → sum_below m (λ t. f e t * left_matrix i t) % p ≡ identity i e % p) → (U : ℕ → ℕ → ℕ) × IsInverse p m left_matrix U
-      go (f, ok) = ((λ t e. f e t), λ i e il el. ap (λ s. s % p) (sum_on-ext everything m (λ t. left_matrix i t * f e t) (λ t. f e t * left_matrix i t) (λ t _ _. omega arith)) ∙ ok e el i il)
+      go (f, ok) = (
+        (λ t e. f e t),
+        λ i e il el. ap (λ s. s % p)
+            (sum_on-ext everything m (λ t. left_matrix i t * f e t) (λ t. f e t * left_matrix i t) (λ t _ _. omega arith)) ∙ ok e el i il,
+      )
 
 -- ---- a tableau for each independent set
 pub record Transformed (p m n : ℕ) (a : ℕ → ℕ → ℕ) (I : ℕ → Bool) : Type 0 where
