@@ -37,8 +37,7 @@ module _ (p : ℕ) (prime : IsPrime p) (L : Layered) (F : Tableau) (tab : HasTab
       lower = lower_blocks;
       first = λ x xl q. holds-first p prime L F tab G below lower K X least x xl q;
       block = of_block;
-      last =
-          λ x xl q. holds-no_last p prime L F tab G below lower K X least x xl q;
+      last = λ x xl q. holds-no_last p prime L F tab G below lower K X least x xl q;
     },
   )
     where

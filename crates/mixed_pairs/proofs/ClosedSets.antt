@@ -29,8 +29,7 @@ module _ (p : ℕ) (prime : IsPrime p) (L : Layered) (F : Tableau) (tab : HasTab
   closed-fits C = record {
     free = λ x l a b. C.holds_starts x l (free-holds F x a b);
     q = λ x i xl xh il ne. q_row x i xl xh il ne (has_base L F i) refl;
-    t =
-        λ x i xl xh il s. t_row x i xl xh il s (has_match L F i) refl;
+    t = λ x i xl xh il s. t_row x i xl xh il s (has_match L F i) refl;
   }
     where
       q_row : (x i : ℕ) → x < L.columns → X x ≡ true → i < L.q_rows → F.P i x % p ≢ 0 → (v : Bool) → has_base L F i ≡ v → (b : ℕ) × (b < L.columns) ×
@@ -52,16 +51,17 @@ module _ (p : ℕ) (prime : IsPrime p) (L : Layered) (F : Tableau) (tab : HasTab
   pub fits-closed : Fits p L F X → IsClosedIn p L F X
   fits-closed fits = record {
     holds_starts = λ x l h. let f : (F.base x ≡ false) × (F.matched x ≡ false) = free-tells F x h in fits.free x l f.0 f.1;
-    no_end =
-        λ x xl xh h. no_end x xl xh (end-tells p L F x h);
+    no_end = λ x xl xh h. no_end x xl xh (end-tells p L F x h);
     follows = λ x y xl yl xh h. follows x y xl yl xh (leads-tells p L F x y h);
   }
     where
       no_end : (x : ℕ) → x < L.columns → X x ≡ true → EndsInQ p L F x ⊎ EndsInT p L F x → ⊥
-      no_end x xl xh (inl (i, il, ne, none)) = let f : (b : ℕ) × (b < L.columns) × (both F.base X b ≡ true) ×
-          (F.row b ≡ i) = fits.q x i xl xh il ne in no_base L F i none f.0 f.1 (both-first (F.base f.0) (X f.0) f.2) f.3
-      no_end x xl xh (inr (i, il, s, none)) = let f : (y : ℕ) × (y < L.columns) × (both F.matched X y ≡ true) ×
-          (F.mate y ≡ i) = fits.t x i xl xh il s in no_match L F i none f.0 f.1 (both-first (F.matched f.0) (X f.0) f.2) f.3
+      no_end x xl xh (inl (i, il, ne, none)) =
+          let f : (b : ℕ) × (b < L.columns) × (both F.base X b ≡ true) × (F.row b ≡ i) = fits.q x i xl xh il ne in
+          no_base L F i none f.0 f.1 (both-first (F.base f.0) (X f.0) f.2) f.3
+      no_end x xl xh (inr (i, il, s, none)) =
+          let f : (y : ℕ) × (y < L.columns) × (both F.matched X y ≡ true) × (F.mate y ≡ i) = fits.t x i xl xh il s in
+          no_match L F i none f.0 f.1 (both-first (F.matched f.0) (X f.0) f.2) f.3
 
       follows : (x y : ℕ) → x < L.columns → y < L.columns → X x ≡ true → LeadsInQ p L F x y ⊎ LeadsInT p L F x y → X y ≡ true
       follows x y xl yl xh (inl (b, ne)) = let f : (c : ℕ) × (c < L.columns) × (both F.base X c ≡ true) × (F.row c ≡ F.row y) = fits.q x (F.row y) xl xh (tab.base.row_below y yl b) ne in

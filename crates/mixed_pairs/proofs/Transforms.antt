@@ -131,8 +131,8 @@ module _ (p : ℕ) (prime : IsPrime p) (m n : ℕ) (a : ℕ → ℕ → ℕ) (W 
       none f = sum_on-ext everything n (λ j. 0 * f j) (λ _. 0) (λ j _ _. omega arith) ∙ sum_on-none everything n
 
       in_left : CombinesToZero p W m (n + m) everything (joined n (λ _. 0) c)
-      in_left i il = ap (λ s. s % p) (joined-sum n (λ _. 0) c m (λ x. W i x) ∙ ap (λ s. s + sum_below m (λ t. c t * W i (n + t))) (none (λ j. W i j)) ∙ zero-add
-          (sum_below m (λ t. c t * W i (n + t)))) ∙ z i il
+      in_left i il = ap (λ s. s % p) (joined-sum n (λ _. 0) c m (λ x. W i x) ∙ ap (λ s. s + sum_below m (λ t. c t * W i (n + t))) (none (λ j. W i j))
+          ∙ zero-add (sum_below m (λ t. c t * W i (n + t)))) ∙ z i il
 
       value : (i : ℕ) → i < m → sum_below (n + m) (λ j. joined n (λ _. 0) c j * beside n a i j) ≡ c i
       value i il = joined-sum n (λ _. 0) c m (λ x. beside n a i x) ∙ ap (λ s. s + sum_below m (λ t. c t * beside n a i (n + t))) (none (λ j. beside n a i j))
