@@ -1,0 +1,16 @@
+pub mod CheckedParts
+pub mod Canonical
+pub mod IdealLaws
+pub mod CheckedForms
+pub mod DiagonalRanks
+pub mod FirstParts
+pub mod Finest
+pub mod OneListing
+pub mod RowSizes
+pub mod RightRows
+pub mod RightParts
+pub mod FormExists
+pub mod CanonicalForm
+pub mod ExampleFacts
+pub mod LooseExample
+pub mod StackedExample

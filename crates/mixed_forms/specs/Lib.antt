@@ -1,0 +1,3 @@
+pub mod FormLaws
+pub mod CanonicalLaws
+pub mod FinestLaws

@@ -1,0 +1,13 @@
+pub mod Models
+pub mod LayeredMatrices
+pub mod StructuralRanks
+pub mod Removals
+pub mod Layerings
+pub mod SetFunctions
+pub mod Pairs
+pub mod Tableaus
+pub mod Arcs
+pub mod Forms
+pub mod CanonicalParts
+pub mod CheckerRules
+pub mod Examples

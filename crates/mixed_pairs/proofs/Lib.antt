@@ -1,0 +1,15 @@
+pub mod ArcFacts
+pub mod PairBounds
+pub mod ClosedSets
+pub mod Minimisers
+pub mod PairRank
+pub mod DroppedSymbols
+pub mod BestPairs
+pub mod GreatestRanks
+pub mod RemovedRows
+pub mod MinMax
+pub mod SameEntries
+pub mod PivotedBases
+pub mod Transforms
+pub mod ExampleFacts
+pub mod TableauParts

@@ -1,0 +1,4 @@
+pub mod PairLaws
+pub mod MinimiserLaws
+pub mod StructuralRankLaws
+pub mod PartLaws
