@@ -6,7 +6,7 @@ use Rattle.closed_sets.specs.Blocks.{IsListing, IsBelow}
 use Rattle.closed_sets.specs.Orders.{IsOrder, IsCover}
 use Rattle.closed_sets.specs.Rules.{InBlock, KeepsRules}
 use Rattle.residue_theory.proofs.SumLaws.{nat_cases}
-use Rattle.closed_sets.proofs.SetLaws.{differ}
+use Rattle.residue_theory.proofs.SetLaws.{differ}
 use Rattle.closed_sets.proofs.WalkLaws.{reaches-self, reaches-arc, reaches-join, reaches-to, from-arc}
 use Rattle.closed_sets.proofs.Covers.{below-chain}
 

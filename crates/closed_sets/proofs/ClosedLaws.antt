@@ -3,7 +3,8 @@ use Rattle.std.proofs.Common.{◌≡◌, ℕ, ◌<◌, Bool, true, false, ◌⊎
 use Rattle.residue_theory.specs.Sets.{with_one}
 use Rattle.closed_sets.specs.Walks.{Reaches, FromSome, ToSome, Mutual}
 use Rattle.closed_sets.specs.Closed.{IsClosed, NoEndReached, IsReachedSet, IsMiddle}
-use Rattle.closed_sets.proofs.SetLaws.{with_one-member, with_one-new, with_one-split}
+use Rattle.residue_theory.proofs.SetLaws.{with_one-member, with_one-new}
+use Rattle.closed_sets.proofs.SetLaws.{with_one-split}
 use Rattle.closed_sets.proofs.WalkLaws.{follows-reaches, reaches-self, from-arc}
 use Rattle.closed_sets.proofs.Hulls.{reached, reached-set, reached-follows, reached-holds, follows-from, to_or_not}
 

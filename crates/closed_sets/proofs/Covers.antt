@@ -3,7 +3,8 @@ use Rattle.std.proofs.Common.{◌≡◌, ℕ, zero, suc, ◌<◌, Bool, true, fa
 use Rattle.residue_theory.specs.Sums.{size_on}
 use Rattle.closed_sets.specs.Walks.{Walk, Reaches, ReachesOn}
 use Rattle.closed_sets.specs.Orders.{IsOrder, IsCover}
-use Rattle.closed_sets.proofs.SetLaws.{differ, search_below, size_on-less, and-both, and-make, and-not}
+use Rattle.residue_theory.proofs.SetLaws.{both-refused, both_true, differ, first_on}
+use Rattle.closed_sets.proofs.SetLaws.{size_on-less, and-both}
 use Rattle.closed_sets.proofs.WalkLaws.{walk-join}
 
 module _ (below : ℕ → ℕ → Bool) (b : ℕ) (O : IsOrder below b) (covers : ℕ → ℕ → Bool) (C : IsCover below b covers) where
@@ -20,8 +21,8 @@ module _ (below : ℕ → ℕ → Bool) (b : ℕ) (O : IsOrder below b) (covers 
   low_between : (k m l : ℕ) → k < b → m < b → l < b → below k m ≡ true → below m l ≡ true → size_on (between k m) b < size_on (between k l) b
   unfolding between
   low_between k m l kb mb lb km ml = size_on-less (λ v. below k v && below v l) (λ v. below k v && below v m) b m
-      (λ v vb h. let p = and-both (below k v) (below v m) h in and-make (below k v) (below v l) p.0 (O.transitive v m l vb mb lb p.1 ml))
-      mb (and-make (below k m) (below m l) km ml) (never (below k m && below m m) refl)
+      (λ v vb h. let p = and-both (below k v) (below v m) h in both_true (below k v) (below v l) p.0 (O.transitive v m l vb mb lb p.1 ml))
+      mb (both_true (below k m) (below m l) km ml) (never (below k m && below m m) refl)
     where
       never : (v : Bool) → (below k m && below m m) ≡ v → (below k m && below m m) ≡ false
       never true e = absurd (O.irreflexive m mb (and-both (below k m) (below m m) e).1)
@@ -30,8 +31,8 @@ module _ (below : ℕ → ℕ → Bool) (b : ℕ) (O : IsOrder below b) (covers 
   high_between : (k m l : ℕ) → k < b → m < b → l < b → below k m ≡ true → below m l ≡ true → size_on (between m l) b < size_on (between k l) b
   unfolding between
   high_between k m l kb mb lb km ml = size_on-less (λ v. below k v && below v l) (λ v. below m v && below v l) b m
-      (λ v vb h. let p = and-both (below m v) (below v l) h in and-make (below k v) (below v l) (O.transitive k m v kb mb vb km p.0) p.1)
-      mb (and-make (below k m) (below m l) km ml) (never (below m m && below m l) refl)
+      (λ v vb h. let p = and-both (below m v) (below v l) h in both_true (below k v) (below v l) (O.transitive k m v kb mb vb km p.0) p.1)
+      mb (both_true (below k m) (below m l) km ml) (never (below m m && below m l) refl)
     where
       never : (v : Bool) → (below m m && below m l) ≡ v → (below m m && below m l) ≡ false
       never true e = absurd (O.irreflexive m mb (and-both (below m m) (below m l) e).0)
@@ -39,12 +40,12 @@ module _ (below : ℕ → ℕ → Bool) (b : ℕ) (O : IsOrder below b) (covers 
 
   -- a number between k and l, or none
   some_between : (k l : ℕ) → ((m : ℕ) × (m < b) × (below k m ≡ true) × (below m l ≡ true)) ⊎ ((m : ℕ) → m < b → below k m ≡ true → below m l ≡ true → ⊥)
-  some_between k l = go (search_below (λ m. below k m && below m l) b)
+  some_between k l = go (first_on (λ m. below k m && below m l) b)
     where
       go : ((m : ℕ) × (m < b) × ((below k m && below m l) ≡ true)) ⊎ ((m : ℕ) → m < b → (below k m && below m l) ≡ false) →
           ((m : ℕ) × (m < b) × (below k m ≡ true) × (below m l ≡ true)) ⊎ ((m : ℕ) → m < b → below k m ≡ true → below m l ≡ true → ⊥)
       go (inl (m, l', h)) = let p = and-both (below k m) (below m l) h in inl (m, l', p.0, p.1)
-      go (inr none) = inr (λ m mb km ml. differ (and-not (below k m) (below m l) (none m mb) km) ml)
+      go (inr none) = inr (λ m mb km ml. differ (both-refused (below k m) (below m l) (none m mb) km) ml)
 
   chain : (fuel k l : ℕ) → k < b → l < b → below k l ≡ true → size_on (between k l) b < fuel → ReachesOn covers b l k
   chain zero k l kb lb h less = absurd (omega arith)

@@ -6,7 +6,7 @@ use Rattle.closed_sets.specs.Walks.{Reaches, Mutual}
 use Rattle.closed_sets.specs.Closed.{IsClosed, IsMiddle}
 use Rattle.closed_sets.specs.Blocks.{IsListing}
 use Rattle.closed_sets.specs.Examples.{example_arc, example_pair, example_block}
-use Rattle.closed_sets.proofs.SetLaws.{lt_cases}
+use Rattle.residue_theory.proofs.SetLaws.{lt_cases}
 use Rattle.closed_sets.proofs.WalkLaws.{follows-reaches, reaches-self}
 
 pair-follows : (x y : ℕ) → x < 3 → y < 3 → example_pair x ≡ true → example_arc x y ≡ true → example_pair y ≡ true

@@ -1,13 +1,13 @@
 -- What is reached from a set is a set: a test, found by adding one place at a time.
-use Rattle.std.proofs.Common.{◌≡◌, ℕ, zero, suc, ◌+◌, ◌<◌, ◌≤◌, Bool, true, false, ◌⊎◌, inl, inr, sym, subst, ◌&&◌, not, eqb, arith}
+use Rattle.std.proofs.Common.{◌≡◌, ℕ, zero, suc, ◌+◌, ◌<◌, ◌≤◌, Bool, true, false, ◌⊎◌, inl, inr, refl, sym, subst, ◌&&◌, not, eqb, arith}
 use Rattle.residue_theory.specs.Sets.{with_one, IsWithin}
 use Rattle.residue_theory.specs.Sums.{size_on}
 use Rattle.closed_sets.specs.Walks.{Reaches, FromSome, ToSome}
 use Rattle.closed_sets.specs.Closed.{Follows, IsReachedSet, IsMiddle}
 use Rattle.residue_theory.proofs.SumLaws.{nat_cases}
-use Rattle.closed_sets.proofs.SetLaws.{differ, test_cases, search_below, size_on-bound, size_on-less, with_one-member, with_one-new, with_one-split, and-both, and-not, not-true, not-false}
+use Rattle.residue_theory.proofs.SetLaws.{both-refused, differ, eqb_from, eqb_true, first_on, with_one-member, with_one-new}
+use Rattle.closed_sets.proofs.SetLaws.{test_cases, size_on-bound, size_on-less, with_one-split, and-both, not-true, not-false}
 use Rattle.closed_sets.proofs.WalkLaws.{reaches-self, follows-reaches, from-arc}
-use Rattle.std.proofs.lemmas.Bool.Decides.{nat_tests}
 
 -- a set that holds S, of places that are reached from S
 pub record Part (arc : ℕ → ℕ → Bool) (n : ℕ) (S X : ℕ → Bool) : Type 0 where
@@ -32,7 +32,7 @@ pub record LeadsOut (arc : ℕ → ℕ → Bool) (n : ℕ) (X : ℕ → Bool) : 
 pub out_or_follows : (arc : ℕ → ℕ → Bool) (n : ℕ) (X : ℕ → Bool) (k : ℕ) → k ≤ n →
     LeadsOut arc n X ⊎ ((x y : ℕ) → x < k → y < n → X x ≡ true → arc x y ≡ true → X y ≡ true)
 out_or_follows arc n X zero le = inr (λ x y l. absurd (omega arith))
-out_or_follows arc n X (suc k) le = go (search_below (λ y. X k && (arc k y && not (X y))) n) (out_or_follows arc n X k (omega arith))
+out_or_follows arc n X (suc k) le = go (first_on (λ y. X k && (arc k y && not (X y))) n) (out_or_follows arc n X k (omega arith))
   where
     go : ((y : ℕ) × (y < n) × ((X k && (arc k y && not (X y))) ≡ true)) ⊎ ((y : ℕ) → y < n → (X k && (arc k y && not (X y))) ≡ false) →
         LeadsOut arc n X ⊎ ((x y : ℕ) → x < k → y < n → X x ≡ true → arc x y ≡ true → X y ≡ true) →
@@ -43,7 +43,7 @@ out_or_follows arc n X (suc k) le = go (search_below (λ y. X k && (arc k y && n
         inl (record { from = k; to = y; from_below = omega arith; to_below = l; inside = outer.0; along = inner.0; outside = not-true (X y) inner.1 })
     go (inr none) (inl out) = inl out
     go (inr none) (inr before) = inr (λ x y xl yl xh ah. elim (nat_cases x k) [
-      | inl q ↦ not-false (X y) (and-not (arc k y) (not (X y)) (and-not (X k) (arc k y && not (X y)) (none y yl) (subst (λ w. X w ≡ true) q xh)) (subst (λ w. arc w y ≡ true) q ah))
+      | inl q ↦ not-false (X y) (both-refused (arc k y) (not (X y)) (both-refused (X k) (arc k y && not (X y)) (none y yl) (subst (λ w. X w ≡ true) q xh)) (subst (λ w. arc w y ≡ true) q ah))
       | inr ne ↦ before x y (omega arith) yl xh ah
     ])
 
@@ -95,12 +95,6 @@ from_or_not arc n S y l = elim (test_cases (reached arc n S y)) [
   | inr f ↦ inr (λ r. differ f ((reached-set arc n S y l).1 r))
 ]
 
-pub eqb-self : (x : ℕ) → eqb x x ≡ true
-eqb-self x = grind (arith, nat_tests)
-
-pub eqb-same : (x y : ℕ) → eqb x y ≡ true → x ≡ y
-eqb-same x y h = grind (arith, nat_tests)
-
 -- the test 'y is x or is reached from it'
 pub reaches : (ℕ → ℕ → Bool) → ℕ → ℕ → ℕ → Bool
 reaches arc n x y = reached arc n (eqb x) y
@@ -110,11 +104,11 @@ unfolding reaches
 reaches-tells arc n x y l h = go ((reached-set arc n (eqb x) y l).0 h)
   where
     go : FromSome arc n (eqb x) y → Reaches arc n x y
-    go (s, sl, e, r) = subst (λ w. Reaches arc n w y) (sym (eqb-same x s e)) r
+    go (s, sl, e, r) = subst (λ w. Reaches arc n w y) (sym (eqb_true x s e)) r
 
 pub reaches-make : (arc : ℕ → ℕ → Bool) (n x y : ℕ) → x < n → y < n → Reaches arc n x y → reaches arc n x y ≡ true
 unfolding reaches
-reaches-make arc n x y xl yl r = (reached-set arc n (eqb x) y yl).1 (x, xl, eqb-self x, r)
+reaches-make arc n x y xl yl r = (reached-set arc n (eqb x) y yl).1 (x, xl, eqb_from x x refl, r)
 
 pub reaches_or_not : (arc : ℕ → ℕ → Bool) (n x y : ℕ) → x < n → y < n → Reaches arc n x y ⊎ (Reaches arc n x y → ⊥)
 reaches_or_not arc n x y xl yl = elim (test_cases (reaches arc n x y)) [
@@ -123,11 +117,11 @@ reaches_or_not arc n x y xl yl = elim (test_cases (reaches arc n x y)) [
 ]
 
 pub to_or_not : (arc : ℕ → ℕ → Bool) (n : ℕ) (E : ℕ → Bool) (x : ℕ) → x < n → ToSome arc n E x ⊎ (ToSome arc n E x → ⊥)
-to_or_not arc n E x xl = go (search_below (λ e. E e && reaches arc n x e) n)
+to_or_not arc n E x xl = go (first_on (λ e. E e && reaches arc n x e) n)
   where
     go : ((e : ℕ) × (e < n) × ((E e && reaches arc n x e) ≡ true)) ⊎ ((e : ℕ) → e < n → (E e && reaches arc n x e) ≡ false) → ToSome arc n E x ⊎ (ToSome arc n E x → ⊥)
     go (inl (e, l, h)) = let b = and-both (E e) (reaches arc n x e) h in inl (e, l, b.0, reaches-tells arc n x e l b.1)
-    go (inr none) = inr (λ (e, l, h, r). differ (and-not (E e) (reaches arc n x e) (none e l) h) (reaches-make arc n x e xl l r))
+    go (inr none) = inr (λ (e, l, h, r). differ (both-refused (E e) (reaches arc n x e) (none e l) h) (reaches-make arc n x e xl l r))
 
 pub middle_or_not : (arc : ℕ → ℕ → Bool) (n : ℕ) (starts ends : ℕ → Bool) (x : ℕ) → x < n → IsMiddle arc n starts ends x ⊎ (IsMiddle arc n starts ends x → ⊥)
 middle_or_not arc n starts ends x l = go (from_or_not arc n starts x l) (to_or_not arc n ends x l)

@@ -4,7 +4,7 @@ use Rattle.closed_sets.specs.Walks.{Reaches}
 use Rattle.closed_sets.specs.Closed.{IsMiddle}
 use Rattle.closed_sets.specs.Blocks.{IsListing}
 use Rattle.residue_theory.proofs.SumLaws.{nat_cases}
-use Rattle.closed_sets.proofs.SetLaws.{lt_cases}
+use Rattle.residue_theory.proofs.SetLaws.{lt_cases}
 
 module _ (arc : ℕ → ℕ → Bool) (n : ℕ) (starts ends : ℕ → Bool) where
   abbrev Middle : ℕ → Type 0

@@ -5,7 +5,8 @@ use Rattle.closed_sets.specs.Walks.{Reaches, Mutual}
 use Rattle.closed_sets.specs.Closed.{IsMiddle}
 use Rattle.closed_sets.specs.Blocks.{IsListing}
 use Rattle.residue_theory.proofs.SumLaws.{nat_cases}
-use Rattle.closed_sets.proofs.SetLaws.{differ, lt_cases, test_cases, some_of, least_of, size_on-bound, size_on-less, and-both, and-make}
+use Rattle.residue_theory.proofs.SetLaws.{both_true, differ, lt_cases, search_below}
+use Rattle.closed_sets.proofs.SetLaws.{test_cases, least_of, size_on-bound, size_on-less, and-both}
 use Rattle.closed_sets.proofs.WalkLaws.{reaches-self, reaches-join, mutual-sym, mutual-join, from-reaches, reaches-to}
 use Rattle.closed_sets.proofs.Hulls.{reaches, reaches-tells, reaches-make, reaches_or_not, middle_or_not}
 
@@ -46,7 +47,7 @@ module _ (arc : ℕ → ℕ → Bool) (n : ℕ) (starts ends : ℕ → Bool) whe
       go (inl m) (inl r) (inr b) (inl w) = inr (λ l. differ l.waiting w)
 
   ready_or_lower : (placed : ℕ → Bool) (x : ℕ) → IsMiddle arc n starts ends x → placed x ≡ false → IsReady placed x ⊎ ((y : ℕ) × (y < n) × IsLower placed x y)
-  ready_or_lower placed x m w = elim (some_of (IsLower placed x) n (λ y yl. lower_or_not placed x y m.0 yl)) [
+  ready_or_lower placed x m w = elim (search_below n (IsLower placed x) (λ y yl. lower_or_not placed x y m.0 yl)) [
     | inl found ↦ inr found
     | inr none ↦ inl (record { middle = m; waiting = w; none_lower = none })
   ]
@@ -88,7 +89,7 @@ module _ (arc : ℕ → ℕ → Bool) (n : ℕ) (starts ends : ℕ → Bool) whe
 
   in_block-make : (r y : ℕ) → r < n → y < n → Mutual arc n r y → in_block r y ≡ true
   unfolding in_block
-  in_block-make r y rl yl m = and-make (reaches arc n r y) (reaches arc n y r) (reaches-make arc n r y rl yl m.0) (reaches-make arc n y r yl rl m.1)
+  in_block-make r y rl yl m = both_true (reaches arc n r y) (reaches arc n y r) (reaches-make arc n r y rl yl m.0) (reaches-make arc n y r yl rl m.1)
 
   pub placed_with : (ℕ → Bool) → ℕ → ℕ → Bool
   placed_with placed r y = placed y || in_block r y
@@ -264,7 +265,7 @@ module _ (arc : ℕ → ℕ → Bool) (n : ℕ) (starts ends : ℕ → Bool) whe
       found (z, zx, zl, p, e) = (z, zx, S.middle z zl p, e)
 
   pub waiting_or_all : (placed : ℕ → Bool) → ((x : ℕ) × (x < n) × IsMiddle arc n starts ends x × (placed x ≡ false)) ⊎ ((x : ℕ) → IsMiddle arc n starts ends x → placed x ≡ true)
-  waiting_or_all placed = go (some_of (λ x. IsMiddle arc n starts ends x × (placed x ≡ false)) n decide)
+  waiting_or_all placed = go (search_below n (λ x. IsMiddle arc n starts ends x × (placed x ≡ false)) decide)
     where
       decide : (x : ℕ) → x < n → (IsMiddle arc n starts ends x × (placed x ≡ false)) ⊎ (IsMiddle arc n starts ends x × (placed x ≡ false) → ⊥)
       decide x l = both (middle_or_not arc n starts ends x l) (test_cases (placed x))

@@ -5,7 +5,7 @@ use Rattle.residue_theory.proofs.SumLaws.{nat_cases, sum_on-same, size-none}
 use Rattle.closed_sets.specs.Walks.{Walk, FromSome}
 use Rattle.closed_sets.specs.Closed.{Follows, IsClosed, IsReachedSet}
 use Rattle.search_laws.specs.Searches.{IsShortest, State, IsLed, IsSearch, HasStarts, NoEndBefore, IsGrown, IsPut, IsTrace, IsLooking, IsStarting}
-use Rattle.closed_sets.proofs.SetLaws.{differ, lt_cases}
+use Rattle.residue_theory.proofs.SetLaws.{differ, lt_cases}
 use Rattle.closed_sets.proofs.Hulls.{follows-from}
 
 -- one member more

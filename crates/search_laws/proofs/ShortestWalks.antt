@@ -1,7 +1,7 @@
 -- Of a shortest walk.
 use Rattle.std.proofs.Common.{◌≡◌, ℕ, zero, suc, ◌+◌, ◌-◌, ◌<◌, ◌≤◌, Bool, true, ◌⊎◌, inl, inr, refl, sym, subst, arith}
 use Rattle.closed_sets.specs.Walks.{Walk}
-use Rattle.closed_sets.proofs.SetLaws.{lt_cases}
+use Rattle.residue_theory.proofs.SetLaws.{lt_cases}
 use Rattle.search_laws.specs.Searches.{IsShortest}
 
 module _ (arc : ℕ → ℕ → Bool) (n : ℕ) (starts ends : ℕ → Bool) (at : ℕ → ℕ) (k : ℕ) (W : IsShortest arc n starts ends at k) where
