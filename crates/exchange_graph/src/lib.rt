@@ -1,0 +1,15 @@
+//! Shortest walks over arcs that a caller tells, in memory that is taken once (Murota, chapter 4: the search for an
+//! augmenting path).
+#![tactic(auto)]
+
+mod arcs;
+mod memory;
+mod scan;
+mod search;
+mod steps;
+mod waiting;
+
+pub use arcs::Arcs;
+pub use memory::NoMemory;
+pub use search::Search;
+pub use steps::Steps;
