@@ -13,3 +13,6 @@ pub use arcs::Arcs;
 pub use memory::NoMemory;
 pub use search::Search;
 pub use steps::Steps;
+
+#[cfg(test)]
+mod tests;
