@@ -8,3 +8,6 @@ mod pattern;
 
 pub use memory::NoMemory;
 pub use pattern::Pattern;
+
+#[cfg(test)]
+mod tests;
