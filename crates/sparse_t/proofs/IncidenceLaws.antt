@@ -1,7 +1,8 @@
 -- One row more.
-use Rattle.std.proofs.Common.{◌≡◌, ℕ, ◌+◌, ◌<◌, Bool, true, false, ◌||◌, List, [], ◌∷◌, ◌++◌, nat_eq, refl, sym, ◌∙◌, ap, subst, inl, inr, arith, length-append}
+use Rattle.std.proofs.Common.{◌≡◌, ℕ, ◌+◌, ◌<◌, Bool, true, false, ◌||◌, List, [], ◌∷◌, ◌++◌, take, nat_eq, refl, sym, ◌∙◌, ap, subst, inl, inr, arith, length-append}
 use Rattle.std.proofs.Math.ListN.{get_or-append}
 use Rattle.std.proofs.Math.Seq.{get_or-append_seam}
+use Rattle.std.proofs.lemmas.List.{take_more}
 use Rattle.std.specs.List.Sorted.{IsStrictlyIncreasing}
 use Rattle.sparse_t.specs.Lists.{has, IsBelow}
 use Rattle.sparse_t.specs.Incidences.{Incidence, IsIncidence, AreRowsOf, height, row_at, with_last_row}
@@ -71,3 +72,7 @@ module _ (p : Incidence) (row : List ℕ) where
       go : (b : Bool) → has row j ≡ b → AreRowsOf (with_last_row p row) j now
       go true h = subst (λ ys. AreRowsOf (with_last_row p row) j ys) (sym (touched h)) (rows_of-touched j list A h)
       go false h = subst (λ ys. AreRowsOf (with_last_row p row) j ys) (sym (untouched h)) (rows_of-untouched j list A h)
+
+-- a copy takes the next row
+pub copied-next : (p q r : Incidence) (i : ℕ) (row : List ℕ) → q ≡ record p { rows = take i p.rows } → r ≡ with_last_row q row → row_at p i ≡ row → i < height p → r ≡ record p { rows = take (i + 1) p.rows }
+copied-next p q r i row e f g l = f ∙ (ap (λ m. with_last_row m row) e ∙ ap (λ (rs : List (List ℕ)). let m : Incidence = record p { rows = rs } in m) (ap (λ y. take i p.rows ++ y ∷ []) (sym g) ∙ sym (take_more p.rows i [] l)))

@@ -54,6 +54,17 @@ impl Pattern {
         Ok(())
     }
 
+    /// The same pattern once more.
+    pub fn copy(&self) -> Result<Pattern, NoMemory>
+        ensures { IfOk result (λ p. p ≡ self.now) }
+    {
+        let mut copy = Pattern::empty(*self.rows.allocator(), self.cols())?;
+        for row in &self.rows {
+            copy.push_row(row.as_slice())?;
+        }
+        Ok(copy)
+    }
+
     /// How many rows there are.
     pub fn rows(&self) -> usize
         ensures rows { result ≡ height self.now }

@@ -20,7 +20,7 @@ fn example(alloc: Global) -> Result<Pattern, NoMemory>
 
 #[test]
 fn tells_rows_and_columns(rt: HostRuntime) -> Result<(), Fail> {
-    let pattern = example(rt.alloc())?;
+    let pattern = example(rt.alloc())?.copy()?;
     assert_eq!(rt; (pattern.rows(), pattern.cols()), (4, 3));
     let rows: [&[u32]; 4] = [&[0, 1], &[], &[2], &[0, 1, 2]];
     for (i, row) in rows.iter().enumerate() {
