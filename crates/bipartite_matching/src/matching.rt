@@ -89,9 +89,8 @@ impl Match {
         ensures pair { (col : ℕ) → HasPair self.old row col → self.new ≡ without_column self.old col }
         ensures matching { IsMatching self.new }
     {
-        if let Some(col) = self.column_of[row] {
-            self.row_of[col] = None;
-        }
+        let col = self.column_of[row].unwrap();
         self.column_of[row] = None;
+        self.row_of[col] = None;
     }
 }

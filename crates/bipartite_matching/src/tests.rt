@@ -23,8 +23,16 @@ fn mates(found: &Match) -> ([Option<usize>; 3], [Option<usize>; 3])
     requires width { found.now.pattern.width ≡ 3 }
 {
     (
-        [found.mate_of_row(0), found.mate_of_row(1), found.mate_of_row(2)],
-        [found.mate_of_col(0), found.mate_of_col(1), found.mate_of_col(2)],
+        [
+            found.mate_of_row(0),
+            found.mate_of_row(1),
+            found.mate_of_row(2),
+        ],
+        [
+            found.mate_of_col(0),
+            found.mate_of_col(1),
+            found.mate_of_col(2),
+        ],
     )
 }
 
