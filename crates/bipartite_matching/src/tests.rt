@@ -1,16 +1,10 @@
-ghost use Rattle.std.specs.Prelude.{◌≡◌, IfOk};
-ghost use Rattle.sparse_t.specs.Incidences.{height};
-
 use super::*;
 use sparse_t::Pattern;
 use std::alloc::Global;
 use std::test::Fail;
 
 // Three rows over three columns: the first row touches columns 0 and 1, the second 1 and 2, the third none.
-fn example(alloc: Global) -> Result<Pattern, Fail>
-    ensures rows { IfOk result (λ p. height p ≡ 3) }
-    ensures width { IfOk result (λ p. p.width ≡ 3) }
-{
+fn example(alloc: Global) -> Result<Pattern, Fail> {
     let mut pattern = Pattern::empty(alloc, 3)?;
     pattern.push_row(&[0, 1])?;
     pattern.push_row(&[1, 2])?;
@@ -18,33 +12,88 @@ fn example(alloc: Global) -> Result<Pattern, Fail>
     Ok(pattern)
 }
 
-fn mates(found: &Match) -> ([Option<usize>; 3], [Option<usize>; 3])
-    requires rows { height found.now.pattern ≡ 3 }
-    requires width { found.now.pattern.width ≡ 3 }
-{
-    (
-        [
-            found.mate_of_row(0),
-            found.mate_of_row(1),
-            found.mate_of_row(2),
-        ],
-        [
-            found.mate_of_col(0),
-            found.mate_of_col(1),
-            found.mate_of_col(2),
-        ],
-    )
+fn mates_of_rows(found: &Match) -> [Option<usize>; 3] {
+    let rows = found.pattern().rows();
+    [0, 1, 2].map(|row| {
+        if row < rows {
+            found.mate_of_row(row)
+        } else {
+            None
+        }
+    })
 }
 
-fn touches(found: &Match, row: usize, col: usize) -> bool {
+fn mates_of_cols(found: &Match) -> [Option<usize>; 3] {
+    let cols = found.pattern().cols();
+    [0, 1, 2].map(|col| {
+        if col < cols {
+            found.mate_of_col(col)
+        } else {
+            None
+        }
+    })
+}
+
+// Links where that is allowed.
+fn link(found: &mut Match, row: usize, col: usize) -> bool {
     let pattern = found.pattern();
-    row < pattern.rows() && col < pattern.cols() && pattern.touches(row, col)
+    if row >= pattern.rows() || col >= pattern.cols() || !pattern.touches(row, col) {
+        return false;
+    }
+    match (found.mate_of_row(row), found.mate_of_col(col)) {
+        (None, None) => {
+            found.link(row, col);
+            true
+        }
+        _ => false,
+    }
+}
+
+// Parts a row where it is matched.
+fn unlink(found: &mut Match, row: usize) -> bool {
+    if row >= found.pattern().rows() {
+        return false;
+    }
+    match found.mate_of_row(row) {
+        Some(_) => {
+            found.unlink(row);
+            true
+        }
+        None => false,
+    }
+}
+
+#[derive(Drop)]
+enum Step {
+    Link(usize, usize),
+    Unlink(usize),
 }
 
 #[test]
-fn links_and_unlinks(rt: HostRuntime) -> Result<(), Fail> {
-    let pattern = example(rt.alloc())?;
-    let mut found = Match::open(rt.alloc(), &pattern)?;
-    assert_eq!(rt; mates(&found), ([None; 3], [None; 3]));
+fn links_and_parts(rt: HostRuntime) -> Result<(), Fail> {
+    let mut found = Match::open(rt.alloc(), &example(rt.alloc())?)?;
+    assert_eq!(rt; mates_of_rows(&found), [None, None, None]);
+    // a step, whether it is allowed, and the columns of the rows after it
+    let steps = [
+        (Step::Link(0, 0), true, [Some(0), None, None]),
+        (Step::Link(0, 1), false, [Some(0), None, None]),
+        (Step::Link(1, 0), false, [Some(0), None, None]),
+        (Step::Link(1, 1), true, [Some(0), Some(1), None]),
+        (Step::Unlink(2), false, [Some(0), Some(1), None]),
+        (Step::Unlink(0), true, [None, Some(1), None]),
+        (Step::Link(0, 1), false, [None, Some(1), None]),
+        (Step::Unlink(1), true, [None, None, None]),
+        (Step::Link(0, 1), true, [Some(1), None, None]),
+        (Step::Link(1, 2), true, [Some(1), Some(2), None]),
+    ];
+    for (step, allowed, rows) in &steps {
+        let done = match step {
+            Step::Link(row, col) => link(&mut found, *row, *col),
+            Step::Unlink(row) => unlink(&mut found, *row),
+        };
+        assert_eq!(rt; done, *allowed);
+        assert_eq!(rt; mates_of_rows(&found), *rows);
+    }
+    assert_eq!(rt; mates_of_cols(&found), [None, Some(0), Some(1)]);
     Ok(())
 }
