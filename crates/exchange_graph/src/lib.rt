@@ -1,5 +1,5 @@
-//! Shortest walks over arcs that a caller tells, in memory that is taken once (Murota, chapter 4: the search for an
-//! augmenting path).
+//! Shortest walks over arcs that a caller tells, in memory that is taken once (Murota, chapter 2: the search for an
+//! augmenting path in an exchange graph).
 #![tactic(auto)]
 
 mod arcs;

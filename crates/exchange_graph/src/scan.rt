@@ -126,6 +126,7 @@ impl Scan {
         ensures from_on { from ≤ result }
         ensures within { result ≤ places self.old }
         ensures none_before { (y : ℕ) → from ≤ y → y < result → members_of self.old.reached.items y ≡ true }
+        ensures waits { result < places self.old → members_of self.old.reached.items result ≡ false }
         ensures state { state_of self.new ≡ state_of self.old }
         ensures filled { self.new.filled ≡ self.old.filled }
         ensures stored { IsStored self.new }

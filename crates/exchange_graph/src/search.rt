@@ -1,6 +1,6 @@
-ghost use Rattle.std.specs.Prelude.{◌≡◌, ℕ, ◌+◌, ◌<◌, ◌≤◌, Bool, length, IfOk, IfSome, IfNone};
+ghost use Rattle.std.specs.Prelude.{◌≡◌, ℕ, ◌+◌, ◌<◌, ◌≤◌, ◌↔◌, Bool, length, IfOk, IfSome, IfNone, IsNone};
 ghost use Rattle.residue_theory.specs.Sums.{size_on};
-ghost use Rattle.closed_sets.specs.Closed.{IsClosed, IsReachedSet};
+ghost use Rattle.closed_sets.specs.Closed.{IsClosed, IsReachedSet, NoEndReached};
 ghost use Rattle.search_laws.specs.Searches.{IsShortest};
 ghost use Rattle.exchange_graph.specs.Marks.{members_of};
 ghost use Rattle.exchange_graph.specs.Results.{Found, reached_of, step_of};
@@ -54,6 +54,7 @@ impl Search {
         requires places { A.places arcs.now ≡ self.old.places }
         requires starts { length starts.now ≡ self.old.places }
         requires ends { length ends.now ≡ self.old.places }
+        ensures none { IsNone result ↔ NoEndReached (A.leads arcs.now) self.old.places (members_of starts.now) (members_of ends.now) }
         ensures found { IfSome result (λ k. IsShortest (A.leads arcs.now) self.old.places (members_of starts.now) (members_of ends.now) (step_of self.new) k) }
         ensures closed { IfNone result (IsClosed (A.leads arcs.now) self.old.places (members_of starts.now) (members_of ends.now) (reached_of self.new)) }
         ensures reached { IfNone result (IsReachedSet (A.leads arcs.now) self.old.places (members_of starts.now) (reached_of self.new)) }
