@@ -1,5 +1,4 @@
 use Rattle.std.proofs.Common.{◌≡◌, take}
-use Rattle.sparse_t.specs.Incidences.{Incidence}
 use Rattle.sparse_t.proofs.pattern.Pattern.copy.Given as goal
 
 abbrev pub invariant-loop-row : goal.invariant-loop-row
