@@ -1,0 +1,11 @@
+//! Matchings of the rows of a pattern with its columns (Murota, chapter 2: matchings in bipartite graphs).
+#![tactic(auto)]
+
+mod matching;
+mod memory;
+
+pub use matching::Match;
+pub use memory::NoMemory;
+
+#[cfg(test)]
+mod tests;

@@ -1,0 +1,15 @@
+use Rattle.std.proofs.Common.{◌≡◌, ◌-◌, ◌≤◌}
+use Rattle.exchange_graph.specs.Looks.{IsLookingFrom}
+use Rattle.exchange_graph.specs.Scans.{IsStored, places, state_of}
+use Rattle.exchange_graph.proofs.scan.Scan.look.Given as goal
+
+abbrev pub invariant-loop-next : goal.invariant-loop-next
+invariant-loop-next g l = record {
+  stored : IsStored l.self;
+  same_places : places l.self ≡ places l.fn.self;
+  within : l.from ≤ places l.fn.self;
+  looking : IsLookingFrom (g.A.Arcs.leads l.arcs) (places l.fn.self) (state_of l.fn.self) (state_of l.self) l.fn.self.filled l.head l.self.filled l.from l.place l.depth;
+}
+
+abbrev pub decreases-loop-next : goal.decreases-loop-next
+decreases-loop-next g l = places l.fn.self - l.from

@@ -1,0 +1,31 @@
+use Rattle.std.proofs.Common.{ℕ, ◌+◌, ◌∙◌, subst, false, arith}
+use Rattle.search_laws.specs.Searches.{IsSearch, IsGrown}
+use Rattle.search_laws.proofs.SearchLaws.{search-reached_set}
+use Rattle.exchange_graph.specs.Marks.{members_of}
+use Rattle.exchange_graph.specs.Scans.{places, state_of}
+use Rattle.exchange_graph.proofs.ItemLaws.{differs}
+use Rattle.exchange_graph.proofs.LookLaws.{looked-starts}
+use Rattle.exchange_graph.proofs.scan.Scan.reach.Goals as goal
+
+pub loop-head-init : goal.loop-head-init
+loop-head-init g c = record {
+  stored = c.start.ensures.stored;
+  same_places = c.start.ensures.places;
+  search = c.start.ensures.search (g.A.Arcs.leads c.args.arcs.now);
+  starts = c.start.ensures.starts;
+}
+
+pub loop-head-preserved : goal.loop-head-preserved
+loop-head-preserved g c =
+    let I = c.loop-head.invariant in
+    record {
+      stored = c.look.ensures.stored;
+      same_places = c.look.ensures.places ∙ I.same_places;
+      search = subst (λ (n : ℕ). IsSearch (g.A.Arcs.leads c.args.arcs.now) n (state_of c.look.new.self) (c.loop-head.head + 1) c.look.new.self.filled) I.same_places c.look.ensures.search;
+      starts = looked-starts (places c.args.self.now) (members_of c.args.starts.now) (state_of c.loop-head.self) (state_of c.look.new.self) c.loop-head.self.filled
+          (subst (λ (n : ℕ). IsGrown n (state_of c.loop-head.self) (state_of c.look.new.self) c.loop-head.self.filled) I.same_places c.look.ensures.grown) I.starts;
+    }
+
+pub returns-clause-reached : goal.returns-clause-reached
+returns-clause-reached g c = search-reached_set (g.A.Arcs.leads c.args.arcs.now) (places c.args.self.now) (members_of c.args.starts.now) (λ _. false) (state_of c.loop-head.self) c.loop-head.head c.loop-head.self.filled
+    c.loop-head.invariant.search c.loop-head.invariant.starts (λ j l. differs) (omega arith)

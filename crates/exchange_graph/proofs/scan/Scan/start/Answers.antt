@@ -1,0 +1,48 @@
+use Rattle.std.proofs.Common.{◌∙◌, ◌<◌, false, arith}
+use Rattle.exchange_graph.specs.Marks.{members_of}
+use Rattle.exchange_graph.specs.Scans.{places, state_of, position_of}
+use Rattle.exchange_graph.proofs.LookLaws.{waits-late, starting-first, starting-put, starting-skip, starting-done}
+use Rattle.exchange_graph.proofs.scan.Scan.start.Goals as goal
+use Rattle.exchange_graph.proofs.scan.Scan.start.Goals.{then-is_start, else-is_start}
+
+pub loop-place-init : goal.loop-place-init
+loop-place-init c = record {
+  stored = c.clear.ensures.stored;
+  same_places = c.clear.ensures.places;
+  starting = λ arc. starting-first arc (places c.args.self.now) (members_of c.args.starts.now) (state_of c.clear.new.self) c.clear.new.self.filled c.clear.ensures.filled c.clear.ensures.order c.clear.ensures.reached;
+}
+
+pub put-requires-clause-waits : goal.put-requires-clause-waits
+put-requires-clause-waits c = (c.loop-place.invariant.starting (λ _ _. false)).waiting c.loop-place.place (omega arith) (omega (arith, c.requires.starts))
+
+pub put-requires-clause-room : goal.put-requires-clause-room
+put-requires-clause-room c =
+    let I = c.loop-place.invariant in
+    let B = I.starting (λ _ _. false) in
+    waits-late (λ _ _. false) (places c.args.self.now) (state_of c.loop-place.self) 0 c.loop-place.self.filled (position_of c.loop-place.self c.loop-place.place) c.loop-place.place B.search
+    (I.stored.order_position c.loop-place.place (omega (arith, I.same_places, c.requires.starts))) (B.waiting c.loop-place.place (omega arith) (omega (arith, c.requires.starts)))
+
+pub loop-place-preserved : goal.loop-place-preserved
+loop-place-preserved c =
+    let I = c.loop-place.invariant in
+    let here = c.loop-place.place in
+    let below : here < places c.loop-place.self = omega (arith, I.same_places, c.requires.starts) in
+    elim c.if-is_start.branch [
+      | then-is_start w ↦ rw w.self-is (record {
+        stored = w.put.ensures.stored;
+        same_places = w.put.ensures.places ∙ I.same_places;
+        starting = λ arc. starting-put arc (places c.args.self.now) (members_of c.args.starts.now) (state_of c.loop-place.self) (state_of w.put.new.self) c.loop-place.self.filled w.put.new.self.filled (position_of c.loop-place.self here) here here (I.starting arc)
+            (omega (arith, I.same_places)) (omega (arith, I.same_places, I.stored.position_below here below)) (I.stored.order_position here below) w.if-is_start.true w.put.ensures.put w.put.ensures.filled;
+      })
+      | else-is_start w ↦ rw w.self-is (record {
+        stored = I.stored;
+        same_places = I.same_places;
+        starting = λ arc. starting-skip arc (places c.args.self.now) (members_of c.args.starts.now) (state_of c.loop-place.self) c.loop-place.self.filled here (I.starting arc) w.if-is_start.false;
+      })
+    ]
+
+pub returns-clause-search : goal.returns-clause-search
+returns-clause-search c = λ arc. (c.loop-place.invariant.starting arc).search
+
+pub returns-clause-starts : goal.returns-clause-starts
+returns-clause-starts c = starting-done (λ _ _. false) (places c.args.self.now) (members_of c.args.starts.now) (state_of c.loop-place.self) c.loop-place.self.filled c.loop-place.place (c.loop-place.invariant.starting (λ _ _. false)) (omega arith)

@@ -1,0 +1,12 @@
+use Rattle.std.proofs.Common.{◌≡◌, ℕ, Bool}
+use Rattle.exchange_graph.specs.Marks.{members_of}
+use Rattle.exchange_graph.specs.Looks.{IsStartingFrom}
+use Rattle.exchange_graph.specs.Scans.{IsStored, places, state_of}
+use Rattle.exchange_graph.proofs.scan.Scan.start.Given as goal
+
+abbrev pub invariant-loop-place : goal.invariant-loop-place
+invariant-loop-place l = record {
+  stored : IsStored l.self;
+  same_places : places l.self ≡ places l.fn.self;
+  starting : (arc : ℕ → ℕ → Bool) → IsStartingFrom arc (places l.fn.self) (members_of l.starts) (state_of l.self) l.self.filled l.place;
+}

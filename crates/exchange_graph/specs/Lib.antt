@@ -1,0 +1,6 @@
+pub mod Ranges
+pub mod Marks
+pub mod Waitings
+pub mod Looks
+pub mod Scans
+pub mod Results

@@ -1,0 +1,17 @@
+-- What callers see of a search.
+use Rattle.std.specs.Prelude.{ℕ, Bool, List, slice_index}
+use Rattle.exchange_graph.specs.Marks.{members_of}
+
+-- how many places there are, the marks of the reached ones, and the places of the walk
+pub record Found : Type 0 where
+  pub places : ℕ
+  pub marks : List Bool
+  pub walk : List ℕ
+
+-- the reached set
+abbrev pub reached_of : Found → ℕ → Bool
+reached_of r = members_of r.marks
+
+-- the walk's k-th place
+abbrev pub step_of : Found → ℕ → ℕ
+step_of r k = slice_index r.walk k

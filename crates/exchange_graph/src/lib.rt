@@ -1,0 +1,18 @@
+//! Shortest walks over arcs that a caller tells, in memory that is taken once (Murota, chapter 2: the search for an
+//! augmenting path in an exchange graph).
+#![tactic(auto)]
+
+mod arcs;
+mod memory;
+mod scan;
+mod search;
+mod steps;
+mod waiting;
+
+pub use arcs::Arcs;
+pub use memory::NoMemory;
+pub use search::Search;
+pub use steps::Steps;
+
+#[cfg(test)]
+mod tests;

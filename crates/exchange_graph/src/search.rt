@@ -1,0 +1,93 @@
+ghost use Rattle.std.specs.Prelude.{◌≡◌, ℕ, ◌+◌, ◌<◌, ◌≤◌, ◌↔◌, Bool, length, IfOk, IfSome, IfNone, IsNone};
+ghost use Rattle.residue_theory.specs.Sums.{size_on};
+ghost use Rattle.closed_sets.specs.Closed.{IsClosed, IsReachedSet, NoEndReached};
+ghost use Rattle.search_laws.specs.Searches.{IsShortest};
+ghost use Rattle.exchange_graph.specs.Marks.{members_of};
+ghost use Rattle.exchange_graph.specs.Results.{Found, reached_of, step_of};
+
+use crate::arcs::Arcs;
+use crate::memory::NoMemory;
+use crate::scan::Scan;
+use crate::steps::Steps;
+use std::alloc::Global;
+use std::marker::Model;
+use std::sync::ledger::Ledger;
+
+/// A search for a shortest walk, in memory that is taken once. It can be used again and again.
+#[derive(Drop)]
+pub struct Search {
+    scan: Scan,
+}
+
+impl Model for Search {
+    ghost use Rattle.exchange_graph.specs.Scans.{IsStored, places};
+    ghost use Rattle.exchange_graph.specs.Results.{Found};
+
+    ghost Value = { Found };
+
+    ghost view = { λ s. record { places = places s.scan; marks = s.scan.reached.items; walk = s.scan.walk.items } };
+
+    ghost invariant = { λ s. IsStored s.scan };
+}
+
+impl Search {
+    /// A search over the places below n. It takes all the memory that the search will use.
+    pub fn open(alloc: Global, n: usize) -> Result<Self, NoMemory>
+        ensures { IfOk result (λ s. s.places ≡ n) }
+    {
+        Ok(Search {
+            scan: Scan::open(alloc, n)?,
+        })
+    }
+
+    /// The least number of arcs of a walk from a start to an end, or `None` where none leads from one to the other.
+    /// After `Some`, `step` tells such a walk; after `None`, `reached` tells what is reached from the starts.
+    ///
+    /// It looks at each place at most once, and ticks once for each look.
+    pub fn shortest<A: Arcs, L: Ledger>(
+        &mut self,
+        arcs: &A,
+        starts: &[bool],
+        ends: &[bool],
+        steps: &mut Steps<L>,
+    ) -> Option<usize>
+        requires places { A.places arcs.now ≡ self.old.places }
+        requires starts { length starts.now ≡ self.old.places }
+        requires ends { length ends.now ≡ self.old.places }
+        ensures none { IsNone result ↔ NoEndReached (A.leads arcs.now) self.old.places (members_of starts.now) (members_of ends.now) }
+        ensures found { IfSome result (λ k. IsShortest (A.leads arcs.now) self.old.places (members_of starts.now) (members_of ends.now) (step_of self.new) k) }
+        ensures closed { IfNone result (IsClosed (A.leads arcs.now) self.old.places (members_of starts.now) (members_of ends.now) (reached_of self.new)) }
+        ensures reached { IfNone result (IsReachedSet (A.leads arcs.now) self.old.places (members_of starts.now) (reached_of self.new)) }
+        ensures looks { IfNone result (steps.new ≡ steps.old + size_on (reached_of self.new) self.old.places) }
+        ensures count { steps.new ≤ steps.old + self.old.places }
+        ensures places { self.new.places ≡ self.old.places }
+    {
+        self.scan.shortest(arcs, starts, ends, steps)
+    }
+
+    /// Finds all that is reached from the starts: `reached` tells it.
+    pub fn reach<A: Arcs>(&mut self, arcs: &A, starts: &[bool])
+        requires places { A.places arcs.now ≡ self.old.places }
+        requires starts { length starts.now ≡ self.old.places }
+        ensures reached { IsReachedSet (A.leads arcs.now) self.old.places (members_of starts.now) (reached_of self.new) }
+        ensures places { self.new.places ≡ self.old.places }
+    {
+        self.scan.reach(arcs, starts);
+    }
+
+    /// The k-th place of the walk that the last search found, from its start, which is place 0, to its end.
+    pub fn step(&self, k: usize) -> usize
+        requires { k < self.now.places }
+        ensures { result ≡ step_of self.now k }
+    {
+        self.scan.walk[k]
+    }
+
+    /// Whether x is reached from a start, after a search that found no walk.
+    pub fn reached(&self, x: usize) -> bool
+        requires { x < self.now.places }
+        ensures { result ≡ reached_of self.now x }
+    {
+        self.scan.reached[x]
+    }
+}

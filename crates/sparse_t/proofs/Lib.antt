@@ -1,0 +1,4 @@
+pub mod ListLaws
+pub mod ColumnLaws
+pub mod IncidenceLaws
+pub mod StoredLaws

@@ -1,0 +1,13 @@
+//! Patterns of symbol places: rows as short lists of columns, with the rows of each column beside them.
+#![tactic(auto)]
+
+mod columns;
+mod lists;
+mod memory;
+mod pattern;
+
+pub use memory::NoMemory;
+pub use pattern::Pattern;
+
+#[cfg(test)]
+mod tests;

@@ -1,0 +1,116 @@
+ghost use Rattle.std.specs.Prelude.{◌≡◌, ◌<◌, ℕ, IfOk, OnOk, OnErr, []};
+ghost use Rattle.std.specs.List.Sorted.{IsStrictlyIncreasing};
+ghost use Rattle.sparse_t.specs.Lists.{IsBelow};
+ghost use Rattle.sparse_t.specs.Incidences.{Incidence, IsIncidence, AreRowsOf, height, row_at, touches, with_last_row};
+
+use crate::columns::Columns;
+use crate::lists::{Numbers, holds};
+use crate::memory::NoMemory;
+use std::alloc::Global;
+use std::marker::Model;
+
+/// The symbol places of some rows over some columns, at most 8,192 rows. Rows and columns are counted from 0.
+#[derive(Drop)]
+pub struct Pattern {
+    rows: Vec<Numbers>,
+    columns: Columns,
+}
+
+impl Model for Pattern {
+    ghost use Rattle.std.specs.Prelude.{map, length};
+    ghost use Rattle.sparse_t.specs.Incidences.{Incidence};
+    ghost use Rattle.sparse_t.specs.Columns.{IsStored};
+
+    ghost Value = { Incidence };
+
+    ghost view = { λ p. record { width = length p.columns.lists.items; rows = map (λ row. row.items) p.rows.items } };
+
+    ghost invariant = { λ p. IsStored p.rows.items p.columns.lists.items };
+}
+
+impl Pattern {
+    /// No row, over so many columns.
+    pub fn empty(alloc: Global, cols: usize) -> Result<Pattern, NoMemory>
+        ensures { IfOk result (λ p. p ≡ record { width = cols; rows = [] }) }
+    {
+        Ok(Pattern {
+            rows: Vec::new(alloc),
+            columns: Columns::open(alloc, cols)?,
+        })
+    }
+
+    /// Puts a row below the last one: the columns that it touches, rising.
+    pub fn push_row(&mut self, columns: &[u32]) -> Result<(), NoMemory>
+        requires rising { IsStrictlyIncreasing columns.now }
+        requires below { IsBelow self.old.width columns.now }
+        requires room { height self.old < 8192 }
+        ensures ok { OnOk result (self.new ≡ with_last_row self.old columns.now) }
+        ensures err { OnErr result (self.new ≡ self.old) }
+    {
+        let row = Numbers::from_slice(*self.rows.allocator(), columns)?;
+        self.rows.reserve(1)?;
+        self.columns.enter(columns, self.rows.len() as u32)?;
+        self.rows.push(row)?;
+        Ok(())
+    }
+
+    /// The same pattern once more.
+    pub fn copy(&self) -> Result<Pattern, NoMemory>
+        ensures { IfOk result (λ p. p ≡ self.now) }
+    {
+        let mut copy = Pattern::empty(*self.rows.allocator(), self.cols())?;
+        for row in &self.rows {
+            copy.push_row(row.as_slice())?;
+        }
+        Ok(copy)
+    }
+
+    /// How many rows there are.
+    pub fn rows(&self) -> usize
+        ensures rows { result ≡ height self.now }
+        ensures incidence { IsIncidence self.now }
+    {
+        self.rows.len()
+    }
+
+    /// How many columns there are.
+    pub fn cols(&self) -> usize
+        ensures cols { result ≡ self.now.width }
+        ensures incidence { IsIncidence self.now }
+    {
+        self.columns.lists.len()
+    }
+
+    /// Whether the row touches the column. It searches in the shorter of their two lists.
+    pub fn touches(&self, row: usize, col: usize) -> bool
+        requires row { row < height self.now }
+        requires col { col < self.now.width }
+        ensures { result ≡ touches self.now row col }
+    {
+        let columns = self.rows[row].as_slice();
+        let rows = self.columns.lists[col].as_slice();
+        if columns.len() <= rows.len() {
+            holds(columns, col)
+        } else {
+            holds(rows, row)
+        }
+    }
+
+    /// The columns that row i touches, rising.
+    pub fn row(&self, i: usize) -> &[u32]
+        requires { i < height self.now }
+        ensures columns { result.now ≡ row_at self.now i }
+        ensures rising { IsStrictlyIncreasing result.now }
+        ensures below { IsBelow self.now.width result.now }
+    {
+        self.rows[i].as_slice()
+    }
+
+    /// The rows that touch the column, rising.
+    pub fn rows_of(&self, col: usize) -> &[u32]
+        requires { col < self.now.width }
+        ensures { AreRowsOf self.now col result.now }
+    {
+        self.columns.lists[col].as_slice()
+    }
+}
