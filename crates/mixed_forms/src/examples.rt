@@ -3,7 +3,7 @@ ghost use Rattle.std.specs.Prelude.{◌≡◌, ℕ, Bool, true, false};
 ghost use Rattle.residue_theory.specs.Sets.{only};
 ghost use Rattle.linear_algebra.specs.Products.{identity};
 ghost use Rattle.mixed_matrices.specs.CanonicalParts.{AreCanonical, AreRightParts, IsBlockBelow, IsHeldWith, IsIdealOf, IsLeastColumn, IsLowerBlock, IsOfBlock, IsReadyAt};
-ghost use Rattle.mixed_matrices.specs.CheckerRules.{HasRows, KeepsPartRules, block_of, in_first, in_last};
+ghost use Rattle.mixed_matrices.specs.CheckerRules.{HasRows, IsListingIn, KeepsPartRules, block_of, in_first, in_last};
 ghost use Rattle.mixed_matrices.specs.Examples.{loose_parts, loose_symbols, loose_tableau, stacked_inverse, stacked_matrix, stacked_model, stacked_origins, stacked_parts, stacked_tableau, stacked_transform, symbol_triangle, tall_parts, tall_symbols, tall_tableau, triangle_below, triangle_lower, triangle_parts, triangle_tableau, turned_parts, whole_parts};
 ghost use Rattle.mixed_matrices.specs.Forms.{IsAsFine, IsEmptyAt, IsForm, IsOrdered, IsTriangular, diagonal_part, part_columns, part_rows};
 ghost use Rattle.mixed_matrices.specs.Layerings.{IsLayeredMatrixOf};
@@ -88,6 +88,8 @@ pub fn rules_at_examples()
     ensures holds_for_last { KeepsPartRules 65521 tall_symbols tall_tableau tall_parts (λ k l. false) (λ l k. false) }
     ensures holds_for_rows { HasRows symbol_triangle triangle_tableau triangle_parts }
     ensures fails_for_rows { HasRows symbol_triangle triangle_tableau (record triangle_parts { t_row = λ i. 1 }) → ⊥ }
+    ensures holds_for_listing { IsListingIn 65521 symbol_triangle triangle_tableau triangle_parts }
+    ensures fails_for_listing { IsListingIn 65521 symbol_triangle triangle_tableau turned_parts → ⊥ }
     ensures last { in_last tall_parts 0 ≡ true }
     ensures no_last { in_last triangle_parts 0 ≡ false }
     ensures no_first { in_first triangle_parts 0 ≡ false }

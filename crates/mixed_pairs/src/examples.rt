@@ -2,7 +2,7 @@
 ghost use Rattle.std.specs.Prelude.{◌≡◌, ◌-◌, true, false};
 ghost use Rattle.residue_theory.specs.Sets.{everything, nothing, only};
 ghost use Rattle.linear_algebra.specs.Products.{identity};
-ghost use Rattle.mixed_matrices.specs.Arcs.{HasNoWalk, IsClosedIn, IsReachedFromFree, has_base, has_match, is_end, is_free, leads_to};
+ghost use Rattle.mixed_matrices.specs.Arcs.{HasNoWalk, IsClosedIn, IsFromFree, IsOfMiddle, IsReachedFromFree, ReachesEnd, ReachesIn, has_base, has_match, is_end, is_free, leads_to};
 ghost use Rattle.mixed_matrices.specs.Examples.{cancelling_model, empty_tableau, split_matrix, split_model, split_origins, split_tableau, symbol_triangle, tall_model, triangle_tableau};
 ghost use Rattle.mixed_matrices.specs.LayeredMatrices.{AreSameLayers, layered_part, layered_value};
 ghost use Rattle.mixed_matrices.specs.Layerings.{AreMembers, IsLayeredMatrixOf};
@@ -151,4 +151,17 @@ pub fn closed_sets_at_examples()
     ensures fails_with_walk { HasNoWalk 65521 split_matrix empty_tableau → ⊥ }
     ensures holds_reached { IsReachedFromFree 65521 split_matrix split_tableau nothing }
     ensures fails_reached { IsReachedFromFree 65521 split_matrix split_tableau everything → ⊥ }
+{}
+
+/// In the triangle column 0 reaches column 1 and not back, no column is reached from a free one or reaches an end, and both are
+/// of the middle; with nothing in the base or matched column 0 of the split entry is free and an end itself.
+pub fn walks_at_examples()
+    ensures holds { ReachesIn 65521 symbol_triangle triangle_tableau 0 1 }
+    ensures fails { ReachesIn 65521 symbol_triangle triangle_tableau 1 0 → ⊥ }
+    ensures holds_from_free { IsFromFree 65521 split_matrix empty_tableau 0 }
+    ensures fails_from_free { IsFromFree 65521 symbol_triangle triangle_tableau 0 → ⊥ }
+    ensures holds_to_end { ReachesEnd 65521 split_matrix empty_tableau 0 }
+    ensures fails_to_end { ReachesEnd 65521 symbol_triangle triangle_tableau 0 → ⊥ }
+    ensures holds_of_middle { IsOfMiddle 65521 symbol_triangle triangle_tableau 0 }
+    ensures fails_of_middle { IsOfMiddle 65521 split_matrix empty_tableau 0 → ⊥ }
 {}
