@@ -1,0 +1,6 @@
+pub mod Members
+pub mod LayeredKernels
+pub mod ChangedValues
+pub mod ScaledRows
+pub mod LayeringRank
+mod ExampleFacts
