@@ -1,0 +1,3 @@
+pub mod RemovalLaws
+pub mod MinimiserTests
+pub mod PartTests
