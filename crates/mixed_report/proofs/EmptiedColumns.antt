@@ -29,7 +29,8 @@ module _ (p : ℕ) (prime : IsPrime p) (L : Layered) (v : ℕ) (vl : v < L.colum
   others-size X = omega (
     arith,
     size-without X L.columns v vl,
-    size_on-within (others X) (without X v) L.columns (λ j _ h. let w : (X j ≡ true) × (j ≢ v) = without-member X v j h in both_true (X j) (without everything v j) w.0 (member-without everything v j refl w.1)),
+    size_on-within (others X) (without X v) L.columns (λ j _ h. let w : (X j ≡ true) × (j ≢ v) = without-member X v j h in both_true (X j)
+        (without everything v j) w.0 (member-without everything v j refl w.1)),
   )
 
   others-not : (X : ℕ → Bool) → others X v ≡ true → ⊥
@@ -42,7 +43,8 @@ module _ (p : ℕ) (prime : IsPrime p) (L : Layered) (v : ℕ) (vl : v < L.colum
       same : (j : ℕ) → X j ≡ others (with_one X v) j
       same j = elim (nat_cases j v) [
         | inl q ↦ subst (λ k. X k ≡ others (with_one X v) k) (sym q) (none ∙ sym (not_true (others (with_one X v) v) (others-not (with_one X v))))
-        | inr ne ↦ sym (kept (with_one X v j) (without everything v j) (member-without everything v j refl ne) ∙ other (X j) (eqb j v) (eqb_no j v ne))
+        | inr ne ↦ sym (kept (with_one X v j) (without everything v j) (member-without everything v j refl ne)
+            ∙ other (X j) (eqb j v) (eqb_no j v ne))
       ]
         where
           kept : (x w : Bool) → w ≡ true → x && w ≡ x
@@ -58,7 +60,8 @@ module _ (p : ℕ) (prime : IsPrime p) (L : Layered) (v : ℕ) (vl : v < L.colum
       go (u, K) = omega (
         arith,
         minimiser-reached p prime L X u r K R least,
-        rank-at_most p prime emptied (with_one X v) u s (emptied-rho (with_one X v) u (rank-same_set p L.q L.q_rows L.columns X (others (with_one X v)) u (λ j _. same j) K)) T,
+        rank-at_most p prime emptied (with_one X v) u s (emptied-rho (with_one X v) u
+            (rank-same_set p L.q L.q_rows L.columns X (others (with_one X v)) u (λ j _. same j) K)) T,
         gamma-columns L (without everything v) (with_one X v),
         gamma-same_set L X (others (with_one X v)) same,
         sum-with_one X L.columns v (λ _. 1) vl none,

@@ -15,7 +15,8 @@ use Rattle.mixed_pairs.proofs.MinMax.{minimiser-reached, rank-at_most, reached-m
 use Rattle.mixed_report.proofs.EmptiedParts.{LeastBound, layered_part-rank, least_bound}
 
 -- a matrix without a row has the ranks of one in which the row is emptied
-removed-same : (p m k l n : ℕ) (a b c : ℕ → ℕ → ℕ) (e : ℕ) → IsRowRemoved p m k n a b e → IsRowRemoved p m l n a c e → (X : ℕ → Bool) (v : ℕ) → IsRank p b k n X v → IsRank p c l n X v
+removed-same : (p m k l n : ℕ) (a b c : ℕ → ℕ → ℕ) (e : ℕ) → IsRowRemoved p m k n a b e → IsRowRemoved p m l n a c e → (X : ℕ → Bool)
+    (v : ℕ) → IsRank p b k n X v → IsRank p c l n X v
 removed-same p m k l n a b c e B C X v K = record {
   reached = (K.reached.0, K.reached.1, (λ f z. K.reached.2 f (B.back K.reached.0 f (C.rows K.reached.0 f z))), K.reached.3);
   greatest = λ Y within ind. K.greatest Y within (λ f z. ind f (C.back Y f (B.rows Y f z)));
@@ -33,7 +34,8 @@ module _ (p : ℕ) (prime : IsPrime p) (L : Layered) (e : ℕ) (el : e < L.q_row
       (without_row-removed p L.q_rows L.columns L.q e el) (part-removed p L.q_rows L.columns L.q e el)
 
   rho-at_most : (X : ℕ → Bool) (u v : ℕ) → IsRho p L X u → IsRhoWithout X v → (v ≤ u) × (u ≤ v + 1)
-  rho-at_most = removed-at_most p prime L.q_rows (L.q_rows - 1) L.columns L.q (without_row e L.q) e (without_row-removed p L.q_rows L.columns L.q e el)
+  rho-at_most = removed-at_most p prime L.q_rows (L.q_rows - 1) L.columns L.q (without_row e L.q) e
+      (without_row-removed p L.q_rows L.columns L.q e el)
 
   abbrev Same : (ℕ → Bool) → Type 0
   Same X = (u v : ℕ) → IsRho p L X u → IsRhoWithout X v → v ≡ u

@@ -31,7 +31,12 @@ least_bound p prime L R K = go (optimal p prime L)
       X = O.X;
       rho = O.r;
       rank = O.rank;
-      equal = omega (arith, O.equal, greatest-unique p (L.q_rows + L.t_rows) L.columns (layered_value L) R (pair_size L O.I O.J) K (optimal-rank p prime L O));
+      equal = omega (
+        arith,
+        O.equal,
+        greatest-unique p (L.q_rows + L.t_rows) L.columns (layered_value L) R (pair_size L O.I O.J) K
+            (optimal-rank p prime L O),
+      );
     }
 
 -- ---- a part has at most the rank of the whole
@@ -56,8 +61,10 @@ module _ (p : ℕ) (prime : IsPrime p) (L : Layered) (R D X : ℕ → Bool) wher
         arith,
         K.greatest T.reached.0 t W,
         part-rank p prime (L.q_rows + L.t_rows) L.columns (layered_value L T.reached.0) kept_rows X everything t s W
-            (rank_of-kernel p (L.q_rows + L.t_rows) L.columns (layered_value (layered_part R D X L) T.reached.0) (part kept_rows X (layered_value L T.reached.0)) everything s
-            (kernel_of-agree p (L.q_rows + L.t_rows) L.columns (layered_value (layered_part R D X L) T.reached.0) (part kept_rows X (layered_value L T.reached.0))
+            (rank_of-kernel p (L.q_rows + L.t_rows) L.columns (layered_value (layered_part R D X L) T.reached.0)
+            (part kept_rows X (layered_value L T.reached.0)) everything s
+            (kernel_of-agree p (L.q_rows + L.t_rows) L.columns (layered_value (layered_part R D X L) T.reached.0)
+            (part kept_rows X (layered_value L T.reached.0))
             (λ i j _ _. ap (λ y. y % p) (layered_part-value T.reached.0 i j))) T.reached.1),
       )
 
@@ -69,7 +76,8 @@ some_below-same (suc n) X Y same = ap (λ b. b || X n) (some_below-same n X Y sa
 -- in the part of the columns C, X touches what the columns of both touch in the whole
 pub gamma-columns : (L : Layered) (C X : ℕ → Bool) → gamma (layered_part everything everything C L) X ≡ gamma L (both X C)
 gamma-columns L C X = sum_on-same (touches (layered_part everything everything C L) X) (touches L (both X C)) L.t_rows (λ _. 1)
-    (λ i _. some_below-same L.columns (both X ((layered_part everything everything C L).t i)) (both (both X C) (L.t i)) (λ j. moved (X j) (C j) (L.t i j)))
+    (λ i _. some_below-same L.columns (both X ((layered_part everything everything C L).t i)) (both (both X C) (L.t i))
+    (λ j. moved (X j) (C j) (L.t i j)))
   where
     moved : (x c t : Bool) → x && (true && c && t) ≡ (x && c) && t
     moved x c t = grind arith

@@ -33,12 +33,14 @@ module _ (p : ℕ) (prime : IsPrime p) (L : Layered) (d : ℕ) (dl : d < L.t_row
   touches-part X i h =
       let f : (j : ℕ) × (j < L.columns) × (both X (emptied.t i) j ≡ true) = some_below-found L.columns (both X (emptied.t i)) h in
       let w : (L.t i f.0 ≡ true) × (i ≢ d) = symbol-part i f.0 (both-second (X f.0) (emptied.t i f.0) f.2) in
-      member-without (touches L X) d i (some_below-holds L.columns (both X (L.t i)) f.0 f.1 (both_true (X f.0) (L.t i f.0) (both-first (X f.0) (emptied.t i f.0) f.2) w.0)) w.1
+      member-without (touches L X) d i (some_below-holds L.columns (both X (L.t i)) f.0 f.1
+      (both_true (X f.0) (L.t i f.0) (both-first (X f.0) (emptied.t i f.0) f.2) w.0)) w.1
 
   touches-kept : (X : ℕ → Bool) (i : ℕ) → touches L X i ≡ true → i ≢ d → touches emptied X i ≡ true
   touches-kept X i h ne =
       let f : (j : ℕ) × (j < L.columns) × (both X (L.t i) j ≡ true) = some_below-found L.columns (both X (L.t i)) h in
-      some_below-holds L.columns (both X (emptied.t i)) f.0 f.1 (both_true (X f.0) (emptied.t i f.0) (both-first (X f.0) (L.t i f.0) f.2) (symbol-left i f.0 (both-second (X f.0) (L.t i f.0) f.2) ne))
+      some_below-holds L.columns (both X (emptied.t i)) f.0 f.1
+      (both_true (X f.0) (emptied.t i f.0) (both-first (X f.0) (L.t i f.0) f.2) (symbol-left i f.0 (both-second (X f.0) (L.t i f.0) f.2) ne))
 
   gamma-less : (X : ℕ → Bool) → gamma emptied X ≤ size_on (without (touches L X) d) L.t_rows
   gamma-less X = size_on-within (without (touches L X) d) (touches emptied X) L.t_rows (λ i _ h. touches-part X i h)
@@ -52,7 +54,8 @@ module _ (p : ℕ) (prime : IsPrime p) (L : Layered) (d : ℕ) (dl : d < L.t_row
       (λ i _ h. touches-kept X i h (λ q. differ e (subst (λ k. touches L X k ≡ true) q h)))
 
   -- a minimiser touches the row
-  pub symbols_empty-falls : (r s : ℕ) → IsLayeredRank p L r → IsLayeredRank p emptied s → (X : ℕ → Bool) → IsMinimiser p L X → touches L X d ≡ true → s < r
+  pub symbols_empty-falls : (r s : ℕ) → IsLayeredRank p L r → IsLayeredRank p emptied s →
+      (X : ℕ → Bool) → IsMinimiser p L X → touches L X d ≡ true → s < r
   symbols_empty-falls r s R T X least h = go (rank_exists p prime L.q L.q_rows L.columns X)
     where
       go : (u : ℕ) × IsRho p L X u → s < r
@@ -65,7 +68,8 @@ module _ (p : ℕ) (prime : IsPrime p) (L : Layered) (d : ℕ) (dl : d < L.t_row
       )
 
   -- no minimiser touches it
-  pub symbols_empty-stays : (r s : ℕ) → IsLayeredRank p L r → IsLayeredRank p emptied s → ((X : ℕ → Bool) → IsMinimiser p L X → touches L X d ≡ false) → s ≡ r
+  pub symbols_empty-stays : (r s : ℕ) → IsLayeredRank p L r → IsLayeredRank p emptied s →
+      ((X : ℕ → Bool) → IsMinimiser p L X → touches L X d ≡ false) → s ≡ r
   symbols_empty-stays r s R T none = elim (le_cases s r (layered_part-rank p prime L everything (without everything d) everything r s R T)) [
     | inl q ↦ q
     | inr less ↦ absurd (bad less (least_bound p prime emptied s T))

@@ -8,3 +8,5 @@ pub mod SplitEquations
 pub mod Removals
 pub mod Tests
 pub mod Tails
+mod ExampleRanks
+mod ExampleParts

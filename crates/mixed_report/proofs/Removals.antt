@@ -38,7 +38,8 @@ module _ (p : ℕ) (prime : IsPrime p) (M : Mixed) (A D : ℕ → Bool) (L : Lay
 
   -- ---- an equation with a T row and no Q row
   module _ (d : ℕ) (dl : d < L.t_rows) (no_q : A (O.of_t d) ≡ false) where
-    symbol-layering : IsLayering (mixed_part (without everything (O.of_t d)) everything M) A D (layered_part everything (without everything d) everything L) O
+    symbol-layering : IsLayering (mixed_part (without everything (O.of_t d)) everything M) A D
+        (layered_part everything (without everything d) everything L) O
     symbol-layering = record {
       constants = λ x j xl jl h. part-zero (without everything (O.of_t d) x && true) (M.constant x j) (lay.constants x j xl jl h);
       symbols = λ x j xl jl h. part-none (without everything (O.of_t d) x) true (M.symbol x j) (lay.symbols x j xl jl h);
@@ -53,12 +54,14 @@ module _ (p : ℕ) (prime : IsPrime p) (M : Mixed) (A D : ℕ → Bool) (L : Lay
         | inl q ↦ symbol-gone (without everything d x) (L.t x j) (without-no d x q)
             ∙ sym (symbol-gone (without everything (O.of_t d) (O.of_t x)) (M.symbol (O.of_t x) j) (without-no (O.of_t d) (O.of_t x) (ap O.of_t q)))
         | inr ne ↦ symbol-kept (without everything d x) (L.t x j) (member-without everything d x refl ne) ∙ lay.t x j xl jl
-            ∙ sym (symbol-kept (without everything (O.of_t d) (O.of_t x)) (M.symbol (O.of_t x) j) (member-without everything (O.of_t d) (O.of_t x) refl
+            ∙ sym (symbol-kept (without everything (O.of_t d) (O.of_t x)) (M.symbol (O.of_t x) j)
+            (member-without everything (O.of_t d) (O.of_t x) refl
             (λ q. ne (members-distinct D M.rows O.of_t L.t_rows lay.t_rows x d xl dl q))))
       ];
       t_auxiliary = λ x z xl zl. elim (nat_cases x d) [
         | inl q ↦ symbol-gone (without everything d x) (L.t x (M.columns + z)) (without-no d x q)
-            ∙ sym (not_true (eqb (O.of_t x) (O.of_z z)) (λ h. differ (subst (λ y. A y ≡ false) (sym (ap O.of_t q) ∙ eqb_true (O.of_t x) (O.of_z z) h) no_q)
+            ∙ sym (not_true (eqb (O.of_t x) (O.of_z z)) (λ h. differ
+            (subst (λ y. A y ≡ false) (sym (ap O.of_t q) ∙ eqb_true (O.of_t x) (O.of_z z) h) no_q)
             (both-first (A (O.of_z z)) (D (O.of_z z)) (lay.auxiliary.member z zl))))
         | inr ne ↦ symbol-kept (without everything d x) (L.t x (M.columns + z)) (member-without everything d x refl ne) ∙ lay.t_auxiliary x z xl zl
       ];
@@ -66,7 +69,8 @@ module _ (p : ℕ) (prime : IsPrime p) (M : Mixed) (A D : ℕ → Bool) (L : Lay
 
   -- ---- an equation with a Q row and no T row
   module _ (e : ℕ) (el : e < L.q_rows) (no_t : D (O.of_q e) ≡ false) where
-    constant-layering : IsLayering (mixed_part (without everything (O.of_q e)) everything M) A D (layered_part (without everything e) everything everything L) O
+    constant-layering : IsLayering (mixed_part (without everything (O.of_q e)) everything M) A D
+        (layered_part (without everything e) everything everything L) O
     constant-layering = record {
       constants = λ x j xl jl h. part-zero (without everything (O.of_q e) x && true) (M.constant x j) (lay.constants x j xl jl h);
       symbols = λ x j xl jl h. part-none (without everything (O.of_q e) x) true (M.symbol x j) (lay.symbols x j xl jl h);
@@ -83,7 +87,8 @@ module _ (p : ℕ) (prime : IsPrime p) (M : Mixed) (A D : ℕ → Bool) (L : Lay
       ];
       q_auxiliary = λ x z xl zl. elim (nat_cases x e) [
         | inl q ↦ row-gone (without everything e x) (L.q x (M.columns + z)) (without-no e x q)
-            ∙ sym (unmarked (eqb (O.of_q x) (O.of_z z)) (not_true (eqb (O.of_q x) (O.of_z z)) (λ h. differ (subst (λ y. D y ≡ false) (sym (ap O.of_q q) ∙ eqb_true (O.of_q x) (O.of_z z) h) no_t)
+            ∙ sym (unmarked (eqb (O.of_q x) (O.of_z z)) (not_true (eqb (O.of_q x) (O.of_z z))
+            (λ h. differ (subst (λ y. D y ≡ false) (sym (ap O.of_q q) ∙ eqb_true (O.of_q x) (O.of_z z) h) no_t)
             (both-second (A (O.of_z z)) (D (O.of_z z)) (lay.auxiliary.member z zl)))))
         | inr ne ↦ row-kept (without everything e x) (L.q x (M.columns + z)) (member-without everything e x refl ne) ∙ lay.q_auxiliary x z xl zl
       ];
@@ -97,44 +102,60 @@ module _ (p : ℕ) (prime : IsPrime p) (M : Mixed) (A D : ℕ → Bool) (L : Lay
 
   -- ---- the ranks
   module _ (big : 2 < p) where
-    pub unknown-column : (v : ℕ) → v < M.columns → (r : ℕ) → IsStructuralRank p (without_unknown v M) r → IsLayeredRank p (layered_part everything everything (without everything v) L) (r + O.split)
-    unknown-column v vl r R = layering-law p prime (mixed_part everything (without everything v) M) A D (layered_part everything everything (without everything v) L) O (column-layering v vl) big r (left_unknown p prime M v vl r R)
+    pub unknown-column : (v : ℕ) → v < M.columns → (r : ℕ) → IsStructuralRank p (without_unknown v M) r → IsLayeredRank p
+        (layered_part everything everything (without everything v) L) (r + O.split)
+    unknown-column v vl r R = layering-law p prime (mixed_part everything (without everything v) M) A D
+        (layered_part everything everything (without everything v) L) O (column-layering v vl) big r (left_unknown p prime M v vl r R)
 
-    pub column-unknown : (v : ℕ) → v < M.columns → (r : ℕ) → IsLayeredRank p (layered_part everything everything (without everything v) L) (r + O.split) → IsStructuralRank p (without_unknown v M) r
-    column-unknown v vl r R = emptied_unknown p prime M v vl r (law-layering p prime (mixed_part everything (without everything v) M) A D (layered_part everything everything (without everything v) L) O (column-layering v vl) big r R)
+    pub column-unknown : (v : ℕ) → v < M.columns → (r : ℕ) → IsLayeredRank p (layered_part everything everything (without everything v) L)
+        (r + O.split) → IsStructuralRank p (without_unknown v M) r
+    column-unknown v vl r R = emptied_unknown p prime M v vl r
+        (law-layering p prime (mixed_part everything (without everything v) M) A D (layered_part everything everything (without everything v) L) O
+        (column-layering v vl) big r R)
 
-    pub equation-symbols : (d : ℕ) → d < L.t_rows → (r : ℕ) → IsStructuralRank p (without_equation (O.of_t d) M) r → IsLayeredRank p (layered_part everything (without everything d) everything L) (r + O.split)
+    pub equation-symbols : (d : ℕ) → d < L.t_rows → (r : ℕ) → IsStructuralRank p (without_equation (O.of_t d) M) r → IsLayeredRank p
+        (layered_part everything (without everything d) everything L) (r + O.split)
     equation-symbols d dl r R = go (A (O.of_t d)) refl
       where
         go : (b : Bool) → A (O.of_t d) ≡ b → IsLayeredRank p (layered_part everything (without everything d) everything L) (r + O.split)
-        go false h = layering-law p prime (mixed_part (without everything (O.of_t d)) everything M) A D (layered_part everything (without everything d) everything L) O (symbol-layering d dl h) big r
+        go false h = layering-law p prime (mixed_part (without everything (O.of_t d)) everything M) A D
+            (layered_part everything (without everything d) everything L) O (symbol-layering d dl h) big r
             (left_equation p prime M (O.of_t d) (lay.t_rows.below d dl) r R)
         go true h = cut-first p prime M A D L O lay d dl h (r + O.split)
-            (layering-law p prime (mixed_part (without everything (O.of_t d)) everything M) A D (cut p prime M A D L O lay d dl h) O (cut-layering p prime M A D L O lay d dl h) big r
+            (layering-law p prime (mixed_part (without everything (O.of_t d)) everything M) A D (cut p prime M A D L O lay d dl h) O
+            (cut-layering p prime M A D L O lay d dl h) big r
             (left_equation p prime M (O.of_t d) (lay.t_rows.below d dl) r R))
 
-    pub symbols-equation : (d : ℕ) → d < L.t_rows → (r : ℕ) → IsLayeredRank p (layered_part everything (without everything d) everything L) (r + O.split) → IsStructuralRank p (without_equation (O.of_t d) M) r
+    pub symbols-equation : (d : ℕ) → d < L.t_rows → (r : ℕ) → IsLayeredRank p (layered_part everything (without everything d) everything L)
+        (r + O.split) → IsStructuralRank p (without_equation (O.of_t d) M) r
     symbols-equation d dl r R = emptied_equation p prime M (O.of_t d) (lay.t_rows.below d dl) r (go (A (O.of_t d)) refl)
       where
         go : (b : Bool) → A (O.of_t d) ≡ b → IsStructuralRank p (mixed_part (without everything (O.of_t d)) everything M) r
-        go false h = law-layering p prime (mixed_part (without everything (O.of_t d)) everything M) A D (layered_part everything (without everything d) everything L) O (symbol-layering d dl h) big r R
-        go true h = law-layering p prime (mixed_part (without everything (O.of_t d)) everything M) A D (cut p prime M A D L O lay d dl h) O (cut-layering p prime M A D L O lay d dl h) big r
+        go false h = law-layering p prime (mixed_part (without everything (O.of_t d)) everything M) A D
+            (layered_part everything (without everything d) everything L) O (symbol-layering d dl h) big r R
+        go true h = law-layering p prime (mixed_part (without everything (O.of_t d)) everything M) A D (cut p prime M A D L O lay d dl h) O
+            (cut-layering p prime M A D L O lay d dl h) big r
             (first-cut p prime M A D L O lay d dl h (r + O.split) R)
 
-    pub equation-constants : (e : ℕ) → e < L.q_rows → D (O.of_q e) ≡ false → (r : ℕ) → IsStructuralRank p (without_equation (O.of_q e) M) r → IsLayeredRank p (layered_part (without everything e) everything everything L) (r + O.split)
-    equation-constants e el no_t r R = layering-law p prime (mixed_part (without everything (O.of_q e)) everything M) A D (layered_part (without everything e) everything everything L) O (constant-layering e el no_t) big r
+    pub equation-constants : (e : ℕ) → e < L.q_rows → D (O.of_q e) ≡ false → (r : ℕ) → IsStructuralRank p
+        (without_equation (O.of_q e) M) r → IsLayeredRank p (layered_part (without everything e) everything everything L) (r + O.split)
+    equation-constants e el no_t r R = layering-law p prime (mixed_part (without everything (O.of_q e)) everything M) A D
+        (layered_part (without everything e) everything everything L) O (constant-layering e el no_t) big r
         (left_equation p prime M (O.of_q e) (lay.q_rows.below e el) r R)
 
-    pub constants-equation : (e : ℕ) → e < L.q_rows → D (O.of_q e) ≡ false → (r : ℕ) → IsLayeredRank p (layered_part (without everything e) everything everything L) (r + O.split) → IsStructuralRank p (without_equation (O.of_q e) M) r
+    pub constants-equation : (e : ℕ) → e < L.q_rows → D (O.of_q e) ≡ false → (r : ℕ) → IsLayeredRank p
+        (layered_part (without everything e) everything everything L) (r + O.split) → IsStructuralRank p (without_equation (O.of_q e) M) r
     constants-equation e el no_t r R = emptied_equation p prime M (O.of_q e) (lay.q_rows.below e el) r
-        (law-layering p prime (mixed_part (without everything (O.of_q e)) everything M) A D (layered_part (without everything e) everything everything L) O (constant-layering e el no_t) big r R)
+        (law-layering p prime (mixed_part (without everything (O.of_q e)) everything M) A D
+        (layered_part (without everything e) everything everything L) O (constant-layering e el no_t) big r R)
 
 -- in the layered matrix of a model each equation has a T row, or no symbol and a Q row
 pub equation_rows : (M : Mixed) (L : Layered) (O : Origins) → IsLayeredMatrixOf M L O → (i : ℕ) → i < M.rows →
     ((d : ℕ) × (d < L.t_rows) × (O.of_t d ≡ i)) ⊎ ((e : ℕ) × (e < L.q_rows) × (O.of_q e ≡ i) × (has_symbol M i ≡ false))
 equation_rows M L O lay i il = go (has_symbol M i) refl
   where
-    go : (b : Bool) → has_symbol M i ≡ b → ((d : ℕ) × (d < L.t_rows) × (O.of_t d ≡ i)) ⊎ ((e : ℕ) × (e < L.q_rows) × (O.of_q e ≡ i) × (has_symbol M i ≡ false))
+    go : (b : Bool) → has_symbol M i ≡ b → ((d : ℕ) × (d < L.t_rows) × (O.of_t d ≡ i)) ⊎
+        ((e : ℕ) × (e < L.q_rows) × (O.of_q e ≡ i) × (has_symbol M i ≡ false))
     go true h = inl (
       size_on (has_symbol M) i,
       member-index (has_symbol M) M.rows O.of_t L.t_rows lay.t_rows i il h,

@@ -19,7 +19,8 @@ use Rattle.mixed_report.proofs.EmptiedSymbolRows.{symbol-part}
 use Rattle.mixed_report.proofs.PartEntries.{part-none, part-zero, row-gone, row-kept, symbol-gone, symbol-kept, without-no}
 use Rattle.mixed_report.proofs.SwappedRows.{AreSwapped, swapped-back, swapped-there}
 
-module _ (p : ℕ) (prime : IsPrime p) (M : Mixed) (A D : ℕ → Bool) (L : Layered) (O : Origins) (lay : IsLayering M A D L O) (d : ℕ) (dl : d < L.t_rows) (split : A (O.of_t d) ≡ true) where
+module _ (p : ℕ) (prime : IsPrime p) (M : Mixed) (A D : ℕ → Bool) (L : Layered) (O : Origins) (lay : IsLayering M A D L O) (d : ℕ)
+    (dl : d < L.t_rows) (split : A (O.of_t d) ≡ true) where
   abbrev i : ℕ
   i = O.of_t d
 
@@ -101,14 +102,17 @@ module _ (p : ℕ) (prime : IsPrime p) (M : Mixed) (A D : ℕ → Bool) (L : Lay
       | inr ne ↦ q_first (eqb x e) (ltb j M.columns) (L.q x j) (eqb_no x e ne) ∙ lay.q x j xl jl
           ∙ sym (row-kept (without everything i (O.of_q x)) (M.constant (O.of_q x) j) (member-without everything i (O.of_q x) refl (other_q x xl ne)))
     ];
-    q_auxiliary = λ x y xl yl. q_second (eqb x e) (ltb (M.columns + y) M.columns) (L.q x (M.columns + y)) (ltb-next M.columns y) ∙ lay.q_auxiliary x y xl yl;
+    q_auxiliary = λ x y xl yl. q_second (eqb x e) (ltb (M.columns + y) M.columns) (L.q x (M.columns + y)) (ltb-next M.columns y)
+        ∙ lay.q_auxiliary x y xl yl;
     t = λ x j xl jl. elim (nat_cases x d) [
       | inl q ↦ t_cut (eqb x d) (ltb j M.columns) (L.t x j) (eqb_from x d q) (ltb-first M.columns j jl)
           ∙ sym (symbol-gone (without everything i (O.of_t x)) (M.symbol (O.of_t x) j) (without-no i (O.of_t x) (ap O.of_t q)))
       | inr ne ↦ t_first (eqb x d) (ltb j M.columns) (L.t x j) (eqb_no x d ne) ∙ lay.t x j xl jl
-          ∙ sym (symbol-kept (without everything i (O.of_t x)) (M.symbol (O.of_t x) j) (member-without everything i (O.of_t x) refl (other_t x xl ne)))
+          ∙ sym (symbol-kept (without everything i (O.of_t x)) (M.symbol (O.of_t x) j)
+          (member-without everything i (O.of_t x) refl (other_t x xl ne)))
     ];
-    t_auxiliary = λ x y xl yl. t_second (eqb x d) (ltb (M.columns + y) M.columns) (L.t x (M.columns + y)) (ltb-next M.columns y) ∙ lay.t_auxiliary x y xl yl;
+    t_auxiliary = λ x y xl yl. t_second (eqb x d) (ltb (M.columns + y) M.columns) (L.t x (M.columns + y)) (ltb-next M.columns y)
+        ∙ lay.t_auxiliary x y xl yl;
   }
 
   -- ---- the auxiliary column of the equation
@@ -145,21 +149,26 @@ module _ (p : ℕ) (prime : IsPrime p) (M : Mixed) (A D : ℕ → Bool) (L : Lay
     g-column : (x : ℕ) → x < L.q_rows + L.t_rows → x ≢ e → layered_value first w x (M.columns + k) ≡ 0
     g-column = by_row (λ x. x ≢ e → layered_value first w x (M.columns + k) ≡ 0)
         (λ x xl ne. above-top L.q_rows first.q (numbers first.t w) x (M.columns + k) xl ∙ q_other x xl ne)
-        (λ x xl ne. above-low L.q_rows first.q (numbers first.t w) x (M.columns + k) ∙ unset (first.t x (M.columns + k)) (w x (M.columns + k)) (not_true (first.t x (M.columns + k)) (λ h.
+        (λ x xl ne. above-low L.q_rows first.q (numbers first.t w) x (M.columns + k)
+        ∙ unset (first.t x (M.columns + k)) (w x (M.columns + k)) (not_true (first.t x (M.columns + k)) (λ h.
         differ (t_other x xl (symbol-part p prime L d dl x (M.columns + k) h).1) (symbol-part p prime L d dl x (M.columns + k) h).0)))
 
     h-column : (x : ℕ) → x < L.q_rows + L.t_rows → x ≢ e → x ≢ L.q_rows + d → layered_value cut w x (M.columns + k) ≡ 0
     h-column = by_row (λ x. x ≢ e → x ≢ L.q_rows + d → layered_value cut w x (M.columns + k) ≡ 0)
-        (λ x xl ne _. above-top L.q_rows cut.q (numbers cut.t w) x (M.columns + k) xl ∙ q_second (eqb x e) (ltb (M.columns + k) M.columns) (L.q x (M.columns + k)) (ltb-next M.columns k) ∙ q_other x xl ne)
+        (λ x xl ne _. above-top L.q_rows cut.q (numbers cut.t w) x (M.columns + k) xl
+        ∙ q_second (eqb x e) (ltb (M.columns + k) M.columns) (L.q x (M.columns + k)) (ltb-next M.columns k) ∙ q_other x xl ne)
         (λ x xl _ ne. above-low L.q_rows cut.q (numbers cut.t w) x (M.columns + k) ∙ unset (cut.t x (M.columns + k)) (w x (M.columns + k))
-        (t_second (eqb x d) (ltb (M.columns + k) M.columns) (L.t x (M.columns + k)) (ltb-next M.columns k) ∙ t_other x xl (λ q. ne (ap (λ y. L.q_rows + y) q))))
+        (t_second (eqb x d) (ltb (M.columns + k) M.columns) (L.t x (M.columns + k)) (ltb-next M.columns k)
+        ∙ t_other x xl (λ q. ne (ap (λ y. L.q_rows + y) q))))
 
     same-symbol : (x j : ℕ) → x ≢ d → first.t x j ≡ cut.t x j
-    same-symbol x j ne = symbol-kept (without everything d x) (L.t x j) (member-without everything d x refl ne) ∙ sym (t_first (eqb x d) (ltb j M.columns) (L.t x j) (eqb_no x d ne))
+    same-symbol x j ne = symbol-kept (without everything d x) (L.t x j) (member-without everything d x refl ne)
+        ∙ sym (t_first (eqb x d) (ltb j M.columns) (L.t x j) (eqb_no x d ne))
 
     same-entry : (x j : ℕ) → x ≢ e → x ≢ L.q_rows + d → layered_value first w x j ≡ layered_value cut w x j
     same-entry x j ne nd = elim (lt_cases x L.q_rows) [
-      | inl l ↦ above-top L.q_rows first.q (numbers first.t w) x j l ∙ sym (above-top L.q_rows cut.q (numbers cut.t w) x j l ∙ q_first (eqb x e) (ltb j M.columns) (L.q x j) (eqb_no x e ne))
+      | inl l ↦ above-top L.q_rows first.q (numbers first.t w) x j l
+          ∙ sym (above-top L.q_rows cut.q (numbers cut.t w) x j l ∙ q_first (eqb x e) (ltb j M.columns) (L.q x j) (eqb_no x e ne))
       | inr g ↦ subst (λ y. layered_value first w y j ≡ layered_value cut w y j) (let q : L.q_rows + (x - L.q_rows) ≡ x = omega arith in q)
           (above-low L.q_rows first.q (numbers first.t w) (x - L.q_rows) j
           ∙ ap (λ b. cond b (w (x - L.q_rows) j) 0) (same-symbol (x - L.q_rows) j (λ q. nd (omega (arith, q))))
@@ -171,7 +180,9 @@ module _ (p : ℕ) (prime : IsPrime p) (M : Mixed) (A D : ℕ → Bool) (L : Lay
       | inl l ↦ q_cut (eqb e e) (ltb j M.columns) (L.q e j) (eqb_from e e refl) (ltb-first M.columns j l)
       | inr g ↦ q_second (eqb e e) (ltb j M.columns) (L.q e j) (past j g)
           ∙ subst (λ y. L.q e y ≡ 0) (let q : M.columns + (j - M.columns) ≡ j = omega arith in q)
-          (lay.q_auxiliary e (j - M.columns) e-below (omega (arith, lay.columns)) ∙ ap (λ b. cond b 1 0) (eqb_no (O.of_q e) (O.of_z (j - M.columns)) (λ q. other_z (j - M.columns) (omega (arith, lay.columns)) (λ r. ne (omega (arith, r))) (sym q ∙ e-origin))))
+          (lay.q_auxiliary e (j - M.columns) e-below (omega (arith, lay.columns))
+          ∙ ap (λ b. cond b 1 0) (eqb_no (O.of_q e) (O.of_z (j - M.columns))
+          (λ q. other_z (j - M.columns) (omega (arith, lay.columns)) (λ r. ne (omega (arith, r))) (sym q ∙ e-origin))))
     ]
 
     h-t : (j : ℕ) → j < L.columns → j ≢ M.columns + k → layered_value cut w (L.q_rows + d) j ≡ 0
@@ -179,19 +190,23 @@ module _ (p : ℕ) (prime : IsPrime p) (M : Mixed) (A D : ℕ → Bool) (L : Lay
       | inl l ↦ t_cut (eqb d d) (ltb j M.columns) (L.t d j) (eqb_from d d refl) (ltb-first M.columns j l)
       | inr g ↦ t_second (eqb d d) (ltb j M.columns) (L.t d j) (past j g)
           ∙ subst (λ y. L.t d y ≡ false) (let q : M.columns + (j - M.columns) ≡ j = omega arith in q)
-          (lay.t_auxiliary d (j - M.columns) dl (omega (arith, lay.columns)) ∙ eqb_no (O.of_t d) (O.of_z (j - M.columns)) (λ q. other_z (j - M.columns) (omega (arith, lay.columns)) (λ r. ne (omega (arith, r))) (sym q)))
+          (lay.t_auxiliary d (j - M.columns) dl (omega (arith, lay.columns))
+          ∙ eqb_no (O.of_t d) (O.of_z (j - M.columns)) (λ q. other_z (j - M.columns) (omega (arith, lay.columns)) (λ r. ne (omega (arith, r)))
+          (sym q)))
     ])
 
     swapped : AreSwapped (L.q_rows + L.t_rows) L.columns (layered_value first w) (layered_value cut w) e (L.q_rows + d) (M.columns + k)
     swapped = record {
       same = λ x j ne nd. same-entry x j ne nd;
       g_column = g-column;
-      g_row = λ j. above-low L.q_rows first.q (numbers first.t w) d j ∙ unset (first.t d j) (w d j) (not_true (first.t d j) (λ h. (symbol-part p prime L d dl d j h).1 refl));
+      g_row = λ j. above-low L.q_rows first.q (numbers first.t w) d j
+          ∙ unset (first.t d j) (w d j) (not_true (first.t d j) (λ h. (symbol-part p prime L d dl d j h).1 refl));
       g_one = above-top L.q_rows first.q (numbers first.t w) e (M.columns + k) e-below ∙ q_own;
       h_column = h-column;
       h_e = h-e;
       h_t = h-t;
-      h_one = above-top L.q_rows cut.q (numbers cut.t w) e (M.columns + k) e-below ∙ q_second (eqb e e) (ltb (M.columns + k) M.columns) (L.q e (M.columns + k)) (ltb-next M.columns k) ∙ q_own;
+      h_one = above-top L.q_rows cut.q (numbers cut.t w) e (M.columns + k) e-below
+          ∙ q_second (eqb e e) (ltb (M.columns + k) M.columns) (L.q e (M.columns + k)) (ltb-next M.columns k) ∙ q_own;
     }
 
   inside : e < L.q_rows + L.t_rows
@@ -202,10 +217,26 @@ module _ (p : ℕ) (prime : IsPrime p) (M : Mixed) (A D : ℕ → Bool) (L : Lay
 
   pub cut-first : (r : ℕ) → IsLayeredRank p cut r → IsLayeredRank p first r
   cut-first = greatest-moved p (L.q_rows + L.t_rows) L.columns (L.q_rows + L.t_rows) L.columns (layered_value cut) (layered_value first)
-      (λ w r K. (w, swapped-back p prime (L.q_rows + L.t_rows) L.columns (layered_value first w) (layered_value cut w) e (L.q_rows + d) (M.columns + k) inside column (swapped w) r K))
-      (λ w r K. (w, swapped-there p prime (L.q_rows + L.t_rows) L.columns (layered_value first w) (layered_value cut w) e (L.q_rows + d) (M.columns + k) inside column (swapped w) r K))
+      (λ w r K. (
+        w,
+        swapped-back p prime (L.q_rows + L.t_rows) L.columns (layered_value first w) (layered_value cut w) e (L.q_rows + d)
+            (M.columns + k) inside column (swapped w) r K,
+      ))
+      (λ w r K. (
+        w,
+        swapped-there p prime (L.q_rows + L.t_rows) L.columns (layered_value first w) (layered_value cut w) e (L.q_rows + d)
+            (M.columns + k) inside column (swapped w) r K,
+      ))
 
   pub first-cut : (r : ℕ) → IsLayeredRank p first r → IsLayeredRank p cut r
   first-cut = greatest-moved p (L.q_rows + L.t_rows) L.columns (L.q_rows + L.t_rows) L.columns (layered_value first) (layered_value cut)
-      (λ w r K. (w, swapped-there p prime (L.q_rows + L.t_rows) L.columns (layered_value first w) (layered_value cut w) e (L.q_rows + d) (M.columns + k) inside column (swapped w) r K))
-      (λ w r K. (w, swapped-back p prime (L.q_rows + L.t_rows) L.columns (layered_value first w) (layered_value cut w) e (L.q_rows + d) (M.columns + k) inside column (swapped w) r K))
+      (λ w r K. (
+        w,
+        swapped-there p prime (L.q_rows + L.t_rows) L.columns (layered_value first w) (layered_value cut w) e (L.q_rows + d)
+            (M.columns + k) inside column (swapped w) r K,
+      ))
+      (λ w r K. (
+        w,
+        swapped-back p prime (L.q_rows + L.t_rows) L.columns (layered_value first w) (layered_value cut w) e (L.q_rows + d)
+            (M.columns + k) inside column (swapped w) r K,
+      ))

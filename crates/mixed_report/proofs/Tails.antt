@@ -26,7 +26,8 @@ use Rattle.mixed_forms.proofs.CheckedForms.{checked-form}
 use Rattle.mixed_forms.proofs.CheckedParts.{end-last, symbol-falls}
 use Rattle.mixed_forms.proofs.FirstParts.{first_parts-minimiser}
 
-module _ (p : ℕ) (prime : IsPrime p) (L : Layered) (S U : ℕ → ℕ → ℕ) (F : Tableau) (tab : IsTableau p L S U F) (G : Parts) (below lower : ℕ → ℕ → Bool) (K : KeepsPartRules p L F G below lower) where
+module _ (p : ℕ) (prime : IsPrime p) (L : Layered) (S U : ℕ → ℕ → ℕ) (F : Tableau) (tab : IsTableau p L S U F) (G : Parts)
+    (below lower : ℕ → ℕ → Bool) (K : KeepsPartRules p L F G below lower) where
   has : HasTableau p L F
   has = tableau p prime L S U F tab
 
@@ -90,7 +91,9 @@ module _ (p : ℕ) (prime : IsPrime p) (L : Layered) (S U : ℕ → ℕ → ℕ)
             matched (j, jl, m, o) = elim (nat_cases (G.column j) (G.blocks + 1)) [
               | inl q ↦ sym (ap G.t_row o) ∙ K.rows.matched j jl m ∙ q
               | inr ne ↦ absurd (differ (none before before-minimiser)
-                  (some_below-holds L.columns (both before (L.t d)) j jl (both_true (before j) (L.t d j) (leb_from (G.column j) G.blocks (early j jl ne)) (subst (λ k. L.t k j ≡ true) o (tab.matching.symbol j jl m)))))
+                  (some_below-holds L.columns (both before (L.t d)) j jl
+                  (both_true (before j) (L.t d j) (leb_from (G.column j) G.blocks (early j jl ne))
+                  (subst (λ k. L.t k j ≡ true) o (tab.matching.symbol j jl m)))))
             ]
 
   -- ---- a Q row
@@ -110,7 +113,8 @@ module _ (p : ℕ) (prime : IsPrime p) (L : Layered) (S U : ℕ → ℕ → ℕ)
 
   -- and a row of the last tail has no base in any minimiser
   no_base-last : (X : ℕ → Bool) → IsMinimiser p L X → (k : ℕ) → G.q_row k ≡ G.blocks + 1 → HasNoBase L.columns (both F.base X) F.row k
-  no_base-last X least k q b bl h o = not_last X least b bl (both-second (F.base b) (X b) h) (sym (K.rows.base b bl (both-first (F.base b) (X b) h)) ∙ ap G.q_row o ∙ q)
+  no_base-last X least k q b bl h o = not_last X least b bl (both-second (F.base b) (X b) h)
+      (sym (K.rows.base b bl (both-first (F.base b) (X b) h)) ∙ ap G.q_row o ∙ q)
 
   module _ (e : ℕ) (el : e < L.q_rows) where
     abbrev pub UsedLast : Type 0
@@ -121,21 +125,31 @@ module _ (p : ℕ) (prime : IsPrime p) (L : Layered) (S U : ℕ → ℕ → ℕ)
       base_within = base-within p F.P L.q_rows L.columns (both F.base X) F.base F.row (λ b bl h. both-first (F.base b) (X b) h) tab.base
 
       zeros : (i j : ℕ) → i < L.q_rows → j < L.columns → X j ≡ true → HasNoBase L.columns (both F.base X) F.row i → F.P i j % p ≡ 0
-      zeros i j il jl jh none = elim (zero_cases (F.P i j % p)) [ inl z ↦ z | inr ne ↦ absurd (bad ((closed-fits p prime L F has X (checked-closed p prime L F has G below lower K X least)).q j i jl jh il ne)) ]
+      zeros i j il jl jh none = elim (zero_cases (F.P i j % p)) [
+        | inl z ↦ z
+        | inr ne ↦ absurd (bad ((closed-fits p prime L F has X
+            (checked-closed p prime L F has G below lower K X least)).q j i jl jh il ne))
+      ]
         where
           bad : (b : ℕ) × (b < L.columns) × (both F.base X b ≡ true) × (F.row b ≡ i) → ⊥
           bad (b, bl, bh, o) = none b bl bh o
 
-    pub used-stays : UsedLast → (X : ℕ → Bool) → IsMinimiser p L X → (u v : ℕ) → IsRho p L X u → IsRank p (without_row e L.q) (L.q_rows - 1) L.columns X v → v ≡ u
-    used-stays (k, kl, q, ne) X least u v R T = tableau-stays p prime L.q_rows (L.q_rows - 1) L.columns L.q (without_row e L.q) e (without_row-removed p L.q_rows L.columns L.q e el) S U F.P (both F.base X) F.row X
-        tab.inverse tab.product (base_within X least) (λ b bl h. both-second (F.base b) (X b) h) (zeros X least) u v R T k kl (no_base-last X least k q) ne
+    pub used-stays : UsedLast → (X : ℕ → Bool) → IsMinimiser p L X → (u v : ℕ) → IsRho p L X u → IsRank p (without_row e L.q)
+        (L.q_rows - 1) L.columns X v → v ≡ u
+    used-stays (k, kl, q, ne) X least u v R T = tableau-stays p prime L.q_rows (L.q_rows - 1) L.columns L.q (without_row e L.q) e
+        (without_row-removed p L.q_rows L.columns L.q e el) S U F.P (both F.base X) F.row X
+        tab.inverse tab.product (base_within X least) (λ b bl h. both-second (F.base b) (X b) h) (zeros X least) u v R T k kl
+        (no_base-last X least k q) ne
 
-    pub stays-used : ((X : ℕ → Bool) → IsMinimiser p L X → (u v : ℕ) → IsRho p L X u → IsRank p (without_row e L.q) (L.q_rows - 1) L.columns X v → v ≡ u) → UsedLast
+    pub stays-used : ((X : ℕ → Bool) → IsMinimiser p L X → (u v : ℕ) → IsRho p L X u → IsRank p (without_row e L.q)
+        (L.q_rows - 1) L.columns X v → v ≡ u) → UsedLast
     stays-used same = go (rank_exists p prime L.q L.q_rows L.columns before) (rank_exists p prime (without_row e L.q) (L.q_rows - 1) L.columns before)
       where
         shown : (k : ℕ) × (k < L.q_rows) × HasNoBase L.columns (both F.base before) F.row k × (S k e % p ≢ 0) → UsedLast
         shown (k, kl, none, ne) = (k, kl, last-no_base k kl none, ne)
 
         go : (u : ℕ) × IsRho p L before u → (v : ℕ) × IsRank p (without_row e L.q) (L.q_rows - 1) L.columns before v → UsedLast
-        go (u, R) (v, T) = shown (stays-tableau p prime L.q_rows (L.q_rows - 1) L.columns L.q (without_row e L.q) e (without_row-removed p L.q_rows L.columns L.q e el) S U F.P (both F.base before) F.row before
-            tab.inverse tab.product (base_within before before-minimiser) (λ b bl h. both-second (F.base b) (before b) h) (zeros before before-minimiser) u v R T (same before before-minimiser u v R T))
+        go (u, R) (v, T) = shown (stays-tableau p prime L.q_rows (L.q_rows - 1) L.columns L.q (without_row e L.q) e
+            (without_row-removed p L.q_rows L.columns L.q e el) S U F.P (both F.base before) F.row before
+            tab.inverse tab.product (base_within before before-minimiser) (λ b bl h. both-second (F.base b) (before b) h)
+            (zeros before before-minimiser) u v R T (same before before-minimiser u v R T))
