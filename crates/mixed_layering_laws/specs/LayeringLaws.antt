@@ -65,3 +65,7 @@ LayeredMatricesAddTheSplitRows =
     (p : ℕ) → IsPrime p → 2 < p → (M : Mixed) (L : Layered) (O : Origins) → IsLayeredMatrixOf M L O →
     (t : ℕ) → IsLayeredRank p L t →
     (r : ℕ) × IsStructuralRank p M r × (t ≡ r + O.split)
+
+-- each model has a layered matrix
+abbrev pub EachModelHasALayeredMatrix : Type 0
+EachModelHasALayeredMatrix = (M : Mixed) → (L : Layered) × (O : Origins) × IsLayeredMatrixOf M L O
