@@ -11,7 +11,7 @@ use Rattle.linear_algebra_laws.proofs.Entries.{above-low, above-top}
 use Rattle.linear_algebra_laws.proofs.Kernels.{independent_of-kernel, kernel_of-agree, rank_of-kernel}
 use Rattle.linear_algebra_laws.proofs.Ranks.{rank-unique, rank_exists}
 use Rattle.mixed_matrices.specs.LayeredMatrices.{Layered, layered_value}
-use Rattle.mixed_matrices.specs.Layerings.{IsLayering, Origins}
+use Rattle.mixed_matrices.specs.Layerings.{IsLayeredMatrixOf, IsLayering, Origins, gives_q, has_symbol}
 use Rattle.mixed_matrices.specs.Models.{Mixed, numbers, value}
 use Rattle.mixed_matrices.specs.StructuralRanks.{IsLayeredRank, IsStructuralRank}
 use Rattle.mixed_pairs.proofs.GreatestRanks.{mixed-rank_exists}
@@ -124,3 +124,11 @@ module _ (p : ℕ) (prime : IsPrime p) (M : Mixed) (A D : ℕ → Bool) (L : Lay
     where
       go : (s : ℕ) × IsStructuralRank p M s × (r + O.split ≡ s + O.split) → IsStructuralRank p M r
       go (s, S, q) = subst (λ k. IsStructuralRank p M k) (omega (arith, q)) S
+
+-- the rank of a model, from that of its layered matrix
+pub model_rank : (p : ℕ) → IsPrime p → 2 < p → (M : Mixed) (L : Layered) (O : Origins) → IsLayeredMatrixOf M L O → (t : ℕ) → IsLayeredRank p L t →
+    IsStructuralRank p M (t - O.split) × (O.split ≤ t)
+model_rank p prime big M L O lay t T = go (layering-back p prime M (gives_q M) (has_symbol M) L O lay big t T)
+  where
+    go : (r : ℕ) × IsStructuralRank p M r × (t ≡ r + O.split) → IsStructuralRank p M (t - O.split) × (O.split ≤ t)
+    go (r, R, q) = (subst (λ k. IsStructuralRank p M k) (let e : r ≡ t - O.split = omega (arith, q) in e) R, omega (arith, q))

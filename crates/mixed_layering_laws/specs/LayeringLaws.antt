@@ -1,5 +1,5 @@
 -- Laws of layering: the layered matrix of a model has its structural rank, and one more for each split equation.
-use Rattle.std.specs.Prelude.{ℕ, ◌+◌, ◌<◌, ◌≤◌, ◌≡◌, ◌↔◌, Bool}
+use Rattle.std.specs.Prelude.{ℕ, ◌+◌, ◌-◌, ◌<◌, ◌≤◌, ◌↔◌, Bool}
 use Rattle.residue_theory.specs.Residues.{IsPrime}
 use Rattle.residue_theory.specs.Sets.{everything}
 use Rattle.linear_algebra.specs.Columns.{IsRank}
@@ -59,12 +59,11 @@ LayeringsAddTheSplitRows =
     (p : ℕ) → IsPrime p → 2 < p → (M : Mixed) (A D : ℕ → Bool) (L : Layered) (O : Origins) → IsLayering M A D L O →
     (r : ℕ) → IsStructuralRank p M r ↔ IsLayeredRank p L (r + O.split)
 
--- and so for the layered matrix of the model, whose rank is s at least
-abbrev pub LayeredMatricesAddTheSplitRows : Type 0
-LayeredMatricesAddTheSplitRows =
+-- so the rank of a model is that of its layered matrix, less the number of split rows
+abbrev pub LayeredMatricesShowTheRank : Type 0
+LayeredMatricesShowTheRank =
     (p : ℕ) → IsPrime p → 2 < p → (M : Mixed) (L : Layered) (O : Origins) → IsLayeredMatrixOf M L O →
-    (t : ℕ) → IsLayeredRank p L t →
-    (r : ℕ) × IsStructuralRank p M r × (t ≡ r + O.split)
+    (t : ℕ) → IsLayeredRank p L t → IsStructuralRank p M (t - O.split) × (O.split ≤ t)
 
 -- each model has a layered matrix
 abbrev pub EachModelHasALayeredMatrix : Type 0

@@ -1,5 +1,5 @@
 //! The rank of a layered matrix beside that of its model (Murota, chapter 4).
-ghost use Rattle.mixed_layering_laws.specs.LayeringLaws.{EachModelHasALayeredMatrix, LayeredMatricesAddTheSplitRows, LayeringsAddTheSplitRows, MinusOnesAddTheSplitRows};
+ghost use Rattle.mixed_layering_laws.specs.LayeringLaws.{EachModelHasALayeredMatrix, LayeredMatricesShowTheRank, LayeringsAddTheSplitRows, MinusOnesAddTheSplitRows};
 
 /// With -1 at the auxiliary places a layered matrix has the rank of the model's value, and one more for each split row.
 pub fn minus_ones_add_the_split_rows()
@@ -13,8 +13,8 @@ pub fn layerings_add_the_split_rows()
 {}
 
 /// The structural rank of the layered matrix of a model, less the number of its split rows, is that of the model.
-pub fn layered_matrices_add_the_split_rows()
-    ensures { LayeredMatricesAddTheSplitRows }
+pub fn layered_matrices_show_the_rank()
+    ensures { LayeredMatricesShowTheRank }
 {}
 
 /// Every model has a layered matrix.
