@@ -1,5 +1,5 @@
 //! The words and laws of layering at the split entry: one row with the constant 1 and a symbol in its one place.
-ghost use Rattle.std.specs.Prelude.{◌+◌, ◌*◌, ◌≡◌, cond, eqb};
+ghost use Rattle.std.specs.Prelude.{◌+◌, ◌*◌, cond, eqb};
 ghost use Rattle.linear_algebra.specs.Columns.{IsRank};
 ghost use Rattle.residue_theory.specs.Sets.{everything};
 ghost use Rattle.mixed_matrices.specs.Examples.{split_matrix, split_model, split_origins};

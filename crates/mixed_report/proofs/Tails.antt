@@ -1,7 +1,6 @@
 -- Surplus and undetermined, by the tails of parts that keep the rules.
 use Rattle.std.proofs.Common.{◌≡◌, ℕ, ◌+◌, ◌-◌, ◌%◌, ◌<◌, ◌≤◌, ◌≢◌, Bool, true, false, leb, inl, inr, refl, ap, sym, subst, ◌∙◌, arith}
 use Rattle.std.proofs.lemmas.Bool.Decides.{nat_tests}
-use Rattle.residue_theory.proofs.ResidueLaws.{inverse}
 use Rattle.residue_theory.proofs.SetLaws.{both-first, both-second, both_true, differ, not_true, some_below-found, some_below-holds, zero_cases}
 use Rattle.residue_theory.proofs.SumLaws.{nat_cases}
 use Rattle.residue_theory.specs.Residues.{IsPrime}
@@ -39,10 +38,7 @@ module _ (p : ℕ) (prime : IsPrime p) (L : Layered) (S U : ℕ → ℕ → ℕ)
   before-minimiser = go (checked-form p prime L S U F tab G below lower K)
     where
       go : IsForm p L S G → IsMinimiser p L before
-      go (inverse, tri) = first_parts-minimiser p prime L S U tab.inverse G tri G.blocks (omega arith)
-
-  leb_true : (x k : ℕ) → leb x k ≡ true → x ≤ k
-  leb_true x k h = grind (arith, nat_tests)
+      go (_, tri) = first_parts-minimiser p prime L S U tab.inverse G tri G.blocks (omega arith)
 
   leb_from : (x k : ℕ) → x ≤ k → leb x k ≡ true
   leb_from x k h = grind (arith, nat_tests)

@@ -1,9 +1,9 @@
 //! The laws of layering and of the report at worked examples: the split entry (1 and a symbol in one place), x + y over x and a
 //! symbol at y, two equations of one unknown, and one equation of two unknowns.
-ghost use Rattle.std.specs.Prelude.{◌+◌, ◌≡◌};
+ghost use Rattle.std.specs.Prelude.{◌+◌};
 ghost use Rattle.linear_algebra.specs.Columns.{IsRank};
 ghost use Rattle.residue_theory.specs.Sets.{everything, without};
-ghost use Rattle.mixed_matrices.specs.Examples.{split_matrix, split_model, split_origins, stacked_matrix, stacked_model, stacked_origins, tall_model, tall_parts, tall_symbols, tall_tableau};
+ghost use Rattle.mixed_matrices.specs.Examples.{split_matrix, split_model, split_origins, stacked_matrix, stacked_model, stacked_origins, tall_model, tall_symbols};
 ghost use Rattle.mixed_matrices.specs.LayeredMatrices.{layered_part};
 ghost use Rattle.mixed_matrices.specs.Layerings.{IsLayeredMatrixOf};
 ghost use Rattle.mixed_matrices.specs.Models.{value};
