@@ -1,4 +1,4 @@
--- Row operations are a product with an invertible S: pivots on Q with the identity matrix beside it leave S in place of the identity.
+-- Row operations are a product with an invertible S: pivots on a matrix with the identity matrix beside it leave S in place of the identity.
 use Rattle.std.proofs.Common.{◌≡◌, ◌+◌, ◌-◌, ◌*◌, ◌%◌, ◌<◌, ◌≤◌, ◌&&◌, ◌∙◌, zero-add, ℕ, Bool, true, false, cond, ltb, refl, ap, sym, subst, arith}
 use Rattle.std.proofs.lemmas.Bool.Decides.{nat_tests}
 use Rattle.residue_theory.proofs.CountLaws.{size-everything, sum_on-join}
@@ -17,12 +17,9 @@ use Rattle.linear_algebra_laws.proofs.Products.{sum-identity}
 use Rattle.linear_algebra_laws.proofs.RankLaws.{rank-rows, rank_of-independent}
 use Rattle.linear_algebra_laws.proofs.Ranks.{rank_exists}
 use Rattle.linear_algebra_laws.proofs.RowRemoval.{falls-combines, without_row-removed}
-use Rattle.mixed_matrices.specs.LayeredMatrices.{Layered}
-use Rattle.mixed_matrices.specs.Pairs.{IsPair}
-use Rattle.mixed_matrices.specs.Tableaus.{IsTableau}
-use Rattle.mixed_pairs.proofs.PivotedBases.{PivotedBase, pivoted_base}
+use Rattle.linear_algebra_laws.proofs.PivotedBases.{PivotedBase, pivoted_base}
 
--- Q with the identity matrix beside it
+-- a with the identity matrix beside it
 pub beside : ℕ → (ℕ → ℕ → ℕ) → ℕ → ℕ → ℕ
 beside n a i j = cond (ltb j n) (a i j) (identity i (j - n))
 
@@ -161,7 +158,7 @@ module _ (p : ℕ) (prime : IsPrime p) (m n : ℕ) (a : ℕ → ℕ → ℕ) (W 
             (sum_on-ext everything m (λ t. left_matrix i t * f e t) (λ t. f e t * left_matrix i t) (λ t _ _. omega arith)) ∙ ok e el i il,
       )
 
--- ---- a tableau for each independent set
+-- ---- independent columns as unit columns
 pub record Transformed (p m n : ℕ) (a : ℕ → ℕ → ℕ) (I : ℕ → Bool) : Type 0 where
   pub S : ℕ → ℕ → ℕ
   pub U : ℕ → ℕ → ℕ
@@ -196,11 +193,11 @@ transformed_base p prime m n a I ind = go (pivoted_base p prime m (n + m) (besid
       };
     }
 
--- each pair stands in a tableau
-pub pair_tableau : (p : ℕ) → IsPrime p → (L : Layered) (I J : ℕ → Bool) (mate : ℕ → ℕ) → IsPair p L I J mate →
-    (S : ℕ → ℕ → ℕ) × (U : ℕ → ℕ → ℕ) × (P : ℕ → ℕ → ℕ) × (row : ℕ → ℕ) × IsTableau p L S U (record { P = P; base = I; row = row; matched = J; mate = mate })
-pair_tableau p prime L I J mate pair = go (transformed_base p prime L.q_rows L.columns L.q I pair.independent)
-  where
-    go : Transformed p L.q_rows L.columns L.q I →
-        (S : ℕ → ℕ → ℕ) × (U : ℕ → ℕ → ℕ) × (P : ℕ → ℕ → ℕ) × (row : ℕ → ℕ) × IsTableau p L S U (record { P = P; base = I; row = row; matched = J; mate = mate })
-    go T = (T.S, T.U, T.P, T.row, record { inverse = T.inverse; product = T.made; base = T.base; matching = pair.matching; apart = pair.apart })
+-- the same with no word of P
+pub made-base : (p m n : ℕ) (a : ℕ → ℕ → ℕ) (I : ℕ → Bool) (T : Transformed p m n a I) → IsBase p (product m T.S a) m n I T.row
+made-base p m n a I T = record {
+  row_below = T.base.row_below;
+  one = λ b bl bh. sym (T.made (T.row b) b (T.base.row_below b bl bh) bl) ∙ T.base.one b bl bh;
+  zero = λ b i bl bh il ne. sym (T.made i b il bl) ∙ T.base.zero b i bl bh il ne;
+  distinct = T.base.distinct;
+}
