@@ -1,0 +1,3 @@
+pub mod SideLaws
+pub mod MoveLaws
+pub mod SearchLaws

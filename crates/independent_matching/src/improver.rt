@@ -1,0 +1,93 @@
+ghost use Rattle.std.specs.Prelude.{◌≡◌, ◌≢◌, ℕ, ◌+◌, ◌*◌, ◌<◌, ◌≤◌, Bool, suc, IsTrue, IsFalse};
+ghost use Rattle.residue_theory.specs.Sums.{size_on};
+ghost use Rattle.exchange_graph.specs.Results.{reached_of, step_of};
+ghost use Rattle.mixed_matrices.specs.Arcs.{HasNoWalk, IsReachedFromFree};
+ghost use Rattle.mixed_matrices.specs.Tableaus.{HasTableau};
+ghost use Rattle.mixed_augmentation.specs.Moves.{IsRoute, route};
+ghost use Rattle.independent_matching.specs.Sides.{AreMarks, IsReady, IsSized, in_q, layers_of, number, size_of, tableau_of};
+
+use crate::pair::Pair;
+use crate::row::Row;
+use exchange_graph::{Search, Steps};
+use residue_field::Field;
+use row_transform::Tableau;
+use std::sync::ledger::Ledger;
+
+// A pair, a search for walks in it, and marks of its free columns and its ends.
+#[derive(Drop)]
+pub struct Improver<F: Field, T: Tableau<F>> {
+    pub pair: Pair<F, T>,
+    pub search: Search,
+    pub free: Vec<bool>,
+    pub ends: Vec<bool>,
+}
+
+impl<F: Field, T: Tableau<F>> Improver<F, T> {
+    // Moves the columns of the walk that the search found, from its last one back, which takes the row `end`.
+    fn augment<L: Ledger>(&mut self, last: usize, end: Row, steps: &mut Steps<L>)
+        requires width { self.old.pair.mates.pattern.width ≡ (T.state self.old.pair.tableau).columns }
+        requires places { self.old.search.places ≡ (T.state self.old.pair.tableau).columns }
+        requires last { last < self.old.search.places }
+        requires pair { HasTableau F.modulus (layers_of (T.state self.old.pair.tableau) self.old.pair.mates) (tableau_of (T.state self.old.pair.tableau) self.old.pair.mates) }
+        requires route { IsRoute F.modulus (layers_of (T.state self.old.pair.tableau) self.old.pair.mates) (tableau_of (T.state self.old.pair.tableau) self.old.pair.mates) (route (tableau_of (T.state self.old.pair.tableau) self.old.pair.mates) (step_of self.old.search) last (in_q end) (number end)) }
+        ensures layers { layers_of (T.state self.new.pair.tableau) self.new.pair.mates ≡ layers_of (T.state self.old.pair.tableau) self.old.pair.mates }
+        ensures width { self.new.pair.mates.pattern.width ≡ self.old.pair.mates.pattern.width }
+        ensures pair { HasTableau F.modulus (layers_of (T.state self.old.pair.tableau) self.old.pair.mates) (tableau_of (T.state self.new.pair.tableau) self.new.pair.mates) }
+        ensures size { size_of (T.state self.new.pair.tableau) self.new.pair.mates ≡ size_of (T.state self.old.pair.tableau) self.old.pair.mates + 1 }
+        ensures steps { steps.new ≤ steps.old + size_on (T.state self.old.pair.tableau).base (T.state self.old.pair.tableau).columns + 1 }
+        ensures search { self.new.search ≡ self.old.search }
+        ensures free { self.new.free ≡ self.old.free }
+        ensures ends { self.new.ends ≡ self.old.ends }
+    {
+        // there are at most 8,192 columns, so that the sum below fits
+        let _columns = self.pair.tableau.columns();
+        let mut left = last + 1;
+        let mut next = Some(end);
+        while let Some(row) = next {
+            left -= 1;
+            let x = self.search.step(left);
+            next = self.pair.row_of(x);
+            self.pair.take(row, x, steps);
+        }
+    }
+
+    // Marks the free columns and the ends.
+    fn mark(&mut self)
+        requires { IsSized (T.state self.old.pair.tableau) self.old.pair.mates self.old.search.places self.old.free.items self.old.ends.items }
+        ensures marks { (x : ℕ) → x < (T.state self.old.pair.tableau).columns → AreMarks F.modulus (T.state self.old.pair.tableau) self.old.pair.mates self.new.free.items self.new.ends.items x }
+        ensures sized { IsSized (T.state self.old.pair.tableau) self.old.pair.mates self.old.search.places self.new.free.items self.new.ends.items }
+        ensures pair { self.new.pair ≡ self.old.pair }
+        ensures search { self.new.search ≡ self.old.search }
+    {
+        for x in 0..self.free.len() {
+            self.free[x] = self.pair.is_free(x);
+            self.ends[x] = self.pair.free_row(x).is_some();
+        }
+    }
+
+    // Makes the pair larger by one column, or finds that it is best.
+    fn improve<L: Ledger>(&mut self, steps: &mut Steps<L>) -> bool
+        requires ready { IsReady F.modulus (T.state self.old.pair.tableau) self.old.pair.mates self.old.search.places self.old.free.items self.old.ends.items }
+        ensures ready { IsReady F.modulus (T.state self.new.pair.tableau) self.new.pair.mates self.new.search.places self.new.free.items self.new.ends.items }
+        ensures layers { layers_of (T.state self.new.pair.tableau) self.new.pair.mates ≡ layers_of (T.state self.old.pair.tableau) self.old.pair.mates }
+        ensures size { IsTrue result → size_of (T.state self.new.pair.tableau) self.new.pair.mates ≡ size_of (T.state self.old.pair.tableau) self.old.pair.mates + 1 }
+        ensures pivots { IsTrue result → steps.new ≤ steps.old + (T.state self.old.pair.tableau).columns + size_on (T.state self.old.pair.tableau).base (T.state self.old.pair.tableau).columns + 1 }
+        ensures pair { IsFalse result → self.new.pair ≡ self.old.pair }
+        ensures no_walk { IsFalse result → HasNoWalk F.modulus (layers_of (T.state self.old.pair.tableau) self.old.pair.mates) (tableau_of (T.state self.old.pair.tableau) self.old.pair.mates) }
+        ensures reached { IsFalse result → IsReachedFromFree F.modulus (layers_of (T.state self.old.pair.tableau) self.old.pair.mates) (tableau_of (T.state self.old.pair.tableau) self.old.pair.mates) (reached_of self.new.search) }
+        ensures looks { IsFalse result → steps.new ≤ steps.old + (T.state self.old.pair.tableau).columns }
+    {
+        match self
+            .search
+            .shortest(&self.pair, &self.free, &self.ends, steps)
+        {
+            None => false,
+            Some(last) => {
+                let end = self.pair.free_row(self.search.step(last)).unwrap();
+                self.augment(last, end, steps);
+                self.mark();
+                true
+            }
+        }
+    }
+}

@@ -1,0 +1,7 @@
+//! A best pair of a layered mixed matrix, and its least minimiser, by shortest walks from free columns to ends
+//! (Murota, Matrices and Matroids for Systems Analysis, chapter 2, independent matching; chapter 4).
+#![tactic(auto)]
+
+mod improver;
+mod pair;
+mod row;
