@@ -1,16 +1,20 @@
-//! Models: named equations over named unknowns, and the constants at their places.
+//! Models: named equations over named unknowns, and the constants at their places; and layered matrices.
 #![tactic(auto)]
 
 mod entry;
 mod errors;
+mod layered;
 mod mixed;
 mod names;
+mod origin;
 mod rows;
 
 pub use entry::{Entries, Entry};
 pub use errors::{AddError, NoMemory};
+pub use layered::Layered;
 pub use mixed::{Mixed, constants_tell_a_model};
 pub use names::is_label;
+pub use origin::Origin;
 pub use refusals::{Place, ReadModel, Refused, Why};
 
 #[cfg(test)]
