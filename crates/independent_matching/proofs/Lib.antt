@@ -1,3 +1,6 @@
 pub mod SideLaws
 pub mod MoveLaws
 pub mod SearchLaws
+pub mod RunLaws
+pub mod OpenLaws
+pub mod EngineLaws

@@ -1,5 +1,5 @@
 -- The moves along a walk, over a tableau and a matching.
-use Rattle.std.proofs.Common.{◌≡◌, ◌≢◌, ◌+◌, ◌-◌, ◌%◌, ◌<◌, ◌≤◌, ◌∙◌, ◌⊎◌, ℕ, zero, suc, Bool, true, false, Option, Some, None, cond, inl, inr, refl, sym, ap, subst, arith}
+use Rattle.std.proofs.Common.{◌≡◌, ◌≢◌, ◌+◌, ◌%◌, ◌<◌, ◌≤◌, ◌∙◌, ℕ, zero, suc, Bool, true, false, Option, Some, None, cond, inl, inr, refl, sym, ap, subst, arith}
 use Rattle.residue_theory.proofs.SetLaws.{differ}
 use Rattle.residue_theory.specs.Sums.{size_on}
 use Rattle.bipartite_matching.specs.Matchings.{Matching}

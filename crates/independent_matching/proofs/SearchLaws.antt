@@ -1,5 +1,5 @@
 -- A search over marks, in the words of the tableau.
-use Rattle.std.proofs.Common.{◌≡◌, ◌<◌, ◌≤◌, ◌∙◌, ℕ, Bool, true, Option, Some, IfSome, refl, sym, subst, arith}
+use Rattle.std.proofs.Common.{◌≡◌, ◌<◌, ◌∙◌, ℕ, Bool, true, Option, Some, IfSome, sym, subst, arith}
 use Rattle.closed_sets.specs.Closed.{IsReachedSet, NoEndReached}
 use Rattle.closed_sets.specs.Walks.{FromSome}
 use Rattle.bipartite_matching.specs.Matchings.{Matching}

@@ -1,11 +1,8 @@
 -- A tableau and a matching, and the tableau of the layered matrix that they make.
-use Rattle.std.proofs.Common.{◌≡◌, ◌≢◌, ◌%◌, ◌<◌, ◌||◌, ◌∙◌, ℕ, Bool, true, false, List, length, Option, Some, None, IfSome, IfNone, is_some, slice_index, inl, inr, refl, sym, ap, subst, arith}
-use Rattle.std.specs.List.{list_any}
-use Rattle.std.proofs.lemmas.List.Folds.{list_any_none}
-use Rattle.std.proofs.lemmas.Grind.{common_steps}
+use Rattle.std.proofs.Common.{◌≡◌, ◌≢◌, ◌%◌, ◌<◌, ◌∙◌, ℕ, Bool, true, false, List, length, Some, None, slice_index, inl, inr, refl, sym, ap, subst, arith}
 use Rattle.linear_algebra.specs.Bases.{HasNoBase}
 use Rattle.residue_theory.proofs.SumLaws.{nat_cases}
-use Rattle.sparse_t.specs.Incidences.{Incidence, height, touches, AreRowsOf}
+use Rattle.sparse_t.specs.Incidences.{height, touches, AreRowsOf}
 use Rattle.sparse_t.proofs.ListLaws.{has-member}
 use Rattle.bipartite_matching.specs.Matchings.{Matching, HasPair, IsMatching, IsRowFree, mate_at, without_column}
 use Rattle.mixed_matrices.specs.Arcs.{is_end}
@@ -13,7 +10,7 @@ use Rattle.mixed_augmentation.specs.Moves.{IsFreeRow}
 use Rattle.mixed_augmentation.proofs.Routes.{end-free_row, free_row-end}
 use Rattle.residue_theory.proofs.SetLaws.{not_true}
 use Rattle.row_transform.specs.Tableaus.{State, IsBare}
-use Rattle.independent_matching.specs.Sides.{HasNoMate, is_matched, layers_of, mate_of, tableau_of}
+use Rattle.independent_matching.specs.Sides.{HasNoMate, layers_of, tableau_of}
 use Rattle.bipartite_matching.proofs.MateLaws.{pair-matched, parted-here, parted-other}
 
 -- a parting makes no pair

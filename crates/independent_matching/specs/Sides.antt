@@ -91,8 +91,9 @@ pub record IsSized (S : State) (M : Matching) (places : ℕ) (free ends : List B
   pub free_count : length free ≡ S.columns
   pub end_count : length ends ≡ S.columns
 
--- the base and the matched columns are a pair, and the marks are right
-pub record IsReady (p : ℕ) (S : State) (M : Matching) (places : ℕ) (free ends : List Bool) : Type 0 where
+-- the base and the matched columns are a pair of that size, and the marks are right
+pub record IsReady (p : ℕ) (S : State) (M : Matching) (places : ℕ) (free ends : List Bool) (size : ℕ) : Type 0 where
   pub pair : HasTableau p (layers_of S M) (tableau_of S M)
   pub sized : IsSized S M places free ends
   pub marks : (x : ℕ) → x < S.columns → AreMarks p S M free ends x
+  pub count : size ≡ size_of S M

@@ -2,6 +2,12 @@
 //! (Murota, Matrices and Matroids for Systems Analysis, chapter 2, independent matching; chapter 4).
 #![tactic(auto)]
 
+mod engine;
 mod improver;
+mod memory;
 mod pair;
 mod row;
+
+pub use engine::Engine;
+pub use exchange_graph::{Arcs, Steps};
+pub use memory::NoMemory;

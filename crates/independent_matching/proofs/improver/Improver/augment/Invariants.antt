@@ -16,6 +16,7 @@ invariant-loop-next g l =
       search : l.self.search ≡ l.fn.self.search;
       free : l.self.free ≡ l.fn.self.free;
       ends : l.self.ends ≡ l.fn.self.ends;
+      size : l.self.size ≡ l.fn.self.size;
     }
 
 abbrev pub decreases-loop-next : goal.decreases-loop-next

@@ -1,5 +1,4 @@
 use Rattle.std.proofs.Common.{true, false, refl}
-use Rattle.mixed_augmentation.specs.Moves.{IsFreeRow}
 use Rattle.bipartite_matching.proofs.MateLaws.{free-row}
 use Rattle.residue_theory.proofs.SetLaws.{differ}
 use Rattle.independent_matching.proofs.SideLaws.{free-end, none-end}
