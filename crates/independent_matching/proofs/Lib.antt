@@ -4,3 +4,4 @@ pub mod SearchLaws
 pub mod RunLaws
 pub mod OpenLaws
 pub mod EngineLaws
+pub mod NextLaws

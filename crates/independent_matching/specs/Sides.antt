@@ -1,8 +1,8 @@
 -- A tableau of Q and a matching in T, read as a tableau of the layered matrix of Q and T.
-use Rattle.std.specs.Prelude.{ℕ, ◌+◌, ◌<◌, ◌≡◌, ◌≢◌, ◌%◌, Bool, true, false, List, length, Option, Some, None, cond, is_some, unwrap_or}
+use Rattle.std.specs.Prelude.{ℕ, ◌+◌, ◌<◌, ◌≤◌, ◌≡◌, ◌≢◌, ◌%◌, ◌&&◌, Bool, eqb, not, true, false, List, length, Option, Some, None, cond, is_some, unwrap_or}
 use Rattle.linear_algebra.specs.Bases.{HasNoBase}
 use Rattle.sparse_t.specs.Incidences.{height, touches}
-use Rattle.bipartite_matching.specs.Matchings.{Matching, mate_at}
+use Rattle.bipartite_matching.specs.Matchings.{Matching, HasPair, mate_at}
 use Rattle.row_transform.specs.Tableaus.{State}
 use Rattle.exchange_graph.specs.Marks.{members_of}
 use Rattle.mixed_matrices.specs.Arcs.{is_end, is_free}
@@ -23,6 +23,21 @@ mate_of M j = unwrap_or (mate_at M j) 0
 -- no column is matched with the T row
 abbrev pub HasNoMate : Matching → ℕ → Type 0
 HasNoMate M row = HasNoBase M.pattern.width (is_matched M) (mate_of M) row
+
+-- x leads to another column y by the T row of y
+abbrev pub t_arc : Matching → ℕ → ℕ → Bool
+t_arc M x y = not (eqb x y) && (is_matched M y && touches M.pattern (mate_of M y) x)
+
+-- x leads to another column y by the Q row of y
+abbrev pub q_arc : ℕ → State → ℕ → ℕ → Bool
+q_arc p S x y = not (eqb x y) && (S.base y && not (eqb (S.p (S.row y) x % p) 0))
+
+-- the T row is matched with y, another column than x, from `from` on and below `least`
+pub record IsNearer (M : Matching) (row x from least y : ℕ) : Type 0 where
+  pub matched : HasPair M row y
+  pub other : y ≢ x
+  pub from_on : from ≤ y
+  pub before : y < least
 
 -- the layered matrix of Q and T
 abbrev pub layers_of : State → Matching → Layered

@@ -1,10 +1,10 @@
-ghost use Rattle.std.specs.Prelude.{◌≡◌, ◌≢◌, ℕ, ◌+◌, ◌*◌, ◌<◌, ◌≤◌, Bool, false, suc, IfOk, IsTrue, IsFalse};
+ghost use Rattle.std.specs.Prelude.{◌≡◌, ◌≢◌, ℕ, ◌+◌, ◌*◌, ◌<◌, ◌≤◌, Bool, false, suc, IfOk, IfSome, is_some, IsTrue, IsFalse};
 ghost use Rattle.linear_algebra.specs.Kernels.{SameKernel};
 ghost use Rattle.residue_theory.specs.Sums.{size_on};
 ghost use Rattle.exchange_graph.specs.Results.{reached_of, step_of};
-ghost use Rattle.mixed_matrices.specs.Arcs.{HasNoWalk, IsReachedFromFree};
+ghost use Rattle.mixed_matrices.specs.Arcs.{HasNoWalk, IsReachedFromFree, is_end};
 ghost use Rattle.mixed_matrices.specs.Tableaus.{HasTableau};
-ghost use Rattle.mixed_augmentation.specs.Moves.{IsRoute, route};
+ghost use Rattle.mixed_augmentation.specs.Moves.{IsFreeRow, IsRoute, route};
 ghost use Rattle.independent_matching.specs.Engines.{AreFewSteps};
 ghost use Rattle.independent_matching.specs.Sides.{AreMarks, IsReady, IsSized, in_q, is_matched, layers_of, number, size_of, tableau_of};
 
@@ -19,7 +19,8 @@ use std::alloc::Global;
 use std::marker::PhantomData;
 use std::sync::ledger::Ledger;
 
-// A pair and its size, a search for walks in it, and marks of its free columns and its ends.
+// A pair and its size, a search for walks in it, and marks of its free columns and its ends. For each column the
+// Q row is kept that last made it an end: it is tried first when the ends are marked again.
 #[derive(Drop)]
 pub struct Improver<F: Field, T: Tableau<F>> {
     pub pair: Pair<F, T>,
@@ -27,6 +28,7 @@ pub struct Improver<F: Field, T: Tableau<F>> {
     pub free: Vec<bool>,
     pub ends: Vec<bool>,
     pub size: usize,
+    pub guesses: Vec<usize>,
 }
 
 impl<F: Field, T: Tableau<F>> Improver<F, T> {
@@ -52,6 +54,7 @@ impl<F: Field, T: Tableau<F>> Improver<F, T> {
             free: vec![in alloc; false; columns]?,
             ends: vec![in alloc; false; columns]?,
             size: 0,
+            guesses: vec![in alloc; 0; columns]?,
         };
         improver.mark();
         Ok(improver)
@@ -87,6 +90,31 @@ impl<F: Field, T: Tableau<F>> Improver<F, T> {
         }
     }
 
+    // A row that x may take and that no column has.
+    fn free_row(&self, x: usize) -> Option<Row>
+        requires width { self.now.pair.mates.pattern.width ≡ (T.state self.now.pair.tableau).columns }
+        requires x { x < (T.state self.now.pair.tableau).columns }
+        ensures free { IfSome result (λ row. IsFreeRow F.modulus (layers_of (T.state self.now.pair.tableau) self.now.pair.mates) (tableau_of (T.state self.now.pair.tableau) self.now.pair.mates) x (in_q row) (number row)) }
+        ensures end { is_some result ≡ is_end F.modulus (layers_of (T.state self.now.pair.tableau) self.now.pair.mates) (tableau_of (T.state self.now.pair.tableau) self.now.pair.mates) x }
+    {
+        let guess = match self.guesses.get(x) {
+            Some(row) => *row,
+            None => 0,
+        };
+        self.pair.free_row(x, guess)
+    }
+
+    // Keeps the Q row that makes x an end, to be tried first the next time.
+    fn remember(&mut self, x: usize, end: Option<Row>)
+        ensures { self.new ≡ record self.old { guesses = self.new.guesses } }
+    {
+        if let Some(Row::Q(row)) = end {
+            if let Some(guess) = self.guesses.get_mut(x) {
+                *guess = row;
+            }
+        }
+    }
+
     // Marks the free columns and the ends.
     fn mark(&mut self)
         requires { IsSized (T.state self.old.pair.tableau) self.old.pair.mates self.old.search.places self.old.free.items self.old.ends.items }
@@ -98,7 +126,9 @@ impl<F: Field, T: Tableau<F>> Improver<F, T> {
     {
         for x in 0..self.free.len() {
             self.free[x] = self.pair.is_free(x);
-            self.ends[x] = self.pair.free_row(x).is_some();
+            let end = self.free_row(x);
+            self.ends[x] = end.is_some();
+            self.remember(x, end);
         }
     }
 
@@ -120,7 +150,7 @@ impl<F: Field, T: Tableau<F>> Improver<F, T> {
         {
             None => false,
             Some(last) => {
-                let end = self.pair.free_row(self.search.step(last)).unwrap();
+                let end = self.free_row(self.search.step(last)).unwrap();
                 self.augment(last, end, steps);
                 self.mark();
                 self.size += 1;
