@@ -11,3 +11,6 @@ mod row;
 pub use engine::Engine;
 pub use exchange_graph::{Arcs, Steps};
 pub use memory::NoMemory;
+
+#[cfg(test)]
+mod tests;
