@@ -1,4 +1,5 @@
-ghost use Rattle.std.specs.Prelude.{◌≡◌, ◌≤◌, ℕ, ◌+◌, ◌*◌, ◌<◌, ◌%◌, Bool, false, IfOk, is_some, Option};
+ghost use Rattle.std.specs.Prelude.{◌≡◌, ◌≤◌, ℕ, ◌+◌, ◌*◌, ◌<◌, ◌%◌, Bool, false, IfOk, IsTrue, IsFalse, is_some, Option};
+ghost use Rattle.residue_theory.specs.Sums.{size_on};
 ghost use Rattle.dense_q.specs.Tables.{entry};
 ghost use Rattle.bipartite_matching.specs.Matchings.{mate_at};
 ghost use Rattle.mixed_matrices.specs.Arcs.{is_end, is_free, leads_to};
@@ -59,10 +60,25 @@ impl Engine<Res, DenseTableau<Res>> {
 }
 
 impl<F: Field, T: Tableau<F>> Engine<F, T> {
-    /// Ends with a best pair, by shortest walks from free columns to ends.
+    /// Searches once for a shortest walk from a free column to an end. Where there is one, the pair grows by a column
+    /// along it, from its end backwards; else the pair is best and stays. A step is a look at a column in the search,
+    /// at most one for each column, or a pivot, at most as many as there were base columns and one.
+    pub fn improve<L: Ledger>(&mut self, steps: &mut Steps<L>) -> bool
+        ensures same { (q : ℕ → ℕ → ℕ) → layers q (T.state self.new.tableau) self.new.matching ≡ layers q (T.state self.old.tableau) self.old.matching }
+        ensures entries { (q : ℕ → ℕ → ℕ) → AreEntries F.modulus (T.state self.old.tableau) q → AreEntries F.modulus (T.state self.new.tableau) q }
+        ensures grown { IsTrue result → size_of (T.state self.new.tableau) self.new.matching ≡ size_of (T.state self.old.tableau) self.old.matching + 1 }
+        ensures pivots { IsTrue result → steps.new ≤ steps.old + (T.state self.old.tableau).columns + size_on (T.state self.old.tableau).base (T.state self.old.tableau).columns + 1 }
+        ensures solved { IsFalse result → (q : ℕ → ℕ → ℕ) → AreEntries F.modulus (T.state self.new.tableau) q → IsSolved F.modulus (layers q (T.state self.new.tableau) self.new.matching) (tableau_of (T.state self.new.tableau) self.new.matching) (reached_of self.new.found) }
+        ensures kept { IsFalse result → (self.new.tableau ≡ self.old.tableau) × (self.new.matching ≡ self.old.matching) }
+        ensures looks { IsFalse result → steps.new ≤ steps.old + (T.state self.old.tableau).columns }
+    {
+        self.improver.improve(steps)
+    }
+
+    /// Ends with a best pair: it improves the pair until the search finds no walk.
     ///
-    /// A step is a look at a column in a search, or a pivot. From a pair of s columns to one of m, over n columns,
-    /// there are at most m - s + 1 searches of at most n looks, and fewer pivots than m for each but the last.
+    /// So there are m - s + 1 searches from a pair of s columns to one of m, and over n columns at most as many steps as
+    /// `AreFewSteps` says: from the empty pair (m + 1) n + m m.
     pub fn run<L: Ledger>(&mut self, steps: &mut Steps<L>)
         ensures same { (q : ℕ → ℕ → ℕ) → layers q (T.state self.new.tableau) self.new.matching ≡ layers q (T.state self.old.tableau) self.old.matching }
         ensures entries { (q : ℕ → ℕ → ℕ) → AreEntries F.modulus (T.state self.old.tableau) q → AreEntries F.modulus (T.state self.new.tableau) q }

@@ -133,15 +133,15 @@ impl<F: Field, T: Tableau<F>> Improver<F, T> {
     }
 
     // Makes the pair larger by one column, or finds that it is best.
-    fn improve<L: Ledger>(&mut self, steps: &mut Steps<L>) -> bool
+    pub fn improve<L: Ledger>(&mut self, steps: &mut Steps<L>) -> bool
         requires ready { IsReady F.modulus (T.state self.old.pair.tableau) self.old.pair.mates self.old.search.places self.old.free.items self.old.ends.items self.old.size }
         ensures ready { IsReady F.modulus (T.state self.new.pair.tableau) self.new.pair.mates self.new.search.places self.new.free.items self.new.ends.items self.new.size }
         ensures layers { layers_of (T.state self.new.pair.tableau) self.new.pair.mates ≡ layers_of (T.state self.old.pair.tableau) self.old.pair.mates }
         ensures size { IsTrue result → size_of (T.state self.new.pair.tableau) self.new.pair.mates ≡ size_of (T.state self.old.pair.tableau) self.old.pair.mates + 1 }
         ensures pivots { IsTrue result → steps.new ≤ steps.old + (T.state self.old.pair.tableau).columns + size_on (T.state self.old.pair.tableau).base (T.state self.old.pair.tableau).columns + 1 }
         ensures pair { IsFalse result → self.new.pair ≡ self.old.pair }
-        ensures no_walk { IsFalse result → HasNoWalk F.modulus (layers_of (T.state self.old.pair.tableau) self.old.pair.mates) (tableau_of (T.state self.old.pair.tableau) self.old.pair.mates) }
-        ensures reached { IsFalse result → IsReachedFromFree F.modulus (layers_of (T.state self.old.pair.tableau) self.old.pair.mates) (tableau_of (T.state self.old.pair.tableau) self.old.pair.mates) (reached_of self.new.search) }
+        ensures no_walk { IsFalse result → HasNoWalk F.modulus (layers_of (T.state self.new.pair.tableau) self.new.pair.mates) (tableau_of (T.state self.new.pair.tableau) self.new.pair.mates) }
+        ensures reached { IsFalse result → IsReachedFromFree F.modulus (layers_of (T.state self.new.pair.tableau) self.new.pair.mates) (tableau_of (T.state self.new.pair.tableau) self.new.pair.mates) (reached_of self.new.search) }
         ensures looks { IsFalse result → steps.new ≤ steps.old + (T.state self.old.pair.tableau).columns }
     {
         match self

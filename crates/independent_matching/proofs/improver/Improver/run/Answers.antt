@@ -1,9 +1,7 @@
 use Rattle.std.proofs.Common.{◌+◌, ◌*◌, ◌-◌, ◌<◌, ◌∙◌, ap, sym, subst, cond, arith}
 use Rattle.residue_theory.specs.Sums.{size_on}
-use Rattle.exchange_graph.specs.Results.{reached_of}
-use Rattle.mixed_matrices.specs.Arcs.{HasNoWalk, IsReachedFromFree}
 use Rattle.mixed_matrices.specs.LayeredMatrices.{Layered}
-use Rattle.independent_matching.specs.Sides.{layers_of, size_of, tableau_of}
+use Rattle.independent_matching.specs.Sides.{size_of}
 use Rattle.independent_matching.proofs.RunLaws.{base-bound, run-count, run-going, run-smaller, size-bound}
 use Rattle.independent_matching.proofs.improver.Improver.run.Goals as goal
 
@@ -38,8 +36,8 @@ loop-grown-preserved g c =
       layers = E.layers ∙ I.layers;
       going = λ t. run-going N (size_of S M) (size_of S' M') (size_on S.base S.columns) (s * N + s * s) c.args.steps.now c.loop-grown.steps c.improve-grown.new.steps
           (I.going c.loop-grown-test.true) (omega (arith, E.pivots t, ap (λ (L : Layered). L.columns) I.layers)) (base-bound S M) (E.size t);
-      no_walk = λ f. subst (λ q. HasNoWalk p (layers_of (g.T.Tableau.state q.tableau) q.mates) (tableau_of (g.T.Tableau.state q.tableau) q.mates)) (sym (E.pair f)) (E.no_walk f);
-      reached = λ f. subst (λ q. IsReachedFromFree p (layers_of (g.T.Tableau.state q.tableau) q.mates) (tableau_of (g.T.Tableau.state q.tableau) q.mates) (reached_of c.improve-grown.new.self.search)) (sym (E.pair f)) (E.reached f);
+      no_walk = E.no_walk;
+      reached = E.reached;
       count = λ f. run-count N s (size_of S M) (size_of S' M') c.args.steps.now c.loop-grown.steps c.improve-grown.new.steps
           (I.going c.loop-grown-test.true) (omega (arith, E.looks f, ap (λ (L : Layered). L.columns) I.layers)) (ap (λ q. size_of (g.T.Tableau.state q.tableau) q.mates) (E.pair f));
     }
