@@ -61,3 +61,8 @@ linked-consistent b r y same rl yl bare free = record {
 pub column-below : (b : BaseLists) (r : ℕ) (o : Option ℕ) → IsConsistent b → o ≡ slice_index_or b.columns r None → IfSome o (λ y. y < length b.rows)
 column-below b r None same e = tt
 column-below b r (Some y) same e = (same.columns_point r y (sym e)).0
+
+-- what they say of the row of a base column
+pub row-below : (b : BaseLists) (y : ℕ) (o : Option ℕ) → IsConsistent b → o ≡ slice_index_or b.rows y None → IfSome o (λ r. r < length b.columns)
+row-below b y None same e = tt
+row-below b y (Some r) same e = (same.rows_point y r (sym e)).0

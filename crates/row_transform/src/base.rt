@@ -43,6 +43,17 @@ impl Base {
         self.columns[row]
     }
 
+    // The row whose base column a column is.
+    pub(crate) fn row_of(&self, column: usize) -> Option<usize>
+        requires { column < length self.now.rows }
+        ensures none { IfNone result (is_base self.now column ≡ false) }
+        ensures member { IfSome result (λ r. is_base self.now column ≡ true) }
+        ensures at_row { IfSome result (λ r. row_of self.now column ≡ r) }
+        ensures below { IfSome result (λ r. r < length self.now.columns) }
+    {
+        self.rows[column]
+    }
+
     // Makes a column the base column of a row.
     pub(crate) fn take(&mut self, row: usize, column: usize)
         requires row { row < length self.old.columns }

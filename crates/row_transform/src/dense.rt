@@ -61,6 +61,10 @@ impl<F: Field> Tableau<F> for DenseTableau<F> {
         self.base.column_of(row)
     }
 
+    fn row_of(&self, col: usize) -> Option<usize> {
+        self.base.row_of(col)
+    }
+
     fn in_span(&self, col: usize) -> bool {
         for row in 0..self.rows() {
             if self.base_of(row).is_none() && !self.entry(row, col).is_zero() {

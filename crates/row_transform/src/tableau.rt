@@ -42,6 +42,13 @@ pub trait Tableau<F: Field>: Drop {
         ensures none { IfNone result (IsBare (state self.now) row) }
         ensures some { IfSome result (IsBaseColumn (state self.now) row) };
 
+    /// The row whose base column a column is.
+    fn row_of(&self, col: usize) -> Option<usize>
+        requires { col < (state self.now).columns }
+        ensures none { IfNone result ((state self.now).base col ≡ false) }
+        ensures some { IfSome result (λ row. IsBaseColumn (state self.now) row col) }
+        ensures below { IfSome result (λ row. row < (state self.now).rows) };
+
     /// Whether a column of Q is a combination of the base columns.
     fn in_span(&self, col: usize) -> bool
         requires { col < (state self.now).columns }

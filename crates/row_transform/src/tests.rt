@@ -51,6 +51,10 @@ fn assert_base(rt: &impl Abort, t: &DenseTableau<Res>, want: &[Option<usize>], a
         assert!(rt; row < t.rows());
         assert_eq!(rt; t.base_of(row), *column, "{at}, row {row}");
     }
+    for column in 0..t.columns() {
+        let row = want.iter().position(|base| *base == Some(column));
+        assert_eq!(rt; t.row_of(column), row, "{at}, column {column}");
+    }
 }
 
 // A pivot through the bound, at an entry that is not zero.

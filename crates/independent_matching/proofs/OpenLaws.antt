@@ -1,0 +1,52 @@
+-- An engine before its first search.
+use Rattle.std.proofs.Common.{◌≡◌, ◌<◌, ◌%◌, ◌≤◌, ◌∙◌, ◌⊎◌, ℕ, false, replicate, Option, None, inl, inr, sym, ap, subst, is_some, slice_index_or, arith}
+use Rattle.std.proofs.lemmas.List.{get_or-replicate, get_or_past, length-replicate}
+use Rattle.residue_theory.proofs.SetLaws.{differ, lt_cases}
+use Rattle.residue_theory.proofs.CountLaws.{size-zero}
+use Rattle.linear_algebra.specs.Kernels.{SameKernel}
+use Rattle.linear_algebra_laws.proofs.Kernels.{kernel_of-agree}
+use Rattle.sparse_t.specs.Incidences.{Incidence}
+use Rattle.bipartite_matching.specs.Matchings.{Matching, empty_matching}
+use Rattle.row_transform.specs.Tableaus.{State, IsOpened}
+use Rattle.mixed_matrices.specs.Tableaus.{HasTableau}
+use Rattle.independent_matching.specs.Engines.{AreEntries}
+use Rattle.independent_matching.specs.Sides.{is_matched, layers_of, size_of, tableau_of}
+
+pub empty-unmatched : (p : Incidence) (y : ℕ) → is_matched (empty_matching p) y ≡ false
+empty-unmatched p y = ap is_some (nobody (lt_cases y p.width))
+  where
+    none : Option ℕ
+    none = None
+
+    nobody : (y < p.width) ⊎ (p.width ≤ y) → slice_index_or (replicate p.width none) y none ≡ none
+    nobody (inl l) = get_or-replicate p.width y none none l
+    nobody (inr g) = get_or_past (replicate p.width none) y none (subst (λ n. n ≤ y) (sym (length-replicate p.width none)) g)
+
+module _ (p : ℕ) (S : State) (M : Matching) (no_base : (y : ℕ) → S.base y ≡ false) (unmatched : (y : ℕ) → is_matched M y ≡ false) where
+  pub open-tableau : SameKernel p S.rows S.columns S.q S.p → HasTableau p (layers_of S M) (tableau_of S M)
+  open-tableau kernel = record {
+    kernel = kernel;
+    base = record {
+      row_below = λ b l h. absurd (differ (no_base b) h);
+      one = λ b l h. absurd (differ (no_base b) h);
+      zero = λ b i l h. absurd (differ (no_base b) h);
+      distinct = λ b c l m h. absurd (differ (no_base b) h);
+    };
+    matching = record {
+      below = λ j l h. absurd (differ (unmatched j) h);
+      symbol = λ j l h. absurd (differ (unmatched j) h);
+      distinct = λ j k l m h. absurd (differ (unmatched j) h);
+    };
+    apart = λ j l h. absurd (differ (no_base j) h);
+  }
+
+  pub open-size : 0 ≡ size_of S M
+  open-size = omega (arith, size-zero S.base S.columns (λ j l. no_base j), size-zero (is_matched M) S.columns (λ j l. unmatched j))
+
+-- a tableau before any row operation
+module _ (p m n : ℕ) (q : ℕ → ℕ → ℕ) (S : State) (opened : IsOpened p m n q S) where
+  pub opened-entries : AreEntries p S q
+  opened-entries i j il jl = opened.q_is i j (subst (λ r. i < r) opened.rows_are il) (subst (λ r. j < r) opened.columns_are jl)
+
+  pub opened-kernel : SameKernel p S.rows S.columns S.q S.p
+  opened-kernel = kernel_of-agree p S.rows S.columns S.q S.p (λ i j il jl. opened-entries i j il jl ∙ ap (λ a. a i j % p) (sym opened.p_is))

@@ -1,0 +1,34 @@
+-- The loop of searches.
+use Rattle.std.proofs.Common.{◌≡◌, ◌+◌, ◌-◌, ◌*◌, ◌<◌, ◌≤◌, ℕ, Bool, true, false, cond, IsTrue, IsFalse, refl, sym, subst, arith}
+use Rattle.residue_theory.specs.Sets.{either, everything}
+use Rattle.residue_theory.specs.Sums.{size_on}
+use Rattle.residue_theory.proofs.CountLaws.{size-either, size-everything}
+use Rattle.residue_theory.proofs.SumLaws.{size_on-within}
+use Rattle.bipartite_matching.specs.Matchings.{Matching}
+use Rattle.row_transform.specs.Tableaus.{State}
+use Rattle.mixed_matrices.specs.Tableaus.{HasTableau}
+use Rattle.independent_matching.specs.Engines.{AreFewSteps}
+use Rattle.independent_matching.specs.Sides.{is_matched, layers_of, size_of, tableau_of}
+
+pub size-bound : (p : ℕ) (S : State) (M : Matching) → HasTableau p (layers_of S M) (tableau_of S M) → size_of S M ≤ S.columns
+size-bound p S M tableau = omega (
+  arith,
+  size-either S.base (is_matched M) S.columns tableau.apart,
+  size_on-within everything (either S.base (is_matched M)) S.columns (λ j l h. refl),
+  size-everything S.columns,
+)
+
+pub base-bound : (S : State) (M : Matching) → size_on S.base S.columns ≤ size_of S M
+base-bound S M = omega arith
+
+pub run-smaller : (b : Bool) (n u v : ℕ) → v ≤ n → (IsTrue b → v ≡ u + 1) → (IsFalse b → v ≡ u) → n - v + cond b 1 0 < n - u + 1
+run-smaller true n u v l t f = omega (arith, t refl, l)
+run-smaller false n u v l t f = omega (arith, f refl, l)
+
+-- a search that succeeds
+pub run-going : (n u v base k start before after : ℕ) → before + k ≤ start + u * n + u * u → after ≤ before + n + base + 1 → base ≤ u → v ≡ u + 1 → after + k ≤ start + v * n + v * v
+run-going n u v base k start before after h s b e = subst (λ w. after + k ≤ start + w * n + w * w) (sym e) (omega (arith, h, s, b))
+
+-- the last one
+pub run-count : (n s u v start before after : ℕ) → before + (s * n + s * s) ≤ start + u * n + u * u → after ≤ before + n → v ≡ u → AreFewSteps n s v start after
+run-count n s u v start before after h l e = subst (λ w. AreFewSteps n s w start after) (sym e) (omega (arith, h, l))

@@ -1,0 +1,74 @@
+-- A search over marks, in the words of the tableau.
+use Rattle.std.proofs.Common.{◌≡◌, ◌<◌, ◌∙◌, ℕ, Bool, true, Option, Some, IfSome, sym, subst, arith}
+use Rattle.closed_sets.specs.Closed.{IsReachedSet, NoEndReached}
+use Rattle.closed_sets.specs.Walks.{FromSome}
+use Rattle.bipartite_matching.specs.Matchings.{Matching}
+use Rattle.row_transform.specs.Tableaus.{State}
+use Rattle.search_laws.specs.Searches.{IsShortest}
+use Rattle.exchange_graph.specs.Marks.{members_of}
+use Rattle.mixed_matrices.specs.Arcs.{HasNoWalk, IsReachedFromFree, is_end, is_free, leads_to}
+use Rattle.mixed_matrices.specs.LayeredMatrices.{Layered}
+use Rattle.mixed_matrices.specs.Tableaus.{Tableau, HasTableau}
+use Rattle.mixed_augmentation.specs.Moves.{IsFreeRow, IsRoute, route}
+use Rattle.mixed_augmentation.proofs.Routes.{shortest-route}
+use Rattle.independent_matching.specs.declared.row.Row.{Row}
+use Rattle.independent_matching.specs.Sides.{AreMarks, in_q, layers_of, number, tableau_of}
+use Rattle.std.specs.Prelude.{List}
+
+module _ (p : ℕ) (S : State) (M : Matching) (free ends : List Bool) (marks : (x : ℕ) → x < S.columns → AreMarks p S M free ends x) (n : ℕ) (same : n ≡ S.columns) where
+  abbrev F : Tableau
+  F = tableau_of S M
+
+  abbrev L : Layered
+  L = layers_of S M
+
+  low : (x : ℕ) → x < n → x < S.columns
+  low x l = omega (arith, l, same)
+
+  high : (x : ℕ) → x < S.columns → x < n
+  high x l = omega (arith, l, same)
+
+  start : (x : ℕ) → x < S.columns → members_of free x ≡ true → is_free F x ≡ true
+  start x l h = sym (marks x l).free_tells ∙ h
+
+  started : (x : ℕ) → x < S.columns → is_free F x ≡ true → members_of free x ≡ true
+  started x l h = (marks x l).free_tells ∙ h
+
+  end_tells : (x : ℕ) → x < S.columns → members_of ends x ≡ true → is_end p L F x ≡ true
+  end_tells x l h = sym (marks x l).end_tells ∙ h
+
+  end_told : (x : ℕ) → x < S.columns → is_end p L F x ≡ true → members_of ends x ≡ true
+  end_told x l h = (marks x l).end_tells ∙ h
+
+  pub shortest-told : (at : ℕ → ℕ) (k : ℕ) → IsShortest (leads_to p L F) n (members_of free) (members_of ends) at k → IsShortest (leads_to p L F) L.columns (is_free F) (is_end p L F) at k
+  shortest-told at k W = subst (λ m. IsShortest (leads_to p L F) m (is_free F) (is_end p L F) at k) same (record {
+    fewer = W.fewer;
+    begins = start (at 0) (low (at 0) (W.below 0 (omega arith))) W.begins;
+    stops = end_tells (at k) (low (at k) (W.below k (omega arith))) W.stops;
+    below = W.below;
+    follows = W.follows;
+    least = λ s e m sl el st en. W.least s e m sl el (started s (low s sl) st) (end_told e (low e el) en);
+  })
+
+  pub walk-end : (at : ℕ → ℕ) (k x : ℕ) → IsShortest (leads_to p L F) n (members_of free) (members_of ends) at k → x ≡ at k → is_end p L F x ≡ true
+  walk-end at k x W e = subst (λ y. is_end p L F y ≡ true) (sym e) (end_tells (at k) (low (at k) (W.below k (omega arith))) W.stops)
+
+  pub search-route : HasTableau p L F → (at : ℕ → ℕ) (k x : ℕ) → IsShortest (leads_to p L F) n (members_of free) (members_of ends) at k → x ≡ at k →
+      (row : Row) → IsFreeRow p L F x (in_q row) (number row) → IsRoute p L F (route F at k (in_q row) (number row))
+  search-route tableau at k x W e row E = shortest-route p L F tableau at k (shortest-told at k W) (in_q row) (number row) (subst (λ y. IsFreeRow p L F y (in_q row) (number row)) e E)
+
+  from-told : (x : ℕ) → FromSome (leads_to p L F) n (members_of free) x → FromSome (leads_to p L F) n (is_free F) x
+  from-told x (s, l, h, w) = (s, l, start s (low s l) h, w)
+
+  told-from : (x : ℕ) → FromSome (leads_to p L F) n (is_free F) x → FromSome (leads_to p L F) n (members_of free) x
+  told-from x (s, l, h, w) = (s, l, started s (low s l) h, w)
+
+  pub reached-told : (X : ℕ → Bool) → IsReachedSet (leads_to p L F) n (members_of free) X → IsReachedFromFree p L F X
+  reached-told X reached = subst (λ m. IsReachedSet (leads_to p L F) m (is_free F) X) same (λ y l. (λ h. from-told y ((reached y l).0 h), λ w. (reached y l).1 (told-from y w)))
+
+  pub no_walk-told : NoEndReached (leads_to p L F) n (members_of free) (members_of ends) → HasNoWalk p L F
+  no_walk-told none = subst (λ m. NoEndReached (leads_to p L F) m (is_free F) (is_end p L F)) same (λ e l h w. none e l (end_told e (low e l) h) (told-from e w))
+
+-- what is read of a row that is there
+pub some-read : (o : Option Row) (row : Row) (P : Row → Type 0) → o ≡ Some row → IfSome o P → P row
+some-read o row P e h = subst (λ x. IfSome x P) e h

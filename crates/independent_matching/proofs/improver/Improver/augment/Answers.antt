@@ -1,0 +1,89 @@
+use Rattle.std.proofs.Common.{◌≡◌, ◌+◌, ◌-◌, ◌<◌, ◌∙◌, ap, sym, subst, refl, arith}
+use Rattle.exchange_graph.specs.Results.{step_of}
+use Rattle.mixed_augmentation.specs.Moves.{route}
+use Rattle.independent_matching.specs.Sides.{CanTake, IsMoving, Takes, in_q, layers_of, number, row_had, tableau_of}
+use Rattle.independent_matching.proofs.MoveLaws.{can-take, moving-count, moving-next, moving-none, moving-pivots, moving-positive, moving-size, moving-start, moving-tableau}
+use Rattle.independent_matching.proofs.improver.Improver.augment.Goals as goal
+
+pub loop-next-init : goal.loop-next-init
+loop-next-init g c =
+    let S = g.T.Tableau.state c.args.self.now.pair.tableau in
+    let M = c.args.self.now.pair.mates in
+    let at = step_of c.args.self.now.search in
+    record {
+      moving = moving-start g.F.Field.modulus S M c.requires.pair at c.args.last c.args.end c.requires.route;
+      count = refl;
+      search = refl;
+      free = refl;
+      ends = refl;
+      size = refl;
+    }
+
+pub take-requires-clause-can : goal.take-requires-clause-can
+take-requires-clause-can g c =
+    let p = g.F.Field.modulus in
+    let S₀ = g.T.Tableau.state c.args.self.now.pair.tableau in
+    let M₀ = c.args.self.now.pair.mates in
+    let S = g.T.Tableau.state c.loop-next.self.pair.tableau in
+    let M = c.loop-next.self.pair.mates in
+    let at = step_of c.args.self.now.search in
+    let i = c.loop-next.left - 1 in
+    let I = c.loop-next.invariant in
+    let positive : 0 < c.loop-next.left = moving-positive p S₀ M₀ c.requires.pair at c.args.last c.args.end c.requires.route S M c.loop-next.next c.in-Some.row c.loop-next.left I.moving c.in-Some.is in
+    let here : i + 1 ≡ c.loop-next.left = omega (arith, positive) in
+    let x_is : c.step-x.result ≡ at i = c.step-x.ensures ∙ ap (λ s. step_of s i) I.search in
+    subst (λ x. CanTake p (layers_of S M) (tableau_of S M) c.in-Some.row x) (sym x_is)
+    (can-take p S₀ M₀ c.requires.pair at c.args.last c.args.end c.requires.route S M c.loop-next.next c.in-Some.row c.loop-next.left I.moving c.in-Some.is i here)
+
+pub loop-next-preserved : goal.loop-next-preserved
+loop-next-preserved g c =
+    let p = g.F.Field.modulus in
+    let S₀ = g.T.Tableau.state c.args.self.now.pair.tableau in
+    let M₀ = c.args.self.now.pair.mates in
+    let S = g.T.Tableau.state c.loop-next.self.pair.tableau in
+    let M = c.loop-next.self.pair.mates in
+    let S' = g.T.Tableau.state c.take.new.self.tableau in
+    let M' = c.take.new.self.mates in
+    let at = step_of c.args.self.now.search in
+    let i = c.loop-next.left - 1 in
+    let I = c.loop-next.invariant in
+    let positive : 0 < c.loop-next.left = moving-positive p S₀ M₀ c.requires.pair at c.args.last c.args.end c.requires.route S M c.loop-next.next c.in-Some.row c.loop-next.left I.moving c.in-Some.is in
+    let here : i + 1 ≡ c.loop-next.left = omega (arith, positive) in
+    let x_is : c.step-x.result ≡ at i = c.step-x.ensures ∙ ap (λ s. step_of s i) I.search in
+    record {
+      moving = subst (λ next. IsMoving p S₀ M₀ (route (tableau_of S₀ M₀) at c.args.last (in_q c.args.end) (number c.args.end)) S' M' next i) (sym (c.row_of-next.ensures ∙ ap (row_had (tableau_of S M)) x_is))
+          (moving-next p S₀ M₀ c.requires.pair at c.args.last c.args.end c.requires.route S M c.loop-next.next c.in-Some.row c.loop-next.left I.moving c.in-Some.is i here S' M' c.take.ensures.layers c.take.ensures.pattern
+          (subst (λ x. Takes p (layers_of S M) (tableau_of S M) (tableau_of S' M') c.in-Some.row x) x_is c.take.ensures.takes));
+      count = omega (arith, c.take.ensures.steps, I.count, moving-count p S₀ M₀ c.requires.pair at c.args.last c.args.end c.requires.route S M c.loop-next.next c.in-Some.row c.loop-next.left I.moving c.in-Some.is i here);
+      search = I.search;
+      free = I.free;
+      ends = I.ends;
+      size = I.size;
+    }
+
+pub returns-clause-pair : goal.returns-clause-pair
+returns-clause-pair g c =
+    let S₀ = g.T.Tableau.state c.args.self.now.pair.tableau in
+    let M₀ = c.args.self.now.pair.mates in
+    let at = step_of c.args.self.now.search in
+    moving-tableau g.F.Field.modulus S₀ M₀ c.requires.pair at c.args.last c.args.end c.requires.route (g.T.Tableau.state c.loop-next.self.pair.tableau) c.loop-next.self.pair.mates c.loop-next.next c.loop-next.left c.loop-next.invariant.moving c.in_default.is
+
+pub returns-clause-size : goal.returns-clause-size
+returns-clause-size g c =
+    let S₀ = g.T.Tableau.state c.args.self.now.pair.tableau in
+    let M₀ = c.args.self.now.pair.mates in
+    let at = step_of c.args.self.now.search in
+    moving-size g.F.Field.modulus S₀ M₀ c.requires.pair at c.args.last c.args.end c.requires.route (g.T.Tableau.state c.loop-next.self.pair.tableau) c.loop-next.self.pair.mates c.loop-next.next c.loop-next.left c.loop-next.invariant.moving c.in_default.is
+
+pub returns-clause-steps : goal.returns-clause-steps
+returns-clause-steps g c =
+    let p = g.F.Field.modulus in
+    let S₀ = g.T.Tableau.state c.args.self.now.pair.tableau in
+    let M₀ = c.args.self.now.pair.mates in
+    let at = step_of c.args.self.now.search in
+    omega (
+      arith,
+      c.loop-next.invariant.count,
+      moving-pivots p S₀ M₀ c.requires.pair at c.args.last c.args.end c.requires.route,
+      moving-none p S₀ M₀ c.requires.pair at c.args.last c.args.end c.requires.route (g.T.Tableau.state c.loop-next.self.pair.tableau) c.loop-next.self.pair.mates c.loop-next.next c.loop-next.left c.loop-next.invariant.moving c.in_default.is,
+    )

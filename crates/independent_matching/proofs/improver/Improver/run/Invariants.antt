@@ -1,0 +1,26 @@
+use Rattle.std.proofs.Common.{◌≡◌, ◌-◌, ◌+◌, ◌*◌, ◌≤◌, IsTrue, IsFalse, cond}
+use Rattle.exchange_graph.specs.Results.{reached_of}
+use Rattle.mixed_matrices.specs.Arcs.{HasNoWalk, IsReachedFromFree}
+use Rattle.independent_matching.specs.Engines.{AreFewSteps}
+use Rattle.independent_matching.specs.Sides.{IsReady, layers_of, size_of, tableau_of}
+use Rattle.independent_matching.proofs.improver.Improver.run.Given as goal
+
+abbrev pub invariant-loop-grown : goal.invariant-loop-grown
+invariant-loop-grown g l =
+    let p = g.F.Field.modulus in
+    let S₀ = g.T.Tableau.state l.fn.self.pair.tableau in
+    let M₀ = l.fn.self.pair.mates in
+    let S = g.T.Tableau.state l.self.pair.tableau in
+    let M = l.self.pair.mates in
+    record {
+      ready : IsReady p S M l.self.search.places l.self.free.items l.self.ends.items l.self.size;
+      layers : layers_of S M ≡ layers_of S₀ M₀;
+      going : IsTrue l.grown → l.steps + (size_of S₀ M₀ * S₀.columns + size_of S₀ M₀ * size_of S₀ M₀) ≤ l.fn.steps + size_of S M * S₀.columns + size_of S M * size_of S M;
+      no_walk : IsFalse l.grown → HasNoWalk p (layers_of S M) (tableau_of S M);
+      reached : IsFalse l.grown → IsReachedFromFree p (layers_of S M) (tableau_of S M) (reached_of l.self.search);
+      count : IsFalse l.grown → AreFewSteps S₀.columns (size_of S₀ M₀) (size_of S M) l.fn.steps l.steps;
+    }
+
+abbrev pub decreases-loop-grown : goal.decreases-loop-grown
+decreases-loop-grown g l =
+    (g.T.Tableau.state l.fn.self.pair.tableau).columns - size_of (g.T.Tableau.state l.self.pair.tableau) l.self.pair.mates + cond l.grown 1 0

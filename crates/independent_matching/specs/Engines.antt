@@ -1,0 +1,44 @@
+-- What callers see of an engine.
+use Rattle.std.specs.Prelude.{ℕ, ◌+◌, ◌*◌, ◌≤◌, ◌↔◌, Bool}
+use Rattle.residue_theory.specs.Sets.{IsWithin}
+use Rattle.linear_algebra.specs.Products.{Agree}
+use Rattle.bipartite_matching.specs.Matchings.{Matching}
+use Rattle.exchange_graph.specs.Results.{Found}
+use Rattle.row_transform.specs.Tableaus.{State}
+use Rattle.mixed_matrices.specs.Arcs.{HasNoWalk, IsClosedIn, IsReachedFromFree}
+use Rattle.mixed_matrices.specs.LayeredMatrices.{Layered}
+use Rattle.mixed_matrices.specs.Pairs.{IsBest, pair_size}
+use Rattle.mixed_matrices.specs.SetFunctions.{IsMinimiser}
+use Rattle.mixed_matrices.specs.StructuralRanks.{IsLayeredRank}
+use Rattle.mixed_matrices.specs.Tableaus.{Tableau, HasTableau}
+use Rattle.independent_matching.specs.Sides.{layers_of}
+
+-- the tableau of Q, the matching in T, and what the last search found
+pub record Standing (A : Type 0) : Type 0 where
+  pub tableau : A
+  pub matching : Matching
+  pub found : Found
+
+-- the layered matrix with the entries q in place of those that the tableau keeps
+abbrev pub layers : (ℕ → ℕ → ℕ) → State → Matching → Layered
+layers q S M = record (layers_of S M) { q = q }
+
+-- the entries q are those that the tableau came from, modulo p
+abbrev pub AreEntries : ℕ → State → (ℕ → ℕ → ℕ) → Type 0
+AreEntries p S q = Agree p S.rows S.columns S.q q
+
+-- the pair is best, its size is the structural rank, the minimisers are the closed sets, and what is reached is the least one
+pub record IsSolved (p : ℕ) (L : Layered) (F : Tableau) (reached : ℕ → Bool) : Type 0 where
+  pub tableau : HasTableau p L F
+  pub best : IsBest p L F.base F.matched
+  pub rank : IsLayeredRank p L (pair_size L F.base F.matched)
+  pub no_walk : HasNoWalk p L F
+  pub minimisers : (X : ℕ → Bool) → IsMinimiser p L X ↔ IsClosedIn p L F X
+  pub from_free : IsReachedFromFree p L F reached
+  pub minimiser : IsMinimiser p L reached
+  pub least : (Y : ℕ → Bool) → IsMinimiser p L Y → IsWithin L.columns reached Y
+
+-- the steps from a pair of size s to one of size m, over n columns: m - s + 1 searches with at most n looks, and after each but the
+-- last at most as many pivots as there were base columns, and one
+abbrev pub AreFewSteps : ℕ → ℕ → ℕ → ℕ → ℕ → Type 0
+AreFewSteps n s m before after = after + (s * n + s * s) ≤ before + (m + 1) * n + m * m

@@ -1,0 +1,114 @@
+-- A tableau of Q and a matching in T, read as a tableau of the layered matrix of Q and T.
+use Rattle.std.specs.Prelude.{ℕ, ◌+◌, ◌<◌, ◌≤◌, ◌≡◌, ◌≢◌, ◌%◌, ◌&&◌, Bool, eqb, not, true, false, List, length, Option, Some, None, cond, is_some, unwrap_or}
+use Rattle.linear_algebra.specs.Bases.{HasNoBase}
+use Rattle.sparse_t.specs.Incidences.{height, touches}
+use Rattle.bipartite_matching.specs.Matchings.{Matching, HasPair, mate_at}
+use Rattle.row_transform.specs.Tableaus.{State}
+use Rattle.exchange_graph.specs.Marks.{members_of}
+use Rattle.mixed_matrices.specs.Arcs.{is_end, is_free}
+use Rattle.mixed_matrices.specs.LayeredMatrices.{Layered}
+use Rattle.mixed_matrices.specs.Pairs.{pair_size}
+use Rattle.mixed_matrices.specs.Tableaus.{Tableau, HasTableau}
+use Rattle.mixed_augmentation.specs.Moves.{TakesRow, TakesMate, Route, IsStage}
+use Rattle.independent_matching.specs.declared.row.Row.{Row}
+use Rattle.independent_matching.specs.declared.row.Row.TheVariants.{Q, T}
+
+abbrev pub is_matched : Matching → ℕ → Bool
+is_matched M j = is_some (mate_at M j)
+
+-- the row of the matched column j
+abbrev pub mate_of : Matching → ℕ → ℕ
+mate_of M j = unwrap_or (mate_at M j) 0
+
+-- no column is matched with the T row
+abbrev pub HasNoMate : Matching → ℕ → Type 0
+HasNoMate M row = HasNoBase M.pattern.width (is_matched M) (mate_of M) row
+
+-- x leads to another column y by the T row of y
+abbrev pub t_arc : Matching → ℕ → ℕ → Bool
+t_arc M x y = not (eqb x y) && (is_matched M y && touches M.pattern (mate_of M y) x)
+
+-- x leads to another column y by the Q row of y
+abbrev pub q_arc : ℕ → State → ℕ → ℕ → Bool
+q_arc p S x y = not (eqb x y) && (S.base y && not (eqb (S.p (S.row y) x % p) 0))
+
+-- the T row is matched with y, another column than x, from `from` on and below `least`
+pub record IsNearer (M : Matching) (row x from least y : ℕ) : Type 0 where
+  pub matched : HasPair M row y
+  pub other : y ≢ x
+  pub from_on : from ≤ y
+  pub before : y < least
+
+-- the layered matrix of Q and T
+abbrev pub layers_of : State → Matching → Layered
+layers_of S M = record {
+  q_rows = S.rows;
+  t_rows = height M.pattern;
+  columns = S.columns;
+  q = S.q;
+  t = λ i j. touches M.pattern i j;
+}
+
+-- the tableau of the base columns and of the matched ones
+abbrev pub tableau_of : State → Matching → Tableau
+tableau_of S M = record {
+  P = S.p;
+  base = S.base;
+  row = S.row;
+  matched = is_matched M;
+  mate = mate_of M;
+}
+
+abbrev pub size_of : State → Matching → ℕ
+size_of S M = pair_size (layers_of S M) S.base (is_matched M)
+
+-- whether it is a Q row
+abbrev pub in_q : Row → Bool
+in_q (Q row) = true
+in_q (T row) = false
+
+abbrev pub number : Row → ℕ
+number (Q row) = row
+number (T row) = row
+
+-- the row that column x has
+abbrev pub row_had : Tableau → ℕ → Option Row
+row_had F x = cond (F.base x) (Some (Q (F.row x))) (cond (F.matched x) (Some (T (F.mate x))) None)
+
+-- column x may take the row: a Q row where it has an entry, or a T row that touches it and has no column
+pub record CanTake (p : ℕ) (L : Layered) (F : Tableau) (row : Row) (x : ℕ) : Type 0 where
+  pub of_q : in_q row ≡ true → (number row < L.q_rows) × (F.P (number row) x % p ≢ 0) × (F.base x ≡ false)
+  pub of_t : in_q row ≡ false → (number row < L.t_rows) × (L.t (number row) x ≡ true) × HasNoBase L.columns F.matched F.mate (number row)
+
+-- column x has taken the row, and G is the tableau after that
+pub record Takes (p : ℕ) (L : Layered) (F G : Tableau) (row : Row) (x : ℕ) : Type 0 where
+  pub of_q : in_q row ≡ true → TakesRow p L F G (number row) x
+  pub of_t : in_q row ≡ false → TakesMate L F G (number row) x
+
+-- the first `left` columns of the route have still to move, and `next` is the row that the last of them takes, if there is one;
+-- S₀ and M₀ are from before all moves
+pub record IsMoving (p : ℕ) (S₀ : State) (M₀ : Matching) (R : Route) (S : State) (M : Matching) (next : Option Row) (left : ℕ) : Type 0 where
+  pub layers : layers_of S M ≡ layers_of S₀ M₀
+  pub width : M.pattern.width ≡ M₀.pattern.width
+  pub stage : IsStage p (layers_of S₀ M₀) (tableau_of S₀ M₀) R left (tableau_of S M)
+  pub none : left ≡ 0 → next ≡ None
+  pub some : (j : ℕ) → j + 1 ≡ left → (row : Row) × (next ≡ Some row) × (in_q row ≡ R.in_q j) × (number row ≡ R.row j)
+
+-- the marks tell the free columns and the ends
+pub record AreMarks (p : ℕ) (S : State) (M : Matching) (free ends : List Bool) (x : ℕ) : Type 0 where
+  pub free_tells : members_of free x ≡ is_free (tableau_of S M) x
+  pub end_tells : members_of ends x ≡ is_end p (layers_of S M) (tableau_of S M) x
+
+-- a matching, a search and marks over the columns of the tableau
+pub record IsSized (S : State) (M : Matching) (places : ℕ) (free ends : List Bool) : Type 0 where
+  pub width : M.pattern.width ≡ S.columns
+  pub search : places ≡ S.columns
+  pub free_count : length free ≡ S.columns
+  pub end_count : length ends ≡ S.columns
+
+-- the base and the matched columns are a pair of that size, and the marks are right
+pub record IsReady (p : ℕ) (S : State) (M : Matching) (places : ℕ) (free ends : List Bool) (size : ℕ) : Type 0 where
+  pub pair : HasTableau p (layers_of S M) (tableau_of S M)
+  pub sized : IsSized S M places free ends
+  pub marks : (x : ℕ) → x < S.columns → AreMarks p S M free ends x
+  pub count : size ≡ size_of S M

@@ -1,0 +1,160 @@
+ghost use Rattle.std.specs.Prelude.{◌≡◌, ◌≤◌, ℕ, ◌+◌, ◌*◌, ◌<◌, ◌%◌, Bool, false, IfOk, IsTrue, IsFalse, is_some, Option};
+ghost use Rattle.residue_theory.specs.Sums.{size_on};
+ghost use Rattle.dense_q.specs.Tables.{entry};
+ghost use Rattle.bipartite_matching.specs.Matchings.{mate_at};
+ghost use Rattle.mixed_matrices.specs.Arcs.{is_end, is_free, leads_to};
+ghost use Rattle.exchange_graph.specs.Results.{reached_of};
+ghost use Rattle.residue_field.specs.Modulus.{res_modulus};
+ghost use Rattle.row_transform.specs.Dense.{state_of};
+ghost use Rattle.mixed_matrices.specs.Tableaus.{HasTableau};
+ghost use Rattle.mixed_model.specs.Layers.{layered_matrix_of};
+ghost use Rattle.independent_matching.specs.Engines.{Standing, AreEntries, AreFewSteps, IsSolved, layers};
+ghost use Rattle.independent_matching.specs.Sides.{layers_of, size_of, tableau_of};
+
+use crate::improver::Improver;
+use crate::memory::NoMemory;
+use bipartite_matching::Match;
+use exchange_graph::{Arcs, Steps};
+use mixed_model::Layered;
+use residue_field::{Field, Res};
+use row_transform::{DenseTableau, Tableau};
+use std::alloc::Global;
+use std::marker::Model;
+use std::sync::ledger::Ledger;
+
+/// A pair of a layered matrix, independent columns of Q and other columns matched in T, that `run` makes best. Rows
+/// and columns are counted from 0. (Murota 2000, chapter 2, independent matching; chapter 4.)
+///
+/// Its arcs are those from a column x to another column y whose row x could take: P has an entry in x at the row of
+/// the base column y, or the T row matched with y touches x.
+#[derive(Drop)]
+pub struct Engine<F: Field = Res, T: Tableau<F> = DenseTableau<F>> {
+    improver: Improver<F, T>,
+}
+
+impl<F: Field, T: Tableau<F>> Model for Engine<F, T> {
+    ghost use Rattle.independent_matching.specs.Engines.{Standing};
+    ghost use Rattle.independent_matching.specs.Sides.{IsReady};
+
+    ghost Value = { Standing T };
+
+    ghost view = { λ e. record { tableau = e.improver.pair.tableau; matching = e.improver.pair.mates; found = e.improver.search } };
+
+    ghost invariant = { λ e. IsReady F.modulus (T.state e.improver.pair.tableau) e.improver.pair.mates e.improver.search.places e.improver.free.items e.improver.ends.items e.improver.size };
+}
+
+impl Engine<Res, DenseTableau<Res>> {
+    /// The empty pair of a layered matrix. It takes all the memory that the engine will use.
+    pub fn open(alloc: Global, l: &Layered) -> Result<Self, NoMemory>
+        ensures layers { IfOk result (λ e. layers (entry l.now.q) (state_of res_modulus e.tableau) e.matching ≡ layered_matrix_of l.now) }
+        ensures entries { IfOk result (λ e. AreEntries res_modulus (state_of res_modulus e.tableau) (entry l.now.q)) }
+        ensures empty { IfOk result (λ e. size_of (state_of res_modulus e.tableau) e.matching ≡ 0) }
+    {
+        let _layers = l.split();
+        let tableau = DenseTableau::open(alloc, &l.q)?;
+        let mates = Match::open(alloc, &l.t)?;
+        Ok(Engine {
+            improver: Improver::open(alloc, tableau, mates)?,
+        })
+    }
+}
+
+impl<F: Field, T: Tableau<F>> Engine<F, T> {
+    /// Searches once for a shortest walk from a free column to an end. Where there is one, the pair grows by a column
+    /// along it, from its end backwards; else the pair is best and stays. A step is a look at a column in the search,
+    /// at most one for each column, or a pivot, at most as many as there were base columns and one.
+    pub fn improve<L: Ledger>(&mut self, steps: &mut Steps<L>) -> bool
+        ensures same { (q : ℕ → ℕ → ℕ) → layers q (T.state self.new.tableau) self.new.matching ≡ layers q (T.state self.old.tableau) self.old.matching }
+        ensures entries { (q : ℕ → ℕ → ℕ) → AreEntries F.modulus (T.state self.old.tableau) q → AreEntries F.modulus (T.state self.new.tableau) q }
+        ensures grown { IsTrue result → size_of (T.state self.new.tableau) self.new.matching ≡ size_of (T.state self.old.tableau) self.old.matching + 1 }
+        ensures pivots { IsTrue result → steps.new ≤ steps.old + (T.state self.old.tableau).columns + size_on (T.state self.old.tableau).base (T.state self.old.tableau).columns + 1 }
+        ensures solved { IsFalse result → (q : ℕ → ℕ → ℕ) → AreEntries F.modulus (T.state self.new.tableau) q → IsSolved F.modulus (layers q (T.state self.new.tableau) self.new.matching) (tableau_of (T.state self.new.tableau) self.new.matching) (reached_of self.new.found) }
+        ensures kept { IsFalse result → (self.new.tableau ≡ self.old.tableau) × (self.new.matching ≡ self.old.matching) }
+        ensures looks { IsFalse result → steps.new ≤ steps.old + (T.state self.old.tableau).columns }
+    {
+        self.improver.improve(steps)
+    }
+
+    /// Ends with a best pair: it improves the pair until the search finds no walk.
+    ///
+    /// So there are m - s + 1 searches from a pair of s columns to one of m, and over n columns at most as many steps as
+    /// `AreFewSteps` says: from the empty pair (m + 1) n + m m.
+    pub fn run<L: Ledger>(&mut self, steps: &mut Steps<L>)
+        ensures same { (q : ℕ → ℕ → ℕ) → layers q (T.state self.new.tableau) self.new.matching ≡ layers q (T.state self.old.tableau) self.old.matching }
+        ensures entries { (q : ℕ → ℕ → ℕ) → AreEntries F.modulus (T.state self.old.tableau) q → AreEntries F.modulus (T.state self.new.tableau) q }
+        ensures solved { (q : ℕ → ℕ → ℕ) → AreEntries F.modulus (T.state self.new.tableau) q → IsSolved F.modulus (layers q (T.state self.new.tableau) self.new.matching) (tableau_of (T.state self.new.tableau) self.new.matching) (reached_of self.new.found) }
+        ensures steps { AreFewSteps (T.state self.old.tableau).columns (size_of (T.state self.old.tableau) self.old.matching) (size_of (T.state self.new.tableau) self.new.matching) steps.old steps.new }
+    {
+        self.improver.run(steps);
+    }
+
+    /// How many columns the pair has.
+    pub fn size(&self) -> usize
+        ensures size { result ≡ size_of (T.state self.now.tableau) self.now.matching }
+        ensures pair { (q : ℕ → ℕ → ℕ) → AreEntries F.modulus (T.state self.now.tableau) q → HasTableau F.modulus (layers q (T.state self.now.tableau) self.now.matching) (tableau_of (T.state self.now.tableau) self.now.matching) }
+    {
+        self.improver.size
+    }
+
+    /// Whether the column is one of the pair's independent columns of Q.
+    pub fn in_q(&self, col: usize) -> bool
+        requires { col < (T.state self.now.tableau).columns }
+        ensures { result ≡ (tableau_of (T.state self.now.tableau) self.now.matching).base col }
+    {
+        self.improver.pair.tableau.row_of(col).is_some()
+    }
+
+    /// The T row that the column is matched with, if it is.
+    pub fn mate(&self, col: usize) -> Option<usize>
+        requires { col < (T.state self.now.tableau).columns }
+        ensures { result ≡ mate_at self.now.matching col }
+    {
+        self.improver.pair.mates.mate_of_col(col)
+    }
+
+    /// Whether the column is free: not in the pair.
+    pub fn free(&self, col: usize) -> bool
+        requires { col < (T.state self.now.tableau).columns }
+        ensures { result ≡ is_free (tableau_of (T.state self.now.tableau) self.now.matching) col }
+    {
+        self.improver.free[col]
+    }
+
+    /// Whether the column is an end: P has an entry in it at a Q row without base column, or it touches a T row that
+    /// is not matched.
+    pub fn end(&self, col: usize) -> bool
+        requires { col < (T.state self.now.tableau).columns }
+        ensures { result ≡ is_end F.modulus (layers_of (T.state self.now.tableau) self.now.matching) (tableau_of (T.state self.now.tableau) self.now.matching) col }
+    {
+        self.improver.ends[col]
+    }
+
+    /// Whether the column is in the least minimiser of p(X) = rho(X) + gamma(X) - |X|, after `run`.
+    pub fn least_minimiser(&self, col: usize) -> bool
+        requires { col < (T.state self.now.tableau).columns }
+        ensures { result ≡ reached_of self.now.found col }
+    {
+        self.improver.search.reached(col)
+    }
+
+    /// The tableau of Q whose base columns are the pair's independent columns.
+    pub fn tableau(&self) -> &T
+        ensures { result.now ≡ self.now.tableau }
+    {
+        &self.improver.pair.tableau
+    }
+}
+
+impl<F: Field, T: Tableau<F>> Arcs for Engine<F, T> {
+    ghost places = { λ e. (T.state e.tableau).columns };
+
+    ghost leads = { λ e. leads_to F.modulus (layers_of (T.state e.tableau) e.matching) (tableau_of (T.state e.tableau) e.matching) };
+
+    fn arc(&self, x: usize, y: usize) -> bool {
+        self.improver.pair.arc(x, y)
+    }
+
+    fn successor(&self, x: usize, from: usize, end: usize) -> Option<usize> {
+        self.improver.pair.successor(x, from, end)
+    }
+}

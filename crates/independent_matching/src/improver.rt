@@ -1,0 +1,176 @@
+ghost use Rattle.std.specs.Prelude.{◌≡◌, ◌≢◌, ℕ, ◌+◌, ◌*◌, ◌<◌, ◌≤◌, Bool, false, suc, IfOk, IfSome, is_some, IsTrue, IsFalse};
+ghost use Rattle.linear_algebra.specs.Kernels.{SameKernel};
+ghost use Rattle.residue_theory.specs.Sums.{size_on};
+ghost use Rattle.exchange_graph.specs.Results.{reached_of, step_of};
+ghost use Rattle.mixed_matrices.specs.Arcs.{HasNoWalk, IsReachedFromFree, is_end};
+ghost use Rattle.mixed_matrices.specs.Tableaus.{HasTableau};
+ghost use Rattle.mixed_augmentation.specs.Moves.{IsFreeRow, IsRoute, route};
+ghost use Rattle.independent_matching.specs.Engines.{AreFewSteps};
+ghost use Rattle.independent_matching.specs.Sides.{AreMarks, IsReady, IsSized, in_q, is_matched, layers_of, number, size_of, tableau_of};
+
+use crate::memory::NoMemory;
+use crate::pair::Pair;
+use crate::row::Row;
+use bipartite_matching::Match;
+use exchange_graph::{Search, Steps};
+use residue_field::Field;
+use row_transform::Tableau;
+use std::alloc::Global;
+use std::marker::PhantomData;
+use std::sync::ledger::Ledger;
+
+// A pair and its size, a search for walks in it, and marks of its free columns and its ends. For each column the
+// Q row is kept that last made it an end: it is tried first when the ends are marked again.
+#[derive(Drop)]
+pub struct Improver<F: Field, T: Tableau<F>> {
+    pub pair: Pair<F, T>,
+    pub search: Search,
+    pub free: Vec<bool>,
+    pub ends: Vec<bool>,
+    pub size: usize,
+    pub guesses: Vec<usize>,
+}
+
+impl<F: Field, T: Tableau<F>> Improver<F, T> {
+    // Over a tableau and a matching with no base column and no matched one.
+    pub fn open(alloc: Global, tableau: T, mates: Match) -> Result<Self, NoMemory>
+        requires width { mates.pattern.width ≡ (T.state tableau).columns }
+        requires kernel { SameKernel F.modulus (T.state tableau).rows (T.state tableau).columns (T.state tableau).q (T.state tableau).p }
+        requires no_base { (y : ℕ) → (T.state tableau).base y ≡ false }
+        requires unmatched { (y : ℕ) → is_matched mates y ≡ false }
+        ensures ready { IfOk result (λ e. IsReady F.modulus (T.state e.pair.tableau) e.pair.mates e.search.places e.free.items e.ends.items e.size) }
+        ensures tableau { IfOk result (λ e. e.pair.tableau ≡ tableau) }
+        ensures mates { IfOk result (λ e. e.pair.mates ≡ mates) }
+    {
+        let columns = tableau.columns();
+        let pair = Pair {
+            tableau,
+            mates,
+            field: PhantomData,
+        };
+        let mut improver = Improver {
+            pair,
+            search: Search::open(alloc, columns)?,
+            free: vec![in alloc; false; columns]?,
+            ends: vec![in alloc; false; columns]?,
+            size: 0,
+            guesses: vec![in alloc; 0; columns]?,
+        };
+        improver.mark();
+        Ok(improver)
+    }
+
+    // Moves the columns of the walk that the search found, from its last one back, which takes the row `end`.
+    fn augment<L: Ledger>(&mut self, last: usize, end: Row, steps: &mut Steps<L>)
+        requires width { self.old.pair.mates.pattern.width ≡ (T.state self.old.pair.tableau).columns }
+        requires places { self.old.search.places ≡ (T.state self.old.pair.tableau).columns }
+        requires last { last < self.old.search.places }
+        requires pair { HasTableau F.modulus (layers_of (T.state self.old.pair.tableau) self.old.pair.mates) (tableau_of (T.state self.old.pair.tableau) self.old.pair.mates) }
+        requires route { IsRoute F.modulus (layers_of (T.state self.old.pair.tableau) self.old.pair.mates) (tableau_of (T.state self.old.pair.tableau) self.old.pair.mates) (route (tableau_of (T.state self.old.pair.tableau) self.old.pair.mates) (step_of self.old.search) last (in_q end) (number end)) }
+        ensures layers { layers_of (T.state self.new.pair.tableau) self.new.pair.mates ≡ layers_of (T.state self.old.pair.tableau) self.old.pair.mates }
+        ensures width { self.new.pair.mates.pattern.width ≡ self.old.pair.mates.pattern.width }
+        ensures pair { HasTableau F.modulus (layers_of (T.state self.old.pair.tableau) self.old.pair.mates) (tableau_of (T.state self.new.pair.tableau) self.new.pair.mates) }
+        ensures size { size_of (T.state self.new.pair.tableau) self.new.pair.mates ≡ size_of (T.state self.old.pair.tableau) self.old.pair.mates + 1 }
+        ensures steps { steps.new ≤ steps.old + size_on (T.state self.old.pair.tableau).base (T.state self.old.pair.tableau).columns + 1 }
+        ensures search { self.new.search ≡ self.old.search }
+        ensures free { self.new.free ≡ self.old.free }
+        ensures ends { self.new.ends ≡ self.old.ends }
+        ensures count { self.new.size ≡ self.old.size }
+        ensures narrow { (T.state self.old.pair.tableau).columns ≤ 8192 }
+    {
+        // there are at most 8,192 columns, so that the sum below fits
+        let _columns = self.pair.tableau.columns();
+        let mut left = last + 1;
+        let mut next = Some(end);
+        while let Some(row) = next {
+            left -= 1;
+            let x = self.search.step(left);
+            next = self.pair.row_of(x);
+            self.pair.take(row, x, steps);
+        }
+    }
+
+    // A row that x may take and that no column has.
+    fn free_row(&self, x: usize) -> Option<Row>
+        requires width { self.now.pair.mates.pattern.width ≡ (T.state self.now.pair.tableau).columns }
+        requires x { x < (T.state self.now.pair.tableau).columns }
+        ensures free { IfSome result (λ row. IsFreeRow F.modulus (layers_of (T.state self.now.pair.tableau) self.now.pair.mates) (tableau_of (T.state self.now.pair.tableau) self.now.pair.mates) x (in_q row) (number row)) }
+        ensures end { is_some result ≡ is_end F.modulus (layers_of (T.state self.now.pair.tableau) self.now.pair.mates) (tableau_of (T.state self.now.pair.tableau) self.now.pair.mates) x }
+    {
+        let guess = match self.guesses.get(x) {
+            Some(row) => *row,
+            None => 0,
+        };
+        self.pair.free_row(x, guess)
+    }
+
+    // Keeps the Q row that makes x an end, to be tried first the next time.
+    fn remember(&mut self, x: usize, end: Option<Row>)
+        ensures { self.new ≡ record self.old { guesses = self.new.guesses } }
+    {
+        if let Some(Row::Q(row)) = end {
+            if let Some(guess) = self.guesses.get_mut(x) {
+                *guess = row;
+            }
+        }
+    }
+
+    // Marks the free columns and the ends.
+    fn mark(&mut self)
+        requires { IsSized (T.state self.old.pair.tableau) self.old.pair.mates self.old.search.places self.old.free.items self.old.ends.items }
+        ensures marks { (x : ℕ) → x < (T.state self.old.pair.tableau).columns → AreMarks F.modulus (T.state self.old.pair.tableau) self.old.pair.mates self.new.free.items self.new.ends.items x }
+        ensures sized { IsSized (T.state self.old.pair.tableau) self.old.pair.mates self.new.search.places self.new.free.items self.new.ends.items }
+        ensures pair { self.new.pair ≡ self.old.pair }
+        ensures search { self.new.search ≡ self.old.search }
+        ensures count { self.new.size ≡ self.old.size }
+    {
+        for x in 0..self.free.len() {
+            self.free[x] = self.pair.is_free(x);
+            let end = self.free_row(x);
+            self.ends[x] = end.is_some();
+            self.remember(x, end);
+        }
+    }
+
+    // Makes the pair larger by one column, or finds that it is best.
+    pub fn improve<L: Ledger>(&mut self, steps: &mut Steps<L>) -> bool
+        requires ready { IsReady F.modulus (T.state self.old.pair.tableau) self.old.pair.mates self.old.search.places self.old.free.items self.old.ends.items self.old.size }
+        ensures ready { IsReady F.modulus (T.state self.new.pair.tableau) self.new.pair.mates self.new.search.places self.new.free.items self.new.ends.items self.new.size }
+        ensures layers { layers_of (T.state self.new.pair.tableau) self.new.pair.mates ≡ layers_of (T.state self.old.pair.tableau) self.old.pair.mates }
+        ensures size { IsTrue result → size_of (T.state self.new.pair.tableau) self.new.pair.mates ≡ size_of (T.state self.old.pair.tableau) self.old.pair.mates + 1 }
+        ensures pivots { IsTrue result → steps.new ≤ steps.old + (T.state self.old.pair.tableau).columns + size_on (T.state self.old.pair.tableau).base (T.state self.old.pair.tableau).columns + 1 }
+        ensures pair { IsFalse result → self.new.pair ≡ self.old.pair }
+        ensures no_walk { IsFalse result → HasNoWalk F.modulus (layers_of (T.state self.new.pair.tableau) self.new.pair.mates) (tableau_of (T.state self.new.pair.tableau) self.new.pair.mates) }
+        ensures reached { IsFalse result → IsReachedFromFree F.modulus (layers_of (T.state self.new.pair.tableau) self.new.pair.mates) (tableau_of (T.state self.new.pair.tableau) self.new.pair.mates) (reached_of self.new.search) }
+        ensures looks { IsFalse result → steps.new ≤ steps.old + (T.state self.old.pair.tableau).columns }
+    {
+        match self
+            .search
+            .shortest(&self.pair, &self.free, &self.ends, steps)
+        {
+            None => false,
+            Some(last) => {
+                let end = self.free_row(self.search.step(last)).unwrap();
+                self.augment(last, end, steps);
+                self.mark();
+                self.size += 1;
+                true
+            }
+        }
+    }
+
+    // Ends with a best pair.
+    pub fn run<L: Ledger>(&mut self, steps: &mut Steps<L>)
+        requires ready { IsReady F.modulus (T.state self.old.pair.tableau) self.old.pair.mates self.old.search.places self.old.free.items self.old.ends.items self.old.size }
+        ensures ready { IsReady F.modulus (T.state self.new.pair.tableau) self.new.pair.mates self.new.search.places self.new.free.items self.new.ends.items self.new.size }
+        ensures layers { layers_of (T.state self.new.pair.tableau) self.new.pair.mates ≡ layers_of (T.state self.old.pair.tableau) self.old.pair.mates }
+        ensures no_walk { HasNoWalk F.modulus (layers_of (T.state self.new.pair.tableau) self.new.pair.mates) (tableau_of (T.state self.new.pair.tableau) self.new.pair.mates) }
+        ensures reached { IsReachedFromFree F.modulus (layers_of (T.state self.new.pair.tableau) self.new.pair.mates) (tableau_of (T.state self.new.pair.tableau) self.new.pair.mates) (reached_of self.new.search) }
+        ensures steps { AreFewSteps (T.state self.old.pair.tableau).columns (size_of (T.state self.old.pair.tableau) self.old.pair.mates) (size_of (T.state self.new.pair.tableau) self.new.pair.mates) steps.old steps.new }
+    {
+        let mut grown = true;
+        while grown {
+            grown = self.improve(steps);
+        }
+    }
+}

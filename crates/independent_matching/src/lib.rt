@@ -1,0 +1,16 @@
+//! A best pair of a layered mixed matrix, and its least minimiser, by shortest walks from free columns to ends
+//! (Murota, Matrices and Matroids for Systems Analysis, chapter 2, independent matching; chapter 4).
+#![tactic(auto)]
+
+mod engine;
+mod improver;
+mod memory;
+mod pair;
+mod row;
+
+pub use engine::Engine;
+pub use exchange_graph::{Arcs, Steps};
+pub use memory::NoMemory;
+
+#[cfg(test)]
+mod tests;

@@ -1,0 +1,6 @@
+// A Q row or a T row.
+#[derive(Clone, Copy, Drop)]
+pub enum Row {
+    Q(usize),
+    T(usize),
+}
