@@ -1,4 +1,4 @@
-ghost use Rattle.std.specs.Prelude.{◌≡◌, ◌∷◌, [], codes, Some, None};
+ghost use Rattle.std.specs.Prelude.{◌≡◌, ◌∷◌, ◌++◌, [], codes, Some, None};
 ghost use Rattle.matrix_reader.specs.EquationLists.{unknowns_in, equation_names};
 ghost use Rattle.matrix_reader.specs.Rules.{line_rule};
 ghost use Rattle.line_lexer.specs.Tokens.{words_of};
@@ -9,8 +9,11 @@ use refusals::Why;
 pub fn rules_at_examples()
     ensures comment { line_rule [] (codes "# any") ≡ None }
     ensures values { line_rule [] (codes "eq a x=-1 y=+1/2 z=0.5") ≡ None }
+    ensures unknowns { line_rule [] (codes "unknown x y x") ≡ None }
+    ensures byte { line_rule [] (codes "eq a " ++ 128 ∷ []) ≡ Some Why.BadByte }
     ensures word { line_rule [] (codes "sum a") ≡ Some Why.BadWord }
     ensures shape { line_rule [] (codes "eq") ≡ Some Why.BadShape }
+    ensures name { line_rule [] (codes "eq 7a") ≡ Some Why.BadName }
     ensures number { line_rule [] (codes "eq a x=.5 y=?") ≡ Some Why.BadNumber }
     ensures vanish { line_rule [] (codes "eq a x=0/65521") ≡ Some Why.Vanish }
     ensures later { line_rule [] (codes "eq a x=1+? y") ≡ Some Why.Later }
