@@ -2,12 +2,14 @@
 #![tactic(auto)]
 
 mod equation_list;
+mod examples;
 mod fault;
 mod item;
 mod laws;
 mod reader;
 
 pub use equation_list::read;
+pub use examples::{lists_at_examples, rules_at_examples};
 pub use laws::{a_text_gives_one_model, a_text_has_one_first_broken_rule};
 
 #[cfg(test)]
