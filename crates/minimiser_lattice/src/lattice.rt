@@ -20,8 +20,8 @@ pub enum Part {
     Last,
 }
 
-/// The parts of arcs and their order, in memory that is taken once. It can be filled again and again; before the first
-/// time its parts are those of no arcs.
+/// The parts of arcs and their order, in memory that is taken once. It can be filled again and again; what it tells before
+/// the first time is of no arcs at all.
 #[derive(Drop)]
 pub struct Lattice {
     components: Components,
@@ -39,7 +39,7 @@ impl Model for Lattice {
 }
 
 impl Lattice {
-    /// Room for the parts of the places below n: it takes all the memory that the lattice will use.
+    /// Room for the parts of the places below n. It takes all the memory that the lattice will use.
     pub fn open(alloc: Global, n: usize) -> Result<Self, NoMemory>
         ensures { IfOk result (λ l. l.places ≡ n) }
     {
