@@ -1,5 +1,7 @@
 ghost use Rattle.std.specs.Prelude.{◌≡◌, ℕ, ◌<◌, Bool, length, IfOk};
 ghost use Rattle.exchange_graph.specs.Marks.{members_of};
+ghost use Rattle.closed_sets.specs.Closed.{NoEndReached};
+ghost use Rattle.closed_sets.specs.Rules.{KeepsRules};
 ghost use Rattle.minimiser_lattice.specs.Parts.{IsLattice, part_in};
 ghost use Rattle.minimiser_lattice.specs.Views.{Kept, parts_in};
 
@@ -18,8 +20,8 @@ pub enum Part {
     Last,
 }
 
-/// The parts of arcs and their order, in memory that is taken once. It can be filled again and again; before the first
-/// time its parts are those of no arcs.
+/// The parts of arcs and their order, in memory that is taken once. It can be filled again and again; what it tells before
+/// the first time is of no arcs at all.
 #[derive(Drop)]
 pub struct Lattice {
     components: Components,
@@ -37,7 +39,7 @@ impl Model for Lattice {
 }
 
 impl Lattice {
-    /// Room for the parts of the places below n: it takes all the memory that the lattice will use.
+    /// Room for the parts of the places below n. It takes all the memory that the lattice will use.
     pub fn open(alloc: Global, n: usize) -> Result<Self, NoMemory>
         ensures { IfOk result (λ l. l.places ≡ n) }
     {
@@ -58,6 +60,7 @@ impl Lattice {
         requires starts { length starts.now ≡ self.old.places }
         requires ends { length ends.now ≡ self.old.places }
         ensures lattice { IsLattice (A.leads arcs.now) self.old.places (members_of starts.now) (members_of ends.now) (parts_in self.new) }
+        ensures rules { NoEndReached (A.leads arcs.now) self.old.places (members_of starts.now) (members_of ends.now) → KeepsRules (A.leads arcs.now) self.old.places (members_of starts.now) (members_of ends.now) (parts_in self.new).first (parts_in self.new).last (parts_in self.new).block (parts_in self.new).blocks (parts_in self.new).covers }
         ensures places { self.new.places ≡ self.old.places }
     {
         self.components.fill(arcs);

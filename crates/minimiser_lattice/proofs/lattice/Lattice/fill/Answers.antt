@@ -6,7 +6,7 @@ use Rattle.minimiser_lattice.specs.Paths.{IsQuotient}
 use Rattle.minimiser_lattice.specs.Parts.{IsLattice}
 use Rattle.minimiser_lattice.specs.Views.{parts_from, Kept}
 use Rattle.minimiser_lattice.specs.declared.listing.Listing.{Listing}
-use Rattle.minimiser_lattice.proofs.LatticeLaws.{lattice-is, middle-tells}
+use Rattle.minimiser_lattice.proofs.LatticeLaws.{lattice-is, lattice-keeps, middle-tells}
 use Rattle.minimiser_lattice.proofs.lattice.Lattice.fill.Goals as goal
 
 pub returns-clause-lattice : goal.returns-clause-lattice
@@ -26,3 +26,6 @@ returns-clause-lattice g c =
     (c.fill.ensures.places ∙ ap (λ (v : Kept). v.places) c.self.view_is)
     (subst (λ (v : Listing). IsLattice arc (places cs) starts ends (parts_from (places cs) (number_of cs) (members_of v.first.items) (members_of v.last.items) (λ k. get_or v.rank.items k 0) (λ j. get_or v.listed.items j 0) v.blocks (bit_in cs.strict) (bit_in v.between)))
     (sym (c.cover.ensures.kept ∙ ap (λ (v : Listing). record v { between = r.between }) c.list.ensures.kept)) is)
+
+pub returns-clause-rules : goal.returns-clause-rules
+returns-clause-rules g c = λ clear. lattice-keeps (g.A.Arcs.leads c.args.arcs.now) c.args.self.now.places (members_of c.args.starts.now) (members_of c.args.ends.now) _ clear (returns-clause-lattice g c)
