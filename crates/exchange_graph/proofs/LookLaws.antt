@@ -3,7 +3,7 @@ use Rattle.std.proofs.Common.{◌≡◌, ℕ, ◌+◌, ◌<◌, ◌≤◌, ◌�
 use Rattle.residue_theory.proofs.SumLaws.{nat_cases}
 use Rattle.residue_theory.proofs.SetLaws.{differ, lt_cases}
 use Rattle.search_laws.specs.Searches.{State, IsSearch, IsPut, IsGrown, HasStarts, NoEndBefore, IsShortest}
-use Rattle.search_laws.proofs.SearchLaws.{search-put, search-next, grown-put, grown-same, grown-join, grown-starts, grown-ends, ends-next, starts-put, starting-start, trace-all}
+use Rattle.search_laws.proofs.SearchLaws.{search-put, search-next, grown-put, grown-same, grown-join, grown-starts, grown-ends, ends-next, starts-put, search-start, trace-all}
 use Rattle.exchange_graph.specs.Ranges.{HasNone, IsLeast}
 use Rattle.exchange_graph.specs.Looks.{IsLookingFrom, IsStartingFrom}
 
@@ -120,7 +120,7 @@ looking-done arc n s₀ s f₀ head filled from place depth L none = search-next
 pub starting-first : (arc : ℕ → ℕ → Bool) (n : ℕ) (starts : ℕ → Bool) (s : State) (filled : ℕ) → filled ≡ 0 → ((j : ℕ) → j < n → s.order j ≡ j) → ((j : ℕ) → j < n → s.reached j ≡ false) →
     IsStartingFrom arc n starts s filled 0
 starting-first arc n starts s filled e same none = subst (λ m. IsStartingFrom arc n starts s m 0) (sym e) (record {
-  search = (starting-start arc n starts s same none).search;
+  search = search-start arc n s same none;
   from = λ y l h. absurd (differ (none y l) h);
   scanned = λ y l. absurd (omega arith);
   waiting = λ y _ l. none y l;

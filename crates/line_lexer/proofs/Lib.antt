@@ -1,4 +1,5 @@
 pub mod LineLaws
 pub mod NumberLaws
+pub mod ResidueLaws
 pub mod PlaceLaws
 pub mod TokenLaws

@@ -9,7 +9,7 @@ use refusals::Why;
 use std::str;
 
 /// The lines of a text, numbered from 1: the bytes are cut at each line feed, and what follows the last one is
-/// a line if it is not empty.
+/// a line if it is not empty. One carriage return at the end of a line is dropped.
 pub fn lines(bytes: &[u8]) -> Lines<'_>
     requires { length bytes.now ≤ 8388608 }
     ensures { result ≡ enumerate_from 1 (lines_of bytes.now) }

@@ -3,13 +3,15 @@
 
 mod cuts;
 mod line;
+mod names;
+mod numbers;
 mod token;
-mod words;
 
 pub use cuts::{lines, tokens};
 pub use line::{Line, Lines};
+pub use names::name;
+pub use numbers::number;
 pub use token::{Token, Tokens};
-pub use words::{name, number};
 
 #[cfg(test)]
 mod tests;

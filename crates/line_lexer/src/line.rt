@@ -1,11 +1,12 @@
 ghost use Rattle.std.specs.Prelude.{◌≡◌, ◌∷◌, ◌+◌, ◌<◌, ◌≤◌, ◌^◌, length, position};
 ghost use Rattle.std.specs.Iterator.{YieldsFirstBy, item_count};
 ghost use Rattle.std.specs.List.{enumerate_from};
-ghost use Rattle.line_lexer.specs.Lines.{is_line_feed, lines_of};
+ghost use Rattle.std.specs.Str.Lines.{strip_carriage_return};
+ghost use Rattle.line_lexer.specs.Lines.{is_line_feed, cut_at_feeds, lines_of};
 
 use std::marker::Model;
 
-/// A line of a text, without its line feed, and its number from 1.
+/// A line of a text, without its line feed and without one carriage return before that, and its number from 1.
 #[derive(Clone, Copy, Debug)]
 pub struct Line<'a> {
     pub number: u32,
@@ -58,14 +59,17 @@ impl<'a> Iterator for Lines<'a> {
         let (bytes, rest) = cut_line(self.rest);
         self.number = number + 1;
         self.rest = rest;
-        Some(Line { number, bytes })
+        Some(Line {
+            number,
+            bytes: without_return(bytes),
+        })
     }
 }
 
 // The first line, and what follows its line feed.
 fn cut_line(bytes: &[u8]) -> (&[u8], &[u8])
     requires { 0 < length bytes.now }
-    ensures cut { lines_of bytes.now ≡ result.0.now ∷ lines_of result.1.now }
+    ensures cut { cut_at_feeds bytes.now ≡ result.0.now ∷ cut_at_feeds result.1.now }
     ensures shorter { length result.1.now < length bytes.now }
 {
     match first_line_feed(bytes) {
@@ -78,4 +82,14 @@ fn first_line_feed(bytes: &[u8]) -> Option<usize>
     ensures { result ≡ position is_line_feed bytes.now }
 {
     bytes.iter().position(|byte| *byte == b'\n')
+}
+
+// A line without the one carriage return at its end, if it has one.
+fn without_return(line: &[u8]) -> &[u8]
+    ensures { result.now ≡ strip_carriage_return line.now }
+{
+    match line.split_last() {
+        Some((b'\r', line)) => line,
+        _ => line,
+    }
 }

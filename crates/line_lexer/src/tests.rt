@@ -11,7 +11,7 @@ fn lines_are_cut_at_line_feeds(rt: HostRuntime) -> Result<(), Fail> {
     }
     assert_eq!(rt;
         found.as_slice(),
-        [(1, 1), (2, 0), (3, 2), (4, 1)].as_slice()
+        [(1, 1), (2, 0), (3, 1), (4, 1)].as_slice()
     );
     assert_eq!(rt; lines(b"x\n").count(), 1);
     assert_eq!(rt; lines(b"").count(), 0);
@@ -34,18 +34,61 @@ fn tokens_stand_between_blanks(rt: HostRuntime) -> Result<(), Fail> {
 }
 
 #[test]
-fn names_and_numbers_are_told(rt: HostRuntime) {
+fn one_carriage_return_ends_a_line(rt: HostRuntime) -> Result<(), Fail> {
+    let mut found = Vec::new(rt.alloc());
+    for line in lines(b"a\r\r\n\r\n\ra\r") {
+        found.push(line.bytes.len())?;
+    }
+    assert_eq!(rt; found.as_slice(), [2, 0, 2].as_slice());
+    Ok(())
+}
+
+#[test]
+fn names_are_told(rt: HostRuntime) {
     for text in ["x", "_", "v.R1", "A_9."] {
         assert_eq!(rt; name(text), Ok(()), "{text}");
     }
     for text in ["", "1a", ".a", "a-b", "a b"] {
         assert_eq!(rt; name(text), Err(Why::BadName), "{text}");
     }
-    for (text, residue) in [("0", 0), ("000", 0), ("65520", 65_520), ("65522", 1)] {
+}
+
+#[test]
+fn numbers_are_told(rt: HostRuntime) {
+    for (text, residue) in [
+        ("0", 0),
+        ("000", 0),
+        ("65520", 65_520),
+        ("65522", 1),
+        ("+1", 1),
+        ("-1", 65_520),
+        ("1/3", 43_681),
+        ("0.5", 32_761),
+        ("+0/5", 0),
+        ("0.0", 0),
+        ("-0", 0),
+        ("000000000000000001", 1),
+        ("00000000000000000.1", 58_969),
+    ] {
         assert_eq!(rt; number(text), Ok(Res::of(residue)), "{text}");
     }
-    for text in ["", "+1", "1.5", "1234567890123456789"] {
+    for text in [
+        "",
+        "+",
+        "--1",
+        "1e3",
+        ".5",
+        "1.",
+        "1/",
+        "1/2/3",
+        "1/-2",
+        "1.5/2",
+        "0000000000000000001",
+        "0000000000.000000001",
+    ] {
         assert_eq!(rt; number(text), Err(Why::BadNumber), "{text}");
     }
-    assert_eq!(rt; number("65521"), Err(Why::Vanish));
+    for text in ["65521", "-65521", "1/65521", "0/65521", "1/0", "6552.1"] {
+        assert_eq!(rt; number(text), Err(Why::Vanish), "{text}");
+    }
 }

@@ -18,4 +18,6 @@ pub mod RowRemoval
 pub mod ColumnRemoval
 pub mod ColumnBeside
 pub mod Transposes
+pub mod PivotedBases
+pub mod Transforms
 pub mod ExampleFacts

@@ -42,3 +42,9 @@ TableauTellsTheRank =
     IsInverse p m S U → Agree p m n P (product m S a) → IsBase p P m n B row → (X : ℕ → Bool) →
     ((i j : ℕ) → i < m → j < n → X j ≡ true → HasNoBase n (both B X) row i → P i j % p ≡ 0) →
     IsRank p a m n X (size_on (both B X) n)
+
+-- independent columns of a become a base of S * a, for some invertible S
+abbrev pub IndependentColumnsBecomeABase : Type 0
+IndependentColumnsBecomeABase =
+    (p : ℕ) → IsPrime p → (m n : ℕ) (a : ℕ → ℕ → ℕ) (I : ℕ → Bool) → IsIndependent p a m n I →
+    (S U : ℕ → ℕ → ℕ) × (row : ℕ → ℕ) × IsInverse p m S U × IsBase p (product m S a) m n I row

@@ -1,5 +1,5 @@
 //! A base of unit columns, as a tableau has one.
-ghost use Rattle.linear_algebra_laws.specs.BaseLaws.{BasesAreIndependent, BasesShowTheRank, BasesSpanWhatIsZeroElsewhere, TableauTellsTheSpan, TableauTellsTheRank};
+ghost use Rattle.linear_algebra_laws.specs.BaseLaws.{BasesAreIndependent, BasesShowTheRank, BasesSpanWhatIsZeroElsewhere, IndependentColumnsBecomeABase, TableauTellsTheSpan, TableauTellsTheRank};
 
 /// A base is independent.
 pub fn bases_are_independent()
@@ -24,4 +24,9 @@ pub fn tableau_tells_the_span()
 /// In a tableau a set that is zero at each row without base in the set has as many columns in its rank as it has base columns.
 pub fn tableau_tells_the_rank()
     ensures { TableauTellsTheRank }
+{}
+
+/// Independent columns become a base by row operations, which are a product with an invertible matrix.
+pub fn independent_columns_become_a_base()
+    ensures { IndependentColumnsBecomeABase }
 {}

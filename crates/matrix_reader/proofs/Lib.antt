@@ -1,10 +1,13 @@
-pub mod FirstLines
+pub mod FirstBroken
 pub mod ItemSteps
 pub mod LabelLaws
+pub mod LineForms
 pub mod LineSteps
 pub mod ListSteps
 pub mod MarkLaws
 pub mod ModelLaws
 pub mod ModelSteps
+pub mod RuleSteps
 pub mod SaidLaws
 pub mod SeenLaws
+pub mod ValueLaws

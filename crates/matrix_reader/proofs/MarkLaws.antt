@@ -1,5 +1,6 @@
 -- Unknowns that are found, marked and added.
-use Rattle.std.proofs.Common.{◌≡◌, ◌≢◌, ℕ, ◌+◌, ◌<◌, ◌≤◌, Bool, true, false, cond, ◌||◌, List, [], ◌∷◌, ◌++◌, length, map, set, get_or, position, Option, Some, None, Ok, Err, refl, sym, ap, subst, ◌∙◌, arith, eqb, eq-eqb, ne_eqb, ltb, ltb-false, lt-ltb, ⊎_elim, length-append, length-set, get_or-set_same, get_or-set_other}
+use Rattle.std.proofs.Common.{◌≡◌, ◌≢◌, ℕ, ◌+◌, ◌<◌, Bool, true, false, cond, ◌||◌, List, [], ◌∷◌, ◌++◌, length, map, set, get_or, position, Option, Some, None, Ok, Err, refl, sym, ap, subst, ◌∙◌, arith, eqb, eq-eqb, ne_eqb, ltb, ltb-false, lt-ltb, le-ltb, ⊎_elim, length-append, length-set, get_or-set_same, get_or-set_other}
+use Rattle.std.specs.Option.{is_some}
 use Rattle.std.specs.Str.{bytes_eq}
 use Rattle.std.proofs.lemmas.Bool.{cases_lt, cases_eq, false_from_ne_true}
 use Rattle.std.proofs.lemmas.List.{map-append, get_or_append_left, get_or_push, get_or_past}
@@ -7,19 +8,22 @@ use Rattle.std.proofs.lemmas.List.Folds.{list_any-append, list_any_at, list_any_
 use Rattle.std.proofs.lemmas.List.Quantifiers.{position-Some}
 use Rattle.std.proofs.lemmas.List.Sums.{fails_before_first}
 use Rattle.std.proofs.lemmas.Slice.Eq.{bytes_eq-Decides}
+use Rattle.refusals.specs.declared.Why.{Why}
+use Rattle.refusals.specs.declared.Why.TheVariants.{Twice as StandsTwice, TooMany as IsFull}
 use Rattle.line_lexer.proofs.PlaceLaws.{position_or_len-None}
 use Rattle.mixed_model.specs.declared.errors.AddError.{AddError}
 use Rattle.mixed_model.specs.declared.errors.AddError.TheVariants.{Twice, TooMany, NoMemory as OutOfMemory}
 use Rattle.mixed_model.specs.Names.{has_name, adding, AnswersAdd}
 use Rattle.mixed_model.specs.Models.{MixedModel, IsModel, with_unknown}
 use Rattle.matrix_reader.specs.Items.{unknown_of}
-use Rattle.matrix_reader.specs.EquationLists.{Equation, see}
+use Rattle.matrix_reader.specs.EquationLists.{equations_in, see, unknowns_in}
+use Rattle.matrix_reader.specs.Rules.{place_rule, room_rule}
+use Rattle.matrix_reader.specs.Faults.{fault_of}
+use Rattle.matrix_reader.specs.ReaderStates.{IsWithin, MarkedFrom, UnmarkedFrom, UnseenFrom, OnBroken, so_far}
+use Rattle.matrix_reader.specs.Models.{items_at}
 use Rattle.matrix_reader.proofs.SaidLaws.{items_at-last, absent-unseen}
 use Rattle.matrix_reader.proofs.SeenLaws.{names_apart}
-use Rattle.matrix_reader.specs.Faults.{fault_of}
-use Rattle.matrix_reader.specs.declared.reader.LineFault.{LineFault}
-use Rattle.matrix_reader.specs.declared.reader.LineFault.TheVariants.{NotPlain, NoMemory}
-use Rattle.matrix_reader.specs.ReaderStates.{IsWithin, MarkedFrom, UnmarkedFrom, OnNotPlain}
+use Rattle.matrix_reader.proofs.LineForms.{equation_last}
 
 pub has_name-Some : (names : List (List ℕ)) (name : List ℕ) (k : ℕ) → position (bytes_eq name) names ≡ Some k → (k < length names) × (get_or names k [] ≡ name) × (has_name names name ≡ true)
 has_name-Some names name k found =
@@ -32,26 +36,32 @@ has_name-None names name none =
     list_any_none (bytes_eq name) names (λ k d at. fails_before_first (bytes_eq name) names k d (omega arith))
 
 -- an unknown that isn't there is refused as one too many alone
-pub unmarked_new : (old : MixedModel) (lines : List ℕ) (line : ℕ) (unknown : List ℕ) (error : AddError) → position (bytes_eq unknown) old.unknowns ≡ None → AnswersAdd {T = ℕ} (Err error) (adding old.unknowns unknown) → OnNotPlain (fault_of error) (UnmarkedFrom None line old lines)
-unmarked_new old lines line unknown OutOfMemory none answer = tt
-unmarked_new old lines line unknown Twice none answer =
+pub unseen_new : (old : MixedModel) (unknown : List ℕ) (error : AddError) → position (bytes_eq unknown) old.unknowns ≡ None → AnswersAdd {T = ℕ} (Err error) (adding old.unknowns unknown) → OnBroken (fault_of error) (UnseenFrom None old)
+unseen_new old unknown OutOfMemory none answer = tt
+unseen_new old unknown Twice none answer =
     let absent = has_name-None old.unknowns unknown none in
     by (ltb (length old.unknowns) 4096) (rw absent at answer)
   where
-    by : (b : Bool) → cond b (Ok (length old.unknowns)) (Err TooMany) ≡ Err Twice → 4096 ≤ length old.unknowns
+    by : (b : Bool) → cond b (Ok (length old.unknowns)) (Err TooMany) ≡ Err Twice → OnBroken (fault_of Twice) (UnseenFrom None old)
     by true e = let f : ⊥ = cc in absurd f
     by false e = let f : ⊥ = cc in absurd f
-unmarked_new old lines line unknown TooMany none answer =
+unseen_new old unknown TooMany none answer =
     let absent = has_name-None old.unknowns unknown none in
     by (ltb (length old.unknowns) 4096) refl (rw absent at answer)
   where
-    by : (b : Bool) → ltb (length old.unknowns) 4096 ≡ b → cond b (Ok (length old.unknowns)) (Err TooMany) ≡ Err TooMany → 4096 ≤ length old.unknowns
+    by : (b : Bool) → ltb (length old.unknowns) 4096 ≡ b → cond b (Ok (length old.unknowns)) (Err TooMany) ≡ Err TooMany → OnBroken (fault_of TooMany) (UnseenFrom None old)
     by true full e = let f : ⊥ = cc in absurd f
-    by false full e = ltb-false (length old.unknowns) 4096 full
+    by false full e = (refl, ltb-false (length old.unknowns) 4096 full)
+
+-- what the marking of an unknown that isn't there is refused for
+pub unmarked_new : (old : MixedModel) (lines : List ℕ) (line : ℕ) (error : AddError) → OnBroken (fault_of error) (UnseenFrom None old) → OnBroken (fault_of error) (UnmarkedFrom None line old lines)
+unmarked_new old lines line OutOfMemory why = tt
+unmarked_new old lines line Twice why = why
+unmarked_new old lines line TooMany why = why
 
 -- what is known after an unknown is marked
-pub record Marks (before : List Equation) (current : Equation) (line : ℕ) (old new : MixedModel) (new_lines : List ℕ) (item : List ℕ) (j : ℕ) : Type 0 where
-  pub fresh : has_name (map unknown_of current.items) (unknown_of item) ≡ false
+pub record Marks (before : List (List (List ℕ))) (name : List ℕ) (items : List (List ℕ)) (line : ℕ) (old new : MixedModel) (new_lines : List ℕ) (item : List ℕ) (j : ℕ) : Type 0 where
+  pub fresh : has_name (map unknown_of items) (unknown_of item) ≡ false
   pub room : (has_name old.unknowns (unknown_of item) || ltb (length old.unknowns) 4096) ≡ true
   pub is_model : IsModel new
   pub equations : new.equations ≡ old.equations
@@ -60,8 +70,8 @@ pub record Marks (before : List Equation) (current : Equation) (line : ℕ) (old
   pub within : j < length new.unknowns
   pub place : get_or new.unknowns j [] ≡ unknown_of item
   pub lengths : length new_lines ≡ length new.unknowns
-  pub earlier : (k : ℕ) → get_or new_lines k 0 ≤ line
-  pub marks : (k : ℕ) → k < length new.unknowns → eqb (get_or new_lines k 0) line ≡ has_name (map unknown_of (current.items ++ item ∷ [])) (get_or new.unknowns k [])
+  pub earlier : (k : ℕ) → get_or new_lines k 0 < line + 1
+  pub marks : (k : ℕ) → k < length new.unknowns → eqb (get_or new_lines k 0) line ≡ has_name (map unknown_of (items ++ item ∷ [])) (get_or new.unknowns k [])
 
 -- a name among those of one item more
 has_name-push : (items : List (List ℕ)) (item name : List ℕ) → has_name (map unknown_of (items ++ item ∷ [])) name ≡ (has_name (map unknown_of items) name || (bytes_eq name (unknown_of item) || false))
@@ -86,45 +96,53 @@ has_name-push_other items item name differs = has_name-push items item name ∙ 
     by true = refl
     by false = refl
 
-module _ (before : List Equation) (current : Equation) (line : ℕ) (old : MixedModel) (old_lines : List ℕ) (item : List ℕ) (at_line : IsWithin before current line old old_lines) where
+module _ (before : List (List (List ℕ))) (name : List ℕ) (items : List (List ℕ)) (line : ℕ) (old : MixedModel) (old_lines : List ℕ) (item : List ℕ) (at_line : IsWithin before (so_far name items) line old old_lines) where
+  -- an unknown that is not there stands in no item of the line
+  fresh_new : has_name old.unknowns (unknown_of item) ≡ false → has_name (map unknown_of items) (unknown_of item) ≡ false
+  fresh_new absent =
+      let all = before ++ so_far name items ∷ [] in
+      let unseen : has_name (unknowns_in all) (unknown_of item) ≡ false = subst (λ names. has_name names (unknown_of item) ≡ false) at_line.read.gives.unknowns_are absent in
+      ap (λ mine. has_name (map unknown_of mine) (unknown_of item))
+      (sym (ap (λ list. items_at list (length (equations_in before))) (equation_last before name items) ∙ items_at-last (equations_in before) (record { name = name; items = items }) (length (equations_in before)) refl))
+      ∙ absent-unseen all (unknown_of item) (length (equations_in before)) unseen
+
   -- an unknown that was there
-  marks_known : (k : ℕ) → position (bytes_eq (unknown_of item)) old.unknowns ≡ Some k → get_or old_lines k 0 ≢ line → Marks before current line old old (set old_lines k line) item k
+  marks_known : (k : ℕ) → position (bytes_eq (unknown_of item)) old.unknowns ≡ Some k → get_or old_lines k 0 ≢ line → Marks before name items line old old (set old_lines k line) item k
   marks_known k found elsewhere =
       let at = has_name-Some old.unknowns (unknown_of item) k found in
-      let counted : k < length old_lines = omega (arith, at.0, at_line.lengths) in
+      let counted : k < length old_lines = omega (arith, at.0, at_line.read.lengths) in
       record {
-        fresh = ap (has_name (map unknown_of current.items)) (sym at.1) ∙ sym (at_line.marks k at.0) ∙ ne_eqb (get_or old_lines k 0) line elsewhere;
+        fresh = ap (has_name (map unknown_of items)) (sym at.1) ∙ sym (at_line.marks k at.0) ∙ ne_eqb (get_or old_lines k 0) line elsewhere;
         room = rw at.2 refl;
-        is_model = at_line.gives.is_model;
+        is_model = at_line.read.gives.is_model;
         equations = refl;
         rows = refl;
         unknowns = sym (ap (λ b. cond b old.unknowns (old.unknowns ++ unknown_of item ∷ [])) at.2);
         within = at.0;
         place = at.1;
-        lengths = length-set old_lines k line ∙ at_line.lengths;
+        lengths = length-set old_lines k line ∙ at_line.read.lengths;
         earlier = λ m. ⊎_elim
-            (λ same. subst (λ i. get_or (set old_lines k line) i 0 ≤ line) (sym same) (omega (arith, get_or-set_same old_lines k line 0 counted)))
-            (λ other. omega (arith, get_or-set_other old_lines k m line 0 other, at_line.earlier m))
+            (λ same. subst (λ i. get_or (set old_lines k line) i 0 < line + 1) (sym same) (omega (arith, get_or-set_same old_lines k line 0 counted)))
+            (λ other. omega (arith, get_or-set_other old_lines k m line 0 other, at_line.read.earlier m))
             (cases_eq m k);
         marks = λ m within. ⊎_elim
-            (λ same. subst (λ i. eqb (get_or (set old_lines k line) i 0) line ≡ has_name (map unknown_of (current.items ++ item ∷ [])) (get_or old.unknowns i [])) (sym same)
-            (eq-eqb (get_or (set old_lines k line) k 0) line (get_or-set_same old_lines k line 0 counted) ∙ sym (has_name-push_same current.items item (get_or old.unknowns k []) at.1)))
+            (λ same. subst (λ i. eqb (get_or (set old_lines k line) i 0) line ≡ has_name (map unknown_of (items ++ item ∷ [])) (get_or old.unknowns i [])) (sym same)
+            (eq-eqb (get_or (set old_lines k line) k 0) line (get_or-set_same old_lines k line 0 counted) ∙ sym (has_name-push_same items item (get_or old.unknowns k []) at.1)))
             (λ other.
             let differs : get_or old.unknowns m [] ≢ unknown_of item = λ same.
-            let apart = names_apart old.unknowns m k at_line.gives.is_model.unknowns.distinct other within at.0 in
+            let apart = names_apart old.unknowns m k at_line.read.gives.is_model.unknowns.distinct other within at.0 in
             let equal : bytes_eq (get_or old.unknowns m []) (get_or old.unknowns k []) ≡ true = (bytes_eq-Decides (get_or old.unknowns m []) (get_or old.unknowns k [])).1 (same ∙ sym at.1) in
             let f : ⊥ = cc in f in
-            ap (λ n. eqb n line) (get_or-set_other old_lines k m line 0 other) ∙ at_line.marks m within ∙ sym (has_name-push_other current.items item (get_or old.unknowns m []) differs))
+            ap (λ n. eqb n line) (get_or-set_other old_lines k m line 0 other) ∙ at_line.marks m within ∙ sym (has_name-push_other items item (get_or old.unknowns m []) differs))
             (cases_eq m k);
       }
 
   -- a new unknown
-  marks_new : position (bytes_eq (unknown_of item)) old.unknowns ≡ None → length old.unknowns < 4096 → IsModel (with_unknown old (unknown_of item)) → Marks before current line old (with_unknown old (unknown_of item)) (old_lines ++ line ∷ []) item (length old.unknowns)
+  marks_new : position (bytes_eq (unknown_of item)) old.unknowns ≡ None → length old.unknowns < 4096 → IsModel (with_unknown old (unknown_of item)) → Marks before name items line old (with_unknown old (unknown_of item)) (old_lines ++ line ∷ []) item (length old.unknowns)
   marks_new none room is =
       let absent = has_name-None old.unknowns (unknown_of item) none in
       record {
-        fresh = ap (λ items. has_name (map unknown_of items) (unknown_of item)) (sym (items_at-last before current (length before) refl))
-            ∙ absent-unseen (before ++ current ∷ []) (unknown_of item) (length before) (subst (λ names. has_name names (unknown_of item) ≡ false) at_line.gives.unknowns absent);
+        fresh = fresh_new absent;
         room = rw (absent, lt-ltb (length old.unknowns) 4096 room) refl;
         is_model = is;
         equations = refl;
@@ -132,9 +150,9 @@ module _ (before : List Equation) (current : Equation) (line : ℕ) (old : Mixed
         unknowns = sym (ap (λ b. cond b old.unknowns (old.unknowns ++ unknown_of item ∷ [])) absent);
         within = omega (arith, length-append old.unknowns (unknown_of item ∷ []));
         place = get_or_push old.unknowns (unknown_of item) [] (length old.unknowns) refl;
-        lengths = length-append old_lines (line ∷ []) ∙ ap (λ n. n + 1) at_line.lengths ∙ sym (length-append old.unknowns (unknown_of item ∷ []));
+        lengths = length-append old_lines (line ∷ []) ∙ ap (λ n. n + 1) at_line.read.lengths ∙ sym (length-append old.unknowns (unknown_of item ∷ []));
         earlier = λ m. ⊎_elim
-            (λ less. omega (arith, get_or_append_left old_lines (line ∷ []) 0 m less, at_line.earlier m))
+            (λ less. omega (arith, get_or_append_left old_lines (line ∷ []) 0 m less, at_line.read.earlier m))
             (λ more. ⊎_elim
             (λ last. omega (arith, get_or_push old_lines line 0 m (sym last)))
             (λ past. omega (arith, get_or_past (old_lines ++ line ∷ []) m 0 (omega (arith, length-append old_lines (line ∷ [])))))
@@ -145,30 +163,53 @@ module _ (before : List Equation) (current : Equation) (line : ℕ) (old : Mixed
             let differs : get_or old.unknowns m [] ≢ unknown_of item = λ same.
             let there : has_name old.unknowns (unknown_of item) ≡ true = list_any_at (bytes_eq (unknown_of item)) old.unknowns m [] less ((bytes_eq-Decides (unknown_of item) (get_or old.unknowns m [])).1 (sym same)) in
             let f : ⊥ = cc in f in
-            ap (λ n. eqb n line) (get_or_append_left old_lines (line ∷ []) 0 m (omega (arith, at_line.lengths)))
+            ap (λ n. eqb n line) (get_or_append_left old_lines (line ∷ []) 0 m (omega (arith, at_line.read.lengths)))
             ∙ at_line.marks m less
-            ∙ sym (ap (has_name (map unknown_of (current.items ++ item ∷ []))) (get_or_append_left old.unknowns (unknown_of item ∷ []) [] m less) ∙ has_name-push_other current.items item (get_or old.unknowns m []) differs))
+            ∙ sym (ap (has_name (map unknown_of (items ++ item ∷ []))) (get_or_append_left old.unknowns (unknown_of item ∷ []) [] m less) ∙ has_name-push_other items item (get_or old.unknowns m []) differs))
             (λ more.
             let last : length old.unknowns ≡ m = omega (arith, length-append old.unknowns (unknown_of item ∷ [])) in
-            eq-eqb (get_or (old_lines ++ line ∷ []) m 0) line (get_or_push old_lines line 0 m (at_line.lengths ∙ last))
-            ∙ sym (has_name-push_same current.items item (get_or (old.unknowns ++ unknown_of item ∷ []) m []) (get_or_push old.unknowns (unknown_of item) [] m last)))
+            eq-eqb (get_or (old_lines ++ line ∷ []) m 0) line (get_or_push old_lines line 0 m (at_line.read.lengths ∙ last))
+            ∙ sym (has_name-push_same items item (get_or (old.unknowns ++ unknown_of item ∷ []) m []) (get_or_push old.unknowns (unknown_of item) [] m last)))
             (cases_lt m (length old.unknowns));
       }
 
-  pub Marks-from_mark : (new : MixedModel) (new_lines : List ℕ) (j : ℕ) → MarkedFrom (position (bytes_eq (unknown_of item)) old.unknowns) line old new old_lines new_lines (unknown_of item) j → Marks before current line old new new_lines item j
+  pub Marks-from_mark : (new : MixedModel) (new_lines : List ℕ) (j : ℕ) → MarkedFrom (position (bytes_eq (unknown_of item)) old.unknowns) line old new old_lines new_lines (unknown_of item) j → Marks before name items line old new new_lines item j
   Marks-from_mark new new_lines j marked = by (position (bytes_eq (unknown_of item)) old.unknowns) refl marked
     where
-      by : (o : Option ℕ) → position (bytes_eq (unknown_of item)) old.unknowns ≡ o → MarkedFrom o line old new old_lines new_lines (unknown_of item) j → Marks before current line old new new_lines item j
+      by : (o : Option ℕ) → position (bytes_eq (unknown_of item)) old.unknowns ≡ o → MarkedFrom o line old new old_lines new_lines (unknown_of item) j → Marks before name items line old new new_lines item j
       by (Some k) e m =
-          subst (λ i. Marks before current line old new new_lines item i) (sym m.0)
-          (subst (λ n. Marks before current line old n new_lines item k) (sym m.1)
-          (subst (λ lines. Marks before current line old old lines item k) (sym m.2) (marks_known k e m.3)))
+          subst (λ i. Marks before name items line old new new_lines item i) (sym m.0)
+          (subst (λ n. Marks before name items line old n new_lines item k) (sym m.1)
+          (subst (λ lines. Marks before name items line old old lines item k) (sym m.2) (marks_known k e m.3)))
       by None e m =
-          subst (λ i. Marks before current line old new new_lines item i) (sym m.0)
-          (subst (λ n. Marks before current line old n new_lines item (length old.unknowns)) (sym m.2)
-          (subst (λ lines. Marks before current line old (with_unknown old (unknown_of item)) lines item (length old.unknowns)) (sym m.4) (marks_new e m.1 (subst IsModel m.2 m.3))))
+          subst (λ i. Marks before name items line old new new_lines item i) (sym m.0)
+          (subst (λ n. Marks before name items line old n new_lines item (length old.unknowns)) (sym m.2)
+          (subst (λ lines. Marks before name items line old (with_unknown old (unknown_of item)) lines item (length old.unknowns)) (sym m.4) (marks_new e m.1 (subst IsModel m.2 m.3))))
 
--- what a fault says, from what it says
-pub on_not_plain : (fault : LineFault) (P Q : Type 0) → (P → Q) → OnNotPlain fault P → OnNotPlain fault Q
-on_not_plain NotPlain P Q follows said = follows said
-on_not_plain NoMemory P Q follows said = tt
+  -- a marked item keeps the rule of its place
+  pub marked_rule : (new : MixedModel) (new_lines : List ℕ) (j : ℕ) → Marks before name items line old new new_lines item j → place_rule before (so_far name items) (unknown_of item) ≡ None
+  marked_rule new new_lines j marks =
+      ap (λ b. cond b (Some StandsTwice) (room_rule (unknowns_in (before ++ so_far name items ∷ [])) (unknown_of item))) marks.fresh
+      ∙ ap (λ names. room_rule names (unknown_of item)) (sym at_line.read.gives.unknowns_are)
+      ∙ ap (λ b. cond b None (Some IsFull)) marks.room
+
+  -- and one that can't be marked breaks it
+  pub unmarked_rule : (why : Why) → UnmarkedFrom (position (bytes_eq (unknown_of item)) old.unknowns) line old old_lines why → place_rule before (so_far name items) (unknown_of item) ≡ Some why
+  unmarked_rule why told = by (position (bytes_eq (unknown_of item)) old.unknowns) refl told
+    where
+      by : (o : Option ℕ) → position (bytes_eq (unknown_of item)) old.unknowns ≡ o → UnmarkedFrom o line old old_lines why → place_rule before (so_far name items) (unknown_of item) ≡ Some why
+      by (Some k) e (same, stood) =
+          let at = has_name-Some old.unknowns (unknown_of item) k e in
+          let twice : has_name (map unknown_of items) (unknown_of item) ≡ true =
+          ap (has_name (map unknown_of items)) (sym at.1) ∙ sym (at_line.marks k at.0) ∙ eq-eqb (get_or old_lines k 0) line stood in
+          rw (same, twice) refl
+      by None e (same, full) =
+          let absent = has_name-None old.unknowns (unknown_of item) e in
+          ap (λ b. cond b (Some StandsTwice) (room_rule (unknowns_in (before ++ so_far name items ∷ [])) (unknown_of item))) (fresh_new absent)
+          ∙ ap (λ names. room_rule names (unknown_of item)) (sym at_line.read.gives.unknowns_are)
+          ∙ rw (same, absent, le-ltb (length old.unknowns) 4096 full) refl
+
+-- nothing is found where what is found is not something
+pub nothing_found : (o p : Option ℕ) → is_some o ≡ false → o ≡ p → p ≡ None
+nothing_found None p none same = sym same
+nothing_found (Some k) p none same = let f : ⊥ = cc in absurd f

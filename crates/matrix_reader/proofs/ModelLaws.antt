@@ -1,10 +1,12 @@
--- A list gives at most one model.
-use Rattle.std.proofs.Common.{◌≡◌, ℕ, ◌<◌, List, length, Option, Some, None, unwrap_or, refl, sym, ap, ◌∙◌, arith, get_or, []}
+-- A text gives at most one model.
+use Rattle.std.proofs.Common.{◌≡◌, ℕ, ◌<◌, List, length, map, Option, Some, None, unwrap_or, refl, sym, ap, ◌∙◌, arith, get_or, []}
 use Rattle.std.proofs.lemmas.List.{length-map}
+use Rattle.line_lexer.specs.Lines.{lines_of}
+use Rattle.line_lexer.specs.Tokens.{words_of}
 use Rattle.mixed_model.specs.Models.{MixedModel, IsModel, constant_of, constant_at}
 use Rattle.mixed_model.proofs.ModelLaws.{same_models}
-use Rattle.matrix_reader.specs.EquationLists.{Equation}
-use Rattle.matrix_reader.specs.Models.{IsModelOf, said_of, items_at}
+use Rattle.matrix_reader.specs.EquationLists.{Equation, equations_in, unknowns_in}
+use Rattle.matrix_reader.specs.Models.{IsModelOf, GivesModel, said_of, items_at}
 use Rattle.matrix_reader.proofs.ModelSteps.{constant_of-None}
 
 -- constants are the same where they are, 0 for none
@@ -16,17 +18,21 @@ same_constant a b is_a is_b i j same = by (constant_of a i j) refl (constant_of 
     by (Some x) p None q = constant_of-None a is_a i j (same ∙ ap (λ o. unwrap_or o 0) q) ∙ sym q
     by (Some x) p (Some y) q = p ∙ ap Some (sym (ap (λ o. unwrap_or o 0) p) ∙ same ∙ ap (λ o. unwrap_or o 0) q) ∙ sym q
 
-pub one_model : (list : List Equation) (a b : MixedModel) → IsModelOf list a → IsModelOf list b → a ≡ b
-one_model list a b gives_a gives_b =
+one_model : (list : List Equation) (names : List (List ℕ)) (a b : MixedModel) → IsModelOf list names a → IsModelOf list names b → a ≡ b
+one_model list names a b gives_a gives_b =
     same_models a b gives_a.is_model gives_b.is_model equations unknowns (λ i j at col.
-    let here : i < length list = omega (arith, ap length gives_a.equations, length-map list (λ (e : Equation). e.name)) in
+    let here : i < length list = omega (arith, ap length gives_a.equations_are, length-map list (λ (e : Equation). e.name)) in
     same_constant a b gives_a.is_model gives_b.is_model i j
-    (gives_a.constants i j here col
-    ∙ ap (λ names. said_of (items_at list i) (get_or names j [])) unknowns
-    ∙ sym (gives_b.constants i j here (omega (arith, ap length unknowns)))))
+    (gives_a.constants_are i j here col
+    ∙ ap (λ unknowns. said_of (items_at list i) (get_or unknowns j [])) unknowns
+    ∙ sym (gives_b.constants_are i j here (omega (arith, ap length unknowns)))))
   where
     equations : a.equations ≡ b.equations
-    equations = gives_a.equations ∙ sym gives_b.equations
+    equations = gives_a.equations_are ∙ sym gives_b.equations_are
 
     unknowns : a.unknowns ≡ b.unknowns
-    unknowns = gives_a.unknowns ∙ sym gives_b.unknowns
+    unknowns = gives_a.unknowns_are ∙ sym gives_b.unknowns_are
+
+pub text_gives_one : (text : List ℕ) (a b : MixedModel) → GivesModel text a → GivesModel text b → a ≡ b
+text_gives_one text a b gives_a gives_b =
+    one_model (equations_in (map words_of (lines_of text))) (unknowns_in (map words_of (lines_of text))) a b gives_a.given gives_b.given

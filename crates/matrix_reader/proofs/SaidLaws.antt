@@ -1,5 +1,5 @@
 -- What the items of a line say of an unknown.
-use Rattle.std.proofs.Common.{◌≡◌, ℕ, zero, suc, ◌+◌, ◌<◌, Bool, true, false, cond, ◌||◌, List, [], ◌∷◌, ◌++◌, length, map, fold, get_or, refl, sym, ap, ◌∙◌, arith}
+use Rattle.std.proofs.Common.{◌≡◌, ℕ, zero, suc, ◌+◌, ◌<◌, Bool, true, false, cond, ◌||◌, List, [], ◌∷◌, ◌++◌, length, map, fold, get_or, codes, refl, sym, ap, ◌∙◌, arith}
 use Rattle.std.specs.List.{flat_map}
 use Rattle.std.specs.Str.{bytes_eq}
 use Rattle.std.proofs.lemmas.List.{map-append, get_or_append_left, get_or_push, length-map}
@@ -7,7 +7,7 @@ use Rattle.std.proofs.lemmas.List.Folds.{list_any-append}
 use Rattle.std.proofs.lemmas.List.Sums.{sum_by-append}
 use Rattle.mixed_model.specs.Names.{has_name}
 use Rattle.matrix_reader.specs.Items.{unknown_of, item_constant}
-use Rattle.matrix_reader.specs.EquationLists.{Equation, unknowns_in}
+use Rattle.matrix_reader.specs.EquationLists.{Equation, equations_in, names_in, unknowns_in}
 use Rattle.matrix_reader.specs.Models.{said_of, items_at}
 use Rattle.matrix_reader.proofs.SeenLaws.{has_name-unseen}
 
@@ -40,20 +40,40 @@ items_at-last list equation i last =
     ap (λ all. get_or all i []) (map-append (λ e. e.items) list (equation ∷ []))
     ∙ get_or_push (map (λ e. e.items) list) equation.items [] i (length-map list (λ (e : Equation). e.items) ∙ last)
 
--- an unknown that stands nowhere is named by no item
-names_nowhere : (list : List Equation) (unknown : List ℕ) (i : ℕ) → has_name (flat_map (λ e. map unknown_of e.items) list) unknown ≡ false → has_name (map unknown_of (items_at list i)) unknown ≡ false
-names_nowhere [] unknown i none = refl
-names_nowhere (equation ∷ list) unknown i none =
-    by (has_name (map unknown_of equation.items) unknown) refl i (sym (list_any-append (bytes_eq unknown) (map unknown_of equation.items) (flat_map (λ e. map unknown_of e.items) list)) ∙ none) (λ k rest. names_nowhere list unknown k rest)
+-- a name that stands in none of the lines is named by no item
+NamesNowhere : List (List (List ℕ)) → List ℕ → Type 0
+NamesNowhere lines unknown = (i : ℕ) → has_name (map unknown_of (items_at (equations_in lines) i)) unknown ≡ false
+
+names_nowhere-eq : (name : List ℕ) (items : List (List ℕ)) (lines : List (List (List ℕ))) (unknown : List ℕ) → has_name (map unknown_of items) unknown ≡ false → NamesNowhere lines unknown → (i : ℕ) → has_name (map unknown_of (items_at (record { name = name; items = items } ∷ equations_in lines) i)) unknown ≡ false
+unfolding NamesNowhere
+names_nowhere-eq name items lines unknown none rest zero = none
+names_nowhere-eq name items lines unknown none rest (suc i) = rest i
+
+or_false-first : (a b : Bool) → (a || b) ≡ false → a ≡ false
+or_false-first true b e = e
+or_false-first false b e = refl
+
+or_false-second : (a b : Bool) → (a || b) ≡ false → b ≡ false
+or_false-second true b e = let f : ⊥ = cc in absurd f
+or_false-second false b e = e
+
+names_nowhere-line : (words : List (List ℕ)) (lines : List (List (List ℕ))) (unknown : List ℕ) → has_name (names_in words) unknown ≡ false → NamesNowhere lines unknown → NamesNowhere (words ∷ lines) unknown
+unfolding NamesNowhere
+names_nowhere-line [] lines unknown none rest = rest
+names_nowhere-line (word ∷ []) lines unknown none rest = rest
+names_nowhere-line (word ∷ name ∷ items) lines unknown none rest = by (bytes_eq word (codes "eq")) refl none
   where
-    by : (b : Bool) → has_name (map unknown_of equation.items) unknown ≡ b → (i : ℕ) → (has_name (map unknown_of equation.items) unknown || has_name (flat_map (λ e. map unknown_of e.items) list) unknown) ≡ false → ((k : ℕ) → has_name (flat_map (λ e. map unknown_of e.items) list) unknown ≡ false → has_name (map unknown_of (items_at list k)) unknown ≡ false) → has_name (map unknown_of (items_at (equation ∷ list) i)) unknown ≡ false
-    by true e i none more = let f : ⊥ = cc in absurd f
-    by false e zero none more = e
-    by false e (suc i) none more = more i (rw e at none)
+    by : (b : Bool) → bytes_eq word (codes "eq") ≡ b → has_name (names_in (word ∷ name ∷ items)) unknown ≡ false → (i : ℕ) → has_name (map unknown_of (items_at (equations_in ((word ∷ name ∷ items) ∷ lines)) i)) unknown ≡ false
+    by true e h i = rw e (names_nowhere-eq name items lines unknown (rw e at h) rest i)
+    by false e h i = rw e (rest i)
 
-pub absent-unseen : (list : List Equation) (unknown : List ℕ) (i : ℕ) → has_name (unknowns_in list) unknown ≡ false → has_name (map unknown_of (items_at list i)) unknown ≡ false
-absent-unseen list unknown i unseen = names_nowhere list unknown i (has_name-unseen [] (flat_map (λ e. map unknown_of e.items) list) unknown unseen)
+names_nowhere : (lines : List (List (List ℕ))) (unknown : List ℕ) → has_name (flat_map names_in lines) unknown ≡ false → NamesNowhere lines unknown
+unfolding NamesNowhere
+names_nowhere [] unknown none = λ i. refl
+names_nowhere (words ∷ lines) unknown none =
+    let both = sym (list_any-append (bytes_eq unknown) (names_in words) (flat_map names_in lines)) ∙ none in
+    names_nowhere-line words lines unknown (or_false-first (has_name (names_in words) unknown) _ both) (names_nowhere lines unknown (or_false-second (has_name (names_in words) unknown) _ both))
 
-pub said_of-unseen : (list : List Equation) (unknown : List ℕ) (i : ℕ) → has_name (unknowns_in list) unknown ≡ false → said_of (items_at list i) unknown ≡ 0
-said_of-unseen list unknown i unseen =
-    said_of-absent (items_at list i) unknown (absent-unseen list unknown i unseen)
+pub absent-unseen : (lines : List (List (List ℕ))) (unknown : List ℕ) (i : ℕ) → has_name (unknowns_in lines) unknown ≡ false → has_name (map unknown_of (items_at (equations_in lines) i)) unknown ≡ false
+unfolding NamesNowhere
+absent-unseen lines unknown i unseen = names_nowhere lines unknown (has_name-unseen [] (flat_map names_in lines) unknown unseen) i

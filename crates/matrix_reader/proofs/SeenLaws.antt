@@ -1,5 +1,5 @@
 -- Names in the order in which they first stand.
-use Rattle.std.proofs.Common.{◌≡◌, ◌≢◌, ℕ, ◌<◌, ◌≤◌, Bool, true, false, cond, List, [], ◌∷◌, ◌++◌, length, map, fold, get_or, refl, sym, ap, subst, ◌∙◌, arith, ⊎_elim, length-append}
+use Rattle.std.proofs.Common.{◌≡◌, ◌≢◌, ℕ, ◌<◌, Bool, true, false, cond, List, [], ◌∷◌, ◌++◌, length, fold, get_or, refl, sym, ap, subst, ◌∙◌, arith, ⊎_elim}
 use Rattle.std.specs.List.{flat_map, IsDistinct}
 use Rattle.std.specs.Str.{bytes_eq}
 use Rattle.std.proofs.lemmas.Bool.{cases_lt, false_from_ne_true}
@@ -10,14 +10,16 @@ use Rattle.std.proofs.lemmas.List.Sums.{fold-append}
 use Rattle.std.proofs.lemmas.Map.Keys.{apart_from_distinct}
 use Rattle.std.proofs.lemmas.Slice.Eq.{bytes_eq-Decides}
 use Rattle.mixed_model.specs.Names.{has_name}
-use Rattle.matrix_reader.specs.Items.{unknown_of}
-use Rattle.matrix_reader.specs.EquationLists.{Equation, see, unknowns_in}
+use Rattle.matrix_reader.specs.EquationLists.{equation_of, equations_in, names_in, see, unknowns_in}
 
--- the unknowns with one more equation
-pub unknowns_in-push : (list : List Equation) (equation : Equation) → unknowns_in (list ++ equation ∷ []) ≡ fold see (unknowns_in list) (map unknown_of equation.items)
-unknowns_in-push list equation =
-    ap (fold see []) (flat_map-append (λ e. map unknown_of e.items) list (equation ∷ []) ∙ ap (λ names. flat_map (λ e. map unknown_of e.items) list ++ names) (append-nil (map unknown_of equation.items)))
-    ∙ fold-append see [] (flat_map (λ e. map unknown_of e.items) list) (map unknown_of equation.items)
+-- the equations and the unknowns of one more line
+pub equations_in-push : (lines : List (List (List ℕ))) (words : List (List ℕ)) → equations_in (lines ++ words ∷ []) ≡ equations_in lines ++ equation_of words
+equations_in-push lines words = flat_map-append equation_of lines (words ∷ []) ∙ ap (λ more. equations_in lines ++ more) (append-nil (equation_of words))
+
+pub unknowns_in-push : (lines : List (List (List ℕ))) (words : List (List ℕ)) → unknowns_in (lines ++ words ∷ []) ≡ fold see (unknowns_in lines) (names_in words)
+unknowns_in-push lines words =
+    ap (fold see []) (flat_map-append names_in lines (words ∷ []) ∙ ap (λ names. flat_map names_in lines ++ names) (append-nil (names_in words)))
+    ∙ fold-append see [] (flat_map names_in lines) (names_in words)
 
 -- what is seen after one more name
 has_name-see : (seen : List (List ℕ)) (new name : List ℕ) → has_name seen name ≡ true → has_name (see seen new) name ≡ true
@@ -54,20 +56,6 @@ has_name-unseen seen (new ∷ names) name unseen =
         let seen_now : has_name (fold see (see seen new) names) name ≡ true =
         has_name-fold (see seen new) names name (subst (λ other. has_name (see seen other) name ≡ true) same (has_name-last seen name)) in
         let f : ⊥ = cc in absurd f
-
--- seeing more names makes the list no shorter
-pub length-fold-see : (seen names : List (List ℕ)) → length seen ≤ length (fold see seen names)
-length-fold-see seen [] = omega arith
-length-fold-see seen (new ∷ names) =
-    let rest = length-fold-see (see seen new) names in
-    omega (arith, rest, longer seen new)
-  where
-    longer : (seen : List (List ℕ)) (new : List ℕ) → length seen ≤ length (see seen new)
-    longer seen new = by (has_name seen new)
-      where
-        by : (b : Bool) → length seen ≤ length (cond b seen (seen ++ new ∷ []))
-        by true = omega arith
-        by false = omega (arith, length-append seen (new ∷ []))
 
 -- names at different places differ
 pub names_apart : (names : List (List ℕ)) (i j : ℕ) → IsDistinct bytes_eq names → i ≢ j → i < length names → j < length names → bytes_eq (get_or names i []) (get_or names j []) ≡ false

@@ -1,8 +1,9 @@
--- The items of an equation line: UNKNOWN=NUMBER, cut at the first =.
-use Rattle.std.specs.Prelude.{ℕ, Bool, ◌&&◌, List, length, nat_eq, nat_lt, is_ok}
+-- The items of an equation line: UNKNOWN=VALUE, cut at the first =.
+use Rattle.std.specs.Prelude.{ℕ, ◌-◌, Bool, List, length, take, drop, codes, nat_eq, nat_lt, if◌then◌else◌}
 use Rattle.std.specs.List.{position_or_len, before_first, after_first}
 use Rattle.std.specs.Result.{result_unwrap_or}
-use Rattle.line_lexer.specs.Names.{is_name, number_of}
+use Rattle.std.specs.Str.{bytes_eq}
+use Rattle.line_lexer.specs.Numbers.{number_of}
 
 abbrev pub is_equals_sign : ℕ → Bool
 is_equals_sign byte = nat_eq byte 61
@@ -14,14 +15,22 @@ has_equals_sign item = nat_lt (position_or_len is_equals_sign item) (length item
 abbrev pub unknown_of : List ℕ → List ℕ
 unknown_of item = before_first is_equals_sign item
 
--- the text of its number
-abbrev pub number_text : List ℕ → List ℕ
-number_text item = after_first is_equals_sign item
+-- the text of its value
+abbrev pub value_of : List ℕ → List ℕ
+value_of item = after_first is_equals_sign item
 
--- An item: a name, an = and a number.
-abbrev pub is_item : List ℕ → Bool
-is_item item = has_equals_sign item && is_name (unknown_of item) && is_ok (number_of (number_text item))
+-- whether a value is a symbol alone
+abbrev pub is_symbol : List ℕ → Bool
+is_symbol value = bytes_eq value (codes "?")
+
+-- whether a value ends as a number with a symbol does
+abbrev pub adds_symbol : List ℕ → Bool
+adds_symbol value = bytes_eq (drop (length value - 2) value) (codes "+?")
+
+-- the text of the number in a value that is no symbol alone
+abbrev pub number_text : List ℕ → List ℕ
+number_text value = if adds_symbol value then take (length value - 2) value else value
 
 -- the constant that an item gives, perhaps 0
 abbrev pub item_constant : List ℕ → ℕ
-item_constant item = result_unwrap_or (number_of (number_text item)) 0
+item_constant item = result_unwrap_or (number_of (number_text (value_of item))) 0

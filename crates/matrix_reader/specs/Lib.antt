@@ -1,5 +1,6 @@
 pub mod Items
 pub mod EquationLists
+pub mod Rules
 pub mod Models
 pub mod ReaderStates
 pub mod Faults

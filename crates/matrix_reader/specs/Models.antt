@@ -1,9 +1,16 @@
--- The model that equations give.
-use Rattle.std.specs.Prelude.{◌≡◌, ℕ, ◌<◌, List, [], length, map, sum_by, if◌then◌else◌, slice_index_or}
+-- The model that a text gives, and the first rule that it breaks.
+use Rattle.std.specs.Prelude.{◌≡◌, ℕ, ◌+◌, ◌<◌, List, [], length, map, take, sum_by, if◌then◌else◌, slice_index_or, Option, Some, None}
 use Rattle.std.specs.Str.{bytes_eq}
+use Rattle.refusals.specs.declared.Place.TheVariants.{Line}
+use Rattle.refusals.specs.declared.Why.{Why}
+use Rattle.refusals.specs.declared.ReadModel.{ReadModel}
+use Rattle.refusals.specs.declared.ReadModel.TheVariants.{Refused, NoMemory}
+use Rattle.line_lexer.specs.Lines.{lines_of}
+use Rattle.line_lexer.specs.Tokens.{words_of}
 use Rattle.mixed_model.specs.Models.{MixedModel, IsModel, constant_at}
 use Rattle.matrix_reader.specs.Items.{unknown_of, item_constant}
 use Rattle.matrix_reader.specs.EquationLists.{Equation, equations_in, unknowns_in}
+use Rattle.matrix_reader.specs.Rules.{line_rule}
 
 -- what some items say of an unknown: the sum of their constants there
 abbrev pub said_of : List (List ℕ) → List ℕ → ℕ
@@ -13,15 +20,39 @@ said_of items unknown = sum_by (λ item. if bytes_eq unknown (unknown_of item) t
 abbrev pub items_at : List Equation → ℕ → List (List ℕ)
 items_at equations i = slice_index_or (map (λ equation. equation.items) equations) i []
 
--- The model of some equations: their names, their unknowns in first-seen order, and at each place what the
--- equation's items say of the unknown.
-pub record IsModelOf (list : List Equation) (model : MixedModel) : Type 0 where
+-- The model of some equations and unknowns: their names, and at each place what the equation's items say of the unknown.
+pub record IsModelOf (list : List Equation) (unknowns : List (List ℕ)) (model : MixedModel) : Type 0 where
   pub is_model : IsModel model
-  pub equations : model.equations ≡ map (λ equation. equation.name) list
-  pub unknowns : model.unknowns ≡ unknowns_in list
-  pub constants : (i j : ℕ) → i < length list → j < length model.unknowns
+  pub equations_are : model.equations ≡ map (λ equation. equation.name) list
+  pub unknowns_are : model.unknowns ≡ unknowns
+  pub constants_are : (i j : ℕ) → i < length list → j < length model.unknowns
       → constant_at model i j ≡ said_of (items_at list i) (slice_index_or model.unknowns j [])
 
--- The model of some lines.
-abbrev pub GivesModel : List (List ℕ) → MixedModel → Type 0
-GivesModel lines model = IsModelOf (equations_in lines) model
+-- the model that lines give by their words
+abbrev pub LinesGive : List (List (List ℕ)) → MixedModel → Type 0
+LinesGive lines model = IsModelOf (equations_in lines) (unknowns_in lines) model
+
+-- what the rules say of line k, counted from 0: why it breaks one, if it does
+abbrev pub rule_at : List (List ℕ) → ℕ → Option Why
+rule_at lines k = line_rule (map words_of (take k lines)) (slice_index_or lines k [])
+
+-- the first n lines keep all rules
+abbrev pub KeepBefore : ℕ → List (List ℕ) → Type 0
+KeepBefore n lines = (k : ℕ) → k < n → rule_at lines k ≡ None
+
+-- A text gives a model: each line keeps the rules, and the model is that of the lines.
+pub record GivesModel (text : List ℕ) (model : MixedModel) : Type 0 where
+  pub kept : KeepBefore (length (lines_of text)) (lines_of text)
+  pub given : LinesGive (map words_of (lines_of text)) model
+
+-- The first broken rule of a text: line n, counted from 0, is the first that breaks one, and this is why.
+pub record IsFirstBroken (text : List ℕ) (n : ℕ) (why : Why) : Type 0 where
+  pub within : n < length (lines_of text)
+  pub before : KeepBefore n (lines_of text)
+  pub here : rule_at (lines_of text) n ≡ Some why
+
+-- Why a text is not read: its first broken rule and the line of it, counted from 1, or memory ran out.
+abbrev pub IsRefusal : List ℕ → ReadModel → Type 0
+IsRefusal text (Refused refused) =
+    (n : ℕ) × (why : Why) × (refused ≡ record { place = Line (n + 1); why = why }) × IsFirstBroken text n why
+IsRefusal text NoMemory = Unit {0}

@@ -1,38 +1,42 @@
 -- What the reader knows between two lines, and within one.
-use Rattle.std.specs.Prelude.{◌≡◌, ◌≢◌, ℕ, ◌+◌, ◌<◌, ◌≤◌, Bool, not, ◌&&◌, ◌||◌, List, [], ◌∷◌, ◌++◌, length, map, nat_eq, nat_lt, slice_index, slice_index_or, slice_set, Option, Some, None, Result, MatchResult, true, false}
+use Rattle.std.specs.Prelude.{◌≡◌, ◌≢◌, ℕ, ◌+◌, ◌<◌, ◌≤◌, List, [], ◌∷◌, ◌++◌, length, codes, nat_eq, slice_index, slice_index_or, slice_set, Option, Some, None, Result, Ok, Err}
+use Rattle.refusals.specs.declared.Why.{Why}
+use Rattle.refusals.specs.declared.Why.TheVariants.{Twice, TooMany}
+use Rattle.line_lexer.specs.Tokens.{words_of}
 use Rattle.mixed_model.specs.Names.{has_name}
 use Rattle.mixed_model.specs.Models.{MixedModel, IsModel, with_unknown}
-use Rattle.matrix_reader.specs.Items.{is_item, unknown_of}
-use Rattle.line_lexer.specs.Names.{is_name}
-use Rattle.line_lexer.specs.Tokens.{words_of}
-use Rattle.matrix_reader.specs.EquationLists.{Equation, equation_of, is_bare, is_new_equation, are_new_items, are_plain_words}
-use Rattle.matrix_reader.specs.Models.{IsModelOf}
-use Rattle.matrix_reader.specs.declared.reader.LineFault.{LineFault}
-use Rattle.matrix_reader.specs.declared.reader.LineFault.TheVariants.{NotPlain, NoMemory}
+use Rattle.matrix_reader.specs.EquationLists.{equations_in, names_in}
+use Rattle.matrix_reader.specs.Models.{LinesGive}
+use Rattle.matrix_reader.specs.Rules.{each_rule, equation_rule, item_rule, unknown_rule, equation_line_rule, unknown_line_rule, line_rule}
+use Rattle.matrix_reader.specs.declared.fault.LineFault.{LineFault}
+use Rattle.matrix_reader.specs.declared.fault.LineFault.TheVariants.{Broken, NoMemory}
 
--- between two lines: the unknowns last stood in lines before the one with this number
-pub record IsBetween (before : List Equation) (line : ℕ) (model : MixedModel) (last_lines : List ℕ) : Type 0 where
-  pub gives : IsModelOf before model
+-- lines are read: the model is theirs, and the unknowns last stood in lines with a lower number than the next
+pub record IsRead (lines : List (List (List ℕ))) (next : ℕ) (model : MixedModel) (last_lines : List ℕ) : Type 0 where
+  pub gives : LinesGive lines model
   pub lengths : length last_lines ≡ length model.unknowns
-  pub earlier : (j : ℕ) → slice_index last_lines j < line
+  pub earlier : (j : ℕ) → slice_index last_lines j < next
 
--- within a line: the unknowns that stand in its items so far are those whose last line it is
-pub record IsWithin (before : List Equation) (current : Equation) (line : ℕ) (model : MixedModel) (last_lines : List ℕ) : Type 0 where
-  pub gives : IsModelOf (before ++ current ∷ []) model
-  pub lengths : length last_lines ≡ length model.unknowns
-  pub earlier : (j : ℕ) → slice_index last_lines j ≤ line
+-- the words of an equation line so far
+abbrev pub so_far : List ℕ → List (List ℕ) → List (List ℕ)
+so_far name items = codes "eq" ∷ name ∷ items
+
+-- Within an equation line: it is read so far, and the unknowns that stand in it so far are those whose last line it is.
+pub record IsWithin (before : List (List (List ℕ))) (words : List (List ℕ)) (line : ℕ) (model : MixedModel) (last_lines : List ℕ) : Type 0 where
+  pub read : IsRead (before ++ words ∷ []) (line + 1) model last_lines
   pub marks : (j : ℕ) → j < length model.unknowns
-      → nat_eq (slice_index last_lines j) line ≡ has_name (map unknown_of current.items) (slice_index_or model.unknowns j [])
+      → nat_eq (slice_index last_lines j) line ≡ has_name (names_in words) (slice_index_or model.unknowns j [])
 
--- an equation with one item more
-abbrev pub with_item : Equation → List ℕ → Equation
-with_item equation item = record { name = equation.name; items = equation.items ++ item ∷ [] }
+-- where a rule is kept, this is left; else the answer is why it is broken, or memory ran out
+abbrev pub AnswersRule : Option Why → Type 0 → Result (Unit {0}) LineFault → Type 0
+AnswersRule rule Left (Ok _) = (rule ≡ None) × Left
+AnswersRule rule Left (Err (Broken why)) = rule ≡ Some why
+AnswersRule rule Left (Err NoMemory) = Unit {0}
 
--- whether an item may follow others in a line: it is one, its unknown does not stand in them, and is not the 4,097th
-abbrev pub may_follow : List (List ℕ) → List (List ℕ) → List ℕ → Bool
-may_follow unknowns items item =
-    is_item item && not (has_name (map unknown_of items) (unknown_of item))
-    && (has_name unknowns (unknown_of item) || nat_lt (length unknowns) 4096)
+-- what a fault says where it is a broken rule
+abbrev pub OnBroken : LineFault → (Why → Type 0) → Type 0
+OnBroken (Broken why) P = P why
+OnBroken NoMemory P = Unit {0}
 
 -- the column of an unknown after it is marked in a line, and what the marking leaves: by where the unknown stood
 abbrev pub MarkedFrom : Option ℕ → ℕ → MixedModel → MixedModel → List ℕ → List ℕ → List ℕ → ℕ → Type 0
@@ -42,48 +46,70 @@ MarkedFrom None line old new old_lines new_lines unknown j =
     (j ≡ length old.unknowns) × (length old.unknowns < 4096) × (new ≡ with_unknown old unknown) × IsModel new × (new_lines ≡ old_lines ++ line ∷ [])
 
 -- why it can't be marked
-abbrev pub UnmarkedFrom : Option ℕ → ℕ → MixedModel → List ℕ → Type 0
-UnmarkedFrom (Some k) line old old_lines = slice_index old_lines k ≡ line
-UnmarkedFrom None line old old_lines = 4096 ≤ length old.unknowns
+abbrev pub UnmarkedFrom : Option ℕ → ℕ → MixedModel → List ℕ → Why → Type 0
+UnmarkedFrom (Some k) line old old_lines why = (why ≡ Twice) × (slice_index old_lines k ≡ line)
+UnmarkedFrom None line old old_lines why = (why ≡ TooMany) × (4096 ≤ length old.unknowns)
 
--- what a fault says: that a line is not plain, or nothing
-abbrev pub OnNotPlain : LineFault → Type 0 → Type 0
-OnNotPlain NotPlain P = P
-OnNotPlain NoMemory P = Unit {0}
+-- what is left after an unknown stood in a line that marks none: by where the unknown stood
+abbrev pub SeenFrom : Option ℕ → ℕ → MixedModel → MixedModel → List ℕ → List ℕ → List ℕ → Type 0
+SeenFrom (Some k) line old new old_lines new_lines unknown = (new ≡ old) × (new_lines ≡ old_lines)
+SeenFrom None line old new old_lines new_lines unknown =
+    (length old.unknowns < 4096) × (new ≡ with_unknown old unknown) × IsModel new × (new_lines ≡ old_lines ++ line ∷ [])
 
--- What reading an item answers and leaves, wherever in a line the reader is.
+-- why it can't stand there
+abbrev pub UnseenFrom : Option ℕ → MixedModel → Why → Type 0
+UnseenFrom (Some k) old why = ⊥
+UnseenFrom None old why = (why ≡ TooMany) × (4096 ≤ length old.unknowns)
+
+-- What reading an item answers and leaves, wherever in an equation line the reader is.
 abbrev pub ReadsItem : ℕ → ℕ → MixedModel → MixedModel → List ℕ → List ℕ → List ℕ → Result (Unit {0}) LineFault → Type 0
 ReadsItem line i old new old_lines new_lines item result =
-    (before : List Equation) (current : Equation) → i ≡ length before → IsWithin before current line old old_lines
-    → MatchResult result
-    (λ _. (may_follow old.unknowns current.items item ≡ true) × IsWithin before (with_item current item) line new new_lines)
-    (λ fault. OnNotPlain fault (may_follow old.unknowns current.items item ≡ false))
+    (before : List (List (List ℕ))) (name : List ℕ) (items : List (List ℕ)) → i ≡ length (equations_in before)
+    → IsWithin before (so_far name items) line old old_lines
+    → AnswersRule (item_rule before (so_far name items) item) (IsWithin before (so_far name (items ++ item ∷ [])) line new new_lines) result
 
--- whether a name may be that of the next equation of a model
-abbrev pub may_be_added : MixedModel → List ℕ → Bool
-may_be_added model name = is_name name && not (has_name model.equations name) && nat_lt (length model.equations) 4096
+-- and of all items of an equation line
+abbrev pub ReadsItems : ℕ → ℕ → MixedModel → MixedModel → List ℕ → List ℕ → List (List ℕ) → Result (Unit {0}) LineFault → Type 0
+ReadsItems line i old new old_lines new_lines items result =
+    (before : List (List (List ℕ))) (name : List ℕ) → i ≡ length (equations_in before)
+    → IsWithin before (so_far name []) line old old_lines
+    → AnswersRule (each_rule (item_rule before) (so_far name []) items) (IsWithin before (so_far name items) line new new_lines) result
 
--- What adding an equation answers: its number, or why the line is not plain.
-abbrev pub AddsEquation : MixedModel → List ℕ → Result ℕ LineFault → Type 0
-AddsEquation old name result =
-    MatchResult result
-    (λ i. (i ≡ length old.equations) × (may_be_added old name ≡ true))
-    (λ fault. OnNotPlain fault (may_be_added old name ≡ false))
+-- What adding an equation answers and leaves, wherever between two lines the reader is: its number among the others.
+abbrev pub AddsEquation : ℕ → MixedModel → MixedModel → List ℕ → List ℕ → Result ℕ LineFault → Type 0
+AddsEquation line old new lines name (Ok i) =
+    (before : List (List (List ℕ))) → IsRead before line old lines
+    → (equation_rule before name ≡ None) × (i ≡ length (equations_in before)) × IsWithin before (so_far name []) line new lines
+AddsEquation line old new lines name (Err (Broken why)) =
+    (before : List (List (List ℕ))) → IsRead before line old lines → equation_rule before name ≡ Some why
+AddsEquation line old new lines name (Err NoMemory) = Unit {0}
 
--- What reading an equation answers and leaves, wherever between two lines the reader was.
-abbrev pub ReadsEquation : ℕ → MixedModel → MixedModel → List ℕ → List ℕ → List ℕ → List (List ℕ) → Result (Unit {0}) LineFault → Type 0
-ReadsEquation line old new old_lines new_lines name items result =
-    (before : List Equation) → IsBetween before line old old_lines
-    → MatchResult result
-    (λ _. ((is_new_equation before name && are_new_items before items) ≡ true)
-    × IsBetween (before ++ record { name = name; items = items } ∷ []) (line + 1) new new_lines)
-    (λ fault. OnNotPlain fault ((is_new_equation before name && are_new_items before items) ≡ false))
+-- What reading an equation line answers and leaves, by the words after its first one.
+abbrev pub ReadsEquation : ℕ → MixedModel → MixedModel → List ℕ → List ℕ → List (List ℕ) → Result (Unit {0}) LineFault → Type 0
+ReadsEquation line old new old_lines new_lines words result =
+    (before : List (List (List ℕ))) → IsRead before line old old_lines
+    → AnswersRule (equation_line_rule before words) (IsRead (before ++ (codes "eq" ∷ words) ∷ []) (line + 1) new new_lines) result
+
+-- What seeing one more name of an `unknown` line answers and leaves, wherever in the line the reader is.
+abbrev pub SeesUnknown : ℕ → MixedModel → MixedModel → List ℕ → List ℕ → List ℕ → Result (Unit {0}) LineFault → Type 0
+SeesUnknown line old new old_lines new_lines name result =
+    (before : List (List (List ℕ))) (names : List (List ℕ)) → IsRead (before ++ (codes "unknown" ∷ names) ∷ []) (line + 1) old old_lines
+    → AnswersRule (unknown_rule before (codes "unknown" ∷ names) name) (IsRead (before ++ (codes "unknown" ∷ names ++ name ∷ []) ∷ []) (line + 1) new new_lines) result
+
+-- and some names
+abbrev pub SeesUnknowns : ℕ → MixedModel → MixedModel → List ℕ → List ℕ → List (List ℕ) → Result (Unit {0}) LineFault → Type 0
+SeesUnknowns line old new old_lines new_lines more result =
+    (before : List (List (List ℕ))) (names : List (List ℕ)) → IsRead (before ++ (codes "unknown" ∷ names) ∷ []) (line + 1) old old_lines
+    → AnswersRule (each_rule (unknown_rule before) (codes "unknown" ∷ names) more) (IsRead (before ++ (codes "unknown" ∷ names ++ more) ∷ []) (line + 1) new new_lines) result
+
+-- What reading an `unknown` line answers and leaves, by the words after its first one.
+abbrev pub ReadsUnknowns : ℕ → MixedModel → MixedModel → List ℕ → List ℕ → List (List ℕ) → Result (Unit {0}) LineFault → Type 0
+ReadsUnknowns line old new old_lines new_lines words result =
+    (before : List (List (List ℕ))) → IsRead before line old old_lines
+    → AnswersRule (unknown_line_rule before words) (IsRead (before ++ (codes "unknown" ∷ words) ∷ []) (line + 1) new new_lines) result
 
 -- What reading a line answers and leaves.
 abbrev pub ReadsLine : ℕ → MixedModel → MixedModel → List ℕ → List ℕ → List ℕ → Result (Unit {0}) LineFault → Type 0
 ReadsLine number old new old_lines new_lines line result =
-    (before : List Equation) → IsBetween before number old old_lines
-    → MatchResult result
-    (λ _. ((is_bare line && are_plain_words before (words_of line)) ≡ true)
-    × IsBetween (before ++ equation_of (words_of line)) (number + 1) new new_lines)
-    (λ fault. OnNotPlain fault ((is_bare line && are_plain_words before (words_of line)) ≡ false))
+    (before : List (List (List ℕ))) → IsRead before number old old_lines
+    → AnswersRule (line_rule before line) (IsRead (before ++ words_of line ∷ []) (number + 1) new new_lines) result

@@ -1,13 +1,14 @@
-//! Reads equation lists: one equation a line, with its constants.
+//! Reads equation lists: one equation a line, with its constants, and lines that name unknowns.
 #![tactic(auto)]
 
 mod equation_list;
+mod fault;
 mod item;
 mod laws;
 mod reader;
 
 pub use equation_list::read;
-pub use laws::{lines_give_one_model, one_line_is_the_first};
+pub use laws::{a_text_gives_one_model, a_text_has_one_first_broken_rule};
 
 #[cfg(test)]
 mod tests;

@@ -1,49 +1,18 @@
-ghost use Rattle.std.specs.Prelude.{◌≡◌, ◌≢◌, ◌<◌, [], length, map, vec_len, position, IsTrue, IfOk, IfErr, OnOk};
+ghost use Rattle.std.specs.Prelude.{◌≡◌, ◌<◌, ℕ, [], length, map, vec_len, position, IsTrue, IfOk, IfErr, OnOk};
 ghost use Rattle.std.specs.Str.{bytes_eq};
 ghost use Rattle.mixed_model.specs.Names.{is_label};
-ghost use Rattle.mixed_model.specs.Models.{IsModel, empty_model, with_equation};
-ghost use Rattle.matrix_reader.specs.EquationLists.{is_bare};
-ghost use Rattle.matrix_reader.specs.ReaderStates.{MarkedFrom, UnmarkedFrom, OnNotPlain, ReadsItem, AddsEquation, ReadsEquation, ReadsLine};
+ghost use Rattle.mixed_model.specs.Models.{IsModel, empty_model};
+ghost use Rattle.matrix_reader.specs.ReaderStates.{MarkedFrom, UnmarkedFrom, SeenFrom, UnseenFrom, OnBroken, ReadsItem, ReadsItems, AddsEquation, ReadsEquation, SeesUnknown, SeesUnknowns, ReadsUnknowns, ReadsLine};
 
+use crate::fault::LineFault;
 use crate::item::read_term;
 use line_lexer::{Line, Tokens, name, tokens};
-use mixed_model::{AddError, Mixed, NoMemory};
-use std::alloc::{AllocError, AllocFailed, Global};
+use mixed_model::{Mixed, NoMemory};
+use refusals::Why;
+use std::alloc::Global;
 
-/// Why a line was not read.
-#[derive(Clone, Copy, Debug, PartialEq, Eq)]
-pub(crate) enum LineFault {
-    /// It is none of the lines that are read so far.
-    NotPlain,
-    NoMemory,
-}
-
-impl From<AddError> for LineFault {
-    ghost use Rattle.std.specs.Prelude.{◌≡◌};
-    ghost use Rattle.matrix_reader.specs.Faults.{fault_of};
-
-    ghost from_gives = { λ error fault. fault ≡ fault_of error };
-
-    fn from(error: AddError) -> LineFault {
-        match error {
-            AddError::Twice | AddError::TooMany => LineFault::NotPlain,
-            AddError::NoMemory => LineFault::NoMemory,
-        }
-    }
-}
-
-impl<T: Drop> From<AllocFailed<T>> for LineFault {
-    ghost use Rattle.std.specs.Prelude.{◌≡◌};
-    ghost use Rattle.matrix_reader.specs.declared.reader.LineFault.TheVariants.{NoMemory};
-
-    ghost from_gives = { λ _ fault. fault ≡ NoMemory };
-
-    fn from(_error: AllocFailed<T>) -> LineFault {
-        LineFault::NoMemory
-    }
-}
-
-/// The model that the lines so far give, and for each unknown the number of the line where it last stood.
+/// The model that the lines so far give, and for each unknown the number of a line: the last equation line in which it
+/// stood, or the line that named it first.
 #[derive(Drop)]
 pub(crate) struct Reader {
     pub model: Mixed,
@@ -62,46 +31,38 @@ impl Reader {
         })
     }
 
-    #[tactic(auto, using(crate::proofs::LineSteps::bare_is_clean))]
     pub(crate) fn read_line(&mut self, line: Line<'_>) -> Result<(), LineFault>
         requires { vec_len self.old.last_lines ≡ length self.old.model.unknowns }
         ensures lengths { OnOk result (vec_len self.new.last_lines ≡ length self.new.model.unknowns) }
         ensures read { ReadsLine line.entry.number self.old.model self.new.model self.old.last_lines.items self.new.last_lines.items line.entry.bytes.now result }
     {
-        if !is_bare(line.bytes) {
-            return Err(LineFault::NotPlain);
-        }
-        let Ok(mut words) = tokens(line) else {
-            return Err(LineFault::NotPlain);
+        let mut words = match tokens(line) {
+            Ok(words) => words,
+            Err(why) => return Err(LineFault::Broken(why)),
         };
         let Some(word) = words.next() else {
             return Ok(());
         };
-        if word.text != "eq" {
-            return Err(LineFault::NotPlain);
+        if word.text == "eq" {
+            self.read_equation(line.number, words)
+        } else if word.text == "unknown" {
+            self.read_unknowns(line.number, words)
+        } else {
+            Err(LineFault::Broken(Why::BadWord))
         }
-        let Some(equation) = words.next() else {
-            return Err(LineFault::NotPlain);
-        };
-        self.read_equation(line.number, equation.text, words)
     }
 
-    #[tactic(auto, using(crate::proofs::LabelLaws::name_is_label))]
-    fn read_equation(
-        &mut self,
-        line: u32,
-        equation: &str,
-        items: Tokens<'_>,
-    ) -> Result<(), LineFault>
+    // Reads the words of an equation line after its first one.
+    fn read_equation(&mut self, line: u32, mut words: Tokens<'_>) -> Result<(), LineFault>
         requires { vec_len self.old.last_lines ≡ length self.old.model.unknowns }
         ensures lengths { OnOk result (vec_len self.new.last_lines ≡ length self.new.model.unknowns) }
-        ensures read { ReadsEquation line self.old.model self.new.model self.old.last_lines.items self.new.last_lines.items equation.now (map (λ item. item.1) items.entry) result }
+        ensures read { ReadsEquation line self.old.model self.new.model self.old.last_lines.items self.new.last_lines.items (map (λ word. word.1) words.entry) result }
     {
-        let i = self.add_equation(equation)?;
-        for item in items {
-            self.read_item(line, i, item.text)?;
-        }
-        Ok(())
+        let Some(equation) = words.next() else {
+            return Err(LineFault::Broken(Why::BadShape));
+        };
+        let i = self.add_equation(equation.text)?;
+        self.read_items(line, i, words)
     }
 
     #[tactic(auto, using(crate::proofs::LabelLaws::name_is_label))]
@@ -110,13 +71,23 @@ impl Reader {
         ensures within { IfOk result (λ i. i < length self.new.model.equations) }
         ensures lengths { OnOk result (vec_len self.new.last_lines ≡ length self.new.model.unknowns) }
         ensures lines { OnOk result (self.new.last_lines.items ≡ self.old.last_lines.items) }
-        ensures added { OnOk result ((self.new.model ≡ with_equation self.old.model equation.now) × IsModel self.new.model) }
-        ensures answer { AddsEquation self.old.model equation.now result }
+        ensures added { (line : ℕ) → AddsEquation line self.old.model self.new.model self.old.last_lines.items equation.now result }
     {
-        if name(equation).is_err() {
-            return Err(LineFault::NotPlain);
-        }
+        name(equation)?;
         Ok(self.model.add_equation(equation)?)
+    }
+
+    // Puts what some items say into equation `i`, in the line of this number.
+    fn read_items(&mut self, line: u32, i: usize, items: Tokens<'_>) -> Result<(), LineFault>
+        requires lengths { vec_len self.old.last_lines ≡ length self.old.model.unknowns }
+        requires equation { i < length self.old.model.equations }
+        ensures lengths { OnOk result (vec_len self.new.last_lines ≡ length self.new.model.unknowns) }
+        ensures read { ReadsItems line i self.old.model self.new.model self.old.last_lines.items self.new.last_lines.items (map (λ item. item.1) items.entry) result }
+    {
+        for item in items {
+            self.read_item(line, i, item.text)?;
+        }
+        Ok(())
     }
 
     // Puts what an item says into equation `i`, in the line of this number.
@@ -128,8 +99,9 @@ impl Reader {
         ensures equations { OnOk result (self.new.model.equations ≡ self.old.model.equations) }
         ensures read { ReadsItem line i self.old.model self.new.model self.old.last_lines.items self.new.last_lines.items item.now result }
     {
-        let Some(term) = read_term(item) else {
-            return Err(LineFault::NotPlain);
+        let term = match read_term(item) {
+            Ok(term) => term,
+            Err(why) => return Err(LineFault::Broken(why)),
         };
         let j = self.mark(line, term.unknown)?;
         if term.constant.value() == 0 {
@@ -139,7 +111,7 @@ impl Reader {
         Ok(())
     }
 
-    // The column of an unknown, which now stands in this line. It may not have stood there before.
+    // The column of an unknown, which now stands in this equation line. It may not have stood there before.
     fn mark(&mut self, line: u32, unknown: &str) -> Result<usize, LineFault>
         requires lengths { vec_len self.old.last_lines ≡ length self.old.model.unknowns }
         requires label { IsTrue (is_label unknown.now) }
@@ -147,12 +119,12 @@ impl Reader {
         ensures lengths { OnOk result (vec_len self.new.last_lines ≡ length self.new.model.unknowns) }
         ensures equations { OnOk result (self.new.model.equations ≡ self.old.model.equations) }
         ensures marked { IfOk result (λ j. MarkedFrom (position (bytes_eq unknown.now) self.old.model.unknowns) line self.old.model self.new.model self.old.last_lines.items self.new.last_lines.items unknown.now j) }
-        ensures unmarked { IfErr result (λ fault. OnNotPlain fault (UnmarkedFrom (position (bytes_eq unknown.now) self.old.model.unknowns) line self.old.model self.old.last_lines.items)) }
+        ensures unmarked { IfErr result (λ fault. OnBroken fault (UnmarkedFrom (position (bytes_eq unknown.now) self.old.model.unknowns) line self.old.model self.old.last_lines.items)) }
     {
         match self.model.find_unknown(unknown) {
             Some(j) => {
                 if self.last_lines[j] == line {
-                    return Err(LineFault::NotPlain);
+                    return Err(LineFault::Broken(Why::Twice));
                 }
                 self.last_lines[j] = line;
                 Ok(j)
@@ -164,11 +136,53 @@ impl Reader {
             }
         }
     }
-}
 
-// Whether each byte is a tab or prints, and none starts a comment.
-fn is_bare(line: &[u8]) -> bool
-    ensures { result ≡ is_bare line.now }
-{
-    line.iter().all(|byte| (*byte == b'\t' || 32 <= *byte && *byte <= 126) && *byte != b'#')
+    // Reads the words of an `unknown` line after its first one.
+    fn read_unknowns(&mut self, line: u32, mut words: Tokens<'_>) -> Result<(), LineFault>
+        requires { vec_len self.old.last_lines ≡ length self.old.model.unknowns }
+        ensures lengths { OnOk result (vec_len self.new.last_lines ≡ length self.new.model.unknowns) }
+        ensures read { ReadsUnknowns line self.old.model self.new.model self.old.last_lines.items self.new.last_lines.items (map (λ word. word.1) words.entry) result }
+    {
+        let Some(first) = words.next() else {
+            return Err(LineFault::Broken(Why::BadShape));
+        };
+        self.see_unknown(line, first.text)?;
+        self.see_unknowns(line, words)
+    }
+
+    fn see_unknowns(&mut self, line: u32, unknowns: Tokens<'_>) -> Result<(), LineFault>
+        requires { vec_len self.old.last_lines ≡ length self.old.model.unknowns }
+        ensures lengths { OnOk result (vec_len self.new.last_lines ≡ length self.new.model.unknowns) }
+        ensures seen { SeesUnknowns line self.old.model self.new.model self.old.last_lines.items self.new.last_lines.items (map (λ unknown. unknown.1) unknowns.entry) result }
+    {
+        for unknown in unknowns {
+            self.see_unknown(line, unknown.text)?;
+        }
+        Ok(())
+    }
+
+    #[tactic(auto, using(crate::proofs::LabelLaws::name_is_label))]
+    fn see_unknown(&mut self, line: u32, unknown: &str) -> Result<(), LineFault>
+        requires { vec_len self.old.last_lines ≡ length self.old.model.unknowns }
+        ensures lengths { OnOk result (vec_len self.new.last_lines ≡ length self.new.model.unknowns) }
+        ensures seen { SeesUnknown line self.old.model self.new.model self.old.last_lines.items self.new.last_lines.items unknown.now result }
+    {
+        name(unknown)?;
+        self.see(line, unknown)
+    }
+
+    // Adds an unknown, unless it is there.
+    fn see(&mut self, line: u32, unknown: &str) -> Result<(), LineFault>
+        requires lengths { vec_len self.old.last_lines ≡ length self.old.model.unknowns }
+        requires label { IsTrue (is_label unknown.now) }
+        ensures lengths { OnOk result (vec_len self.new.last_lines ≡ length self.new.model.unknowns) }
+        ensures seen { OnOk result (SeenFrom (position (bytes_eq unknown.now) self.old.model.unknowns) line self.old.model self.new.model self.old.last_lines.items self.new.last_lines.items unknown.now) }
+        ensures unseen { IfErr result (λ fault. OnBroken fault (UnseenFrom (position (bytes_eq unknown.now) self.old.model.unknowns) self.old.model)) }
+    {
+        if self.model.find_unknown(unknown).is_none() {
+            self.model.add_unknown(unknown)?;
+            self.last_lines.push(line)?;
+        }
+        Ok(())
+    }
 }

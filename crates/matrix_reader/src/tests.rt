@@ -4,17 +4,20 @@ use std::test::Fail;
 
 #[test]
 fn reads_a_small_list(rt: HostRuntime) -> Result<(), Fail> {
-    let text = b"eq mass y=3 x=007\n\n\teq heat x=65522 z=0\neq none\n";
+    let text =
+        b"# one\xff\nunknown w\neq mass y=3 x=007\r\n\n\teq heat x=65522 w=1/3 z=0 # two\neq none\nunknown z u";
     let model = read(rt.alloc(), text)?;
-    assert_eq!(rt; (model.equations(), model.unknowns()), (3, 3));
+    assert_eq!(rt; (model.equations(), model.unknowns()), (3, 5));
     assert_eq!(rt; model.equation_name(1), "heat");
-    assert_eq!(rt; model.find_unknown("z"), Some(2));
-    for (i, j, constant) in [(0, 0, 3), (0, 1, 7), (1, 1, 1)] {
+    for (j, name) in [(0, "w"), (1, "y"), (2, "x"), (3, "z"), (4, "u")] {
+        assert_eq!(rt; model.find_unknown(name), Some(j));
+    }
+    for (i, j, constant) in [(0, 1, 3), (0, 2, 7), (1, 0, 43_681), (1, 2, 1)] {
         assert!(rt; i < model.equations() && j < model.unknowns());
         let found = model.constant(i, j).map(|residue| residue.value());
         assert_eq!(rt; found, Some(constant));
     }
-    for (i, j) in [(0, 2), (1, 0), (1, 2), (2, 0)] {
+    for (i, j) in [(0, 0), (0, 3), (1, 1), (1, 3), (2, 0), (2, 4)] {
         assert!(rt; i < model.equations() && j < model.unknowns());
         assert_eq!(rt; model.constant(i, j), None);
     }
@@ -22,28 +25,31 @@ fn reads_a_small_list(rt: HostRuntime) -> Result<(), Fail> {
 }
 
 #[test]
-fn the_first_line_that_is_not_plain_is_refused(rt: HostRuntime) -> Result<(), Fail> {
+fn the_first_broken_rule_is_the_answer(rt: HostRuntime) -> Result<(), Fail> {
     let cases = [
-        ("eq a x=?", 1),
-        ("unknown x", 1),
-        ("eq a x=65521", 1),
-        ("eq a x=1 x=2", 1),
-        ("eq a x=0 x=2", 1),
-        ("eq a x=1\neq b y=2\neq a z=3\nnonsense", 3),
-        ("# a comment", 1),
-        ("eq a x=1 # a comment", 1),
-        ("eq a x=1\r\n", 1),
-        ("\neq", 2),
-        ("eq 1a", 1),
-        ("eq a =1", 1),
-        ("eq a x", 1),
-        ("eq a x=1=2", 1),
-        ("eq a x=1234567890123456789", 1),
+        ("eq a x=1 \u{7f} y", 1, Why::BadByte),
+        ("eq a x=1\r \n", 1, Why::BadByte),
+        ("sum a", 1, Why::BadWord),
+        ("\neq", 2, Why::BadShape),
+        ("unknown # x", 1, Why::BadShape),
+        ("eq 1a x", 1, Why::BadName),
+        ("eq a\neq a x", 2, Why::Twice),
+        ("eq a x", 1, Why::BadShape),
+        ("eq a =?", 1, Why::BadName),
+        ("eq a x=1=2", 1, Why::BadNumber),
+        ("eq a x=+?", 1, Why::BadNumber),
+        ("eq a x=?+?", 1, Why::BadNumber),
+        ("eq a x=1/0", 1, Why::Vanish),
+        ("eq a x=65521+?", 1, Why::Vanish),
+        ("eq a x=0+?", 1, Why::Later),
+        ("eq a x=1 x=?", 1, Why::Later),
+        ("eq a x=0 x=2", 1, Why::Twice),
+        ("unknown x 1y", 1, Why::BadName),
+        ("eq a x=1\neq b y=2\neq a z=3\nsum a", 3, Why::Twice),
     ];
-    for (text, line) in cases {
+    for (text, line, why) in cases {
         assert!(rt; text.len() < 99);
         let place = Place::Line(line);
-        let why = Why::Later;
         let refused = ReadModel::Refused(Refused { place, why });
         match read(rt.alloc(), text.as_bytes()) {
             Ok(_) => assert!(rt; false, "{text}"),

@@ -13,7 +13,7 @@ use Rattle.mixed_pairs.proofs.BestPairs.{Optimal, optimal}
 use Rattle.mixed_pairs.proofs.MinMax.{best-clear}
 use Rattle.mixed_pairs.proofs.PairBounds.{bound}
 use Rattle.mixed_pairs.proofs.TableauParts.{tableau}
-use Rattle.mixed_pairs.proofs.Transforms.{pair_tableau}
+use Rattle.mixed_pairs.proofs.PairTableaus.{pair_tableau}
 use Rattle.mixed_forms.proofs.FormExists.{found-kept, found_below, found_lower, found_parts}
 use Rattle.mixed_forms.proofs.OneListing.{same-blocks, same-column}
 use Rattle.mixed_forms.proofs.RightParts.{kept-right}

@@ -9,7 +9,6 @@ pub mod GreatestRanks
 pub mod RemovedRows
 pub mod MinMax
 pub mod SameEntries
-pub mod PivotedBases
-pub mod Transforms
+pub mod PairTableaus
 pub mod ExampleFacts
 pub mod TableauParts

@@ -2,17 +2,18 @@
 use Rattle.std.proofs.Common.{◌≡◌, ℕ, ◌+◌, List, ap, sym, ◌∙◌}
 use Rattle.refusals.specs.declared.Refused.{Refused}
 use Rattle.refusals.specs.declared.Place.TheVariants.{Line}
-use Rattle.refusals.specs.declared.Why.TheVariants.{Later}
-use Rattle.line_lexer.specs.Lines.{lines_of}
-use Rattle.matrix_reader.specs.EquationLists.{AllPlain}
-use Rattle.matrix_reader.proofs.FirstLines.{all_plain-none, first_not_plain-one}
+use Rattle.refusals.specs.declared.Why.{Why}
+use Rattle.mixed_model.specs.Models.{MixedModel}
+use Rattle.matrix_reader.specs.Models.{GivesModel}
+use Rattle.matrix_reader.proofs.FirstBroken.{gives-unbroken, first_broken-one}
 use Rattle.report_cli.specs.RightFor.{IsRefused}
 
--- an input of plain lines has none
-pub plain-unrefused : {A : Type 0} (input : List ℕ) (refused : Refused) → AllPlain (lines_of input) → IsRefused input refused → A
-plain-unrefused input refused plain is_refused = absurd (all_plain-none (lines_of input) is_refused.0 plain is_refused.2)
+-- an input that gives a model has none
+pub given-unrefused : {A : Type 0} (input : List ℕ) (refused : Refused) (model : MixedModel) → GivesModel input model → IsRefused input refused → A
+given-unrefused input refused model gives (n, why, is, first) = absurd (gives-unbroken input model n why gives first)
 
 pub refused-alone : (input : List ℕ) (refused other : Refused) → IsRefused input refused → IsRefused input other → refused ≡ other
-refused-alone input refused other first second =
-    let at : ℕ → Refused = λ n. record { place = Line (n + 1); why = Later } in
-    first.1 ∙ ap at (first_not_plain-one (lines_of input) first.0 second.0 first.2 second.2) ∙ sym second.1
+refused-alone input refused other (m, v, is, first) (n, w, is_other, second) =
+    let same = first_broken-one input m n v w first second in
+    let at : ℕ → Why → Refused = λ k why. record { place = Line (k + 1); why = why } in
+    is ∙ ap (λ k. at k v) same.0 ∙ ap (λ why. at n why) same.1 ∙ sym is_other

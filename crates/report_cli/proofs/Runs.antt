@@ -3,13 +3,13 @@ use Rattle.std.proofs.Common.{◌≡◌, ℕ, ◌+◌, ◌≤◌, ◌<◌, List,
 use Rattle.std.proofs.lemmas.List.{length-append}
 use Rattle.port_io.specs.Bytes.{Took, Ended}
 use Rattle.refusals.specs.declared.Refused.{Refused as Refusal}
-use Rattle.line_lexer.specs.Lines.{lines_of}
-use Rattle.matrix_reader.specs.EquationLists.{AllPlain}
+use Rattle.mixed_model.specs.Models.{MixedModel}
+use Rattle.matrix_reader.specs.Models.{GivesModel}
 use Rattle.report_cli.specs.declared.status.Status.{Status}
 use Rattle.report_cli.specs.declared.status.Status.TheVariants.{Done, Usage, Refused, TooLong, ReadFault, WriteFault, Memory}
 use Rattle.report_cli.specs.Words.{AskForAnalysis}
 use Rattle.report_cli.specs.RightFor.{IsRefused}
-use Rattle.report_cli.proofs.Refusals.{plain-unrefused, refused-alone}
+use Rattle.report_cli.proofs.Refusals.{given-unrefused, refused-alone}
 use Rattle.report_cli.specs.Answer.{IsAnswer, Answered, OnlyAnswer, Tells, model_limit}
 
 -- what was taken of a known input is no longer than it
@@ -52,27 +52,27 @@ long_only words input limit ReadFault text asks is long a = absurd a
 long_only words input limit WriteFault text asks is long a = absurd a
 long_only words input limit Memory text asks is long a = absurd a
 
--- an input with a line that is not plain
+-- an input that breaks a rule
 refused_only : (words : List (List ℕ)) (input : List ℕ) (refused : Refusal) (answer : Status) (text : List ℕ) → AskForAnalysis words → length input ≤ model_limit → IsRefused input refused →
     IsAnswer words input answer text → Refused refused ≡ answer
 refused_only words input refused Usage text asks short is a = absurd (a.0 asks)
-refused_only words input refused Done text asks short is a = plain-unrefused input refused a.2.right.plain is
+refused_only words input refused Done text asks short is a = given-unrefused input refused a.2.right.model a.2.right.gives is
 refused_only words input refused (Refused other) text asks short is a = ap Refused (refused-alone input refused other is a.2)
 refused_only words input refused (TooLong limit) text asks short is a = too_long input a.2 short
 refused_only words input refused ReadFault text asks short is a = absurd a
 refused_only words input refused WriteFault text asks short is a = absurd a
 refused_only words input refused Memory text asks short is a = absurd a
 
--- an input of plain lines
-done_only : (words : List (List ℕ)) (input : List ℕ) (answer : Status) (text : List ℕ) → AskForAnalysis words → length input ≤ model_limit → AllPlain (lines_of input) →
+-- an input that gives a model
+done_only : (words : List (List ℕ)) (input : List ℕ) (model : MixedModel) (answer : Status) (text : List ℕ) → AskForAnalysis words → length input ≤ model_limit → GivesModel input model →
     IsAnswer words input answer text → Done ≡ answer
-done_only words input Usage text asks short plain a = absurd (a.0 asks)
-done_only words input Done text asks short plain a = refl
-done_only words input (Refused refused) text asks short plain a = plain-unrefused input refused plain a.2
-done_only words input (TooLong limit) text asks short plain a = too_long input a.2 short
-done_only words input ReadFault text asks short plain a = absurd a
-done_only words input WriteFault text asks short plain a = absurd a
-done_only words input Memory text asks short plain a = absurd a
+done_only words input model Usage text asks short gives a = absurd (a.0 asks)
+done_only words input model Done text asks short gives a = refl
+done_only words input model (Refused refused) text asks short gives a = given-unrefused input refused model gives a.2
+done_only words input model (TooLong limit) text asks short gives a = too_long input a.2 short
+done_only words input model ReadFault text asks short gives a = absurd a
+done_only words input model WriteFault text asks short gives a = absurd a
+done_only words input model Memory text asks short gives a = absurd a
 
 -- where no fault came, no other answer than the one given is one
 pub only : (words : List (List ℕ)) (left after written written' : Option (List ℕ)) (status : Status) → Tells status (Answered words left after written written' status) →
@@ -89,7 +89,7 @@ only words left after written written' (Refused refused) a no_read no_write = λ
 only words left after written written' Done a no_read no_write = λ input answer text is given.
     let same : a.read ≡ input = read_is left after input a.read is a.took a.ended in
     let own : IsAnswer words input Done a.text = subst (λ r. IsAnswer words r Done a.text) same a.answer in
-    inl (done_only words input answer text own.0 own.1 own.2.right.plain given)
+    inl (done_only words input own.2.right.model answer text own.0 own.1 own.2.right.gives given)
 only words left after written written' ReadFault a no_read no_write = absurd (no_read refl)
 only words left after written written' WriteFault a no_read no_write = absurd (no_write refl)
 only words left after written written' Memory a no_read no_write = λ input answer text is given. inr refl

@@ -6,8 +6,8 @@ use std::alloc::Global;
 use std::process::Abort;
 use std::test::Fail;
 
-/// Enough room for each text of the tables.
-const ROOM: usize = 1000;
+/// Enough room for each text.
+const ROOM: usize = 9_000_000;
 
 /// One run over memory.
 #[derive(Clone, Copy)]
@@ -97,26 +97,112 @@ fn lists_of_constants(rt: HostRuntime) -> Result<(), Fail> {
     Ok(())
 }
 
+/// A case that is answered by a certificate with this end.
+fn certified<'a>(input: &'a [u8], ends: &'a [u8]) -> Case<'a> {
+    calm(
+        input,
+        0,
+        b"mixed-certificate 1\nkind matrix\nlength ",
+        ends,
+        b"",
+    )
+}
+
+/// A case that is refused with this note.
+fn refused<'a>(input: &'a [u8], notes: &'a [u8]) -> Case<'a> {
+    calm(input, 3, b"", b"", notes)
+}
+
 #[test]
-fn lines_that_are_not_plain(rt: HostRuntime) -> Result<(), Fail> {
-    let first = b"mixed: line 1: comes later\n";
+fn a_carriage_return_and_an_unknown(rt: HostRuntime) -> Result<(), Fail> {
+    let returned =
+        b"mixed-certificate 1\nkind matrix\nlength 10\neq a x=1\r\n\nshape 1 1 1 0 1\nrank 1\nbase 1=1\nmatch\nS 1: 1=1\nU 1: 1=1\nP 1: 1=1\nend\n";
+    let unknown =
+        b"mixed-certificate 1\nkind matrix\nlength 10\nunknown x\n\nshape 0 1 0 0 1\nrank 0\nbase\nmatch\nend\n";
     let cases = [
-        calm(b"eq a x=?\n", 3, b"", b"", first),
-        calm(b"unknown x\n", 3, b"", b"", first),
-        calm(b"eq a x=65521\n", 3, b"", b"", first),
-        calm(b"eq a x=1 x=2\n", 3, b"", b"", first),
-        calm(b"eq a x=1 # one\n", 3, b"", b"", first),
-        calm(b"eq a x=1\r\n", 3, b"", b"", first),
-        calm(
-            b"\t\neq a\neq a\n",
-            3,
-            b"",
-            b"",
-            b"mixed: line 3: comes later\n",
-        ),
+        calm(b"eq a x=1\r\n", 0, returned, returned, b""),
+        calm(b"unknown x\n", 0, unknown, unknown, b""),
     ];
     for case in cases {
         expect_case(&rt, rt.alloc(), &case)?;
+    }
+    Ok(())
+}
+
+#[test]
+fn lists_that_break_a_rule(rt: HostRuntime) -> Result<(), Fail> {
+    let vanishes = b"mixed: line 1: vanishes in the field\n";
+    let number = b"mixed: line 1: bad number\n";
+    let cases = [
+        refused(b"eq a x=1 x=2\n", b"mixed: line 1: twice\n"),
+        refused(b"eq a\neq a\n", b"mixed: line 2: twice\n"),
+        refused(b"eq\n", b"mixed: line 1: bad shape\n"),
+        refused(b"sum a\n", b"mixed: line 1: bad word\n"),
+        refused(b"eq 7a\n", b"mixed: line 1: bad name\n"),
+        refused(b"eq a x=?\n", b"mixed: line 1: comes later\n"),
+        refused(b"eq a x=65521\n", vanishes),
+        refused(b"eq a x=1/65521\n", vanishes),
+        refused(b"eq a x=0/65521\n", vanishes),
+        refused(b"eq a x=1/0\n", vanishes),
+        refused(b"eq a x=1e3\n", number),
+        refused(b"eq a x=.5\n", number),
+        refused(b"eq a x=1234567890123456789\n", number),
+    ];
+    for case in cases {
+        expect_case(&rt, rt.alloc(), &case)?;
+    }
+    Ok(())
+}
+
+#[test]
+fn spellings_at_the_edges(rt: HostRuntime) -> Result<(), Fail> {
+    let one = b"\nP 1: 1=1\nend\n";
+    let zero = b"\nP 1:\nend\n";
+    let empty = b"\nshape 0 0 0 0 0\nrank 0\nbase\nmatch\nend\n";
+    let cases = [
+        certified(b"eq a x=000000000000000001", one),
+        certified(b"eq a x=+0/5\n", zero),
+        certified(b"eq a x=0.0\n", zero),
+        certified(b"eq a x=-0\n", zero),
+        certified(b"\teq\ta\t\tx=2.5 \t\n", one),
+        certified(b"eq a x=1# \xe4\xff\n", one),
+        certified(b"\n", empty),
+        certified(b"# alone \x01\x7f\xff", empty),
+        certified(
+            b"unknown abcdefghijklmnopqrstuvwxyz_ABCDEFGHIJKLMNOPQRSTUVWXYZ.123456789_",
+            b"\nshape 0 1 0 0 1\nrank 0\nbase\nmatch\nend\n",
+        ),
+        refused(
+            b"unknown abcdefghijklmnopqrstuvwxyz_ABCDEFGHIJKLMNOPQRSTUVWXYZ.123456789_x",
+            b"mixed: line 1: bad name\n",
+        ),
+        refused(b"\neq a x=\xe4", b"mixed: line 2: bad byte\n"),
+        refused(b"eq a\x7f", b"mixed: line 1: bad byte\n"),
+    ];
+    for case in cases {
+        expect_case(&rt, rt.alloc(), &case)?;
+    }
+    Ok(())
+}
+
+/// A balance of two streams, and a spring between two masses.
+const EXAMPLES: [&[u8]; 2] = [
+    b"# two streams join\nunknown feed\r\neq mass feed=1 back=1 out=-1\neq split back=1 out=-0.25\n",
+    b"eq spring f=1 x1=-3/2 x2=+3/2\n\neq left a1=2 f=-1 # mass 2\n\teq right a2=0.50 f=1\n",
+];
+
+#[test]
+fn each_beginning_is_answered(rt: HostRuntime) -> Result<(), Fail> {
+    let alloc = rt.alloc();
+    let words = words_of(alloc, &["mixed", "analyse", "matrix"])?;
+    for text in EXAMPLES {
+        for end in 0..=text.len() {
+            let mut source = MemSource::new(alloc, &text[..end], ROOM, &[])?;
+            let mut out = MemSink::new(alloc, ROOM, ROOM, &[])?;
+            let mut notes = MemSink::new(alloc, ROOM, ROOM, &[])?;
+            let status = run(alloc, &words, &mut source, &mut out, &mut notes);
+            assert!(rt; matches!(status, Status::Done | Status::Refused(_)));
+        }
     }
     Ok(())
 }
@@ -158,7 +244,7 @@ fn streams_that_fail(rt: HostRuntime) -> Result<(), Fail> {
         },
         Case {
             notes_fail: &[1],
-            ..calm(b"eq a x=?\n", 3, b"", b"", b"")
+            ..refused(b"eq a x=?\n", b"")
         },
         Case {
             most: 1,
@@ -178,8 +264,25 @@ fn streams_that_fail(rt: HostRuntime) -> Result<(), Fail> {
 }
 
 #[test]
-fn one_byte_too_many(rt: HostRuntime) -> Result<(), Fail> {
+fn a_comment_of_the_most_bytes(rt: HostRuntime) -> Result<(), Fail> {
+    let input = vec![in rt.alloc(); b'#'; 8_388_608]?;
+    let ends = b"##\nshape 0 0 0 0 0\nrank 0\nbase\nmatch\nend\n";
+    let begins = b"mixed-certificate 1\nkind matrix\nlength 8388608\n##";
+    expect_case(&rt, rt.alloc(), &calm(&input, 0, begins, ends, b""))?;
     let input = vec![in rt.alloc(); b'#'; 8_388_609]?;
     let note = b"mixed: input longer than 8388608 bytes\n";
-    expect_case(&rt, rt.alloc(), &calm(&input, 3, b"", b"", note))
+    expect_case(&rt, rt.alloc(), &refused(&input, note))
+}
+
+#[test]
+fn as_many_unknowns_as_there_may_be(rt: HostRuntime) -> Result<(), Fail> {
+    let mut text = String::new(rt.alloc());
+    for number in 1..=4096 {
+        text.push_str(&format!(in rt.alloc(); "unknown x{number}\n")?)?;
+    }
+    let ends = b"\nshape 0 4096 0 0 4096\nrank 0\nbase\nmatch\nend\n";
+    expect_case(&rt, rt.alloc(), &certified(text.as_bytes(), ends))?;
+    text.push_str("unknown x4097\n")?;
+    let note = b"mixed: line 4097: too many\n";
+    expect_case(&rt, rt.alloc(), &refused(text.as_bytes(), note))
 }

@@ -1,10 +1,11 @@
 -- The steps of a search, and what its end says.
 use Rattle.std.proofs.Common.{◌≡◌, ℕ, zero, suc, ◌+◌, ◌<◌, ◌≤◌, ◌≢◌, Bool, true, false, ◌⊎◌, inl, inr, refl, ap, sym, subst, ◌∙◌, arith}
 use Rattle.residue_theory.specs.Sums.{size_on}
-use Rattle.residue_theory.proofs.SumLaws.{nat_cases, sum_on-same, size-none}
+use Rattle.residue_theory.proofs.CountLaws.{size-zero}
+use Rattle.residue_theory.proofs.SumLaws.{nat_cases, sum_on-same}
 use Rattle.closed_sets.specs.Walks.{Walk, FromSome}
 use Rattle.closed_sets.specs.Closed.{Follows, IsClosed, IsReachedSet}
-use Rattle.search_laws.specs.Searches.{IsShortest, State, IsLed, IsSearch, HasStarts, NoEndBefore, IsGrown, IsPut, IsTrace, IsLooking, IsStarting}
+use Rattle.search_laws.specs.Searches.{IsShortest, State, IsLed, IsSearch, HasStarts, NoEndBefore, IsGrown, IsPut, IsTrace}
 use Rattle.residue_theory.proofs.SetLaws.{differ, lt_cases}
 use Rattle.closed_sets.proofs.Hulls.{follows-from}
 
@@ -363,141 +364,23 @@ module _ (arc : ℕ → ℕ → Bool) (n : ℕ) where
       least = λ s₀ e₀ m sl el sh eh w. omega (arith, search-least more s₀ e₀ m sl el sh eh w);
     }
 
--- the loops of a search
--- after a put at place i none of the places up to it has the test
-put-scanned : (p : ℕ → Bool) (s t : State) (i filled x d : ℕ) → IsPut s t i filled x d → ((j : ℕ) → filled ≤ j → j < i → p (s.order j) ≡ false) →
-    (j : ℕ) → filled + 1 ≤ j → j < i + 1 → p (t.order j) ≡ false
-put-scanned p s t i filled x d P before j g l = elim (nat_cases j i) [
-  | inl q ↦ subst (λ v. p v ≡ false) (sym (ap t.order q ∙ P.order_moved)) (before filled (omega arith) (omega arith))
-  | inr ne ↦ subst (λ v. p v ≡ false) (sym (P.order_same j ne (λ z. omega arith))) (before j (omega arith) (omega arith))
-]
-
-skip-scanned : (p : ℕ → Bool) (s : State) (i filled : ℕ) → ((j : ℕ) → filled ≤ j → j < i → p (s.order j) ≡ false) → p (s.order i) ≡ false →
-    (j : ℕ) → filled ≤ j → j < i + 1 → p (s.order j) ≡ false
-skip-scanned p s i filled before misses j g l = elim (nat_cases j i) [ inl q ↦ subst (λ v. p (s.order v) ≡ false) (sym q) misses | inr ne ↦ before j g (omega arith) ]
-
-pub looking-start : (arc : ℕ → ℕ → Bool) (n : ℕ) (s : State) (head filled : ℕ) → IsSearch arc n s head filled → head < filled → IsLooking arc n s s filled head filled filled (s.order head) (s.depth (s.order head) + 1)
-looking-start arc n s head filled S more = record {
-  search = S;
-  grown = grown-same arc n s filled;
-  looks_at = refl;
-  deeper = refl;
-  more = more;
-  first = omega arith;
+-- at the start no place is reached, and each stands at its own number
+pub search-start : (arc : ℕ → ℕ → Bool) (n : ℕ) (s : State) → ((j : ℕ) → j < n → s.order j ≡ j) → ((j : ℕ) → j < n → s.reached j ≡ false) → IsSearch arc n s 0 0
+search-start arc n s same none = record {
+  head_le = omega arith;
   filled_le = omega arith;
-  scanned = λ j g l. absurd (omega arith);
+  below = λ i l. omega (arith, same i l);
+  distinct = λ i j il jl e. omega (arith, same i il, same j jl);
+  each = λ y l. (y, l, same y l);
+  done = λ i l. absurd (omega arith);
+  waiting = λ i _ l. ap s.reached (same i l) ∙ none i l;
+  count = size-zero s.reached n none;
+  shallow = λ i l. absurd (omega arith);
+  rising = λ i j _ l. absurd (omega arith);
+  near = λ j l. absurd (omega arith);
+  origin = λ y l h. absurd (differ (none y l) h);
+  looked = λ j y l. absurd (omega arith);
 }
-
-pub looking-put : (arc : ℕ → ℕ → Bool) (n : ℕ) (s₀ s t : State) (f₀ head filled i place depth : ℕ) → IsLooking arc n s₀ s f₀ head filled i place depth → i < n →
-    arc place (s.order i) ≡ true → IsPut s t i filled place depth → IsLooking arc n s₀ t f₀ head (filled + 1) (i + 1) place depth
-looking-put arc n s₀ s t f₀ head filled i place depth L il a P = record {
-  search = search-put arc n s t head filled i place depth S P L.filled_le il above near small why;
-  grown = grown-join arc n s₀ s t f₀ filled L.first L.grown (grown-put arc n s t head filled i place depth S P L.filled_le il above near small why (omega (arith, L.deeper)));
-  looks_at = order-kept arc n s t head filled i place depth S P L.filled_le il above near small why head L.more ∙ L.looks_at;
-  deeper = ap (λ v. v + 1) (P.depth_same place (other arc n s t head filled i place depth S P L.filled_le il above near small why place known)) ∙ L.deeper;
-  more = omega (arith, L.more);
-  first = omega (arith, L.first);
-  filled_le = omega (arith, L.filled_le);
-  scanned = put-scanned (arc place) s t i filled place depth P L.scanned;
-}
-  where
-    S : IsSearch arc n s head filled
-    S = L.search
-
-    at_head : s.depth (s.order head) + 1 ≡ depth
-    at_head = ap (λ v. s.depth v + 1) L.looks_at ∙ L.deeper
-
-    above : (j : ℕ) → j < filled → s.depth (s.order j) ≤ depth
-    above j l = omega (arith, S.near j l L.more, at_head)
-
-    near : head < filled → depth ≤ s.depth (s.order head) + 1
-    near _ = omega (arith, at_head)
-
-    small : depth ≤ filled
-    small = omega (arith, at_head, S.shallow head L.more, L.more)
-
-    known : s.reached place ≡ true
-    known = subst (λ v. s.reached v ≡ true) L.looks_at (S.done head L.more)
-
-    why : (depth ≡ 0) ⊎ ((place < n) × (s.reached place ≡ true) × (arc place (s.order i) ≡ true) × (depth ≡ s.depth place + 1))
-    why = inr (subst (λ v. v < n) L.looks_at (S.below head (omega (arith, L.more, L.filled_le))), known, a, sym L.deeper)
-
-pub looking-skip : (arc : ℕ → ℕ → Bool) (n : ℕ) (s₀ s : State) (f₀ head filled i place depth : ℕ) → IsLooking arc n s₀ s f₀ head filled i place depth →
-    arc place (s.order i) ≡ false → IsLooking arc n s₀ s f₀ head filled (i + 1) place depth
-looking-skip arc n s₀ s f₀ head filled i place depth L misses = record {
-  search = L.search;
-  grown = L.grown;
-  looks_at = L.looks_at;
-  deeper = L.deeper;
-  more = L.more;
-  first = L.first;
-  filled_le = omega (arith, L.filled_le);
-  scanned = skip-scanned (arc place) s i filled L.scanned misses;
-}
-
-pub looking-done : (arc : ℕ → ℕ → Bool) (n : ℕ) (s₀ s : State) (f₀ head filled i place depth : ℕ) → IsLooking arc n s₀ s f₀ head filled i place depth → n ≤ i → IsSearch arc n s (head + 1) filled
-looking-done arc n s₀ s f₀ head filled i place depth L all = search-next arc n s head filled L.search L.more (λ j g l. subst (λ v. arc v (s.order j) ≡ false) (sym L.looks_at) (L.scanned j g (omega arith)))
-
-size_on-none : (X : ℕ → Bool) (n : ℕ) → ((j : ℕ) → j < n → X j ≡ false) → size_on X n ≡ 0
-size_on-none X n h = sum_on-same X (λ _. false) n (λ _. 1) h ∙ size-none n
-
-pub starting-start : (arc : ℕ → ℕ → Bool) (n : ℕ) (starts : ℕ → Bool) (s : State) → ((j : ℕ) → j < n → s.order j ≡ j) → ((j : ℕ) → j < n → s.reached j ≡ false) → IsStarting arc n starts s 0 0
-starting-start arc n starts s same none = record {
-  search = record {
-    head_le = omega arith;
-    filled_le = omega arith;
-    below = λ i l. omega (arith, same i l);
-    distinct = λ i j il jl e. omega (arith, same i il, same j jl);
-    each = λ y l. (y, l, same y l);
-    done = λ i l. absurd (omega arith);
-    waiting = λ i _ l. ap s.reached (same i l) ∙ none i l;
-    count = size_on-none s.reached n none;
-    shallow = λ i l. absurd (omega arith);
-    rising = λ i j _ l. absurd (omega arith);
-    near = λ j l. absurd (omega arith);
-    origin = λ y l h. absurd (differ (none y l) h);
-    looked = λ j y l. absurd (omega arith);
-  };
-  filled_le = omega arith;
-  from = λ y l h. absurd (differ (none y l) h);
-  scanned = λ j g l. absurd (omega arith);
-}
-
-pub starting-put : (arc : ℕ → ℕ → Bool) (n : ℕ) (starts : ℕ → Bool) (s t : State) (filled i x : ℕ) → IsStarting arc n starts s filled i → i < n →
-    starts (s.order i) ≡ true → IsPut s t i filled x 0 → IsStarting arc n starts t (filled + 1) (i + 1)
-starting-put arc n starts s t filled i x B il a P = record {
-  search = search-put arc n s t 0 filled i x 0 B.search P B.filled_le il above (λ _. omega arith) (omega arith) (inl refl);
-  filled_le = omega (arith, B.filled_le);
-  from = starts-put arc n s t 0 filled i x 0 B.search P B.filled_le il above (λ _. omega arith) (omega arith) (inl refl) starts a refl B.from;
-  scanned = put-scanned starts s t i filled x 0 P B.scanned;
-}
-  where
-    above : (j : ℕ) → j < filled → s.depth (s.order j) ≤ 0
-    above j l = omega (arith, (B.from (s.order j) (B.search.below j (omega (arith, B.filled_le))) (B.search.done j l)).0)
-
-pub starting-skip : (arc : ℕ → ℕ → Bool) (n : ℕ) (starts : ℕ → Bool) (s : State) (filled i : ℕ) → IsStarting arc n starts s filled i → starts (s.order i) ≡ false → IsStarting arc n starts s filled (i + 1)
-starting-skip arc n starts s filled i B misses = record {
-  search = B.search;
-  filled_le = omega (arith, B.filled_le);
-  from = B.from;
-  scanned = skip-scanned starts s i filled B.scanned misses;
-}
-
-pub starting-done : (arc : ℕ → ℕ → Bool) (n : ℕ) (starts : ℕ → Bool) (s : State) (filled i : ℕ) → IsStarting arc n starts s filled i → n ≤ i → HasStarts n starts s
-starting-done arc n starts s filled i B all = record {
-  reached = in_starts;
-  depth = λ y l h. (B.from y l (in_starts y l h)).0;
-  only = λ y l h z. (B.from y l h).1;
-}
-  where
-    in_starts : (y : ℕ) → y < n → starts y ≡ true → s.reached y ≡ true
-    in_starts y l h = at (B.search.each y l)
-      where
-        at : ((j : ℕ) × (j < n) × (s.order j ≡ y)) → s.reached y ≡ true
-        at (j, jl, e) = elim (lt_cases j filled) [
-          | inl less ↦ subst (λ v. s.reached v ≡ true) e (B.search.done j less)
-          | inr g ↦ absurd (differ (B.scanned j g (omega arith)) (subst (λ v. starts v ≡ true) (sym e) h))
-        ]
 
 -- each place of the walk is where the walk to the next one comes from
 pub trace-all : (arc : ℕ → ℕ → Bool) (n : ℕ) (starts ends : ℕ → Bool) (s : State) (head filled : ℕ) → IsSearch arc n s head filled → HasStarts n starts s → NoEndBefore ends s head →

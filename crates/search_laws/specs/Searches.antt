@@ -79,21 +79,3 @@ pub record IsTrace (arc : ℕ → ℕ → Bool) (n : ℕ) (s : State) (at : ℕ 
   pub reached : s.reached (at k) ≡ true
   pub depth : s.depth (at k) ≡ k
   pub follows : (i : ℕ) → k ≤ i → i < d → arc (at i) (at (i + 1)) ≡ true
-
--- the place at `head` is being looked at: it leads to none of the places from the reached ones to the i-th; s₀ is what was known before
-pub record IsLooking (arc : ℕ → ℕ → Bool) (n : ℕ) (s₀ s : State) (f₀ head filled i place depth : ℕ) : Type 0 where
-  pub search : IsSearch arc n s head filled
-  pub grown : IsGrown n s₀ s f₀
-  pub looks_at : s.order head ≡ place
-  pub deeper : s.depth place + 1 ≡ depth
-  pub more : head < filled
-  pub first : f₀ ≤ filled
-  pub filled_le : filled ≤ i
-  pub scanned : (j : ℕ) → filled ≤ j → j < i → arc place (s.order j) ≡ false
-
--- the starts among the first i places of the order are reached
-pub record IsStarting (arc : ℕ → ℕ → Bool) (n : ℕ) (starts : ℕ → Bool) (s : State) (filled i : ℕ) : Type 0 where
-  pub search : IsSearch arc n s 0 filled
-  pub filled_le : filled ≤ i
-  pub from : (y : ℕ) → y < n → s.reached y ≡ true → (s.depth y ≡ 0) × (starts y ≡ true)
-  pub scanned : (j : ℕ) → filled ≤ j → j < i → starts (s.order j) ≡ false

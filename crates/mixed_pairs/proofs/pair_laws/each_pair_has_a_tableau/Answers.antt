@@ -1,4 +1,4 @@
-use Rattle.mixed_pairs.proofs.Transforms.{pair_tableau}
+use Rattle.mixed_pairs.proofs.PairTableaus.{pair_tableau}
 use Rattle.mixed_pairs.proofs.pair_laws.each_pair_has_a_tableau.Goals as goal
 
 pub returns : goal.returns

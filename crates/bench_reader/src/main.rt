@@ -1,0 +1,28 @@
+//! Reads an equation list from standard input, and prints how many equations and unknowns it gives: the work that
+//! bench/reading.sh measures.
+#![tactic(auto)]
+
+use matrix_reader::read;
+use port_io::{StdSource, read_all};
+use std::process::ExitCode;
+
+/// The most bytes of a model's text.
+const MODEL_LIMIT: u64 = 8_388_608;
+
+fn main(rt: HostRuntime) -> ExitCode {
+    let mut source = StdSource::new(rt.stdin());
+    let Ok(input) = read_all(rt.alloc(), &mut source, MODEL_LIMIT) else {
+        return ExitCode::FAILURE;
+    };
+    let Ok(model) = read(rt.alloc(), &input) else {
+        return ExitCode::FAILURE;
+    };
+    match println!(rt;
+        "equations {} unknowns {}",
+        model.equations(),
+        model.unknowns()
+    ) {
+        Ok(()) => ExitCode::SUCCESS,
+        Err(_) => ExitCode::FAILURE,
+    }
+}

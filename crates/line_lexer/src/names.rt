@@ -1,0 +1,48 @@
+ghost use Rattle.std.specs.Prelude.{◌≡◌, true, false, MatchResult};
+ghost use Rattle.std.specs.List.{list_all};
+ghost use Rattle.line_lexer.specs.Names.{begins_name, continues_name, is_name};
+
+use refusals::Why;
+
+const LONGEST_NAME: usize = 64;
+
+/// Whether a text is a name: a letter or `_`, then letters, digits, `_` and `.`, 1 to 64 bytes in all.
+/// What is none is `Why::BadName`.
+pub fn name(text: &str) -> Result<(), Why>
+    ensures { MatchResult result
+        (λ _. is_name text.now ≡ true)
+        (λ why. (is_name text.now ≡ false) × (why ≡ Why.BadName)) }
+{
+    if is_name(text.as_bytes()) {
+        Ok(())
+    } else {
+        Err(Why::BadName)
+    }
+}
+
+fn is_name(text: &[u8]) -> bool
+    ensures { result ≡ is_name text.now }
+{
+    let Some((first, others)) = text.split_first() else {
+        return false;
+    };
+    begins_name(*first) && all_continue_name(others) && text.len() <= LONGEST_NAME
+}
+
+fn all_continue_name(bytes: &[u8]) -> bool
+    ensures { result ≡ list_all continues_name bytes.now }
+{
+    bytes.iter().all(|byte| continues_name(*byte))
+}
+
+fn begins_name(byte: u8) -> bool
+    ensures { result ≡ begins_name byte }
+{
+    byte.is_ascii_alphabetic() || byte == b'_'
+}
+
+fn continues_name(byte: u8) -> bool
+    ensures { result ≡ continues_name byte }
+{
+    begins_name(byte) || byte.is_ascii_digit() || byte == b'.'
+}

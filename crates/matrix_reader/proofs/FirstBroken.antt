@@ -1,0 +1,23 @@
+-- A text has one first broken rule, or none.
+use Rattle.std.proofs.Common.{◌≡◌, ℕ, List, Option, Some, None, sym, ap, ◌∙◌, inl, inr}
+use Rattle.std.proofs.lemmas.Bool.{cases_order}
+use Rattle.refusals.specs.declared.Why.{Why}
+use Rattle.line_lexer.specs.Lines.{lines_of}
+use Rattle.mixed_model.specs.Models.{MixedModel}
+use Rattle.matrix_reader.specs.Models.{GivesModel, IsFirstBroken, rule_at}
+
+-- a text that gives a model has none
+pub gives-unbroken : (text : List ℕ) (model : MixedModel) (n : ℕ) (why : Why) → GivesModel text model → IsFirstBroken text n why → ⊥
+gives-unbroken text model n why gives first = let both : None ≡ Some why = sym (gives.kept n first.within) ∙ first.here in cc
+
+-- two are the same
+pub first_broken-one : (text : List ℕ) (m n : ℕ) (v w : Why) → IsFirstBroken text m v → IsFirstBroken text n w → (m ≡ n) × (v ≡ w)
+first_broken-one text m n v w first second = elim (cases_order m n) [
+  | inl same ↦ (
+    same,
+    let both : Some v ≡ Some w = sym first.here ∙ ap (rule_at (lines_of text)) same ∙ second.here in
+        let told : v ≡ w = cc in told,
+  )
+  | inr (inl less) ↦ let both : None ≡ Some v = sym (second.before m less) ∙ first.here in absurd cc
+  | inr (inr more) ↦ let both : None ≡ Some w = sym (first.before n more) ∙ second.here in absurd cc
+]

@@ -1,0 +1,5 @@
+pub mod BitLaws
+pub mod PathLaws
+pub mod CloseLaws
+pub mod ListingLaws
+pub mod LatticeLaws

@@ -1,0 +1,189 @@
+-- The listing of components is the listing of the blocks.
+use Rattle.std.proofs.Common.{◌≡◌, ◌≢◌, ℕ, suc, ◌+◌, ◌<◌, ◌≤◌, Bool, true, false, ◌||◌, ◌&&◌, not, nat_eq, ◌⊎◌, inl, inr, refl, ap, sym, subst, ◌∙◌, arith}
+use Rattle.residue_theory.proofs.SumLaws.{nat_cases}
+use Rattle.residue_theory.proofs.SetLaws.{differ, either_cases, either-first, either-second, eqb_from, eqb_true}
+use Rattle.closed_sets.specs.Tables.{Tells, IsReadyIn, IsBlockPut}
+use Rattle.closed_sets.specs.Blocks.{IsListing}
+use Rattle.closed_sets.proofs.SetLaws.{test_cases, size_on-less}
+use Rattle.closed_sets.proofs.Listings.{Started, started-none}
+use Rattle.closed_sets.proofs.TableLaws.{started-same, table-next, table-done}
+use Rattle.minimiser_lattice.specs.Paths.{IsNumbering}
+use Rattle.minimiser_lattice.specs.Components.{leads_in}
+use Rattle.minimiser_lattice.specs.Listings.{HasPlaces, IsBetweenFrom, IsMarked, IsReadyAt, IsWatched, table_of}
+use Rattle.minimiser_lattice.specs.Bits.{IsJoined}
+use Rattle.minimiser_lattice.proofs.PathLaws.{size_misses}
+
+pub leads-same : (strict : ℕ → ℕ → Bool) (k l : ℕ) → k ≡ l → leads_in strict k l ≡ true
+leads-same strict k l q = either-first (nat_eq k l) (strict k l) (eqb_from k l q)
+
+pub leads-strict : (strict : ℕ → ℕ → Bool) (k l : ℕ) → strict k l ≡ true → leads_in strict k l ≡ true
+leads-strict strict k l h = either-second (nat_eq k l) (strict k l) h
+
+pub leads-cases : (strict : ℕ → ℕ → Bool) (k l : ℕ) → leads_in strict k l ≡ true → (k ≡ l) ⊎ (strict k l ≡ true)
+leads-cases strict k l h = elim (either_cases (nat_eq k l) (strict k l) h) [ inl q ↦ inl (eqb_true k l q) | inr s ↦ inr s ]
+
+module _ (n : ℕ) (number : ℕ → ℕ) (count : ℕ) (strict : ℕ → ℕ → Bool) (N : IsNumbering n number count strict) (middle placed : ℕ → Bool) where
+  -- what is no greater in the order, and no less, is the same
+  pub leads-both : (x y : ℕ) → x < n → y < n → table_of strict number x y ≡ true → table_of strict number y x ≡ true → number x ≡ number y
+  leads-both x y xl yl h e = go (leads-cases strict (number x) (number y) h) (leads-cases strict (number y) (number x) e)
+    where
+      go : (number x ≡ number y) ⊎ (strict (number x) (number y) ≡ true) → (number y ≡ number x) ⊎ (strict (number y) (number x) ≡ true) → number x ≡ number y
+      go (inl q) _ = q
+      go (inr s) (inl q) = sym q
+      go (inr s) (inr t) = absurd (omega (arith, N.fits, N.below x xl, N.below y yl, N.falls (number x) (number y) (N.below x xl) (omega (arith, N.fits, N.below y yl)) s, N.falls (number y) (number x) (N.below y yl) (omega (arith, N.fits, N.below x xl)) t))
+
+  pub ready-in : (r : ℕ) → r < n → IsReadyAt strict middle placed (number r) → IsReadyIn n (table_of strict number) (λ x. middle (number x)) (λ x. placed (number x)) r
+  ready-in r rl R = record {
+    member = R.0.0;
+    waiting = R.0.1;
+    none_lower = λ y yl m h never. elim (leads-cases strict (number r) (number y) h) [
+      | inl q ↦ absurd (differ never (leads-same strict (number y) (number r) (sym q)))
+      | inr s ↦ R.1 (number y) (N.falls (number r) (number y) (N.below r rl) (omega (arith, N.fits, N.below y yl)) s) s m
+    ];
+  }
+
+  pub ready-at : (r : ℕ) → r < n → IsReadyIn n (table_of strict number) (λ x. middle (number x)) (λ x. placed (number x)) r → IsReadyAt strict middle placed (number r)
+  ready-at r rl R = ((R.member, R.waiting), λ l less s m. at l less s m (N.member l (omega (arith, N.below r rl))))
+    where
+      at : (l : ℕ) → l < number r → strict (number r) l ≡ true → middle l ≡ true → ((y : ℕ) × (y < n) × (number y ≡ l)) → placed l ≡ true
+      at l less s m (y, yl, q) = subst (λ v. placed v ≡ true) q (R.none_lower y yl (subst (λ v. middle v ≡ true) (sym q) m)
+          (leads-strict strict (number r) (number y) (subst (λ v. strict (number r) v ≡ true) (sym q) s)) (never (test_cases (leads_in strict (number y) (number r)))))
+        where
+          never : (leads_in strict (number y) (number r) ≡ true) ⊎ (leads_in strict (number y) (number r) ≡ false) → leads_in strict (number y) (number r) ≡ false
+          never (inr f) = f
+          never (inl t) = elim (leads-cases strict (number y) (number r) t) [
+            | inl e ↦ absurd (omega arith)
+            | inr e ↦ absurd (omega (arith, N.falls (number y) (number r) (N.below y yl) (omega (arith, N.fits, N.below r rl)) e))
+          ]
+
+  module _ (more : ℕ → Bool) (rank now : ℕ → ℕ) (r blocks : ℕ) (rl : r < n) (waits : placed (number r) ≡ false) (put : more (number r) ≡ true) (put_others : (l : ℕ) → l ≢ number r → more l ≡ placed l)
+      (here : now (number r) ≡ blocks) (others : (l : ℕ) → l ≢ number r → now l ≡ rank l) where
+    pub still : (l : ℕ) → placed l ≡ true → more l ≡ true
+    still l h = elim (nat_cases l (number r)) [ inl q ↦ subst (λ v. more v ≡ true) (sym q) put | inr ne ↦ put_others l ne ∙ h ]
+
+    pub block-put : IsBlockPut n (table_of strict number) r blocks (λ x. placed (number x)) (λ x. more (number x)) (λ x. rank (number x)) (λ x. now (number x))
+    block-put = record {
+      kept = λ y yl h. still (number y) h;
+      kept_number = λ y yl h. others (number y) (λ q. differ waits (subst (λ v. placed v ≡ true) q h));
+      put = λ y yl h e. subst (λ v. more v ≡ true) (leads-both r y rl yl h e) put;
+      number = λ y yl w h. ap now (is y w h) ∙ here;
+      only = λ y yl w h. (leads-same strict (number r) (number y) (sym (is y w h)), leads-same strict (number y) (number r) (is y w h));
+    }
+      where
+        is : (y : ℕ) → placed (number y) ≡ false → more (number y) ≡ true → number y ≡ number r
+        is y w h = elim (nat_cases (number y) (number r)) [ inl q ↦ q | inr ne ↦ absurd (differ w (sym (put_others (number y) ne) ∙ h)) ]
+
+    pub places-next : (listed to : ℕ → ℕ) → HasPlaces count middle placed rank listed blocks → middle (number r) ≡ true → to blocks ≡ number r → ((j : ℕ) → j ≢ blocks → to j ≡ listed j) →
+        HasPlaces count middle more now to (blocks + 1)
+    places-next listed to H m new same = record {
+      below = λ j l. elim (nat_cases j blocks) [ inl q ↦ omega (arith, ap to q, new, N.below r rl) | inr ne ↦ omega (arith, same j ne, H.below j (omega arith)) ];
+      of_middle = λ j l. elim (nat_cases j blocks) [ inl q ↦ ap middle (ap to q ∙ new) ∙ m | inr ne ↦ ap middle (same j ne) ∙ H.of_middle j (omega arith) ];
+      still_placed = λ j l. elim (nat_cases j blocks) [ inl q ↦ ap more (ap to q ∙ new) ∙ put | inr ne ↦ ap more (same j ne) ∙ still (listed j) (H.still_placed j (omega arith)) ];
+      ranks = λ j l. elim (nat_cases j blocks) [
+        | inl q ↦ ap now (ap to q ∙ new) ∙ (here ∙ sym q)
+        | inr ne ↦ ap now (same j ne) ∙ (others (listed j) (λ q. differ waits (subst (λ v. placed v ≡ true) q (H.still_placed j (omega arith)))) ∙ H.ranks j (omega arith))
+      ];
+      room = omega (arith, H.room, size_on-less more placed count (number r) (λ l _ h. still l h) (N.below r rl) put waits);
+    }
+
+    pub watched-next : (watch : ℕ → ℕ) → IsWatched count strict middle placed watch → IsWatched count strict middle more watch
+    watched-next watch W k l kl less s m = still l (W k l kl less s m)
+
+  -- one block more
+  pub list-next : (arc : ℕ → ℕ → Bool) (starts ends : ℕ → Bool) → Tells arc n starts ends (table_of strict number) (λ x. middle (number x)) → (more : ℕ → Bool) (rank now : ℕ → ℕ) (r blocks : ℕ) → r < n →
+      IsReadyAt strict middle placed (number r) → ((j : ℕ) → j < r → IsReadyAt strict middle placed (number j) → ⊥) →
+      more (number r) ≡ true → ((l : ℕ) → l ≢ number r → more l ≡ placed l) → now (number r) ≡ blocks → ((l : ℕ) → l ≢ number r → now l ≡ rank l) →
+      Started arc n starts ends blocks (λ x. placed (number x)) (λ x. rank (number x)) → Started arc n starts ends (blocks + 1) (λ x. more (number x)) (λ x. now (number x))
+  list-next arc starts ends D more rank now r blocks rl R least put put_others here others S = rw Rattle.std.proofs.Common.add-one
+      (table-next arc n starts ends (table_of strict number) (λ x. middle (number x)) D blocks r (λ x. placed (number x)) (λ x. more (number x)) (λ x. rank (number x)) (λ x. now (number x)) S rl
+      (ready-in r rl R) (λ j l Q. least j l (ready-at j (omega arith) Q)) (block-put more rank now r blocks rl R.0.1 put put_others here others))
+
+  pub list-done : (arc : ℕ → ℕ → Bool) (starts ends : ℕ → Bool) → Tells arc n starts ends (table_of strict number) (λ x. middle (number x)) → (rank : ℕ → ℕ) (blocks : ℕ) →
+      ((j : ℕ) → j < n → IsReadyAt strict middle placed (number j) → ⊥) → Started arc n starts ends blocks (λ x. placed (number x)) (λ x. rank (number x)) → IsListing arc n starts ends (λ x. rank (number x)) blocks
+  list-done arc starts ends D rank blocks none S =
+      table-done arc n starts ends (table_of strict number) (λ x. middle (number x)) D blocks (λ x. placed (number x)) (λ x. rank (number x)) S (λ x l Q. none x l (ready-at x l Q))
+
+  pub list-first : (arc : ℕ → ℕ → Bool) (starts ends : ℕ → Bool) (rank : ℕ → ℕ) (blocks : ℕ) → blocks ≡ 0 → ((k : ℕ) → k < count → placed k ≡ false) → Started arc n starts ends blocks (λ x. placed (number x)) (λ x. rank (number x))
+  list-first arc starts ends rank blocks e none = subst (λ v. Started arc n starts ends v (λ x. placed (number x)) (λ x. rank (number x))) (sym e)
+      (started-same arc n starts ends 0 (λ _. false) (λ x. placed (number x)) (λ _. 0) (λ x. rank (number x)) (started-none arc n starts ends) (λ y l. none (number y) (N.below y l)) (λ y l h. absurd (differ refl h)))
+
+  pub places-first : (rank listed : ℕ → ℕ) (blocks : ℕ) → blocks ≡ 0 → HasPlaces count middle placed rank listed blocks
+  places-first rank listed blocks e = record {
+    below = λ j l. absurd (omega arith);
+    of_middle = λ j l. absurd (omega arith);
+    still_placed = λ j l. absurd (omega arith);
+    ranks = λ j l. absurd (omega arith);
+    room = omega arith;
+  }
+
+  pub places-fit : (rank listed : ℕ → ℕ) (blocks k : ℕ) → HasPlaces count middle placed rank listed blocks → k < count → placed k ≡ false → blocks < count
+  places-fit rank listed blocks k H l w = omega (arith, H.room, size_misses placed count k l w)
+
+-- the row of what stands between, from above
+module _ (n : ℕ) (number : ℕ → ℕ) (count : ℕ) (strict before : ℕ → ℕ → Bool) (l m : ℕ) (N : IsNumbering n number count strict) (ll : l < count) (ml : m < l) (R : IsBetweenFrom n strict before l (m + 1)) where
+  small : m < n
+  small = omega (arith, N.fits)
+
+  pub between-none : strict l m ≡ false → IsBetweenFrom n strict before l m
+  between-none f = record {
+    some = λ y yl h. let e = R.some y yl h in (e.0, omega (arith, e.1), e.2, e.3, e.4);
+    made = λ k y le kl yl s t. elim (nat_cases k m) [ inl q ↦ absurd (differ f (subst (λ v. strict l v ≡ true) q s)) | inr ne ↦ R.made k y (omega arith) kl yl s t ];
+  }
+
+  pub between-held : before l m ≡ true → IsBetweenFrom n strict before l m
+  between-held h = record {
+    some = λ y yl e. let d = R.some y yl e in (d.0, omega (arith, d.1), d.2, d.3, d.4);
+    made = λ k y le kl yl s t. elim (nat_cases k m) [
+      | inl q ↦
+          let d = R.some m small h in
+          R.made d.0 y d.1 d.2 yl d.3 (N.lower d.0 m y (omega (arith, d.2)) small yl d.4 (subst (λ v. strict v y ≡ true) q t))
+      | inr ne ↦ R.made k y (omega arith) kl yl s t
+    ];
+  }
+
+  pub between-join : (now : ℕ → ℕ → Bool) → strict l m ≡ true → IsJoined before now (strict m) n l → IsBetweenFrom n strict now l m
+  between-join now h J = record {
+    some = λ y yl e. elim (either_cases (before l y) (strict m y) (sym (J.here y yl) ∙ e)) [
+      | inl o ↦ let d = R.some y yl o in (d.0, omega (arith, d.1), d.2, d.3, d.4)
+      | inr s ↦ (m, omega arith, ml, h, s)
+    ];
+    made = λ k y le kl yl s t. J.here y yl ∙ elim (nat_cases k m) [
+      | inl q ↦ either-second (before l y) (strict m y) (subst (λ v. strict v y ≡ true) q t)
+      | inr ne ↦ either-first (before l y) (strict m y) (R.made k y (omega arith) kl yl s t)
+    ];
+  }
+
+pub between-same : (n : ℕ) (strict before now : ℕ → ℕ → Bool) (l from : ℕ) → ((y : ℕ) → y < n → now l y ≡ before l y) → IsBetweenFrom n strict before l from → IsBetweenFrom n strict now l from
+between-same n strict before now l from same R = record {
+  some = λ y yl h. R.some y yl (sym (same y yl) ∙ h);
+  made = λ m y le ml yl s t. same y yl ∙ R.made m y le ml yl s t;
+}
+
+-- one component more is marked
+pub marked-next : (n : ℕ) (number : ℕ → ℕ) (k : ℕ) (strict : ℕ → ℕ → Bool) (starts ends first last middle now_first now_last now_middle : ℕ → Bool) (f l : Bool) → IsMarked n number k strict starts ends first last middle →
+    now_first k ≡ f → now_last k ≡ l → now_middle k ≡ (not f && not l) → ((j : ℕ) → j ≢ k → now_first j ≡ first j) → ((j : ℕ) → j ≢ k → now_last j ≡ last j) → ((j : ℕ) → j ≢ k → now_middle j ≡ middle j) →
+    (f ≡ true → (s : ℕ) × (s < n) × (starts s ≡ true) × (leads_in strict (number s) k ≡ true)) → (f ≡ false → (s : ℕ) → s < n → starts s ≡ true → leads_in strict (number s) k ≡ false) →
+    (l ≡ true → (e : ℕ) × (e < n) × (ends e ≡ true) × (leads_in strict k (number e) ≡ true)) → (l ≡ false → (e : ℕ) → e < n → ends e ≡ true → leads_in strict k (number e) ≡ false) →
+    IsMarked n number (k + 1) strict starts ends now_first now_last now_middle
+marked-next n number k strict starts ends first last middle now_first now_last now_middle f l K fe le me fs ls ms f_some f_none l_some l_none = record {
+  first_some = λ j jl h. elim (nat_cases j k) [
+    | inl q ↦ subst (λ v. (s : ℕ) × (s < n) × (starts s ≡ true) × (leads_in strict (number s) v ≡ true)) (sym q) (f_some (sym fe ∙ (sym (ap now_first q) ∙ h)))
+    | inr ne ↦ K.first_some j (omega arith) (sym (fs j ne) ∙ h)
+  ];
+  first_none = λ j s jl h sl sh. elim (nat_cases j k) [
+    | inl q ↦ subst (λ v. leads_in strict (number s) v ≡ false) (sym q) (f_none (sym fe ∙ (sym (ap now_first q) ∙ h)) s sl sh)
+    | inr ne ↦ K.first_none j s (omega arith) (sym (fs j ne) ∙ h) sl sh
+  ];
+  last_some = λ j jl h. elim (nat_cases j k) [
+    | inl q ↦ subst (λ v. (e : ℕ) × (e < n) × (ends e ≡ true) × (leads_in strict v (number e) ≡ true)) (sym q) (l_some (sym le ∙ (sym (ap now_last q) ∙ h)))
+    | inr ne ↦ K.last_some j (omega arith) (sym (ls j ne) ∙ h)
+  ];
+  last_none = λ j e jl h el eh. elim (nat_cases j k) [
+    | inl q ↦ subst (λ v. leads_in strict v (number e) ≡ false) (sym q) (l_none (sym le ∙ (sym (ap now_last q) ∙ h)) e el eh)
+    | inr ne ↦ K.last_none j e (omega arith) (sym (ls j ne) ∙ h) el eh
+  ];
+  others = λ j jl. elim (nat_cases j k) [
+    | inl q ↦ ap now_middle q ∙ (me ∙ (ap (λ v. not v && not l) (sym (ap now_first q ∙ fe)) ∙ ap (λ v. not (now_first j) && not v) (sym (ap now_last q ∙ le))))
+    | inr ne ↦ ms j ne ∙ (K.others j (omega arith) ∙ (ap (λ v. not v && not (last j)) (sym (fs j ne)) ∙ ap (λ v. not (now_first j) && not v) (sym (ls j ne))))
+  ];
+}

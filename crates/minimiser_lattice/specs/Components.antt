@@ -1,0 +1,53 @@
+-- What the arrays of the components mean.
+use Rattle.std.specs.Prelude.{ℕ, ◌≡◌, ◌≢◌, ◌⊎◌, ◌||◌, nat_eq, Bool, true, vec_len, slice_index}
+use Rattle.exchange_graph.specs.Marks.{members_of}
+use Rattle.minimiser_lattice.specs.Bits.{IsSized, IsBitSet, IsJoined, bit_in}
+use Rattle.minimiser_lattice.specs.Paths.{State}
+use Rattle.minimiser_lattice.specs.declared.components.Components.{Components}
+
+-- how many places there are
+abbrev pub places : Components → ℕ
+places c = vec_len c.seen
+
+-- the number of a place's component
+abbrev pub number_of : Components → ℕ → ℕ
+number_of c y = slice_index c.number.items y
+
+abbrev pub state_of : Components → State
+state_of c = record {
+  seen = members_of c.seen.items;
+  done = members_of c.done.items;
+  number = λ y. slice_index c.number.items y;
+  position = λ y. slice_index c.position.items y;
+  next = λ y. slice_index c.next.items y;
+  stack = λ i. slice_index c.stack.items i;
+  base = λ g. slice_index c.base.items g;
+  path = λ d. slice_index c.path.items d;
+  strict = bit_in c.strict;
+  height = c.height;
+  groups = c.groups;
+  depth = c.depth;
+  count = c.count;
+}
+
+-- each array has an item for each place, and the table a row
+pub record IsStored (c : Components) : Type 0 where
+  pub done : vec_len c.done ≡ places c
+  pub number : vec_len c.number ≡ places c
+  pub position : vec_len c.position ≡ places c
+  pub next : vec_len c.next ≡ places c
+  pub stack : vec_len c.stack ≡ places c
+  pub base : vec_len c.base ≡ places c
+  pub path : vec_len c.path ≡ places c
+  pub strict : IsSized c.strict
+  pub size : c.strict.size ≡ places c
+
+-- whether component k is l, or leads to it
+abbrev pub leads_in : (ℕ → ℕ → Bool) → ℕ → ℕ → Bool
+leads_in strict k l = nat_eq k l || strict k l
+
+-- row `own` leads to `other`: nothing is to be done, or it gets the row of `other`, and `other` itself
+abbrev pub IsLed : (ℕ → ℕ → Bool) → (ℕ → ℕ → Bool) → ℕ → ℕ → ℕ → Type 0
+IsLed before now n own other =
+    (((other ≡ own) ⊎ (before own other ≡ true)) × (now ≡ before))
+    ⊎ ((other ≢ own) × ((joined : ℕ → ℕ → Bool) × IsJoined before joined (before other) n own × IsBitSet joined now n own other))

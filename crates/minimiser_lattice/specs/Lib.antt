@@ -1,0 +1,6 @@
+pub mod Bits
+pub mod Paths
+pub mod Components
+pub mod Listings
+pub mod Parts
+pub mod Views

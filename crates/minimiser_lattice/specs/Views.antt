@@ -1,0 +1,63 @@
+-- The parts that components and their listing tell.
+use Rattle.std.specs.Prelude.{ℕ, ◌<◌, ◌≤◌, Bool, List, ◌&&◌, not, nat_lt, slice_index}
+use Rattle.exchange_graph.specs.Marks.{members_of}
+use Rattle.minimiser_lattice.specs.Bits.{bit_of}
+use Rattle.minimiser_lattice.specs.Components.{IsStored, number_of, places}
+use Rattle.minimiser_lattice.specs.Listings.{IsOpened}
+use Rattle.minimiser_lattice.specs.Parts.{Parts}
+use Rattle.minimiser_lattice.specs.declared.components.Components.{Components}
+use Rattle.minimiser_lattice.specs.declared.listing.Listing.{Listing}
+
+abbrev pub parts_from : ℕ → (ℕ → ℕ) → (ℕ → Bool) → (ℕ → Bool) → (ℕ → ℕ) → (ℕ → ℕ) → ℕ → (ℕ → ℕ → Bool) → (ℕ → ℕ → Bool) → Parts
+parts_from n number first last rank listed blocks strict between = record {
+  places = n;
+  first = λ x. first (number x);
+  last = λ x. last (number x);
+  block = λ x. rank (number x);
+  blocks = blocks;
+  below = λ k l. strict (listed l) (listed k);
+  covers = λ l k. (nat_lt k blocks && nat_lt l blocks) && (strict (listed l) (listed k) && not (between (listed l) (listed k)));
+}
+
+-- what a lattice keeps: how many places there are, the number of each place's component; of each component whether it is
+-- of the first part or the last, and its block; the component of each block and how many blocks there are; and the words
+-- of two squares of bits, with how many make a row: which component leads to which, and between which a third one stands
+pub record Kept : Type 0 where
+  pub places : ℕ
+  pub number : List ℕ
+  pub first : List Bool
+  pub last : List Bool
+  pub rank : List ℕ
+  pub listed : List ℕ
+  pub blocks : ℕ
+  pub strict : List ℕ
+  pub strict_width : ℕ
+  pub between : List ℕ
+  pub between_width : ℕ
+
+abbrev pub kept_of : Components → Listing → Kept
+kept_of c l = record {
+  places = places c;
+  number = c.number.items;
+  first = l.first.items;
+  last = l.last.items;
+  rank = l.rank.items;
+  listed = l.listed.items;
+  blocks = l.blocks;
+  strict = c.strict.words.items;
+  strict_width = c.strict.width;
+  between = l.between.words.items;
+  between_width = l.between.width;
+}
+
+-- the parts that these tell
+abbrev pub parts_in : Kept → Parts
+parts_in v = parts_from v.places (λ x. slice_index v.number x) (members_of v.first) (members_of v.last) (λ k. slice_index v.rank k) (λ j. slice_index v.listed j) v.blocks (bit_of v.strict v.strict_width) (bit_of v.between v.between_width)
+
+-- all that is read stands in the arrays
+pub record IsKept (c : Components) (l : Listing) : Type 0 where
+  pub stored : IsStored c
+  pub opened : IsOpened l (places c)
+  pub numbers : (x : ℕ) → x < places c → number_of c x < places c
+  pub fits : l.blocks ≤ places c
+  pub listed : (j : ℕ) → j < l.blocks → slice_index l.listed.items j < places c

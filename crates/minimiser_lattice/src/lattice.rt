@@ -1,0 +1,110 @@
+ghost use Rattle.std.specs.Prelude.{◌≡◌, ℕ, ◌<◌, Bool, length, IfOk};
+ghost use Rattle.exchange_graph.specs.Marks.{members_of};
+ghost use Rattle.minimiser_lattice.specs.Parts.{IsLattice, part_in};
+ghost use Rattle.minimiser_lattice.specs.Views.{Kept, parts_in};
+
+use crate::components::Components;
+use crate::listing::Listing;
+use exchange_graph::{Arcs, NoMemory};
+use std::alloc::Global;
+use std::marker::Model;
+
+/// Where a place stands: it is reached from a start, or it reaches an end, or it is of a block, the blocks being
+/// numbered from 0.
+#[derive(Clone, Copy, PartialEq, Eq, Debug)]
+pub enum Part {
+    First,
+    Block(usize),
+    Last,
+}
+
+/// The parts of arcs and their order, in memory that is taken once. It can be filled again and again; before the first
+/// time its parts are those of no arcs.
+#[derive(Drop)]
+pub struct Lattice {
+    components: Components,
+    listing: Listing,
+}
+
+impl Model for Lattice {
+    ghost use Rattle.minimiser_lattice.specs.Views.{IsKept, Kept, kept_of};
+
+    ghost Value = { Kept };
+
+    ghost view = { λ l. kept_of l.components l.listing };
+
+    ghost invariant = { λ l. IsKept l.components l.listing };
+}
+
+impl Lattice {
+    /// Room for the parts of the places below n: it takes all the memory that the lattice will use.
+    pub fn open(alloc: Global, n: usize) -> Result<Self, NoMemory>
+        ensures { IfOk result (λ l. l.places ≡ n) }
+    {
+        Ok(Lattice {
+            components: Components::open(alloc, n)?,
+            listing: Listing::open(alloc, n)?,
+        })
+    }
+
+    /// Finds the parts of the arcs: the first one is what is reached from the starts, the last one what reaches an end,
+    /// and two other places share a block where each reaches the other. Blocks are numbered so that each stands after
+    /// those below it, which are those that it reaches; where several could stand next, the one with the least place
+    /// does. A place of both the first part and the last, where an end is reached from a start, is told as of the first.
+    ///
+    /// It asks for each arc twice, and once more for each arc along which it first comes to a place.
+    pub fn fill<A: Arcs>(&mut self, arcs: &A, starts: &[bool], ends: &[bool])
+        requires places { A.places arcs.now ≡ self.old.places }
+        requires starts { length starts.now ≡ self.old.places }
+        requires ends { length ends.now ≡ self.old.places }
+        ensures lattice { IsLattice (A.leads arcs.now) self.old.places (members_of starts.now) (members_of ends.now) (parts_in self.new) }
+        ensures places { self.new.places ≡ self.old.places }
+    {
+        self.components.fill(arcs);
+        self.listing.mark(&self.components, starts, ends);
+        self.listing.list(&self.components);
+        self.listing.cover(&self.components);
+    }
+
+    /// Where a place stands.
+    pub fn part_of(&self, place: usize) -> Part
+        requires { place < self.now.places }
+        ensures { result ≡ part_in (parts_in self.now) place }
+    {
+        let k = self.components.number[place];
+        if self.listing.first[k] {
+            Part::First
+        } else if self.listing.last[k] {
+            Part::Last
+        } else {
+            Part::Block(self.listing.rank[k])
+        }
+    }
+
+    /// How many blocks there are.
+    pub fn blocks(&self) -> usize
+        ensures { result ≡ (parts_in self.now).blocks }
+    {
+        self.listing.blocks
+    }
+
+    /// Whether block k is another one than l and below it.
+    pub fn below(&self, k: usize, l: usize) -> bool
+        requires k { k < (parts_in self.now).blocks }
+        requires l { l < (parts_in self.now).blocks }
+        ensures { result ≡ (parts_in self.now).below k l }
+    {
+        let (low, high) = (self.listing.listed[k], self.listing.listed[l]);
+        self.components.strict.get(high, low)
+    }
+
+    /// Whether block k is below block l with none between.
+    pub fn covers(&self, k: usize, l: usize) -> bool
+        requires k { k < (parts_in self.now).blocks }
+        requires l { l < (parts_in self.now).blocks }
+        ensures { result ≡ (parts_in self.now).covers l k }
+    {
+        let (low, high) = (self.listing.listed[k], self.listing.listed[l]);
+        self.components.strict.get(high, low) && !self.listing.between.get(high, low)
+    }
+}

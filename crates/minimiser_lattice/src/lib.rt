@@ -1,0 +1,13 @@
+//! The blocks of arcs, their order and their listing, in memory that is taken once (Murota, chapter 2: decompositions by
+//! minimisers).
+#![tactic(auto)]
+
+mod bits;
+mod components;
+mod lattice;
+mod listing;
+
+pub use lattice::{Lattice, Part};
+
+#[cfg(test)]
+mod tests;

@@ -1,0 +1,2 @@
+pub mod LayeredValues
+pub mod LayeringLaws

@@ -1,0 +1,4 @@
+pub mod RemovalLaws
+pub mod MinimiserTests
+pub mod PartTests
+pub mod Examples
