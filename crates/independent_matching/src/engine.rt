@@ -19,8 +19,8 @@ use mixed_model::Layered;
 use residue_field::{Field, Res};
 use row_transform::{DenseTableau, Tableau};
 use std::alloc::Global;
-use std::marker::Model;
-use std::sync::ledger::Ledger;
+use std::marker::{Brand, Model};
+use std::sync::ledger::{Blank, Ledger};
 
 /// A pair of a layered matrix, independent columns of Q and other columns matched in T, that `run` makes best. Rows
 /// and columns are counted from 0. (Murota 2000, chapter 2, independent matching; chapter 4.)
@@ -63,7 +63,11 @@ impl<F: Field, T: Tableau<F>> Engine<F, T> {
     /// Searches once for a shortest walk from a free column to an end. Where there is one, the pair grows by a column
     /// along it, from its end backwards; else the pair is best and stays. A step is a look at a column in the search,
     /// at most one for each column, or a pivot, at most as many as there were base columns and one.
-    pub fn improve<L: Ledger>(&mut self, steps: &mut Steps<L>) -> bool
+    pub fn improve<L: Ledger, M: Ledger>(
+        &mut self,
+        searches: &mut Steps<M>,
+        steps: &mut Steps<L>,
+    ) -> bool
         ensures same { (q : ℕ → ℕ → ℕ) → layers q (T.state self.new.tableau) self.new.matching ≡ layers q (T.state self.old.tableau) self.old.matching }
         ensures entries { (q : ℕ → ℕ → ℕ) → AreEntries F.modulus (T.state self.old.tableau) q → AreEntries F.modulus (T.state self.new.tableau) q }
         ensures grown { IsTrue result → size_of (T.state self.new.tableau) self.new.matching ≡ size_of (T.state self.old.tableau) self.old.matching + 1 }
@@ -71,13 +75,14 @@ impl<F: Field, T: Tableau<F>> Engine<F, T> {
         ensures solved { IsFalse result → (q : ℕ → ℕ → ℕ) → AreEntries F.modulus (T.state self.new.tableau) q → IsSolved F.modulus (layers q (T.state self.new.tableau) self.new.matching) (tableau_of (T.state self.new.tableau) self.new.matching) (reached_of self.new.found) }
         ensures kept { IsFalse result → (self.new.tableau ≡ self.old.tableau) × (self.new.matching ≡ self.old.matching) }
         ensures looks { IsFalse result → steps.new ≤ steps.old + (T.state self.old.tableau).columns }
+        ensures searches { searches.new ≡ searches.old + 1 }
     {
-        self.improver.improve(steps)
+        self.improver.improve(searches, steps)
     }
 
-    /// Ends with a best pair: it improves the pair until the search finds no walk.
+    /// Ends with a best pair: it improves the pair until a search finds no walk.
     ///
-    /// So there are m - s + 1 searches from a pair of s columns to one of m, and over n columns at most as many steps as
+    /// From a pair of s columns to one of m, over n columns, there are m - s + 1 searches, and at most as many steps as
     /// `AreFewSteps` says: from the empty pair (m + 1) n + m m.
     pub fn run<L: Ledger>(&mut self, steps: &mut Steps<L>)
         ensures same { (q : ℕ → ℕ → ℕ) → layers q (T.state self.new.tableau) self.new.matching ≡ layers q (T.state self.old.tableau) self.old.matching }
@@ -85,7 +90,35 @@ impl<F: Field, T: Tableau<F>> Engine<F, T> {
         ensures solved { (q : ℕ → ℕ → ℕ) → AreEntries F.modulus (T.state self.new.tableau) q → IsSolved F.modulus (layers q (T.state self.new.tableau) self.new.matching) (tableau_of (T.state self.new.tableau) self.new.matching) (reached_of self.new.found) }
         ensures steps { AreFewSteps (T.state self.old.tableau).columns (size_of (T.state self.old.tableau) self.old.matching) (size_of (T.state self.new.tableau) self.new.matching) steps.old steps.new }
     {
-        self.improver.run(steps);
+        self.run_from::<L, Brand>(Blank::new(1), steps);
+    }
+
+    // Counts the searches by a counter of its own, which is not asked for.
+    fn run_from<L: Ledger, M: Ledger>(&mut self, blank: Blank, steps: &mut Steps<L>)
+        requires name { blank.name ≡ M.name }
+        requires parts { blank.parts ≡ M.parts }
+        requires some { 0 < blank.parts }
+        ensures same { (q : ℕ → ℕ → ℕ) → layers q (T.state self.new.tableau) self.new.matching ≡ layers q (T.state self.old.tableau) self.old.matching }
+        ensures entries { (q : ℕ → ℕ → ℕ) → AreEntries F.modulus (T.state self.old.tableau) q → AreEntries F.modulus (T.state self.new.tableau) q }
+        ensures solved { (q : ℕ → ℕ → ℕ) → AreEntries F.modulus (T.state self.new.tableau) q → IsSolved F.modulus (layers q (T.state self.new.tableau) self.new.matching) (tableau_of (T.state self.new.tableau) self.new.matching) (reached_of self.new.found) }
+        ensures steps { AreFewSteps (T.state self.old.tableau).columns (size_of (T.state self.old.tableau) self.old.matching) (size_of (T.state self.new.tableau) self.new.matching) steps.old steps.new }
+    {
+        self.run_counted(&mut Steps::<M>::new(blank), steps);
+    }
+
+    /// The same, with a count of the searches.
+    pub fn run_counted<L: Ledger, M: Ledger>(
+        &mut self,
+        searches: &mut Steps<M>,
+        steps: &mut Steps<L>,
+    )
+        ensures same { (q : ℕ → ℕ → ℕ) → layers q (T.state self.new.tableau) self.new.matching ≡ layers q (T.state self.old.tableau) self.old.matching }
+        ensures entries { (q : ℕ → ℕ → ℕ) → AreEntries F.modulus (T.state self.old.tableau) q → AreEntries F.modulus (T.state self.new.tableau) q }
+        ensures solved { (q : ℕ → ℕ → ℕ) → AreEntries F.modulus (T.state self.new.tableau) q → IsSolved F.modulus (layers q (T.state self.new.tableau) self.new.matching) (tableau_of (T.state self.new.tableau) self.new.matching) (reached_of self.new.found) }
+        ensures steps { AreFewSteps (T.state self.old.tableau).columns (size_of (T.state self.old.tableau) self.old.matching) (size_of (T.state self.new.tableau) self.new.matching) steps.old steps.new }
+        ensures searches { searches.new + size_of (T.state self.old.tableau) self.old.matching ≡ searches.old + size_of (T.state self.new.tableau) self.new.matching + 1 }
+    {
+        self.improver.run(searches, steps);
     }
 
     /// How many columns the pair has.

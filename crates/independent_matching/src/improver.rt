@@ -133,7 +133,11 @@ impl<F: Field, T: Tableau<F>> Improver<F, T> {
     }
 
     // Makes the pair larger by one column, or finds that it is best.
-    pub fn improve<L: Ledger>(&mut self, steps: &mut Steps<L>) -> bool
+    pub fn improve<L: Ledger, M: Ledger>(
+        &mut self,
+        searches: &mut Steps<M>,
+        steps: &mut Steps<L>,
+    ) -> bool
         requires ready { IsReady F.modulus (T.state self.old.pair.tableau) self.old.pair.mates self.old.search.places self.old.free.items self.old.ends.items self.old.size }
         ensures ready { IsReady F.modulus (T.state self.new.pair.tableau) self.new.pair.mates self.new.search.places self.new.free.items self.new.ends.items self.new.size }
         ensures layers { layers_of (T.state self.new.pair.tableau) self.new.pair.mates ≡ layers_of (T.state self.old.pair.tableau) self.old.pair.mates }
@@ -143,7 +147,9 @@ impl<F: Field, T: Tableau<F>> Improver<F, T> {
         ensures no_walk { IsFalse result → HasNoWalk F.modulus (layers_of (T.state self.new.pair.tableau) self.new.pair.mates) (tableau_of (T.state self.new.pair.tableau) self.new.pair.mates) }
         ensures reached { IsFalse result → IsReachedFromFree F.modulus (layers_of (T.state self.new.pair.tableau) self.new.pair.mates) (tableau_of (T.state self.new.pair.tableau) self.new.pair.mates) (reached_of self.new.search) }
         ensures looks { IsFalse result → steps.new ≤ steps.old + (T.state self.old.pair.tableau).columns }
+        ensures searches { searches.new ≡ searches.old + 1 }
     {
+        searches.tick();
         match self
             .search
             .shortest(&self.pair, &self.free, &self.ends, steps)
@@ -160,17 +166,18 @@ impl<F: Field, T: Tableau<F>> Improver<F, T> {
     }
 
     // Ends with a best pair.
-    pub fn run<L: Ledger>(&mut self, steps: &mut Steps<L>)
+    pub fn run<L: Ledger, M: Ledger>(&mut self, searches: &mut Steps<M>, steps: &mut Steps<L>)
         requires ready { IsReady F.modulus (T.state self.old.pair.tableau) self.old.pair.mates self.old.search.places self.old.free.items self.old.ends.items self.old.size }
         ensures ready { IsReady F.modulus (T.state self.new.pair.tableau) self.new.pair.mates self.new.search.places self.new.free.items self.new.ends.items self.new.size }
         ensures layers { layers_of (T.state self.new.pair.tableau) self.new.pair.mates ≡ layers_of (T.state self.old.pair.tableau) self.old.pair.mates }
         ensures no_walk { HasNoWalk F.modulus (layers_of (T.state self.new.pair.tableau) self.new.pair.mates) (tableau_of (T.state self.new.pair.tableau) self.new.pair.mates) }
         ensures reached { IsReachedFromFree F.modulus (layers_of (T.state self.new.pair.tableau) self.new.pair.mates) (tableau_of (T.state self.new.pair.tableau) self.new.pair.mates) (reached_of self.new.search) }
         ensures steps { AreFewSteps (T.state self.old.pair.tableau).columns (size_of (T.state self.old.pair.tableau) self.old.pair.mates) (size_of (T.state self.new.pair.tableau) self.new.pair.mates) steps.old steps.new }
+        ensures searches { searches.new + size_of (T.state self.old.pair.tableau) self.old.pair.mates ≡ searches.old + size_of (T.state self.new.pair.tableau) self.new.pair.mates + 1 }
     {
         let mut grown = true;
         while grown {
-            grown = self.improve(steps);
+            grown = self.improve(searches, steps);
         }
     }
 }

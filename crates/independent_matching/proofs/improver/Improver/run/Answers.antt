@@ -38,6 +38,8 @@ loop-grown-preserved g c =
           (I.going c.loop-grown-test.true) (omega (arith, E.pivots t, ap (λ (L : Layered). L.columns) I.layers)) (base-bound S M) (E.size t);
       no_walk = E.no_walk;
       reached = E.reached;
+      asked = λ t. omega (arith, E.searches, I.asked c.loop-grown-test.true, E.size t);
+      searched = λ f. omega (arith, E.searches, I.asked c.loop-grown-test.true, ap (λ q. size_of (g.T.Tableau.state q.tableau) q.mates) (E.pair f));
       count = λ f. run-count N s (size_of S M) (size_of S' M') c.args.steps.now c.loop-grown.steps c.improve-grown.new.steps
           (I.going c.loop-grown-test.true) (omega (arith, E.looks f, ap (λ (L : Layered). L.columns) I.layers)) (ap (λ q. size_of (g.T.Tableau.state q.tableau) q.mates) (E.pair f));
     }

@@ -18,6 +18,8 @@ invariant-loop-grown g l =
       going : IsTrue l.grown → l.steps + (size_of S₀ M₀ * S₀.columns + size_of S₀ M₀ * size_of S₀ M₀) ≤ l.fn.steps + size_of S M * S₀.columns + size_of S M * size_of S M;
       no_walk : IsFalse l.grown → HasNoWalk p (layers_of S M) (tableau_of S M);
       reached : IsFalse l.grown → IsReachedFromFree p (layers_of S M) (tableau_of S M) (reached_of l.self.search);
+      asked : IsTrue l.grown → l.searches + size_of S₀ M₀ ≡ l.fn.searches + size_of S M;
+      searched : IsFalse l.grown → l.searches + size_of S₀ M₀ ≡ l.fn.searches + size_of S M + 1;
       count : IsFalse l.grown → AreFewSteps S₀.columns (size_of S₀ M₀) (size_of S M) l.fn.steps l.steps;
     }
 
