@@ -6,6 +6,7 @@ mod certificate;
 mod digits;
 mod items;
 mod kind;
+pub mod laws;
 mod lines;
 mod lists;
 mod numbers;
