@@ -1,11 +1,8 @@
 -- What is right keeps the rules.
-use Rattle.std.proofs.Common.{◌≡◌, ℕ, ◌+◌, ◌<◌, ◌≤◌, true, eqb, inl, inr, List, [], ◌∷◌, length, map, get_or, ◌↔◌, refl, ap, sym, subst, ◌∙◌, arith}
-use Rattle.std.specs.List.{All}
-use Rattle.std.proofs.lemmas.List.{get_or-map, get_or_past, length-map}
-use Rattle.std.proofs.lemmas.List.Elements.{All-head, All-tail}
+use Rattle.std.proofs.Common.{◌≡◌, ℕ, ◌+◌, ◌<◌, ◌≤◌, true, eqb, length, ◌↔◌, refl, ap, sym, subst, ◌∙◌, arith}
 use Rattle.residue_theory.specs.Residues.{IsPrime}
 use Rattle.residue_theory.specs.Sets.{everything}
-use Rattle.residue_theory.proofs.SetLaws.{differ, either_cases, eqb_true, eqb_from, lt_cases, some_below-holds}
+use Rattle.residue_theory.proofs.SetLaws.{eqb_from, some_below-holds}
 use Rattle.linear_algebra.specs.Columns.{IsRank}
 use Rattle.linear_algebra_laws.proofs.Ranks.{rank_exists}
 use Rattle.mixed_matrices.specs.CanonicalParts.{IsBlockBelow}
@@ -21,34 +18,12 @@ use Rattle.mixed_pairs.proofs.TableauParts.{tableau}
 use Rattle.mixed_layering_laws.proofs.LayeringRank.{layering-law}
 use Rattle.mixed_forms.proofs.RightParts.{right-kept}
 use Rattle.cert_text.specs.Contents.{Contents}
-use Rattle.cert_text.specs.declared.part.CcfBlock.{CcfBlock}
 use Rattle.cert_text.specs.Ranges.{IsCcf}
-use Rattle.cert_text.specs.Readings.{matrix_of, has, pair_at, has_column, row_with, tableau_of, parts_of, lower_of}
+use Rattle.cert_text.specs.Readings.{matrix_of, pair_at, has_column, row_with, tableau_of, parts_of, lower_of}
 use Rattle.cert_text.specs.Right.{IsRightCcf}
-use Rattle.cert_text.specs.Rules.{KeepsRules}
+use Rattle.cert_text.proofs.PrintedRules.{KeepsPrintedRules, lower-before}
 use Rattle.cert_text.proofs.PairLists.{has-found}
 use Rattle.cert_text.proofs.RightFacts.{printed-base, printed-size}
-
--- a number that a list holds is below what all its numbers are below
-has-below : (n : ℕ) (xs : List ℕ) (k : ℕ) → All (λ x. x < n) xs → has xs k ≡ true → k < n
-has-below n [] k all h = absurd (differ refl h)
-has-below n (x ∷ xs) k all h = elim (either_cases (eqb x k) (has xs k) h) [
-  | inl here ↦ subst (λ y. y < n) (eqb_true x k here) (All-head (λ y. y < n) x xs all)
-  | inr later ↦ has-below n xs k (All-tail (λ y. y < n) x xs all) later
-]
-
--- the blocks of a lower list stand before its own
-lower-before : (c : Contents) → IsCcf c → (k l : ℕ) → lower_of c l k ≡ true → (k < length c.blocks) × (l < length c.blocks)
-lower-before c is k l h = elim (lt_cases l (length c.blocks)) [
-  | inl low ↦
-      let none : CcfBlock = record { part = record { columns = []; q_rows = []; t_rows = [] }; lower = [] } in
-      let same : get_or (map (λ (block : CcfBlock). block.lower) c.blocks) l [] ≡ (get_or c.blocks l none).lower = get_or-map (λ (block : CcfBlock). block.lower) c.blocks l none [] low in
-      let before : k < l = has-below l (get_or c.blocks l none).lower k ((is.blocks l none low).lower).below (subst (λ list. has list k ≡ true) same h) in
-      (omega (arith, before, low), low)
-  | inr high ↦
-      let same : get_or (map (λ (block : CcfBlock). block.lower) c.blocks) l [] ≡ [] = get_or_past (map (λ (block : CcfBlock). block.lower) c.blocks) l [] (subst (λ n. n ≤ l) (sym (length-map c.blocks (λ (block : CcfBlock). block.lower))) high) in
-      absurd (differ refl (subst (λ list. has list k ≡ true) same h))
-]
 
 right-tableau : (p : ℕ) (M : Mixed) (L : Layered) (O : Origins) (c : Contents) → IsCcf c → IsRightCcf p M L O c → IsTableau p L (matrix_of c.s) (matrix_of c.u) (tableau_of c)
 right-tableau p M L O c is R = record {
@@ -92,7 +67,7 @@ right-best p prime big M L O lay c is R A B mate pair =
 right-count : (rank n u s b m : ℕ) → b + m ≡ rank + s → n ≡ u + s → rank + n ≡ u + (b + m)
 right-count rank n u s b m size columns = omega arith
 
-pub right-rules : (p : ℕ) → IsPrime p → 2 < p → (M : Mixed) (L : Layered) (O : Origins) → IsLayeredMatrixOf M L O → (c : Contents) → IsCcf c → IsRightCcf p M L O c → KeepsRules p M L c
+pub right-rules : (p : ℕ) → IsPrime p → 2 < p → (M : Mixed) (L : Layered) (O : Origins) → IsLayeredMatrixOf M L O → (c : Contents) → IsCcf c → IsRightCcf p M L O c → KeepsPrintedRules p M L c
 right-rules p prime big M L O lay c is R = record {
   shape = R.shape;
   inverse = (R.transform).inverse;
@@ -107,7 +82,8 @@ right-rules p prime big M L O lay c is R = record {
     below = (R.ideals).below;
     parts = right-kept p prime L (matrix_of c.s) (matrix_of c.u) (tableau_of c) tab
         (best-clear p prime L (tableau_of c) (tableau p prime L (matrix_of c.s) (matrix_of c.u) (tableau_of c) tab) (right-best p prime big M L O lay c is R))
-        (parts_of c) (R.block_triangular_form).form (R.canonical_listing).parts (R.ideals).below (lower_of c) ordered (R.canonical_listing).lists (lower-before c is);
+        (parts_of c) (R.block_triangular_form).form (R.canonical_listing).parts (R.ideals).below (lower_of c) ordered (R.canonical_listing).lists
+        (λ k l h. let at = lower-before c is k l h in (omega (arith, at.0, at.1), at.1));
   };
 }
   where
