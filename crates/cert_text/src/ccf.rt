@@ -1,0 +1,274 @@
+ghost use Rattle.std.specs.Prelude.{◌≡◌, ◌<◌, ℕ, ◌≤◌, length, slice_index_or};
+ghost use Rattle.cert_text.specs.Contents.{Contents};
+ghost use Rattle.cert_text.specs.Ranges.{IsCcf, AreSmall, AreSmallPairs, HasSmallKeys, IsSmallPart, AreSmallBlocks};
+ghost use Rattle.std.specs.List.{All};
+ghost use Rattle.cert_text.specs.Texts.{contents_text, shape_text, pair_text, matrices_text, parts_text};
+ghost use Rattle.cert_text.specs.Writing.{IsPut};
+
+use crate::items::Items;
+use crate::lines::{put_blocks, put_matrix, put_pattern, put_tail};
+use crate::lists::put_pairs;
+use crate::numbers::{put_number, put_piece};
+use crate::part::{CcfBlock, CcfPart};
+use crate::shape::Shape;
+use port_io::{PieceBuffer, Sink, WriteFault};
+use residue_field::Res;
+use std::marker::Model;
+
+/// A printed combinatorial canonical form of a layered matrix: what a certificate has besides the input. (Murota, chapter
+/// 4.) With Q rows of constants, T rows of symbols and N columns, all counted from 0:
+///
+/// - `rank`, the structural rank of the model, at most 8,192;
+/// - `base`, Q rows and their base columns, by rising row;
+/// - `mates`, T rows and their matched columns, by rising row;
+/// - `s`, `u` (Q x Q) and `p` (Q x N), for each row the columns and numbers of its entries that are not 0, by rising column;
+/// - `t` (T x N), for each row the columns of its symbols, rising;
+/// - `first`, `blocks` and `last`, the parts; each block has a column, and its lower blocks stand before it.
+#[derive(Drop)]
+pub struct Ccf {
+    shape: Shape,
+    rank: usize,
+    base: Items<(usize, usize)>,
+    mates: Items<(usize, usize)>,
+    s: Items<Items<(usize, Res)>>,
+    u: Items<Items<(usize, Res)>>,
+    p: Items<Items<(usize, Res)>>,
+    t: Items<Items<usize>>,
+    first: CcfPart,
+    blocks: Items<CcfBlock>,
+    last: CcfPart,
+}
+
+impl Model for Ccf {
+    ghost use Rattle.cert_text.specs.Contents.{Contents};
+    ghost use Rattle.cert_text.specs.Ranges.{IsCcf};
+
+    ghost Value = { Contents };
+
+    ghost view = { λ c. record { shape = c.shape; rank = c.rank; base = c.base; mates = c.mates; s = c.s; u = c.u; p = c.p; t = c.t; first = c.first; blocks = c.blocks; last = c.last } };
+
+    ghost invariant = { λ c. IsCcf (record { shape = c.shape; rank = c.rank; base = c.base; mates = c.mates; s = c.s; u = c.u; p = c.p; t = c.t; first = c.first; blocks = c.blocks; last = c.last }) };
+}
+
+impl Ccf {
+    /// The form with these lines. It takes no memory.
+    pub fn new(
+        shape: Shape,
+        rank: usize,
+        base: Items<(usize, usize)>,
+        mates: Items<(usize, usize)>,
+        s: Items<Items<(usize, Res)>>,
+        u: Items<Items<(usize, Res)>>,
+        p: Items<Items<(usize, Res)>>,
+        t: Items<Items<usize>>,
+        first: CcfPart,
+        blocks: Items<CcfBlock>,
+        last: CcfPart,
+    ) -> Ccf
+        requires { IsCcf (record { shape = shape; rank = rank; base = base; mates = mates; s = s; u = u; p = p; t = t; first = first; blocks = blocks; last = last }) }
+        ensures { result ≡ record { shape = shape; rank = rank; base = base; mates = mates; s = s; u = u; p = p; t = t; first = first; blocks = blocks; last = last } }
+    {
+        Ccf {
+            shape,
+            rank,
+            base,
+            mates,
+            s,
+            u,
+            p,
+            t,
+            first,
+            blocks,
+            last,
+        }
+    }
+
+    /// The numbers of equations, unknowns, rows and columns.
+    pub fn shape(&self) -> Shape
+        ensures shape { result ≡ self.now.shape }
+        ensures ccf { IsCcf self.now }
+    {
+        self.shape
+    }
+
+    /// The structural rank.
+    pub fn rank(&self) -> usize
+        ensures rank { result ≡ self.now.rank }
+        ensures ccf { IsCcf self.now }
+    {
+        self.rank
+    }
+
+    /// Q rows and their base columns, by rising row.
+    pub fn base(&self) -> &Items<(usize, usize)>
+        ensures base { result.now ≡ self.now.base }
+        ensures ccf { IsCcf self.now }
+    {
+        &self.base
+    }
+
+    /// T rows and their matched columns, by rising row.
+    pub fn mates(&self) -> &Items<(usize, usize)>
+        ensures mates { result.now ≡ self.now.mates }
+        ensures ccf { IsCcf self.now }
+    {
+        &self.mates
+    }
+
+    /// The rows of S, Q x Q: the columns and numbers of the entries that are not 0.
+    pub fn s(&self) -> &Items<Items<(usize, Res)>>
+        ensures s { result.now ≡ self.now.s }
+        ensures ccf { IsCcf self.now }
+    {
+        &self.s
+    }
+
+    /// The rows of U, Q x Q, the inverse of S.
+    pub fn u(&self) -> &Items<Items<(usize, Res)>>
+        ensures u { result.now ≡ self.now.u }
+        ensures ccf { IsCcf self.now }
+    {
+        &self.u
+    }
+
+    /// The rows of P, Q x N: S times the constants.
+    pub fn p(&self) -> &Items<Items<(usize, Res)>>
+        ensures p { result.now ≡ self.now.p }
+        ensures ccf { IsCcf self.now }
+    {
+        &self.p
+    }
+
+    /// The rows of T, T x N: the columns of the symbols.
+    pub fn t(&self) -> &Items<Items<usize>>
+        ensures t { result.now ≡ self.now.t }
+        ensures ccf { IsCcf self.now }
+    {
+        &self.t
+    }
+
+    /// The first tail.
+    pub fn first(&self) -> &CcfPart
+        ensures first { result.now ≡ self.now.first }
+        ensures ccf { IsCcf self.now }
+    {
+        &self.first
+    }
+
+    /// The blocks, in order.
+    pub fn blocks(&self) -> &Items<CcfBlock>
+        ensures blocks { result.now ≡ self.now.blocks }
+        ensures ccf { IsCcf self.now }
+    {
+        &self.blocks
+    }
+
+    /// The last tail.
+    pub fn last(&self) -> &CcfPart
+        ensures last { result.now ≡ self.now.last }
+        ensures ccf { IsCcf self.now }
+    {
+        &self.last
+    }
+
+    /// Puts the lines from the shape on.
+    pub(crate) fn put<K: Sink>(
+        &self,
+        buffer: &mut PieceBuffer,
+        out: &mut K,
+    ) -> Result<(), WriteFault>
+        ensures { IsPut (K.written out.old) buffer.old (K.faults out.old) (K.takes out.old) (K.written out.new) buffer.new (K.faults out.new) (K.takes out.new) (contents_text self.now) result }
+    {
+        put_shape(buffer, out, self.shape)?;
+        put_pair(
+            buffer,
+            out,
+            self.rank,
+            self.base.as_slice(),
+            self.mates.as_slice(),
+        )?;
+        put_matrices(
+            buffer,
+            out,
+            self.s.as_slice(),
+            self.u.as_slice(),
+            self.p.as_slice(),
+            self.t.as_slice(),
+        )?;
+        put_parts(buffer, out, &self.first, self.blocks.as_slice(), &self.last)?;
+        put_piece(buffer, out, b"end\n")
+    }
+}
+
+/// Puts the line of the shape.
+fn put_shape<K: Sink>(buffer: &mut PieceBuffer, out: &mut K, shape: Shape) -> Result<(), WriteFault>
+    ensures { IsPut (K.written out.old) buffer.old (K.faults out.old) (K.takes out.old) (K.written out.new) buffer.new (K.faults out.new) (K.takes out.new) (shape_text shape) result }
+{
+    put_piece(buffer, out, b"shape")?;
+    put_number(buffer, out, b' ', shape.equations as u64)?;
+    put_number(buffer, out, b' ', shape.unknowns as u64)?;
+    put_number(buffer, out, b' ', shape.q_rows as u64)?;
+    put_number(buffer, out, b' ', shape.t_rows as u64)?;
+    put_number(buffer, out, b' ', shape.columns as u64)?;
+    put_piece(buffer, out, b"\n")
+}
+
+/// Puts the lines of the rank, the base and the match.
+fn put_pair<K: Sink>(
+    buffer: &mut PieceBuffer,
+    out: &mut K,
+    rank: usize,
+    base: &[(usize, usize)],
+    mates: &[(usize, usize)],
+) -> Result<(), WriteFault>
+    requires base { AreSmallPairs base.now }
+    requires mates { AreSmallPairs mates.now }
+    ensures { IsPut (K.written out.old) buffer.old (K.faults out.old) (K.takes out.old) (K.written out.new) buffer.new (K.faults out.new) (K.takes out.new) (pair_text rank base.now mates.now) result }
+{
+    put_piece(buffer, out, b"rank")?;
+    put_number(buffer, out, b' ', rank as u64)?;
+    put_piece(buffer, out, b"\nbase")?;
+    put_pairs(buffer, out, base)?;
+    put_piece(buffer, out, b"\nmatch")?;
+    put_pairs(buffer, out, mates)?;
+    put_piece(buffer, out, b"\n")
+}
+
+/// Puts the lines of S, U, P and T.
+fn put_matrices<K: Sink>(
+    buffer: &mut PieceBuffer,
+    out: &mut K,
+    s: &[Items<(usize, Res)>],
+    u: &[Items<(usize, Res)>],
+    p: &[Items<(usize, Res)>],
+    t: &[Items<usize>],
+) -> Result<(), WriteFault>
+    requires s { All HasSmallKeys s.now }
+    requires u { All HasSmallKeys u.now }
+    requires p { All HasSmallKeys p.now }
+    requires t { All AreSmall t.now }
+    ensures { IsPut (K.written out.old) buffer.old (K.faults out.old) (K.takes out.old) (K.written out.new) buffer.new (K.faults out.new) (K.takes out.new) (matrices_text s.now u.now p.now t.now) result }
+{
+    put_matrix(buffer, out, b"S", s)?;
+    put_matrix(buffer, out, b"U", u)?;
+    put_matrix(buffer, out, b"P", p)?;
+    put_pattern(buffer, out, b"T", t)
+}
+
+/// Puts the lines of the parts.
+fn put_parts<K: Sink>(
+    buffer: &mut PieceBuffer,
+    out: &mut K,
+    first: &CcfPart,
+    blocks: &[CcfBlock],
+    last: &CcfPart,
+) -> Result<(), WriteFault>
+    requires first { IsSmallPart first.now }
+    requires blocks { AreSmallBlocks blocks.now }
+    requires last { IsSmallPart last.now }
+    ensures { IsPut (K.written out.old) buffer.old (K.faults out.old) (K.takes out.old) (K.written out.new) buffer.new (K.faults out.new) (K.takes out.new) (parts_text first.now blocks.now last.now) result }
+{
+    put_tail(buffer, out, b"first", first)?;
+    put_blocks(buffer, out, blocks)?;
+    put_tail(buffer, out, b"last", last)
+}

@@ -1,0 +1,75 @@
+ghost use Rattle.std.specs.Prelude.{◌≡◌, ℕ, ◌+◌, ◌≤◌, codes, length, IsOk, OnOk, IfErr};
+ghost use Rattle.port_io.specs.Bytes.{Appended};
+ghost use Rattle.port_io.specs.Causes.{HasCause};
+ghost use Rattle.cert_text.specs.Texts.{certificate_text, echo_text, kind_text};
+ghost use Rattle.cert_text.specs.Writing.{IsPut, IsCut};
+
+use crate::ccf::Ccf;
+use crate::items::Items;
+use crate::kind::Kind;
+use crate::numbers::{put_number, put_piece};
+use port_io::{PieceBuffer, Sink, WriteFault};
+
+/// A certificate: the kind of an input, the input itself, and the canonical form of its model.
+#[derive(Drop)]
+pub struct Certificate {
+    pub kind: Kind,
+    /// The input, at most 8,388,608 bytes.
+    pub echo: Items<u8>,
+    pub ccf: Ccf,
+}
+
+/// Appends the whole text of a certificate to the sink, in pieces of some KiB, and takes no memory. It does not flush.
+/// Where the sink fails, a first part of the text was appended, and `written` counts its bytes.
+pub fn write<K: Sink>(cert: &Certificate, out: &mut K) -> Result<(), WriteFault>
+    requires { length cert.now.echo ≤ 8388608 }
+    ensures whole { OnOk result (Appended (K.written out.old) (K.written out.new) (certificate_text cert.now)) }
+    ensures part { IfErr result (IsCut (K.written out.old) (K.written out.new) (certificate_text cert.now)) }
+    ensures cause { HasCause (K.faults out.old) (K.faults out.new) result }
+    ensures calm { K.takes out.old (length (certificate_text cert.now)) → (K.faults out.new ≡ K.faults out.old) × IsOk result × K.takes out.new 0 }
+{
+    let mut buffer = PieceBuffer::new();
+    put_certificate(&mut buffer, out, cert)?;
+    buffer.hand_on(out)
+}
+
+/// Puts the text of a certificate.
+fn put_certificate<K: Sink>(
+    buffer: &mut PieceBuffer,
+    out: &mut K,
+    cert: &Certificate,
+) -> Result<(), WriteFault>
+    ensures { IsPut (K.written out.old) buffer.old (K.faults out.old) (K.takes out.old) (K.written out.new) buffer.new (K.faults out.new) (K.takes out.new) (certificate_text cert.now) result }
+{
+    put_echo(buffer, out, cert.kind, cert.echo.as_slice())?;
+    cert.ccf.put(buffer, out)
+}
+
+/// Puts the version, the kind, the length and the echo.
+fn put_echo<K: Sink>(
+    buffer: &mut PieceBuffer,
+    out: &mut K,
+    kind: Kind,
+    echo: &[u8],
+) -> Result<(), WriteFault>
+    ensures { IsPut (K.written out.old) buffer.old (K.faults out.old) (K.takes out.old) (K.written out.new) buffer.new (K.faults out.new) (K.takes out.new) (echo_text kind echo.now) result }
+{
+    put_piece(buffer, out, b"mixed-certificate 1\nkind ")?;
+    put_piece(buffer, out, word_of(kind))?;
+    put_piece(buffer, out, b"\nlength")?;
+    put_number(buffer, out, b' ', echo.len() as u64)?;
+    put_piece(buffer, out, b"\n")?;
+    put_piece(buffer, out, echo)?;
+    put_piece(buffer, out, b"\n")
+}
+
+/// The word for a kind.
+fn word_of(kind: Kind) -> &'static [u8]
+    ensures { result.now ≡ kind_text kind }
+{
+    match kind {
+        Kind::Matrix => b"matrix",
+        Kind::Netlist => b"netlist",
+        Kind::Flowsheet => b"flowsheet",
+    }
+}

@@ -1,0 +1,21 @@
+//! Certificates as values, and their text.
+#![tactic(auto)]
+
+mod ccf;
+mod certificate;
+mod digits;
+mod items;
+mod kind;
+pub mod laws;
+mod lines;
+mod lists;
+mod numbers;
+mod part;
+mod shape;
+
+pub use ccf::Ccf;
+pub use certificate::{Certificate, write};
+pub use items::Items;
+pub use kind::Kind;
+pub use part::{CcfBlock, CcfPart};
+pub use shape::Shape;
