@@ -12,6 +12,8 @@ mod lists;
 mod numbers;
 mod part;
 mod shape;
+#[cfg(test)]
+mod tests;
 
 pub use ccf::Ccf;
 pub use certificate::{Certificate, write};

@@ -1,7 +1,9 @@
 ghost use Rattle.std.specs.Prelude.{◌≡◌, ◌≤◌, ℕ, ◌+◌, ◌*◌, ◌<◌, ◌%◌, Bool, false, IfOk, IsTrue, IsFalse, is_some, Option};
 ghost use Rattle.residue_theory.specs.Sums.{size_on};
 ghost use Rattle.dense_q.specs.Tables.{entry};
-ghost use Rattle.bipartite_matching.specs.Matchings.{mate_at};
+ghost use Rattle.std.specs.Prelude.{IfSome, IfNone};
+ghost use Rattle.sparse_t.specs.Incidences.{height};
+ghost use Rattle.bipartite_matching.specs.Matchings.{HasPair, IsMatching, IsRowFree, mate_at};
 ghost use Rattle.mixed_matrices.specs.Arcs.{is_end, is_free, leads_to};
 ghost use Rattle.exchange_graph.specs.Results.{reached_of};
 ghost use Rattle.residue_field.specs.Modulus.{res_modulus};
@@ -143,6 +145,17 @@ impl<F: Field, T: Tableau<F>> Engine<F, T> {
         ensures { result ≡ mate_at self.now.matching col }
     {
         self.improver.pair.mates.mate_of_col(col)
+    }
+
+    /// The column that the T row is matched with, if it is.
+    pub fn mate_of_row(&self, row: usize) -> Option<usize>
+        requires { row < height self.now.matching.pattern }
+        ensures some { IfSome result (λ col. HasPair self.now.matching row col) }
+        ensures below { IfSome result (λ col. col < (T.state self.now.tableau).columns) }
+        ensures none { IfNone result (IsRowFree self.now.matching row) }
+        ensures matching { IsMatching self.now.matching }
+    {
+        self.improver.pair.mates.mate_of_row(row)
     }
 
     /// Whether the column is free: not in the pair.

@@ -1,5 +1,5 @@
 -- A text has one first broken rule, or none.
-use Rattle.std.proofs.Common.{◌≡◌, ℕ, List, Option, Some, None, sym, ap, ◌∙◌, inl, inr}
+use Rattle.std.proofs.Common.{◌≡◌, ℕ, List, Some, None, sym, ap, ◌∙◌, inl, inr}
 use Rattle.std.proofs.lemmas.Bool.{cases_order}
 use Rattle.refusals.specs.declared.Why.{Why}
 use Rattle.line_lexer.specs.Lines.{lines_of}

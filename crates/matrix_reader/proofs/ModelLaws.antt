@@ -6,7 +6,7 @@ use Rattle.line_lexer.specs.Tokens.{words_of}
 use Rattle.mixed_model.specs.Models.{MixedModel, IsModel, constant_of, constant_at}
 use Rattle.mixed_model.proofs.ModelLaws.{same_models}
 use Rattle.matrix_reader.specs.EquationLists.{Equation, equations_in, unknowns_in}
-use Rattle.matrix_reader.specs.Models.{IsModelOf, GivesModel, said_of, items_at}
+use Rattle.matrix_reader.specs.Models.{IsModelOf, GivesModel, said_of, symbol_said, items_at}
 use Rattle.matrix_reader.proofs.ModelSteps.{constant_of-None}
 
 -- constants are the same where they are, 0 for none
@@ -26,6 +26,11 @@ one_model list names a b gives_a gives_b =
     (gives_a.constants_are i j here col
     ∙ ap (λ unknowns. said_of (items_at list i) (get_or unknowns j [])) unknowns
     ∙ sym (gives_b.constants_are i j here (omega (arith, ap length unknowns)))))
+    (λ i j at col.
+    let here : i < length list = omega (arith, ap length gives_a.equations_are, length-map list (λ (e : Equation). e.name)) in
+    gives_a.symbols_are i j here col
+    ∙ ap (λ unknowns. symbol_said (items_at list i) (get_or unknowns j [])) unknowns
+    ∙ sym (gives_b.symbols_are i j here (omega (arith, ap length unknowns))))
   where
     equations : a.equations ≡ b.equations
     equations = gives_a.equations_are ∙ sym gives_b.equations_are

@@ -1,16 +1,13 @@
 -- The value of an item: where it ends with a symbol, and the number before that.
 use Rattle.std.proofs.Common.{◌≡◌, ◌≢◌, ℕ, ◌-◌, Bool, true, false, cond, List, ◌++◌, length, take, drop, codes, Some, None, Result, Ok, Err, refl, sym, ap, ◌∙◌, arith, length-append}
-use Rattle.std.specs.Prelude.{MatchResult}
-use Rattle.std.specs.Option.{option_or}
-use Rattle.std.specs.Result.{result_err}
+use Rattle.std.specs.Result.{result_err, result_unwrap_or}
 use Rattle.std.proofs.Math.Seq.{take-append_seam, drop-append_seam}
 use Rattle.std.proofs.lemmas.Bool.{false_from_ne_true}
 use Rattle.std.proofs.lemmas.List.{take-append-drop}
 use Rattle.std.proofs.lemmas.Slice.Eq.{bytes_eq-Decides}
 use Rattle.refusals.specs.declared.Why.{Why}
-use Rattle.refusals.specs.declared.Why.TheVariants.{Later}
 use Rattle.line_lexer.specs.Numbers.{number_of}
-use Rattle.matrix_reader.specs.Items.{is_symbol, adds_symbol, number_text}
+use Rattle.matrix_reader.specs.Items.{is_symbol, adds_symbol, number_text, value_constant, value_symbol}
 use Rattle.matrix_reader.specs.Rules.{value_rule}
 
 -- a value that ends with a symbol
@@ -37,21 +34,43 @@ adds_symbol_false value none = false_from_ne_true (adds_symbol value) (λ adds.
 no_symbol : (value : List ℕ) → adds_symbol value ≡ false → number_text value ≡ value
 no_symbol value none = ap (λ b. cond b (take (length value - 2) value) value) none
 
-rule_here : (value : List ℕ) (read : Result ℕ Why) (adds : Bool) → is_symbol value ≡ false → number_of (number_text value) ≡ read → adds_symbol value ≡ adds → value_rule value ≡ option_or (result_err read) (cond adds (Some Later) None)
-rule_here value read adds lone number more = rw (lone, number, more) refl
+module _ (value : List ℕ) (lone : is_symbol value ≡ false) where
+  rule_here : (text : List ℕ) (read : Result ℕ Why) → number_text value ≡ text → number_of text ≡ read → value_rule value ≡ result_err read
+  rule_here text read number is = rw lone (ap result_err (ap number_of number ∙ is))
 
--- the number before a symbol is none
-pub broken_before : (value text : List ℕ) (why : Why) → is_symbol value ≡ false → value ≡ text ++ codes "+?" → number_of text ≡ Err why → value_rule value ≡ Some why
-broken_before value text why lone split broken =
-    rule_here value (Err why) true lone (ap number_of (number_before value text split) ∙ broken) (adds_symbol_true value text split)
+  constant_here : (text : List ℕ) (constant : ℕ) → number_text value ≡ text → number_of text ≡ Ok constant → constant ≡ value_constant value
+  constant_here text constant number is = rw lone (sym (ap (λ read. result_unwrap_or read 0) (ap number_of number ∙ is)))
 
--- a value without a symbol is a number, or breaks its rule
-pub read_alone : (value : List ℕ) (read : Result ℕ Why) → is_symbol value ≡ false → ((front : List ℕ) → value ≢ front ++ codes "+?") → read ≡ number_of value
-    → MatchResult read (λ constant. (value_rule value ≡ None) × (number_of (number_text value) ≡ Ok constant)) (λ why. value_rule value ≡ Some why)
-read_alone value (Ok constant) lone none read =
-    let plain = adds_symbol_false value none in
-    let number = ap number_of (no_symbol value plain) ∙ sym read in
-    (rule_here value (Ok constant) false lone number plain, number)
-read_alone value (Err why) lone none read =
-    let plain = adds_symbol_false value none in
-    rule_here value (Err why) false lone (ap number_of (no_symbol value plain) ∙ sym read) plain
+  symbol_here : (adds : Bool) → adds_symbol value ≡ adds → adds ≡ value_symbol value
+  symbol_here adds e = rw (lone, e) refl
+
+  -- a number and a symbol
+  pub read_before : (text : List ℕ) (constant : ℕ) → value ≡ text ++ codes "+?" → number_of text ≡ Ok constant
+      → (value_rule value ≡ None) × (constant ≡ value_constant value) × (true ≡ value_symbol value)
+  read_before text constant split is = (
+    rule_here text (Ok constant) (number_before value text split) is,
+    constant_here text constant (number_before value text split) is,
+    symbol_here true (adds_symbol_true value text split),
+  )
+
+  -- what stands before a symbol is no number
+  pub broken_before : (text : List ℕ) (why : Why) → value ≡ text ++ codes "+?" → number_of text ≡ Err why → value_rule value ≡ Some why
+  broken_before text why split is = rule_here text (Err why) (number_before value text split) is
+
+  -- a number without a symbol
+  pub read_alone : (constant : ℕ) → ((front : List ℕ) → value ≢ front ++ codes "+?") → number_of value ≡ Ok constant
+      → (value_rule value ≡ None) × (constant ≡ value_constant value) × (false ≡ value_symbol value)
+  read_alone constant none is =
+      let plain = adds_symbol_false value none in (
+        rule_here value (Ok constant) (no_symbol value plain) is,
+        constant_here value constant (no_symbol value plain) is,
+        symbol_here false plain,
+      )
+
+  -- no number, and no symbol
+  pub broken_alone : (why : Why) → ((front : List ℕ) → value ≢ front ++ codes "+?") → number_of value ≡ Err why → value_rule value ≡ Some why
+  broken_alone why none is = rule_here value (Err why) (no_symbol value (adds_symbol_false value none)) is
+
+-- a symbol alone
+pub read_symbol : (value : List ℕ) (constant : ℕ) → is_symbol value ≡ true → constant ≡ 0 → (value_rule value ≡ None) × (constant ≡ value_constant value) × (true ≡ value_symbol value)
+read_symbol value constant alone none = (rw alone refl, rw alone none, rw alone refl)

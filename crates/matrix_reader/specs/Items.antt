@@ -1,5 +1,5 @@
 -- The items of an equation line: UNKNOWN=VALUE, cut at the first =.
-use Rattle.std.specs.Prelude.{ℕ, ◌-◌, Bool, List, length, take, drop, codes, nat_eq, nat_lt, if◌then◌else◌}
+use Rattle.std.specs.Prelude.{ℕ, ◌-◌, Bool, ◌||◌, List, length, take, drop, codes, nat_eq, nat_lt, if◌then◌else◌}
 use Rattle.std.specs.List.{position_or_len, before_first, after_first}
 use Rattle.std.specs.Result.{result_unwrap_or}
 use Rattle.std.specs.Str.{bytes_eq}
@@ -31,6 +31,18 @@ adds_symbol value = bytes_eq (drop (length value - 2) value) (codes "+?")
 abbrev pub number_text : List ℕ → List ℕ
 number_text value = if adds_symbol value then take (length value - 2) value else value
 
+-- the constant of a value, perhaps 0: that of its number, and 0 for a symbol alone
+abbrev pub value_constant : List ℕ → ℕ
+value_constant value = if is_symbol value then 0 else result_unwrap_or (number_of (number_text value)) 0
+
+-- whether a value has a symbol
+abbrev pub value_symbol : List ℕ → Bool
+value_symbol value = is_symbol value || adds_symbol value
+
 -- the constant that an item gives, perhaps 0
 abbrev pub item_constant : List ℕ → ℕ
-item_constant item = result_unwrap_or (number_of (number_text (value_of item))) 0
+item_constant item = value_constant (value_of item)
+
+-- whether it gives a symbol
+abbrev pub item_symbol : List ℕ → Bool
+item_symbol item = value_symbol (value_of item)

@@ -1,5 +1,6 @@
 -- The model that a text gives, and the first rule that it breaks.
-use Rattle.std.specs.Prelude.{◌≡◌, ℕ, ◌+◌, ◌<◌, List, [], length, map, take, sum_by, if◌then◌else◌, slice_index_or, Option, Some, None}
+use Rattle.std.specs.Prelude.{◌≡◌, ℕ, ◌+◌, ◌<◌, Bool, ◌&&◌, List, [], length, map, take, sum_by, if◌then◌else◌, slice_index_or, Option, Some, None}
+use Rattle.std.specs.List.{list_any}
 use Rattle.std.specs.Str.{bytes_eq}
 use Rattle.refusals.specs.declared.Place.TheVariants.{Line}
 use Rattle.refusals.specs.declared.Why.{Why}
@@ -7,14 +8,18 @@ use Rattle.refusals.specs.declared.ReadModel.{ReadModel}
 use Rattle.refusals.specs.declared.ReadModel.TheVariants.{Refused, NoMemory}
 use Rattle.line_lexer.specs.Lines.{lines_of}
 use Rattle.line_lexer.specs.Tokens.{words_of}
-use Rattle.mixed_model.specs.Models.{MixedModel, IsModel, constant_at}
-use Rattle.matrix_reader.specs.Items.{unknown_of, item_constant}
+use Rattle.mixed_model.specs.Models.{MixedModel, IsModel, constant_at, symbol_of}
+use Rattle.matrix_reader.specs.Items.{unknown_of, item_constant, item_symbol}
 use Rattle.matrix_reader.specs.EquationLists.{Equation, equations_in, unknowns_in}
 use Rattle.matrix_reader.specs.Rules.{line_rule}
 
 -- what some items say of an unknown: the sum of their constants there
 abbrev pub said_of : List (List ℕ) → List ℕ → ℕ
 said_of items unknown = sum_by (λ item. if bytes_eq unknown (unknown_of item) then item_constant item else 0) items
+
+-- whether some items say that a symbol stands at an unknown
+abbrev pub symbol_said : List (List ℕ) → List ℕ → Bool
+symbol_said items unknown = list_any (λ item. bytes_eq unknown (unknown_of item) && item_symbol item) items
 
 -- the items of equation i
 abbrev pub items_at : List Equation → ℕ → List (List ℕ)
@@ -27,6 +32,8 @@ pub record IsModelOf (list : List Equation) (unknowns : List (List ℕ)) (model 
   pub unknowns_are : model.unknowns ≡ unknowns
   pub constants_are : (i j : ℕ) → i < length list → j < length model.unknowns
       → constant_at model i j ≡ said_of (items_at list i) (slice_index_or model.unknowns j [])
+  pub symbols_are : (i j : ℕ) → i < length list → j < length model.unknowns
+      → symbol_of model i j ≡ symbol_said (items_at list i) (slice_index_or model.unknowns j [])
 
 -- the model that lines give by their words
 abbrev pub LinesGive : List (List (List ℕ)) → MixedModel → Type 0

@@ -1,10 +1,10 @@
 -- What the reader knows between two lines, and within one.
-use Rattle.std.specs.Prelude.{◌≡◌, ◌≢◌, ℕ, ◌+◌, ◌<◌, ◌≤◌, List, [], ◌∷◌, ◌++◌, length, codes, nat_eq, slice_index, slice_index_or, slice_set, Option, Some, None, Result, Ok, Err}
+use Rattle.std.specs.Prelude.{◌≡◌, ◌≢◌, ℕ, ◌+◌, ◌<◌, ◌≤◌, Bool, not, ◌&&◌, ◌||◌, if◌then◌else◌, List, [], ◌∷◌, ◌++◌, length, codes, nat_eq, slice_index, slice_index_or, slice_set, Option, Some, None, Result, Ok, Err}
 use Rattle.refusals.specs.declared.Why.{Why}
 use Rattle.refusals.specs.declared.Why.TheVariants.{Twice, TooMany}
 use Rattle.line_lexer.specs.Tokens.{words_of}
 use Rattle.mixed_model.specs.Names.{has_name}
-use Rattle.mixed_model.specs.Models.{MixedModel, IsModel, with_unknown}
+use Rattle.mixed_model.specs.Models.{MixedModel, IsModel, constant_of, symbol_of, with_unknown}
 use Rattle.matrix_reader.specs.EquationLists.{equations_in, names_in}
 use Rattle.matrix_reader.specs.Models.{LinesGive}
 use Rattle.matrix_reader.specs.Rules.{each_rule, equation_rule, item_rule, unknown_rule, equation_line_rule, unknown_line_rule, line_rule}
@@ -60,6 +60,15 @@ SeenFrom None line old new old_lines new_lines unknown =
 abbrev pub UnseenFrom : Option ℕ → MixedModel → Why → Type 0
 UnseenFrom (Some k) old why = ⊥
 UnseenFrom None old why = (why ≡ TooMany) × (4096 ≤ length old.unknowns)
+
+-- What putting a value at the place (i, j) leaves: its constant stands there, unless it is 0, and a symbol, if it has one.
+pub record PutsValue (old new : MixedModel) (i j constant : ℕ) (symbol : Bool) : Type 0 where
+  pub is_model : IsModel old → IsModel new
+  pub equations : new.equations ≡ old.equations
+  pub unknowns : new.unknowns ≡ old.unknowns
+  pub constants : (k c : ℕ) → constant_of new k c
+      ≡ (if not (nat_eq constant 0) && (nat_eq i k && nat_eq j c) then Some constant else constant_of old k c)
+  pub symbols : (k c : ℕ) → symbol_of new k c ≡ (symbol && (nat_eq i k && nat_eq j c) || symbol_of old k c)
 
 -- What reading an item answers and leaves, wherever in an equation line the reader is.
 abbrev pub ReadsItem : ℕ → ℕ → MixedModel → MixedModel → List ℕ → List ℕ → List ℕ → Result (Unit {0}) LineFault → Type 0

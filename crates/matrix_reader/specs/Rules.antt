@@ -5,12 +5,12 @@ use Rattle.std.specs.Option.{option_or}
 use Rattle.std.specs.Result.{result_err}
 use Rattle.std.specs.Str.{bytes_eq}
 use Rattle.refusals.specs.declared.Why.{Why}
-use Rattle.refusals.specs.declared.Why.TheVariants.{BadByte, BadWord, BadShape, BadName, Twice, TooMany, Later}
+use Rattle.refusals.specs.declared.Why.TheVariants.{BadByte, BadWord, BadShape, BadName, Twice, TooMany}
 use Rattle.line_lexer.specs.Names.{is_name}
 use Rattle.line_lexer.specs.Numbers.{number_of}
 use Rattle.line_lexer.specs.Tokens.{is_clean, words_of}
 use Rattle.mixed_model.specs.Names.{has_name}
-use Rattle.matrix_reader.specs.Items.{has_equals_sign, unknown_of, value_of, is_symbol, adds_symbol, number_text}
+use Rattle.matrix_reader.specs.Items.{has_equals_sign, unknown_of, value_of, is_symbol, number_text}
 use Rattle.matrix_reader.specs.EquationLists.{equation_names, names_in, unknowns_in}
 
 -- a rule of each of some words, given the words of the line before it: first the earlier ones, then these
@@ -33,11 +33,9 @@ new_equation_rule equations name =
 abbrev pub equation_rule : List (List (List ℕ)) → List ℕ → Option Why
 equation_rule before name = option_or (name_rule name) (new_equation_rule (equation_names before) name)
 
--- a value: a number, which comes without a symbol so far
+-- a value: a symbol, or a number, which a symbol may follow
 abbrev pub value_rule : List ℕ → Option Why
-value_rule value =
-    if is_symbol value then Some Later
-    else option_or (result_err (number_of (number_text value))) (if adds_symbol value then Some Later else None)
+value_rule value = if is_symbol value then None else result_err (number_of (number_text value))
 
 -- an item by itself
 abbrev pub term_rule : List ℕ → Option Why

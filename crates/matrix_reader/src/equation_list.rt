@@ -9,14 +9,15 @@ use refusals::{Place, ReadModel, Refused};
 use std::alloc::Global;
 
 /// The model of an equation list. A line `eq NAME ITEM ..` gives an equation, and each item `UNKNOWN=VALUE` gives it
-/// a constant, where the value is not 0; a line `unknown NAME ..` names unknowns. Equations and unknowns are
-/// numbered in the order in which they first stand, and there are at most 4,096 of each.
+/// what stands at the unknown: a number is a constant, where it is not 0, `?` is a symbol, and a number followed by
+/// `+?` is both; a line `unknown NAME ..` names unknowns. Equations and unknowns are numbered in the order in which
+/// they first stand, and there are at most 4,096 of each.
 ///
 /// A text that breaks a rule is refused with the number of the first line that does, and why. The rules of a line, in
 /// the order in which they are tested: its bytes (`BadByte`), its first word (`BadWord`), its length (`BadShape`);
 /// in an `eq` line the equation's name (`BadName`, `Twice`, `TooMany`) and then each item, which is `BadShape`
-/// without an `=`, by its name (`BadName`), its value (`BadNumber`, `Vanish`, and `Later` where a symbol stands in
-/// it) and its unknown (`Twice` in one line, `TooMany`); in an `unknown` line each name (`BadName`, `TooMany`).
+/// without an `=`, by its name (`BadName`), its value (`BadNumber`, `Vanish`) and its unknown (`Twice` in one line,
+/// `TooMany`); in an `unknown` line each name (`BadName`, `TooMany`).
 pub fn read(alloc: Global, bytes: &[u8]) -> Result<Mixed, ReadModel>
     requires { length bytes.now ≤ 8388608 }
     ensures model { IfOk result (λ m. GivesModel bytes.now m) }

@@ -16,7 +16,8 @@ pub fn rules_at_examples()
     ensures name { line_rule [] (codes "eq 7a") ≡ Some Why.BadName }
     ensures number { line_rule [] (codes "eq a x=.5 y=?") ≡ Some Why.BadNumber }
     ensures vanish { line_rule [] (codes "eq a x=0/65521") ≡ Some Why.Vanish }
-    ensures later { line_rule [] (codes "eq a x=1+? y") ≡ Some Why.Later }
+    ensures symbols { line_rule [] (codes "eq a x=? y=1+? z=0+?") ≡ None }
+    ensures after_symbol { line_rule [] (codes "eq a x=1+? y") ≡ Some Why.BadShape }
     ensures twice_in_line { line_rule [] (codes "eq a x=1 x=2") ≡ Some Why.Twice }
     ensures twice { line_rule (words_of (codes "eq a x=1") ∷ []) (codes "eq a") ≡ Some Why.Twice }
     ensures apart { line_rule (words_of (codes "eq a x=1") ∷ []) (codes "eq x a=1") ≡ None }

@@ -1,48 +1,67 @@
-ghost use Rattle.std.specs.Prelude.{◌≡◌, true, Some, None, Ok, MatchResult};
+ghost use Rattle.std.specs.Prelude.{◌≡◌, true, Some, None, MatchResult};
 ghost use Rattle.line_lexer.specs.Names.{is_name};
-ghost use Rattle.line_lexer.specs.Numbers.{number_of};
-ghost use Rattle.matrix_reader.specs.Items.{unknown_of, item_constant, number_text};
+ghost use Rattle.matrix_reader.specs.Items.{unknown_of, item_constant, item_symbol, value_constant, value_symbol};
 ghost use Rattle.matrix_reader.specs.Rules.{term_rule, value_rule};
 
 use line_lexer::{name, number};
 use refusals::Why;
 use residue_field::Res;
 
-/// What an item says: a constant of its equation at an unknown, perhaps 0.
+/// What stands at a place: a constant, perhaps 0, and perhaps a symbol.
+#[derive(Clone, Copy)]
+pub(crate) struct Value {
+    pub constant: Res,
+    pub symbol: bool,
+}
+
+/// What an item says: the value of its equation at an unknown.
 #[derive(Clone, Copy)]
 pub(crate) struct Term<'a> {
     pub unknown: &'a str,
-    pub constant: Res,
+    pub value: Value,
 }
 
 /// An item `UNKNOWN=VALUE`, cut at its first `=`.
 pub(crate) fn read_term(item: &str) -> Result<Term<'_>, Why>
     ensures { MatchResult result
-        (λ term. (term_rule item.now ≡ None) × (is_name term.unknown.now ≡ true) × (term.unknown.now ≡ unknown_of item.now) × (term.constant ≡ item_constant item.now))
+        (λ term. (term_rule item.now ≡ None) × (is_name term.unknown.now ≡ true) × (term.unknown.now ≡ unknown_of item.now) × (term.value.constant ≡ item_constant item.now) × (term.value.symbol ≡ item_symbol item.now))
         (λ why. term_rule item.now ≡ Some why) }
 {
     let Some((unknown, value)) = item.split_once('=') else {
         return Err(Why::BadShape);
     };
     name(unknown)?;
-    let constant = read_value(value)?;
-    Ok(Term { unknown, constant })
+    let value = read_value(value)?;
+    Ok(Term { unknown, value })
 }
 
-/// The constant that a value is. One with a symbol is a number of its own, which comes later.
-fn read_value(value: &str) -> Result<Res, Why>
+/// A number, `?`, or a number followed by `+?`.
+fn read_value(text: &str) -> Result<Value, Why>
     ensures { MatchResult result
-        (λ constant. (value_rule value.now ≡ None) × (number_of (number_text value.now) ≡ Ok constant))
-        (λ why. value_rule value.now ≡ Some why) }
+        (λ value. (value_rule text.now ≡ None) × (value.constant ≡ value_constant text.now) × (value.symbol ≡ value_symbol text.now))
+        (λ why. value_rule text.now ≡ Some why) }
 {
-    if value == "?" {
-        return Err(Why::Later);
+    if text == "?" {
+        let constant = Res::of(0);
+        return Ok(Value {
+            constant,
+            symbol: true,
+        });
     }
-    match value.strip_suffix("+?") {
-        Some(text) => {
-            number(text)?;
-            Err(Why::Later)
+    match text.strip_suffix("+?") {
+        Some(digits) => {
+            let constant = number(digits)?;
+            Ok(Value {
+                constant,
+                symbol: true,
+            })
         }
-        None => number(value),
+        None => {
+            let constant = number(text)?;
+            Ok(Value {
+                constant,
+                symbol: false,
+            })
+        }
     }
 }

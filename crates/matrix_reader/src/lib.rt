@@ -1,4 +1,4 @@
-//! Reads equation lists: one equation a line, with its constants, and lines that name unknowns.
+//! Reads equation lists: one equation a line, with its constants and symbols, and lines that name unknowns.
 #![tactic(auto)]
 
 mod equation_list;
@@ -6,6 +6,7 @@ mod examples;
 mod fault;
 mod item;
 mod laws;
+mod place;
 mod reader;
 
 pub use equation_list::read;

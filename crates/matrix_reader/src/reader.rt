@@ -6,6 +6,7 @@ ghost use Rattle.matrix_reader.specs.ReaderStates.{MarkedFrom, UnmarkedFrom, See
 
 use crate::fault::LineFault;
 use crate::item::read_term;
+use crate::place::put_value;
 use line_lexer::{Line, Tokens, name, tokens};
 use mixed_model::{Mixed, NoMemory};
 use refusals::Why;
@@ -104,10 +105,7 @@ impl Reader {
             Err(why) => return Err(LineFault::Broken(why)),
         };
         let j = self.mark(line, term.unknown)?;
-        if term.constant.value() == 0 {
-            return Ok(());
-        }
-        self.model.put_constant(i, j, term.constant)?;
+        put_value(&mut self.model, i, j, term.value)?;
         Ok(())
     }
 

@@ -25,6 +25,34 @@ fn reads_a_small_list(rt: HostRuntime) -> Result<(), Fail> {
 }
 
 #[test]
+fn reads_symbols(rt: HostRuntime) -> Result<(), Fail> {
+    let model = read(
+        rt.alloc(),
+        b"eq a x=? y=1+? z=0+? u=-1/3+? v=2 w=0\neq b y=? x=5",
+    )?;
+    assert_eq!(rt; (model.equations(), model.unknowns()), (2, 6));
+    let places = [
+        (0, 0, None, true),
+        (0, 1, Some(1), true),
+        (0, 2, None, true),
+        (0, 3, Some(21_840), true),
+        (0, 4, Some(2), false),
+        (0, 5, None, false),
+        (1, 0, Some(5), false),
+        (1, 1, None, true),
+        (1, 2, None, false),
+    ];
+    for (i, j, constant, symbol) in places {
+        assert!(rt; i < model.equations() && j < model.unknowns());
+        let found = model.constant(i, j).map(|residue| residue.value());
+        assert_eq!(rt; found, constant);
+        assert!(rt; i < model.equations() && j < model.unknowns());
+        assert_eq!(rt; model.symbol(i, j), symbol);
+    }
+    Ok(())
+}
+
+#[test]
 fn the_first_broken_rule_is_the_answer(rt: HostRuntime) -> Result<(), Fail> {
     let cases = [
         ("eq a x=1 \u{7f} y", 1, Why::BadByte),
@@ -41,8 +69,11 @@ fn the_first_broken_rule_is_the_answer(rt: HostRuntime) -> Result<(), Fail> {
         ("eq a x=?+?", 1, Why::BadNumber),
         ("eq a x=1/0", 1, Why::Vanish),
         ("eq a x=65521+?", 1, Why::Vanish),
-        ("eq a x=0+?", 1, Why::Later),
-        ("eq a x=1 x=?", 1, Why::Later),
+        ("eq a x=??", 1, Why::BadNumber),
+        ("eq a x=1+?+?", 1, Why::BadNumber),
+        ("eq a x=?+1", 1, Why::BadNumber),
+        ("eq a x=1 x=?", 1, Why::Twice),
+        ("eq a x=? x=?", 1, Why::Twice),
         ("eq a x=0 x=2", 1, Why::Twice),
         ("unknown x 1y", 1, Why::BadName),
         ("eq a x=1\neq b y=2\neq a z=3\nsum a", 3, Why::Twice),

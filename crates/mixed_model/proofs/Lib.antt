@@ -1,3 +1,4 @@
-pub mod ModelLaws
 pub mod NameLaws
 pub mod RowLaws
+pub mod KindLaws
+pub mod ModelLaws

@@ -1,14 +1,14 @@
 -- What one changed row leaves of a model.
-use Rattle.std.proofs.Common.{◌≡◌, ◌≢◌, ℕ, ◌<◌, Bool, true, false, cond, ◌&&◌, List, [], length, map, get_or, set, Some, refl, sym, ap, subst, ◌∙◌, arith, eqb, eqb-true, get_or-set_same, get_or-set_other, length-set, Vec, None, ⊎_elim, ◌≤◌}
+use Rattle.std.proofs.Common.{◌≡◌, ◌≢◌, ℕ, ◌<◌, Bool, true, false, cond, ◌&&◌, ◌||◌, List, [], length, map, get_or, set, Some, refl, sym, ap, subst, ◌∙◌, arith, eqb, eqb-true, get_or-set_same, get_or-set_other, length-set, Vec, None, ⊎_elim, ◌≤◌}
 use Rattle.std.specs.Prelude.{All}
 use Rattle.std.proofs.lemmas.Bool.{cases_lt, eqb-false}
 use Rattle.std.proofs.Math.Seq.{map-set_same}
 use Rattle.std.proofs.lemmas.List.{get_or-map, length-map, map-set, ext_get_or}
 use Rattle.std.proofs.lemmas.List.Elements.{All-set}
-use Rattle.mixed_model.proofs.RowLaws.{constant_in-None, same_rows}
+use Rattle.mixed_model.proofs.RowLaws.{entry_in-None, same_rows}
 use Rattle.mixed_model.specs.declared.entry.Entry.{Entry}
-use Rattle.mixed_model.specs.Rows.{IsRow, IsWithin, PutsConstant, PutsInRow, constant_in}
-use Rattle.mixed_model.specs.Models.{MixedModel, IsModel, PutsAt, constant_of}
+use Rattle.mixed_model.specs.Rows.{IsRow, IsWithin, PutsConstant, PutsSymbol, ChangesRow, constant_in, symbol_in, constant_at_place, symbol_at_place}
+use Rattle.mixed_model.specs.Models.{MixedModel, IsModel, PutsAt, PutsSymbolAt, constant_of, symbol_of}
 
 -- rows that are vectors
 pub rows_are_rows : {A : Type 0} (rows : List (Vec Entry A)) (columns : ℕ) → All (λ row. IsRow row × IsWithin columns row) (map (λ row. row.items) rows) → All (λ row. IsRow row.items) rows
@@ -16,41 +16,92 @@ rows_are_rows rows columns all k d at =
     let within : k < length (map (λ row. row.items) rows) = omega (arith, length-map rows (λ row. row.items)) in
     subst IsRow (get_or-map (λ row. row.items) rows k d [] at) (all k [] within).0
 
-module _ (model : MixedModel) (rows : List (List Entry)) (i j constant : ℕ) (is : IsModel model) (equation : i < length model.equations) (unknown : j < length model.unknowns) (puts : PutsInRow model.rows rows i j constant) where
-  pub IsModel-put : IsModel (record { equations = model.equations; unknowns = model.unknowns; rows = rows })
-  IsModel-put =
-      let at = is.rows i [] (omega (arith, is.one_row_each)) in
-      record {
-        equations = is.equations;
-        unknowns = is.unknowns;
-        one_row_each = ap length puts.rows ∙ length-set model.rows i puts.row ∙ is.one_row_each;
-        rows = subst (All (λ row. IsRow row × IsWithin (length model.unknowns) row)) (sym puts.rows)
-            (All-set (λ row. IsRow row × IsWithin (length model.unknowns) row) model.rows i puts.row
-            (puts.puts.row, puts.puts.within (length model.unknowns) unknown at.1) is.rows);
-      }
+-- a model whose row i is changed to a row
+IsModel-changed : (model : MixedModel) (rows : List (List Entry)) (i : ℕ) (Change : List Entry → List Entry → Type 0) → IsModel model → i < length model.equations → (changes : ChangesRow Change i model.rows rows) → IsRow changes.row → (IsWithin (length model.unknowns) (get_or model.rows i []) → IsWithin (length model.unknowns) changes.row) → IsModel (record { equations = model.equations; unknowns = model.unknowns; rows = rows })
+IsModel-changed model rows i Change is equation changes row within =
+    let at = is.rows i [] (omega (arith, is.one_row_each)) in
+    record {
+      equations = is.equations;
+      unknowns = is.unknowns;
+      one_row_each = ap length changes.rows ∙ length-set model.rows i changes.row ∙ is.one_row_each;
+      rows = subst (All (λ row. IsRow row × IsWithin (length model.unknowns) row)) (sym changes.rows)
+          (All-set (λ row. IsRow row × IsWithin (length model.unknowns) row) model.rows i changes.row (row, within at.1) is.rows);
+    }
 
-  pub PutsAt-put : PutsAt model (record { equations = model.equations; unknowns = model.unknowns; rows = rows }) i j constant
-  PutsAt-put = record {
+-- what is told of the places of each row, after one row is changed
+told_after : {A : Type 0} (tells : List Entry → ℕ → A) (rows : List (List Entry)) (i : ℕ) (row : List Entry) (told : ℕ → A → A) → i < length rows → ((c : ℕ) → tells row c ≡ told c (tells (get_or rows i []) c)) → (k c : ℕ) → tells (get_or (set rows i row) k []) c ≡ cond (eqb i k) (told c (tells (get_or rows k []) c)) (tells (get_or rows k []) c)
+told_after tells rows i row told within there k c = by (eqb i k) refl
+  where
+    by : (b : Bool) → eqb i k ≡ b → tells (get_or (set rows i row) k []) c ≡ cond b (told c (tells (get_or rows k []) c)) (tells (get_or rows k []) c)
+    by true e =
+        let same = eqb-true i k e in
+        subst (λ m. tells (get_or (set rows i row) m []) c ≡ told c (tells (get_or rows m []) c)) same
+        (ap (λ row. tells row c) (get_or-set_same rows i row [] within) ∙ there c)
+    by false e =
+        let other : k ≢ i = λ same. eqb-false i k e (sym same) in
+        ap (λ row. tells row c) (get_or-set_other rows i k row [] other)
+
+module _ (model : MixedModel) (rows : List (List Entry)) (i j : ℕ) (is : IsModel model) (equation : i < length model.equations) (unknown : j < length model.unknowns) where
+  -- the model with these rows
+  abbrev put : MixedModel
+  put = record { equations = model.equations; unknowns = model.unknowns; rows = rows }
+
+  within : i < length model.rows
+  within = omega (arith, is.one_row_each)
+
+  both_tests : {A : Type 0} (a b : Bool) (x y : A) → cond a (cond b x y) y ≡ cond (a && b) x y
+  both_tests true b x y = refl
+  both_tests false b x y = refl
+
+  or_tests : (a b c : Bool) → cond a (b || c) c ≡ (a && b || c)
+  or_tests true b c = refl
+  or_tests false b c = refl
+
+  unchanged : {A : Type 0} (a : Bool) (x : A) → cond a x x ≡ x
+  unchanged true x = refl
+  unchanged false x = refl
+
+  pub IsModel-put : (constant : ℕ) → ChangesRow (PutsConstant j constant) i model.rows rows → IsModel put
+  IsModel-put constant puts =
+      IsModel-changed model rows i (PutsConstant j constant) is equation puts puts.change.row (puts.change.within (length model.unknowns) unknown)
+
+  pub PutsAt-put : (constant : ℕ) → ChangesRow (PutsConstant j constant) i model.rows rows → PutsAt model put i j constant
+  PutsAt-put constant puts = record {
     equations = refl;
     unknowns = refl;
-    constants = λ k c. ap (λ rs. constant_in (get_or rs k []) c) puts.rows ∙ by k c (eqb i k) refl;
+    constants = λ k c.
+        ap (λ rs. constant_in (get_or rs k []) c) puts.rows
+        ∙ told_after constant_in model.rows i puts.row (λ c old. cond (eqb j c) (Some constant) old) within puts.change.constants k c
+        ∙ both_tests (eqb i k) (eqb j c) (Some constant) (constant_in (get_or model.rows k []) c);
+    symbols = λ k c.
+        ap (λ rs. symbol_in (get_or rs k []) c) puts.rows
+        ∙ told_after symbol_in model.rows i puts.row (λ c old. old) within puts.change.symbols k c
+        ∙ unchanged (eqb i k) (symbol_in (get_or model.rows k []) c);
   }
-    where
-      by : (k c : ℕ) (b : Bool) → eqb i k ≡ b → constant_in (get_or (set model.rows i puts.row) k []) c ≡ cond (eqb i k && eqb j c) (Some constant) (constant_in (get_or model.rows k []) c)
-      by k c true e =
-          let same = eqb-true i k e in
-          let within : i < length model.rows = omega (arith, is.one_row_each) in
-          rw e (subst (λ m. constant_in (get_or (set model.rows i puts.row) m []) c ≡ cond (eqb j c) (Some constant) (constant_in (get_or model.rows m []) c)) same
-          (ap (λ row. constant_in row c) (get_or-set_same model.rows i puts.row [] within) ∙ puts.puts.constants c))
-      by k c false e =
-          let other : k ≢ i = λ same. eqb-false i k e (sym same) in
-          rw e (ap (λ row. constant_in row c) (get_or-set_other model.rows i k puts.row [] other))
 
--- one of several vectors takes a constant
-pub PutsInRow-set : {A : Type 0} (rows : List (Vec Entry A)) (i column constant : ℕ) (old new : Vec Entry A) → i < length rows → old ≡ get_or rows i old → PutsConstant old.items new.items column constant → PutsInRow (map (λ row. row.items) rows) (map (λ row. row.items) (set rows i new)) i column constant
-PutsInRow-set rows i column constant old new within is puts = record {
+  pub IsModel-put_symbol : ChangesRow (PutsSymbol j) i model.rows rows → IsModel put
+  IsModel-put_symbol puts =
+      IsModel-changed model rows i (PutsSymbol j) is equation puts puts.change.row (puts.change.within (length model.unknowns) unknown)
+
+  pub PutsSymbolAt-put : ChangesRow (PutsSymbol j) i model.rows rows → PutsSymbolAt model put i j
+  PutsSymbolAt-put puts = record {
+    equations = refl;
+    unknowns = refl;
+    constants = λ k c.
+        ap (λ rs. constant_in (get_or rs k []) c) puts.rows
+        ∙ told_after constant_in model.rows i puts.row (λ c old. old) within puts.change.constants k c
+        ∙ unchanged (eqb i k) (constant_in (get_or model.rows k []) c);
+    symbols = λ k c.
+        ap (λ rs. symbol_in (get_or rs k []) c) puts.rows
+        ∙ told_after symbol_in model.rows i puts.row (λ c old. eqb j c || old) within puts.change.symbols k c
+        ∙ or_tests (eqb i k) (eqb j c) (symbol_in (get_or model.rows k []) c);
+  }
+
+-- one of several vectors is changed
+pub ChangesRow-set : {A : Type 0} (Change : List Entry → List Entry → Type 0) (rows : List (Vec Entry A)) (i : ℕ) (old new : Vec Entry A) → i < length rows → old ≡ get_or rows i old → Change old.items new.items → ChangesRow Change i (map (λ row. row.items) rows) (map (λ row. row.items) (set rows i new))
+ChangesRow-set Change rows i old new within is change = record {
   row = new.items;
-  puts = subst (λ row. PutsConstant row new.items column constant) (ap (λ row. row.items) is ∙ sym (get_or-map (λ row. row.items) rows i old [] within)) puts;
+  change = subst (λ row. Change row new.items) (ap (λ row. row.items) is ∙ sym (get_or-map (λ row. row.items) rows i old [] within)) change;
   rows = map-set (λ row. row.items) rows i new;
 }
 
@@ -58,21 +109,32 @@ PutsInRow-set rows i column constant old new within is puts = record {
 pub rows_kept : {A : Type 0} (rows : List (Vec Entry A)) (i : ℕ) (old new : Vec Entry A) → old ≡ get_or rows i old → new.items ≡ old.items → map (λ row. row.items) (set rows i new) ≡ map (λ row. row.items) rows
 rows_kept rows i old new is same = map-set_same (λ row. row.items) rows i new old (same ∙ ap (λ row. row.items) is)
 
--- a column past the unknowns has no constant
-beyond_unknowns : (columns : ℕ) (row : List Entry) (j : ℕ) → IsWithin columns row → columns ≤ j → constant_in row j ≡ None
-beyond_unknowns columns row j within beyond = constant_in-None row j (λ k d at same. omega (arith, within k d at, same))
+-- nothing stands at a column past the unknowns
+pub beyond_unknowns : (columns : ℕ) (row : List Entry) (j : ℕ) → IsWithin columns row → columns ≤ j → (constant_in row j ≡ None) × (symbol_in row j ≡ false)
+beyond_unknowns columns row j within beyond =
+    let none = entry_in-None row j (λ k d at same. omega (arith, within k d at, same)) in
+    (ap constant_at_place none, ap symbol_at_place none)
 
--- models with the same names and constants are the same
-pub same_models : (a b : MixedModel) → IsModel a → IsModel b → a.equations ≡ b.equations → a.unknowns ≡ b.unknowns → ((i j : ℕ) → i < length a.equations → j < length a.unknowns → constant_of a i j ≡ constant_of b i j) → a ≡ b
-same_models a b is_a is_b equations unknowns constants = λ i. record { equations = equations i; unknowns = unknowns i; rows = rows i }
+-- models with the same names, constants and symbols are the same
+pub same_models : (a b : MixedModel) → IsModel a → IsModel b → a.equations ≡ b.equations → a.unknowns ≡ b.unknowns → ((i j : ℕ) → i < length a.equations → j < length a.unknowns → constant_of a i j ≡ constant_of b i j) → ((i j : ℕ) → i < length a.equations → j < length a.unknowns → symbol_of a i j ≡ symbol_of b i j) → a ≡ b
+same_models a b is_a is_b equations unknowns constants symbols = λ i. record { equations = equations i; unknowns = unknowns i; rows = rows i }
   where
     rows : a.rows ≡ b.rows
     rows = ext_get_or [] a.rows b.rows (is_a.one_row_each ∙ ap length equations ∙ sym is_b.one_row_each) (λ k at.
         let here = is_a.rows k [] at in
         let there = is_b.rows k [] (omega (arith, is_a.one_row_each, is_b.one_row_each, ap length equations)) in
-        same_rows 0 0 (get_or a.rows k []) (get_or b.rows k []) here.0 there.0 (λ j. ⊎_elim
-        (λ within. constants k j (omega (arith, is_a.one_row_each)) within)
+        let past : (j : ℕ) → length a.unknowns ≤ j → length b.unknowns ≤ j = λ j beyond. omega (arith, ap length unknowns) in
+        let equation : k < length a.equations = omega (arith, is_a.one_row_each) in
+        same_rows (get_or a.rows k []) (get_or b.rows k []) here.0 there.0
+        (λ j. ⊎_elim
+        (λ within. constants k j equation within)
         (λ beyond.
-        beyond_unknowns (length a.unknowns) (get_or a.rows k []) j here.1 beyond
-        ∙ sym (beyond_unknowns (length b.unknowns) (get_or b.rows k []) j there.1 (omega (arith, ap length unknowns))))
+        (beyond_unknowns (length a.unknowns) (get_or a.rows k []) j here.1 beyond).0
+        ∙ sym (beyond_unknowns (length b.unknowns) (get_or b.rows k []) j there.1 (past j beyond)).0)
+        (cases_lt j (length a.unknowns)))
+        (λ j. ⊎_elim
+        (λ within. symbols k j equation within)
+        (λ beyond.
+        (beyond_unknowns (length a.unknowns) (get_or a.rows k []) j here.1 beyond).1
+        ∙ sym (beyond_unknowns (length b.unknowns) (get_or b.rows k []) j there.1 (past j beyond)).1)
         (cases_lt j (length a.unknowns))))

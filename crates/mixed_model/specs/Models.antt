@@ -1,10 +1,11 @@
 -- Models, seen as data, and what the calls of `Mixed` leave.
-use Rattle.std.specs.Prelude.{◌≡◌, ℕ, ◌&&◌, List, [], ◌∷◌, ◌++◌, length, nat_eq, if◌then◌else◌, Option, Some, unwrap_or, slice_index_or, All}
+use Rattle.std.specs.Prelude.{◌≡◌, ℕ, ◌&&◌, ◌||◌, Bool, List, [], ◌∷◌, ◌++◌, length, nat_eq, if◌then◌else◌, Option, Some, unwrap_or, slice_index_or, All}
+use Rattle.mixed_matrices.specs.Models.{Mixed}
 use Rattle.mixed_model.specs.declared.entry.Entry.{Entry}
 use Rattle.mixed_model.specs.Names.{IsNameList}
-use Rattle.mixed_model.specs.Rows.{IsRow, IsWithin, constant_in}
+use Rattle.mixed_model.specs.Rows.{IsRow, IsWithin, constant_in, symbol_in}
 
--- A model: the names of its equations and of its unknowns, in order, and for each equation its constants by rising column.
+-- A model: the names of its equations and of its unknowns, in order, and for each equation its entries by rising column.
 pub record MixedModel : Type 0 where
   pub equations : List (List ℕ)
   pub unknowns : List (List ℕ)
@@ -18,9 +19,22 @@ row_of model i = slice_index_or model.rows i []
 abbrev pub constant_of : MixedModel → ℕ → ℕ → Option ℕ
 constant_of model i j = constant_in (row_of model i) j
 
+-- whether equation i has a symbol at unknown j
+abbrev pub symbol_of : MixedModel → ℕ → ℕ → Bool
+symbol_of model i j = symbol_in (row_of model i) j
+
 -- the matrix of a model's constants, with 0 where there is none
 abbrev pub constant_at : MixedModel → ℕ → ℕ → ℕ
 constant_at model i j = unwrap_or (constant_of model i j) 0
+
+-- the mixed matrix of a model
+abbrev pub mixed_matrix_of : MixedModel → Mixed
+mixed_matrix_of model = record {
+  rows = length model.equations;
+  columns = length model.unknowns;
+  constant = constant_at model;
+  symbol = symbol_of model;
+}
 
 -- Names are few and differ, each equation has a row, and the columns of the rows are unknowns.
 pub record IsModel (model : MixedModel) : Type 0 where
@@ -33,7 +47,7 @@ pub record IsModel (model : MixedModel) : Type 0 where
 abbrev pub empty_model : MixedModel
 empty_model = record { equations = []; unknowns = []; rows = [] }
 
--- one more equation, with no constant
+-- one more equation, with nothing at its places
 abbrev pub with_equation : MixedModel → List ℕ → MixedModel
 with_equation model name = record model { equations = model.equations ++ name ∷ []; rows = model.rows ++ [] ∷ [] }
 
@@ -46,3 +60,11 @@ pub record PutsAt (old new : MixedModel) (i j constant : ℕ) : Type 0 where
   pub equations : new.equations ≡ old.equations
   pub unknowns : new.unknowns ≡ old.unknowns
   pub constants : (k c : ℕ) → constant_of new k c ≡ (if nat_eq i k && nat_eq j c then Some constant else constant_of old k c)
+  pub symbols : (k c : ℕ) → symbol_of new k c ≡ symbol_of old k c
+
+-- The new model is the old one with a symbol at the place (i, j).
+pub record PutsSymbolAt (old new : MixedModel) (i j : ℕ) : Type 0 where
+  pub equations : new.equations ≡ old.equations
+  pub unknowns : new.unknowns ≡ old.unknowns
+  pub constants : (k c : ℕ) → constant_of new k c ≡ constant_of old k c
+  pub symbols : (k c : ℕ) → symbol_of new k c ≡ (nat_eq i k && nat_eq j c || symbol_of old k c)

@@ -4,14 +4,15 @@ ghost use Rattle.std.specs.Iterator.{YieldsFirst, item_count};
 use residue_field::Res;
 use std::marker::Model;
 
-/// A constant of an equation, and the column of its unknown, from 0.
+/// What stands at a place of an equation: a constant other than 0, a symbol, or both; and the column of its unknown, from 0.
 #[derive(Clone, Copy, Debug, PartialEq, Eq)]
 pub struct Entry {
     pub column: usize,
-    pub constant: Res,
+    pub constant: Option<Res>,
+    pub symbol: bool,
 }
 
-/// The constants of an equation that are left, seen by contracts as a list.
+/// The entries of an equation that are left, seen by contracts as a list.
 #[derive(Drop)]
 pub struct Entries<'a> {
     rest: &'a [Entry],

@@ -1,4 +1,4 @@
-//! Models: named equations over named unknowns, and the constants at their places; and layered matrices.
+//! Models: named equations over named unknowns, and the constants and symbols at their places; and layered matrices.
 #![tactic(auto)]
 
 mod entry;
@@ -12,7 +12,7 @@ mod rows;
 pub use entry::{Entries, Entry};
 pub use errors::{AddError, NoMemory};
 pub use layered::Layered;
-pub use mixed::{Mixed, constants_tell_a_model};
+pub use mixed::{Mixed, places_tell_a_model};
 pub use names::is_label;
 pub use origin::Origin;
 pub use refusals::{Place, ReadModel, Refused, Why};

@@ -1,8 +1,9 @@
 ghost use Rattle.std.specs.Prelude.{ℕ, ◌≡◌, ◌≢◌, ◌<◌, IsTrue, [], length, position, slice_get, Some, IfOk, OnOk, OnErr};
 ghost use Rattle.std.specs.Str.{bytes_eq};
+ghost use Rattle.mixed_matrices.specs.Layerings.{has_constant, has_symbol};
 ghost use Rattle.mixed_model.specs.Names.{is_label, adding, AnswersAdd};
-ghost use Rattle.mixed_model.specs.Rows.{putting};
-ghost use Rattle.mixed_model.specs.Models.{MixedModel, IsModel, PutsAt, constant_of, row_of, empty_model, with_equation, with_unknown};
+ghost use Rattle.mixed_model.specs.Rows.{putting, putting_symbol};
+ghost use Rattle.mixed_model.specs.Models.{MixedModel, IsModel, PutsAt, PutsSymbolAt, constant_of, symbol_of, row_of, mixed_matrix_of, empty_model, with_equation, with_unknown};
 
 use crate::entry::{Entries, Entry};
 use crate::errors::{AddError, NoMemory};
@@ -15,9 +16,9 @@ use std::marker::Model;
 // How many equations have room at first.
 const FIRST_ROOM: usize = 16;
 
-/// A matrix with named equations as rows and named unknowns as columns, both numbered from 0 in the order in
-/// which they were added, at most 4,096 of each, and constants at some of its places. (Murota, chapter 4: the
-/// constant part of a mixed matrix.)
+/// A mixed matrix with named equations as rows and named unknowns as columns, both numbered from 0 in the order in
+/// which they were added, at most 4,096 of each: at each place perhaps a constant, and perhaps a symbol of its own.
+/// (Murota, chapter 4.)
 #[derive(Drop)]
 pub struct Mixed {
     equations: Names,
@@ -101,18 +102,50 @@ impl Mixed {
         requires unknown { j < length self.now.unknowns }
         ensures { result ≡ constant_of self.now i j }
     {
-        rows::constant_in_row(&self.rows, i, j)
+        match rows::entry_in_row(&self.rows, i, j) {
+            Some(entry) => entry.constant,
+            None => None,
+        }
     }
 
-    /// The constants of equation `i` by rising column, each other than 0.
+    /// Whether equation `i` has a symbol at unknown `j`.
+    pub fn symbol(&self, i: usize, j: usize) -> bool
+        requires equation { i < length self.now.equations }
+        requires unknown { j < length self.now.unknowns }
+        ensures { result ≡ symbol_of self.now i j }
+    {
+        match rows::entry_in_row(&self.rows, i, j) {
+            Some(entry) => entry.symbol,
+            None => false,
+        }
+    }
+
+    /// Whether equation `i` has a constant other than 0.
+    pub fn has_constant(&self, i: usize) -> bool
+        requires { i < length self.now.equations }
+        ensures { result ≡ has_constant (mixed_matrix_of self.now) i }
+    {
+        rows::any_constant(&self.rows, i)
+    }
+
+    /// Whether equation `i` has a symbol.
+    pub fn has_symbol(&self, i: usize) -> bool
+        requires { i < length self.now.equations }
+        ensures { result ≡ has_symbol (mixed_matrix_of self.now) i }
+    {
+        rows::any_symbol(&self.rows, i)
+    }
+
+    /// The entries of equation `i` by rising column, each with a constant other than 0, a symbol, or both.
     pub fn entries(&self, i: usize) -> Entries<'_>
         requires { i < length self.now.equations }
-        ensures { result ≡ row_of self.now i }
+        ensures entries { result ≡ row_of self.now i }
+        ensures model { IsModel self.now }
     {
         Entries::new(&self.rows[i])
     }
 
-    /// Adds an equation without constants, and gives its number. `Twice` comes where the name is there, else
+    /// Adds an equation with nothing at its places, and gives its number. `Twice` comes where the name is there, else
     /// `TooMany` where 4,096 equations are. A refusal changes nothing.
     pub fn add_equation(&mut self, name: &str) -> Result<usize, AddError>
         requires { IsTrue (is_label name.now) }
@@ -151,12 +184,26 @@ impl Mixed {
         ensures kept { OnErr result (self.new ≡ self.old) }
         ensures model { IsModel self.new }
     {
-        rows::put_in_row(&mut self.rows, i, j, value)
+        rows::put_constant_in_row(&mut self.rows, i, j, value)
+    }
+
+    /// Puts a symbol at the place of equation `i` and unknown `j`. `Twice` comes where one is there. A refusal
+    /// changes nothing.
+    pub fn put_symbol(&mut self, i: usize, j: usize) -> Result<(), AddError>
+        requires equation { i < length self.old.equations }
+        requires unknown { j < length self.old.unknowns }
+        ensures answer { AnswersAdd result (putting_symbol (row_of self.old i) j) }
+        ensures put { OnOk result (PutsSymbolAt self.old self.new i j) }
+        ensures kept { OnErr result (self.new ≡ self.old) }
+        ensures model { IsModel self.new }
+    {
+        rows::put_symbol_in_row(&mut self.rows, i, j)
     }
 }
 
-/// Models with the same names and the same constants are the same.
-pub fn constants_tell_a_model()
+/// Models with the same names, the same constants and the same symbols are the same.
+pub fn places_tell_a_model()
     ensures { (a b : MixedModel) → IsModel a → IsModel b → a.equations ≡ b.equations → a.unknowns ≡ b.unknowns
-        → ((i j : ℕ) → i < length a.equations → j < length a.unknowns → constant_of a i j ≡ constant_of b i j) → a ≡ b }
+        → ((i j : ℕ) → i < length a.equations → j < length a.unknowns → constant_of a i j ≡ constant_of b i j)
+        → ((i j : ℕ) → i < length a.equations → j < length a.unknowns → symbol_of a i j ≡ symbol_of b i j) → a ≡ b }
 {}

@@ -1,34 +1,65 @@
 ghost use Rattle.std.specs.Prelude.{◌≡◌, ◌≢◌, ◌<◌, ◌≤◌, ℕ, Some, None, length, All, slice_index_or, vec_len, MatchResult, OnOk, OnErr};
+ghost use Rattle.std.specs.Prelude.{is_some};
+ghost use Rattle.std.specs.List.{list_any};
 ghost use Rattle.mixed_model.specs.Names.{AnswersAdd};
-ghost use Rattle.mixed_model.specs.Rows.{IsRow, PutsConstant, FitsBetween, PutsInRow, row_at, rows_of, constant_in, putting};
-ghost use Rattle.mixed_model.specs.declared.entry.Entry.{Entry as EntryData};
+ghost use Rattle.mixed_model.specs.Rows.{IsRow, PutsConstant, PutsSymbol, FitsBetween, StandsAt, ChangesRow, row_at, rows_of, entry_in, constant_in, symbol_in, putting, putting_symbol};
 
 use crate::entry::Entry;
 use crate::errors::AddError;
 use residue_field::Res;
 
-// The constant of row `i` at a column.
-pub(crate) fn constant_in_row(rows: &[Vec<Entry>], i: usize, column: usize) -> Option<Res>
+// The entry of row `i` at a column.
+pub(crate) fn entry_in_row(rows: &[Vec<Entry>], i: usize, column: usize) -> Option<Entry>
     requires within { i < length rows.now }
     requires rows { All (λ row. IsRow row.items) rows.now }
-    ensures { result ≡ constant_in (row_at rows.now i) column }
+    ensures { result ≡ entry_in (row_at rows.now i) column }
 {
-    constant(&rows[i], column)
+    entry(&rows[i], column)
 }
 
-// The constant of a row at a column.
-fn constant(row: &[Entry], column: usize) -> Option<Res>
+// The entry of a row at a column.
+fn entry(row: &[Entry], column: usize) -> Option<Entry>
     requires { IsRow row.now }
-    ensures { result ≡ constant_in row.now column }
+    ensures { result ≡ entry_in row.now column }
 {
     match place_of(row, column) {
-        Ok(place) => Some(row[place].constant),
+        Ok(place) => Some(row[place]),
         Err(_) => None,
     }
 }
 
+// Whether row `i` has a constant.
+pub(crate) fn any_constant(rows: &[Vec<Entry>], i: usize) -> bool
+    requires { i < length rows.now }
+    ensures { result ≡ list_any (λ entry. is_some entry.constant) (row_at rows.now i) }
+{
+    holds_constant(&rows[i])
+}
+
+// Whether row `i` has a symbol.
+pub(crate) fn any_symbol(rows: &[Vec<Entry>], i: usize) -> bool
+    requires { i < length rows.now }
+    ensures { result ≡ list_any (λ entry. entry.symbol) (row_at rows.now i) }
+{
+    holds_symbol(&rows[i])
+}
+
+// Whether a row has a constant.
+fn holds_constant(row: &[Entry]) -> bool
+    ensures { result ≡ list_any (λ entry. is_some entry.constant) row.now }
+{
+    row.iter().any(|entry| entry.constant.is_some())
+}
+
+// Whether a row has a symbol.
+fn holds_symbol(row: &[Entry]) -> bool
+    ensures { result ≡ list_any (λ entry. entry.symbol) row.now }
+{
+    row.iter().any(|entry| entry.symbol)
+}
+
 // Puts a constant other than 0 into row `i`. A refusal changes nothing.
-pub(crate) fn put_in_row(
+pub(crate) fn put_constant_in_row(
     rows: &mut Vec<Vec<Entry>>,
     i: usize,
     column: usize,
@@ -37,39 +68,98 @@ pub(crate) fn put_in_row(
     requires within { i < vec_len rows.old }
     requires rows { All (λ row. IsRow row.items) rows.old.items }
     requires constant { constant ≢ 0 }
-    ensures put { OnOk result (PutsInRow (rows_of rows.old) (rows_of rows.new) i column constant) }
+    ensures put { OnOk result (ChangesRow (PutsConstant column constant) i (rows_of rows.old) (rows_of rows.new)) }
     ensures answer { AnswersAdd result (putting (row_at rows.old.items i) column) }
     ensures kept { OnErr result (rows_of rows.new ≡ rows_of rows.old) }
 {
     let row = &mut rows[i];
-    put(row, column, constant)?;
+    put_constant(row, column, constant)?;
+    Ok(())
+}
+
+// Puts a symbol into row `i`. A refusal changes nothing.
+pub(crate) fn put_symbol_in_row(
+    rows: &mut Vec<Vec<Entry>>,
+    i: usize,
+    column: usize,
+) -> Result<(), AddError>
+    requires within { i < vec_len rows.old }
+    requires rows { All (λ row. IsRow row.items) rows.old.items }
+    ensures put { OnOk result (ChangesRow (PutsSymbol column) i (rows_of rows.old) (rows_of rows.new)) }
+    ensures answer { AnswersAdd result (putting_symbol (row_at rows.old.items i) column) }
+    ensures kept { OnErr result (rows_of rows.new ≡ rows_of rows.old) }
+{
+    let row = &mut rows[i];
+    put_symbol(row, column)?;
     Ok(())
 }
 
 // Puts a constant other than 0 into a row. A refusal changes nothing.
-fn put(row: &mut Vec<Entry>, column: usize, constant: Res) -> Result<(), AddError>
+fn put_constant(row: &mut Vec<Entry>, column: usize, constant: Res) -> Result<(), AddError>
     requires row { IsRow row.old.items }
     requires constant { constant ≢ 0 }
-    ensures put { OnOk result (PutsConstant row.old.items row.new.items column constant) }
+    ensures put { OnOk result (PutsConstant column constant row.old.items row.new.items) }
     ensures answer { AnswersAdd result (putting row.old.items column) }
     ensures kept { OnErr result (row.new.items ≡ row.old.items) }
 {
+    let _residue = constant.value();
+    let constant = Some(constant);
     match place_of(row, column) {
-        Ok(_) => Err(AddError::Twice),
-        Err(place) => {
-            let _residue = constant.value();
-            row.insert(place, Entry { column, constant })?;
-            Ok(())
+        Ok(place) => {
+            let entry = row[place];
+            if entry.constant.is_some() {
+                return Err(AddError::Twice);
+            }
+            row[place] = Entry { constant, ..entry };
         }
+        Err(place) => row.insert(
+            place,
+            Entry {
+                column,
+                constant,
+                symbol: false,
+            },
+        )?,
     }
+    Ok(())
+}
+
+// Puts a symbol into a row. A refusal changes nothing.
+fn put_symbol(row: &mut Vec<Entry>, column: usize) -> Result<(), AddError>
+    requires row { IsRow row.old.items }
+    ensures put { OnOk result (PutsSymbol column row.old.items row.new.items) }
+    ensures answer { AnswersAdd result (putting_symbol row.old.items column) }
+    ensures kept { OnErr result (row.new.items ≡ row.old.items) }
+{
+    match place_of(row, column) {
+        Ok(place) => {
+            let entry = row[place];
+            if entry.symbol {
+                return Err(AddError::Twice);
+            }
+            row[place] = Entry {
+                symbol: true,
+                ..entry
+            };
+        }
+        Err(place) => row.insert(
+            place,
+            Entry {
+                column,
+                constant: None,
+                symbol: true,
+            },
+        )?,
+    }
+    Ok(())
 }
 
 // Where a column stands in a row, or else where it belongs. One past all others takes one comparison.
 fn place_of(row: &[Entry], column: usize) -> Result<usize, usize>
     requires { IsRow row.now }
     ensures { MatchResult result
-        (λ place. (place < length row.now) × ((d : EntryData) → constant_in row.now column ≡ Some (slice_index_or row.now place d).constant))
-        (λ place. (constant_in row.now column ≡ None) × FitsBetween row.now place column) }
+        (λ place. StandsAt row.now place column)
+        (λ place. (entry_in row.now column ≡ None) × FitsBetween row.now place column) }
 {
     match row.last() {
         Some(last) if column <= last.column => {

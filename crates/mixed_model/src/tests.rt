@@ -1,5 +1,7 @@
 use super::*;
+use dense_q::Mat;
 use residue_field::Res;
+use sparse_t::Pattern;
 use std::alloc::Global;
 use std::test::Fail;
 
@@ -27,29 +29,78 @@ fn names_stand_in_first_seen_order(rt: HostRuntime) -> Result<(), Fail> {
 }
 
 #[test]
-fn entries_stand_by_rising_column(rt: HostRuntime) -> Result<(), Fail> {
+fn constants_stand_by_rising_column(rt: HostRuntime) -> Result<(), Fail> {
     let mut model = rectangle(rt.alloc())?;
     for (column, number) in [(2, 5), (0, 65_520), (1, 7)] {
         let constant = Res::of(number);
         assert!(rt; constant.value() != 0);
         assert!(rt; 1 < model.equations() && column < model.unknowns());
         model.put_constant(1, column, constant)?;
-        assert!(rt; 1 < model.equations() && column < model.unknowns());
-        assert_eq!(rt;
-            model.put_constant(1, column, constant),
-            Err(AddError::Twice)
-        );
     }
-    assert!(rt; 1 < model.equations() && 2 < model.unknowns());
-    assert_eq!(rt; model.constant(0, 2), None);
-    assert_eq!(rt; model.constant(1, 0), Some(Res::of(65_520)));
+    assert!(rt; 1 < model.equations());
     let mut columns = Vec::new(rt.alloc());
     for entry in model.entries(1) {
         columns.push(entry.column)?;
     }
     assert_eq!(rt; columns.as_slice(), [0, 1, 2].as_slice());
+    Ok(())
+}
+
+#[test]
+fn a_place_holds_a_constant_and_a_symbol(rt: HostRuntime) -> Result<(), Fail> {
+    let mut model = rectangle(rt.alloc())?;
+    let constant = Res::of(65_520);
+    assert!(rt; constant.value() != 0);
+    assert!(rt; 1 < model.equations() && 2 < model.unknowns());
+    model.put_symbol(1, 2)?;
+    assert!(rt; 1 < model.equations() && 2 < model.unknowns());
+    model.put_constant(1, 2, constant)?;
+    assert!(rt; 1 < model.equations() && 2 < model.unknowns());
+    assert!(rt; model.constant(1, 2) == Some(constant) && model.symbol(1, 2));
+    assert!(rt; model.constant(0, 2).is_none() && !model.symbol(0, 2));
+    Ok(())
+}
+
+#[test]
+fn nothing_stands_twice_at_a_place(rt: HostRuntime) -> Result<(), Fail> {
+    let mut model = rectangle(rt.alloc())?;
+    let constant = Res::of(7);
+    assert!(rt; constant.value() != 0);
+    assert!(rt; 1 < model.equations() && 2 < model.unknowns());
+    model.put_constant(1, 2, constant)?;
+    assert!(rt; 1 < model.equations() && 2 < model.unknowns());
+    assert!(rt; model.put_constant(1, 2, constant) == Err(AddError::Twice));
+    assert!(rt; 1 < model.equations() && 2 < model.unknowns());
+    model.put_symbol(1, 2)?;
+    assert!(rt; 1 < model.equations() && 2 < model.unknowns());
+    assert!(rt; model.put_symbol(1, 2) == Err(AddError::Twice));
+    Ok(())
+}
+
+#[test]
+fn names_are_told(rt: HostRuntime) -> Result<(), Fail> {
+    let model = rectangle(rt.alloc())?;
+    assert!(rt; 1 < model.equations() && 2 < model.unknowns());
     assert_eq!(rt; model.equation_name(1), "heat");
     assert_eq!(rt; model.unknown_name(2), "z");
+    Ok(())
+}
+
+// The layered matrix of one equation with a constant and a symbol at its one unknown.
+#[test]
+fn a_split_entry_has_an_auxiliary_column(rt: HostRuntime) -> Result<(), Fail> {
+    let alloc = rt.alloc();
+    let mut q = Mat::zeros(alloc, 1, 2)?;
+    q.set(0, 0, Res::of(1));
+    q.set(0, 1, Res::of(1));
+    let mut t = Pattern::empty(alloc, 2)?;
+    t.push_row(&[0, 1])?;
+    let equations = Vec::from_slice(alloc, &[0])?;
+    let columns = Vec::from_slice(alloc, &[Origin::Unknown(0), Origin::Split(0)])?;
+    let layered = Layered::new(q, t, equations, Vec::from_slice(alloc, &[0])?, columns);
+    assert_eq!(rt; layered.split(), 1);
+    assert_eq!(rt; (layered.q_origin(0), layered.t_origin(0)), (0, 0));
+    assert_eq!(rt; layered.column_origin(1), Origin::Split(0));
     Ok(())
 }
 

@@ -37,8 +37,6 @@ pub enum Why {
     Twice,
     /// More than the program takes.
     TooMany,
-    /// A form that this version of the program does not read yet.
-    Later,
 }
 
 /// A refusal: the first place at which an input breaks a rule, and the rule.
@@ -114,7 +112,6 @@ impl Why {
             Why::Vanish => "vanishes in the field",
             Why::Twice => "twice",
             Why::TooMany => "too many",
-            Why::Later => "comes later",
         }
     }
 }
@@ -193,7 +190,6 @@ mod tests {
             (Place::Line(1), Why::Vanish, "line 1: vanishes in the field"),
             (Place::Line(2), Why::Twice, "line 2: twice"),
             (Place::Line(4097), Why::TooMany, "line 4097: too many"),
-            (Place::Line(1), Why::Later, "line 1: comes later"),
         ];
         for (place, why, want) in cases {
             let refused = Refused { place, why };

@@ -5,7 +5,7 @@ pub mod Noting
 pub mod Written
 pub mod Refusals
 pub mod Runs
-pub mod Entries
-pub mod Eliminations
-pub mod BaseLists
+pub mod PairLists
+pub mod MemberLists
 pub mod RightLaws
+pub mod Solved

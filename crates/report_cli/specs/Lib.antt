@@ -6,6 +6,7 @@ pub mod Notes
 pub mod Answer
 pub mod Analyses
 pub mod Right
-pub mod Filling
-pub mod Elimination
+pub mod Pairs
+pub mod Sizes
+pub mod Solutions
 pub mod RightFor

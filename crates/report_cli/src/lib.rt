@@ -3,14 +3,16 @@
 
 mod analysis;
 mod certificate;
-mod constants;
 mod digits;
-mod elimination;
+mod first;
 mod lines;
 mod numbers;
+mod pairs;
+mod parts;
 mod rows;
 mod running;
 mod shape;
+mod solution;
 mod status;
 mod telling;
 #[cfg(test)]

@@ -44,18 +44,23 @@ pub fn put_pair<K: Sink>(
     buffer: &mut PieceBuffer,
     out: &mut K,
     shape: &Shape,
+    rank: usize,
     base: &[(usize, usize)],
+    mates: &[(usize, usize)],
 ) -> Result<(), WriteFault>
-    requires { All (λ pair. (pair.0 < 2 ^ 32) × (pair.1 < 2 ^ 32)) base.now }
-    ensures { IsPut (K.written out.old) buffer.old (K.faults out.old) (K.takes out.old) (K.written out.new) buffer.new (K.faults out.new) (K.takes out.new) (pair_text shape.now base.now) result }
+    requires base { All (λ pair. (pair.0 < 2 ^ 32) × (pair.1 < 2 ^ 32)) base.now }
+    requires mates { All (λ pair. (pair.0 < 2 ^ 32) × (pair.1 < 2 ^ 32)) mates.now }
+    ensures { IsPut (K.written out.old) buffer.old (K.faults out.old) (K.takes out.old) (K.written out.new) buffer.new (K.faults out.new) (K.takes out.new) (pair_text shape.now rank base.now mates.now) result }
 {
     put_piece(buffer, out, b"\nshape")?;
     put_shape(buffer, out, shape)?;
     put_piece(buffer, out, b"\nrank")?;
-    put_number(buffer, out, b' ', base.len() as u64)?;
+    put_number(buffer, out, b' ', rank as u64)?;
     put_piece(buffer, out, b"\nbase")?;
     put_pairs(buffer, out, base)?;
-    put_piece(buffer, out, b"\nmatch\n")
+    put_piece(buffer, out, b"\nmatch")?;
+    put_pairs(buffer, out, mates)?;
+    put_piece(buffer, out, b"\n")
 }
 
 /// Puts the first lines: the kind and the echo.

@@ -139,7 +139,7 @@ fn lists_that_break_a_rule(rt: HostRuntime) -> Result<(), Fail> {
         refused(b"eq\n", b"mixed: line 1: bad shape\n"),
         refused(b"sum a\n", b"mixed: line 1: bad word\n"),
         refused(b"eq 7a\n", b"mixed: line 1: bad name\n"),
-        refused(b"eq a x=?\n", b"mixed: line 1: comes later\n"),
+        refused(b"eq a x=?+?\n", number),
         refused(b"eq a x=65521\n", vanishes),
         refused(b"eq a x=1/65521\n", vanishes),
         refused(b"eq a x=0/65521\n", vanishes),
@@ -244,7 +244,7 @@ fn streams_that_fail(rt: HostRuntime) -> Result<(), Fail> {
         },
         Case {
             notes_fail: &[1],
-            ..refused(b"eq a x=?\n", b"")
+            ..refused(b"eq a x=?+?\n", b"")
         },
         Case {
             most: 1,

@@ -1,14 +1,14 @@
-use Rattle.std.proofs.Common.{[], ◌∷◌, ◌++◌, length, Err, position, sym, subst, ◌∙◌}
+use Rattle.std.proofs.Common.{◌≡◌, false, [], ◌∷◌, ◌++◌, length, None, Err, position, sym, subst}
 use Rattle.std.specs.Str.{bytes_eq}
 use Rattle.std.proofs.lemmas.Result.{err_from_is_err_and}
-use Rattle.mixed_model.specs.Names.{AnswersAdd}
-use Rattle.mixed_model.specs.Rows.{putting}
-use Rattle.mixed_model.specs.Models.{PutsAt, row_of}
+use Rattle.mixed_model.specs.Models.{constant_of, symbol_of}
+use Rattle.mixed_model.specs.declared.errors.AddError.TheVariants.{NoMemory}
+use Rattle.matrix_reader.specs.Items.{item_constant}
 use Rattle.matrix_reader.specs.EquationLists.{equations_in}
 use Rattle.matrix_reader.specs.Rules.{item_rule}
-use Rattle.matrix_reader.specs.ReaderStates.{IsWithin, MarkedFrom, UnmarkedFrom, AnswersRule, so_far}
+use Rattle.matrix_reader.specs.ReaderStates.{IsWithin, MarkedFrom, UnmarkedFrom, PutsValue, AnswersRule, so_far}
 use Rattle.matrix_reader.proofs.MarkLaws.{Marks-from_mark}
-use Rattle.matrix_reader.proofs.ItemSteps.{unmarked_item, marked_item, grown_by_zero, grown_by_put, put_refused}
+use Rattle.matrix_reader.proofs.ItemSteps.{unmarked_item, marked_item, grown_by_value, put_refused}
 use Rattle.matrix_reader.proofs.RuleSteps.{answers_fault}
 use Rattle.matrix_reader.proofs.reader.Reader.read_item.Goals as goal
 
@@ -27,36 +27,24 @@ returns-in_err-j-clause-read c = λ before name items numbered at_line.
     (subst (λ unknown. UnmarkedFrom (position (bytes_eq unknown) old.unknowns) c.args.line old lines why) c.in-Ok.ensures.2 told))
     c.in_err-j.ensures.unmarked))
 
-pub returns-then-value-eq0-clause-read : goal.returns-then-value-eq0-clause-read
-returns-then-value-eq0-clause-read c = λ before name items numbered at_line.
+pub returns-in_err-put_value-clause-read : goal.returns-in_err-put_value-clause-read
+returns-in_err-put_value-clause-read c = λ before name items numbered at_line.
+    let failed = err_from_is_err_and c.from_residual-in_err-put_value.result c.from_residual-in_err-put_value.ensures.1 in
     let old = c.args.self.now.model in
     let lines = c.args.self.now.last_lines.items in
     let item = c.args.item.now in
     let new = c.mark.new.self.model in
     let new_lines = c.mark.new.self.last_lines.items in
-    let marks = Marks-from_mark before name items c.args.line old lines item at_line new new_lines c.in_ok-j.j
-    (subst (λ unknown. MarkedFrom (position (bytes_eq unknown) old.unknowns) c.args.line old new lines new_lines unknown c.in_ok-j.j) c.in-Ok.ensures.2 c.in_ok-j.ensures.marked) in (
-      marked_item before name items c.args.line old lines item at_line new new_lines c.in_ok-j.j marks c.in-Ok.ensures.0,
-      grown_by_zero before name items c.args.line old lines item at_line new new_lines c.in_ok-j.j marks (sym c.in-Ok.ensures.3 ∙ sym c.value.ensures.number ∙ c.if-value-eq0.true),
-    )
-
-pub returns-in_err-put_constant-clause-read : goal.returns-in_err-put_constant-clause-read
-returns-in_err-put_constant-clause-read c = λ before name items numbered at_line.
-    let failed = err_from_is_err_and c.from_residual-in_err-put_constant.result c.from_residual-in_err-put_constant.ensures.1 in
-    let old = c.args.self.now.model in
-    let lines = c.args.self.now.last_lines.items in
-    let item = c.args.item.now in
-    let new = c.mark.new.self.model in
-    let new_lines = c.mark.new.self.last_lines.items in
+    let j = c.in_ok-j.j in
     let rule = item_rule before (so_far name items) item in
-    let left = IsWithin before (so_far name (items ++ item ∷ [])) c.args.line c.put_constant.new.self c.mark.new.self.last_lines.items in
-    let error = c.in_err-put_constant.field-0.0 in
-    let marks = Marks-from_mark before name items c.args.line old lines item at_line new new_lines c.in_ok-j.j
-    (subst (λ unknown. MarkedFrom (position (bytes_eq unknown) old.unknowns) c.args.line old new lines new_lines unknown c.in_ok-j.j) c.in-Ok.ensures.2 c.in_ok-j.ensures.marked) in
+    let left = IsWithin before (so_far name (items ++ item ∷ [])) c.args.line c.put_value.new.model c.mark.new.self.last_lines.items in
+    let error = c.in_err-put_value.field-0.0 in
+    let marks = Marks-from_mark before name items c.args.line old lines item at_line new new_lines j
+    (subst (λ unknown. MarkedFrom (position (bytes_eq unknown) old.unknowns) c.args.line old new lines new_lines unknown j) c.in-Ok.ensures.2 c.in_ok-j.ensures.marked) in
     rw failed.1
     (subst (λ fault. AnswersRule rule left (Err fault)) (sym failed.2)
-    (put_refused before name items c.args.line old lines item at_line new new_lines c.in_ok-j.j marks error rule left
-    (subst (λ i. AnswersAdd {T = Unit {0}} (Err error) (putting (row_of new i) c.in_ok-j.j)) numbered c.in_err-put_constant.ensures.answer)))
+    (put_refused before name items c.args.line old lines item at_line new new_lines j marks error rule left
+    (subst (λ i. constant_of new i j ≡ None → symbol_of new i j ≡ false → error ≡ NoMemory) numbered c.in_err-put_value.ensures.refused)))
 
 pub returns-clause-read : goal.returns-clause-read
 returns-clause-read c = λ before name items numbered at_line.
@@ -65,11 +53,14 @@ returns-clause-read c = λ before name items numbered at_line.
     let item = c.args.item.now in
     let new = c.mark.new.self.model in
     let new_lines = c.mark.new.self.last_lines.items in
-    let last = c.put_constant.new.self in
-    let marks = Marks-from_mark before name items c.args.line old lines item at_line new new_lines c.in_ok-j.j
-    (subst (λ unknown. MarkedFrom (position (bytes_eq unknown) old.unknowns) c.args.line old new lines new_lines unknown c.in_ok-j.j) c.in-Ok.ensures.2 c.in_ok-j.ensures.marked) in (
-      marked_item before name items c.args.line old lines item at_line new new_lines c.in_ok-j.j marks c.in-Ok.ensures.0,
-      grown_by_put before name items c.args.line old lines item at_line new new_lines c.in_ok-j.j marks last c.in_ok-put_constant.ensures.model
-          (subst (λ constant. PutsAt new last (length (equations_in before)) c.in_ok-j.j constant) c.in-Ok.ensures.3
-          (subst (λ i. PutsAt new last i c.in_ok-j.j c.in-Ok.term.constant) numbered c.in_ok-put_constant.ensures.put)),
+    let last = c.put_value.new.model in
+    let j = c.in_ok-j.j in
+    let value = c.in-Ok.term.value in
+    let marks = Marks-from_mark before name items c.args.line old lines item at_line new new_lines j
+    (subst (λ unknown. MarkedFrom (position (bytes_eq unknown) old.unknowns) c.args.line old new lines new_lines unknown j) c.in-Ok.ensures.2 c.in_ok-j.ensures.marked) in (
+      marked_item before name items c.args.line old lines item at_line new new_lines j marks c.in-Ok.ensures.0,
+      grown_by_value before name items c.args.line old lines item at_line new new_lines j marks last
+          (subst (λ symbol. PutsValue new last (length (equations_in before)) j (item_constant item) symbol) c.in-Ok.ensures.4
+          (subst (λ constant. PutsValue new last (length (equations_in before)) j constant value.symbol) c.in-Ok.ensures.3
+          (subst (λ i. PutsValue new last i j value.constant value.symbol) numbered c.in_ok-put_value.ensures.put))),
     )

@@ -4,7 +4,7 @@ use Rattle.mixed_model.specs.Rows.{IsRow}
 use Rattle.mixed_model.proofs.ModelLaws.{rows_are_rows}
 use Rattle.mixed_model.proofs.mixed.Mixed.constant.Goals as goal
 
-pub constant_in_row-requires-clause-rows : goal.constant_in_row-requires-clause-rows
-constant_in_row-requires-clause-rows c =
+pub entry_in_row-requires-clause-rows : goal.entry_in_row-requires-clause-rows
+entry_in_row-requires-clause-rows c =
     subst (All (λ row. IsRow row.items)) (sym c.deref.ensures.value)
     (rows_are_rows c.self.inside.rows.items _ c.self.invariant.rows)

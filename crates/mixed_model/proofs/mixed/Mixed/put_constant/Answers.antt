@@ -1,5 +1,5 @@
 use Rattle.mixed_model.proofs.ModelLaws.{rows_are_rows}
 use Rattle.mixed_model.proofs.mixed.Mixed.put_constant.Goals as goal
 
-pub put_in_row-requires-clause-rows : goal.put_in_row-requires-clause-rows
-put_in_row-requires-clause-rows c = rows_are_rows c.self.inside.rows.items _ c.self.invariant.rows
+pub put_constant_in_row-requires-clause-rows : goal.put_constant_in_row-requires-clause-rows
+put_constant_in_row-requires-clause-rows c = rows_are_rows c.self.inside.rows.items _ c.self.invariant.rows

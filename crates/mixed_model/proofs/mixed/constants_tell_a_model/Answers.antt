@@ -1,5 +1,0 @@
-use Rattle.mixed_model.proofs.ModelLaws.{same_models}
-use Rattle.mixed_model.proofs.mixed.constants_tell_a_model.Goals as goal
-
-pub returns : goal.returns
-returns c = same_models
