@@ -1,0 +1,10 @@
+pub mod SameRules
+pub mod PartLists
+pub mod PairLists
+pub mod SameTableau
+pub mod Counts
+pub mod MemberLists
+pub mod Products
+pub mod RowParts
+pub mod PrintedPair
+pub mod PrintedParts

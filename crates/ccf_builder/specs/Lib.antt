@@ -1,1 +1,6 @@
 pub mod Promises
+pub mod Pairs
+pub mod Solutions
+pub mod Decompositions
+pub mod Placings
+pub mod Matrices

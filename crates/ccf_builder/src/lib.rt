@@ -2,7 +2,13 @@
 #![tactic(auto)]
 
 mod building;
+mod decomposition;
+mod matrices;
 mod memory;
+mod pairs;
+mod parts;
+mod placing;
+mod solution;
 
 pub use building::build;
 pub use memory::NoMemory;

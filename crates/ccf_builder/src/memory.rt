@@ -24,8 +24,14 @@ impl From<dense_q::NoMemory> for NoMemory {
     }
 }
 
-impl From<sparse_t::NoMemory> for NoMemory {
-    fn from(_error: sparse_t::NoMemory) -> NoMemory {
+impl From<exchange_graph::NoMemory> for NoMemory {
+    fn from(_error: exchange_graph::NoMemory) -> NoMemory {
+        NoMemory
+    }
+}
+
+impl From<independent_matching::NoMemory> for NoMemory {
+    fn from(_error: independent_matching::NoMemory) -> NoMemory {
         NoMemory
     }
 }

@@ -1,0 +1,309 @@
+-- The printed parts of an engine's arcs keep their rules.
+use Rattle.std.proofs.Common.{◌≡◌, ℕ, zero, suc, ◌+◌, ◌-◌, ◌<◌, ◌≤◌, ◌%◌, ◌⊎◌, inl, inr, Bool, true, false, cond, eqb, ◌&&◌, List, [], ◌∷◌, ◌++◌, length, map, get_or, slice_get, slice_index_or, Option, Some, refl, ap, sym, ◌∙◌, subst, arith}
+use Rattle.std.proofs.lemmas.List.{get_or-map, get_or_past, length-map}
+use Rattle.residue_theory.specs.Sums.{size_on}
+use Rattle.residue_theory.proofs.SumLaws.{nat_cases, sum_on-same}
+use Rattle.residue_theory.proofs.SetLaws.{differ, both_true, eqb_from, eqb_true, not_true, lt_cases, search_below, some_below-holds}
+use Rattle.residue_field.specs.Modulus.{res_modulus}
+use Rattle.dense_q.specs.Tables.{entry}
+use Rattle.sparse_t.specs.Incidences.{touches}
+use Rattle.bipartite_matching.specs.Matchings.{Matching, HasPair}
+use Rattle.bipartite_matching.proofs.MateLaws.{pair-matched, matched-pair}
+use Rattle.exchange_graph.specs.Results.{reached_of}
+use Rattle.closed_sets.specs.Blocks.{IsBelow}
+use Rattle.closed_sets.specs.Closed.{IsMiddle, NoEndReached}
+use Rattle.closed_sets.specs.Orders.{IsCover}
+use Rattle.closed_sets.specs.Rules.{InBlock, KeepsRules as KeepsPlaces}
+use Rattle.mixed_matrices.specs.Arcs.{has_base, has_match, is_end, is_free, leads_to, HasNoWalk}
+use Rattle.mixed_matrices.specs.CheckerRules.{HasRows, KeepsPartRules, block_of, in_first, in_last}
+use Rattle.mixed_matrices.specs.Forms.{Parts as Forms}
+use Rattle.mixed_matrices.specs.LayeredMatrices.{Layered}
+use Rattle.mixed_matrices.specs.Tableaus.{Tableau, HasTableau}
+use Rattle.mixed_model.specs.Layers.{Layers, layered_matrix_of, split_of}
+use Rattle.row_transform.specs.Dense.{Dense, state_of}
+use Rattle.row_transform.specs.Tableaus.{State, IsTableau, IsBaseColumn}
+use Rattle.independent_matching.specs.Engines.{Standing, IsSolved, layers}
+use Rattle.independent_matching.specs.Sides.{layers_of, tableau_of, is_matched, mate_of, size_of}
+use Rattle.independent_matching.proofs.EngineLaws.{same-arcs as kept-arcs, same-ends as kept-ends}
+use Rattle.minimiser_lattice.specs.Parts.{Parts, part_in}
+use Rattle.minimiser_lattice.specs.declared.lattice.Part.{Part}
+use Rattle.minimiser_lattice.specs.declared.lattice.Part.TheVariants.{First, Block, Last}
+use Rattle.cert_text.specs.Contents.{Contents}
+use Rattle.cert_text.specs.Readings.{matrix_of, pattern_of, pair_at, has, has_column, row_with, tableau_of as printed_tableau, column_lists, q_row_lists, t_row_lists, parts_of, lower_of, place_of, StandsOnce, ColumnsDiffer, IsUnitColumn}
+use Rattle.cert_text.specs.Right.{HasProduct, HasUnitColumns}
+use Rattle.cert_text.specs.Rules.{HasMatching}
+use Rattle.cert_text.specs.declared.part.CcfPart.{CcfPart}
+use Rattle.cert_text.specs.declared.part.CcfBlock.{CcfBlock}
+use Rattle.cert_text.specs.declared.shape.Shape.{Shape}
+use Rattle.ccf_builder.specs.Decompositions.{IsDecomposition}
+use Rattle.ccf_builder.specs.Matrices.{PrintsMatrix, PrintsPattern}
+use Rattle.ccf_builder.specs.Pairs.{ListsPairs, IsMate}
+use Rattle.ccf_builder.specs.Placings.{PlacesColumns, PlacesRows, Placing, HasPart, HasBlock, ListsBelow, ListsPart}
+use Rattle.ccf_builder.specs.Solutions.{IsSolution}
+use Rattle.ccf_builder.proofs.MemberLists.{has-below}
+use Rattle.cert_text.proofs.PairLists.{has-found}
+use Rattle.std.proofs.lemmas.Option.{get_or_from_slice_get, slice_get-get_or}
+use Rattle.ccf_builder.proofs.PairLists.{are-pairs, column-below, columns-differ, column-same, counted, row-of, row-same, same-tests}
+use Rattle.ccf_builder.proofs.PrintedPair.{t, M, L, F, G, solved, base_told, base_has, base_low, mate_told, mate_has, mate_low, base-same, base-row, mate-same, mate-row, printed-arc, printed-free, printed-end}
+use Rattle.ccf_builder.proofs.RowParts.{bare-part, column-part, part_of_row, row-bounded, row-part, row-with-below}
+use Rattle.ccf_builder.proofs.PartLists.{IsOfBlocks, lists, once, place, place_of_part}
+use Rattle.ccf_builder.proofs.SameRules.{same-below, same-clear, same-rules}
+use Rattle.ccf_builder.proofs.SameTableau.{same-arcs, same-ends, same-free, same-has_base, same-has_match}
+
+-- no rows and no columns
+abbrev pub no_part : CcfPart
+no_part = record { columns = []; q_rows = []; t_rows = [] }
+
+abbrev pub no_block : CcfBlock
+no_block = record { part = no_part; lower = [] }
+
+place-few : (b : ℕ) (part : Part) → IsOfBlocks b part → place_of_part b part ≤ b + 1
+place-few b First is = omega arith
+place-few b (Block k) is = omega (arith, is)
+place-few b Last is = omega arith
+
+-- a column of the first part, of the last one, and of a block
+first-code : (b : ℕ) (f l : Bool) (k : ℕ) → eqb (place_of_part b (cond f First (cond l Last (Block k)))) 0 ≡ f
+first-code b true l k = refl
+first-code b false true k = not_true (eqb (b + 1) 0) (λ h. absurd (let e : b + 1 ≡ 0 = eqb_true (b + 1) 0 h in omega (arith, e)))
+first-code b false false k = not_true (eqb (k + 1) 0) (λ h. absurd (let e : k + 1 ≡ 0 = eqb_true (k + 1) 0 h in omega (arith, e)))
+
+last-code : (b : ℕ) (f l : Bool) (k : ℕ) → (f ≡ true → l ≡ true → ⊥) → (f ≡ false → l ≡ false → k < b) → eqb (place_of_part b (cond f First (cond l Last (Block k)))) (b + 1) ≡ l
+last-code b true true k apart low = absurd (apart refl refl)
+last-code b true false k apart low = not_true (eqb 0 (b + 1)) (λ h. absurd (let e : 0 ≡ b + 1 = eqb_true 0 (b + 1) h in omega (arith, e)))
+last-code b false true k apart low = eqb_from (b + 1) (b + 1) refl
+last-code b false false k apart low = not_true (eqb (k + 1) (b + 1)) (λ h. absurd (let e : k + 1 ≡ b + 1 = eqb_true (k + 1) (b + 1) h in omega (arith, e, low refl refl)))
+
+block-code : (b : ℕ) (f l : Bool) (k : ℕ) → f ≡ false → l ≡ false → place_of_part b (cond f First (cond l Last (Block k))) - 1 ≡ k
+block-code b true l k ef el = absurd (differ ef refl)
+block-code b false true k ef el = absurd (differ el refl)
+block-code b false false k ef el = let e : (k + 1) - 1 ≡ k = omega arith in e
+
+-- the lists of one kind of a part: its columns, its Q rows or its T rows
+module _ (list_of : CcfPart → List ℕ) (parts : List Part) (blocks : List CcfBlock)
+    (in_blocks : (k : ℕ) → k < length blocks → ListsPart parts (Block k) (list_of (get_or blocks k no_block).part)) where
+  abbrev pub middle_lists : List (List ℕ)
+  middle_lists = map (λ (block : CcfBlock). list_of block.part) blocks
+
+  pub middle-count : length middle_lists ≡ length blocks
+  middle-count = length-map blocks (λ (block : CcfBlock). list_of block.part)
+
+  pub middle-lists : (k : ℕ) → k < length blocks → ListsPart parts (Block k) (get_or middle_lists k [])
+  middle-lists k kb = subst (λ list. ListsPart parts (Block k) list) (sym (get_or-map (λ (block : CcfBlock). list_of block.part) blocks k no_block [] kb)) (in_blocks k kb)
+
+module _ (of : Layers) (engine : Standing Dense) (solution : IsSolution of engine) (tableau : IsTableau res_modulus (state_of res_modulus engine.tableau))
+    (base mates : List (ℕ × ℕ)) (bases : ListsPairs (IsBaseColumn (t of engine solution tableau)) (t of engine solution tableau).rows base)
+    (matched : ListsPairs (IsMate engine.matching (t of engine solution tableau).columns) (L of engine solution tableau).t_rows mates)
+    (P : List (List (ℕ × ℕ))) (prints_p : PrintsMatrix (t of engine solution tableau).rows (t of engine solution tableau).columns (t of engine solution tableau).p P)
+    (v : Parts) (decomposed : IsDecomposition (t of engine solution tableau) engine.matching v)
+    (placing : Placing) (of_columns : PlacesColumns v placing.columns) (of_q : PlacesRows (t of engine solution tableau).rows base placing.columns placing.q_rows)
+    (of_t : PlacesRows (L of engine solution tableau).t_rows mates placing.columns placing.t_rows)
+    (first last : CcfPart) (blocks : List CcfBlock) (of_first : HasPart placing First first) (count : length blocks ≡ v.blocks)
+    (in_blocks : (k : ℕ) (d : CcfBlock) → k < length blocks → HasBlock placing v k (slice_index_or blocks k d)) (of_last : HasPart placing Last last) where
+  abbrev S : State
+  S = state_of res_modulus engine.tableau
+
+  abbrev N : Layered
+  N = L of engine solution tableau
+
+  abbrev H : Tableau
+  H = G of engine solution tableau base mates bases matched P prints_p
+
+  abbrev arc : ℕ → ℕ → Bool
+  arc = leads_to res_modulus (layers_of S engine.matching) (F of engine solution tableau)
+
+  pub clear : NoEndReached arc S.columns decomposed.starts decomposed.ends
+  clear = same-clear (leads_to res_modulus N (F of engine solution tableau)) arc S.columns (is_free (F of engine solution tableau)) decomposed.starts (is_end res_modulus N (F of engine solution tableau)) decomposed.ends
+      (λ x y _ _. ap (λ (a : ℕ → ℕ → Bool). a x y) (kept-arcs res_modulus (entry of.q) S engine.matching)) (λ x xl. sym (decomposed.starts_are x xl))
+      (λ x xl. ap (λ (e : ℕ → Bool). e x) (kept-ends res_modulus (entry of.q) S engine.matching) ∙ sym (decomposed.ends_are x xl)) (solved of engine solution tableau).no_walk
+
+  pub rules : KeepsPlaces arc S.columns decomposed.starts decomposed.ends v.first v.last v.block v.blocks v.covers
+  rules = decomposed.rules clear
+
+  -- the part of a column is one that there is
+  pub bounded : (x : ℕ) → x < S.columns → IsOfBlocks v.blocks (part_in v x)
+  bounded x xl = by (v.first x) (v.last x) refl refl
+    where
+      by : (f l : Bool) → v.first x ≡ f → v.last x ≡ l → IsOfBlocks v.blocks (cond f First (cond l Last (Block (v.block x))))
+      by true l ef el = tt
+      by false true ef el = tt
+      by false false ef el = rules.number x (record { below = xl; not_first = ef; not_last = el })
+
+  pub bounded-here : (x : ℕ) → x < S.columns → IsOfBlocks (length blocks) (part_in v x)
+  bounded-here x xl = subst (λ b. IsOfBlocks b (part_in v x)) (sym count) (bounded x xl)
+
+  pub column-told : (x : ℕ) → x < S.columns → slice_get placing.columns x ≡ Some (part_in v x)
+  column-told x xl = of_columns.part x (subst (λ n. x < n) (sym decomposed.places) xl)
+
+  -- the columns
+  column_blocks : (k : ℕ) → k < length blocks → ListsPart placing.columns (Block k) (get_or blocks k no_block).part.columns
+  column_blocks k kb = (in_blocks k no_block kb).part.columns
+
+  pub columns-once : StandsOnce S.columns (first.columns ∷ (map (λ (block : CcfBlock). block.part.columns) blocks ++ last.columns ∷ []))
+  columns-once = once (length blocks) S.columns placing.columns (of_columns.count ∙ decomposed.places) first.columns last.columns
+      (middle_lists (λ part. part.columns) placing.columns blocks column_blocks) (middle-count (λ part. part.columns) placing.columns blocks column_blocks)
+      of_first.columns (middle-lists (λ part. part.columns) placing.columns blocks column_blocks) of_last.columns (part_in v) column-told bounded-here
+
+  pub column-place : (x : ℕ) → x < S.columns → place_of (first.columns ∷ (map (λ (block : CcfBlock). block.part.columns) blocks ++ last.columns ∷ [])) x ≡ place_of_part (length blocks) (part_in v x)
+  column-place = place (length blocks) S.columns placing.columns (of_columns.count ∙ decomposed.places) first.columns last.columns
+      (middle_lists (λ part. part.columns) placing.columns blocks column_blocks) (middle-count (λ part. part.columns) placing.columns blocks column_blocks)
+      of_first.columns (middle-lists (λ part. part.columns) placing.columns blocks column_blocks) of_last.columns (part_in v) column-told bounded-here
+
+  -- the Q rows
+  abbrev pub q_part : ℕ → Part
+  q_part = part_of_row (IsBaseColumn S) S.rows S.columns base bases S.base S.row (base_told of engine solution tableau) (base_has of engine solution tableau) (base_low of engine solution tableau)
+      v placing.columns placing.q_rows decomposed.places of_columns of_q bounded
+
+  q_told : (i : ℕ) → i < S.rows → slice_get placing.q_rows i ≡ Some (q_part i)
+  q_told = row-part (IsBaseColumn S) S.rows S.columns base bases S.base S.row (base_told of engine solution tableau) (base_has of engine solution tableau) (base_low of engine solution tableau)
+      v placing.columns placing.q_rows decomposed.places of_columns of_q bounded
+
+  q_bounded : (i : ℕ) → i < S.rows → IsOfBlocks (length blocks) (q_part i)
+  q_bounded i il = subst (λ b. IsOfBlocks b (q_part i)) (sym count) (row-bounded (IsBaseColumn S) S.rows S.columns base bases S.base S.row (base_told of engine solution tableau) (base_has of engine solution tableau) (base_low of engine solution tableau)
+      v placing.columns placing.q_rows decomposed.places of_columns of_q bounded i il)
+
+  q_blocks : (k : ℕ) → k < length blocks → ListsPart placing.q_rows (Block k) (get_or blocks k no_block).part.q_rows
+  q_blocks k kb = (in_blocks k no_block kb).part.q_rows
+
+  pub q_rows-once : StandsOnce S.rows (first.q_rows ∷ (map (λ (block : CcfBlock). block.part.q_rows) blocks ++ last.q_rows ∷ []))
+  q_rows-once = once (length blocks) S.rows placing.q_rows of_q.count first.q_rows last.q_rows
+      (middle_lists (λ part. part.q_rows) placing.q_rows blocks q_blocks) (middle-count (λ part. part.q_rows) placing.q_rows blocks q_blocks)
+      of_first.q_rows (middle-lists (λ part. part.q_rows) placing.q_rows blocks q_blocks) of_last.q_rows q_part q_told q_bounded
+
+  pub q_row-place : (i : ℕ) → i < S.rows → place_of (first.q_rows ∷ (map (λ (block : CcfBlock). block.part.q_rows) blocks ++ last.q_rows ∷ [])) i ≡ place_of_part (length blocks) (q_part i)
+  q_row-place = place (length blocks) S.rows placing.q_rows of_q.count first.q_rows last.q_rows
+      (middle_lists (λ part. part.q_rows) placing.q_rows blocks q_blocks) (middle-count (λ part. part.q_rows) placing.q_rows blocks q_blocks)
+      of_first.q_rows (middle-lists (λ part. part.q_rows) placing.q_rows blocks q_blocks) of_last.q_rows q_part q_told q_bounded
+
+  -- the T rows
+  abbrev pub t_part : ℕ → Part
+  t_part = part_of_row (IsMate engine.matching S.columns) N.t_rows S.columns mates matched (is_matched engine.matching) (mate_of engine.matching) (mate_told of engine solution tableau) (mate_has of engine solution tableau) (mate_low of engine solution tableau)
+      v placing.columns placing.t_rows decomposed.places of_columns of_t bounded
+
+  t_told : (i : ℕ) → i < N.t_rows → slice_get placing.t_rows i ≡ Some (t_part i)
+  t_told = row-part (IsMate engine.matching S.columns) N.t_rows S.columns mates matched (is_matched engine.matching) (mate_of engine.matching) (mate_told of engine solution tableau) (mate_has of engine solution tableau) (mate_low of engine solution tableau)
+      v placing.columns placing.t_rows decomposed.places of_columns of_t bounded
+
+  t_bounded : (i : ℕ) → i < N.t_rows → IsOfBlocks (length blocks) (t_part i)
+  t_bounded i il = subst (λ b. IsOfBlocks b (t_part i)) (sym count) (row-bounded (IsMate engine.matching S.columns) N.t_rows S.columns mates matched (is_matched engine.matching) (mate_of engine.matching) (mate_told of engine solution tableau) (mate_has of engine solution tableau) (mate_low of engine solution tableau)
+      v placing.columns placing.t_rows decomposed.places of_columns of_t bounded i il)
+
+  t_blocks : (k : ℕ) → k < length blocks → ListsPart placing.t_rows (Block k) (get_or blocks k no_block).part.t_rows
+  t_blocks k kb = (in_blocks k no_block kb).part.t_rows
+
+  pub t_rows-once : StandsOnce N.t_rows (first.t_rows ∷ (map (λ (block : CcfBlock). block.part.t_rows) blocks ++ last.t_rows ∷ []))
+  t_rows-once = once (length blocks) N.t_rows placing.t_rows of_t.count first.t_rows last.t_rows
+      (middle_lists (λ part. part.t_rows) placing.t_rows blocks t_blocks) (middle-count (λ part. part.t_rows) placing.t_rows blocks t_blocks)
+      of_first.t_rows (middle-lists (λ part. part.t_rows) placing.t_rows blocks t_blocks) of_last.t_rows t_part t_told t_bounded
+
+  pub t_row-place : (i : ℕ) → i < N.t_rows → place_of (first.t_rows ∷ (map (λ (block : CcfBlock). block.part.t_rows) blocks ++ last.t_rows ∷ [])) i ≡ place_of_part (length blocks) (t_part i)
+  t_row-place = place (length blocks) N.t_rows placing.t_rows of_t.count first.t_rows last.t_rows
+      (middle_lists (λ part. part.t_rows) placing.t_rows blocks t_blocks) (middle-count (λ part. part.t_rows) placing.t_rows blocks t_blocks)
+      of_first.t_rows (middle-lists (λ part. part.t_rows) placing.t_rows blocks t_blocks) of_last.t_rows t_part t_told t_bounded
+
+  -- the printed parts, and the lower lists
+  abbrev pub printed : Forms
+  printed = record {
+    blocks = length blocks;
+    column = place_of (first.columns ∷ (map (λ (block : CcfBlock). block.part.columns) blocks ++ last.columns ∷ []));
+    q_row = place_of (first.q_rows ∷ (map (λ (block : CcfBlock). block.part.q_rows) blocks ++ last.q_rows ∷ []));
+    t_row = place_of (first.t_rows ∷ (map (λ (block : CcfBlock). block.part.t_rows) blocks ++ last.t_rows ∷ []));
+  }
+
+  abbrev pub lower : ℕ → ℕ → Bool
+  lower l k = has (get_or (map (λ (block : CcfBlock). block.lower) blocks) l []) k
+
+  -- each row stands in the part of its column, and the others in the last one
+  rows-printed : HasRows N H printed
+  unfolding has_base has_match
+  rows-printed = record {
+    columns = λ x xl. subst (λ n. n ≤ length blocks + 1) (sym (column-place x xl)) (place-few (length blocks) (part_in v x) (bounded-here x xl));
+    base = λ y yl h.
+        q_row-place (row_with base y) (row-with-below (IsBaseColumn S) S.rows S.columns base bases S.base S.row (base_told of engine solution tableau) (base_has of engine solution tableau) (base_low of engine solution tableau)
+            v placing.columns placing.q_rows decomposed.places of_columns of_q bounded y h)
+        ∙ ap (place_of_part (length blocks)) (column-part (IsBaseColumn S) S.rows S.columns base bases S.base S.row (base_told of engine solution tableau) (base_has of engine solution tableau) (base_low of engine solution tableau)
+            v placing.columns placing.q_rows decomposed.places of_columns of_q bounded y h)
+        ∙ sym (column-place y yl);
+    matched = λ y yl h.
+        t_row-place (row_with mates y) (row-with-below (IsMate engine.matching S.columns) N.t_rows S.columns mates matched (is_matched engine.matching) (mate_of engine.matching) (mate_told of engine solution tableau) (mate_has of engine solution tableau) (mate_low of engine solution tableau)
+            v placing.columns placing.t_rows decomposed.places of_columns of_t bounded y h)
+        ∙ ap (place_of_part (length blocks)) (column-part (IsMate engine.matching S.columns) N.t_rows S.columns mates matched (is_matched engine.matching) (mate_of engine.matching) (mate_told of engine solution tableau) (mate_has of engine solution tableau) (mate_low of engine solution tableau)
+            v placing.columns placing.t_rows decomposed.places of_columns of_t bounded y h)
+        ∙ sym (column-place y yl);
+    other_q = λ i il none.
+        q_row-place i il ∙ ap (place_of_part (length blocks)) (bare-part (IsBaseColumn S) S.rows S.columns base bases S.base S.row (base_told of engine solution tableau) (base_has of engine solution tableau) (base_low of engine solution tableau)
+            v placing.columns placing.q_rows decomposed.places of_columns of_q bounded i il
+            (λ y yl member same. differ none (some_below-holds S.columns (λ z. has_column base z && eqb (row_with base z) i) y yl (both_true (has_column base y) (eqb (row_with base y) i) member (eqb_from (row_with base y) i same)))));
+    other_t = λ i il none.
+        t_row-place i il ∙ ap (place_of_part (length blocks)) (bare-part (IsMate engine.matching S.columns) N.t_rows S.columns mates matched (is_matched engine.matching) (mate_of engine.matching) (mate_told of engine solution tableau) (mate_has of engine solution tableau) (mate_low of engine solution tableau)
+            v placing.columns placing.t_rows decomposed.places of_columns of_t bounded i il
+            (λ y yl member same. differ none (some_below-holds S.columns (λ z. has_column mates z && eqb (row_with mates z) i) y yl (both_true (has_column mates y) (eqb (row_with mates y) i) member (eqb_from (row_with mates y) i same)))));
+  }
+
+  first_same : (x : ℕ) → x < S.columns → v.first x ≡ in_first printed x
+  first_same x xl = sym (ap (λ k. eqb k 0) (column-place x xl) ∙ first-code (length blocks) (v.first x) (v.last x) (v.block x))
+
+  last_same : (x : ℕ) → x < S.columns → v.last x ≡ in_last printed x
+  last_same x xl = sym (ap (λ k. eqb k (length blocks + 1)) (column-place x xl) ∙ last-code (length blocks) (v.first x) (v.last x) (v.block x)
+      (λ f l. rules.apart x xl f l) (λ f l. subst (λ b. v.block x < b) (sym count) (rules.number x (record { below = xl; not_first = f; not_last = l }))))
+
+  block_same : (x : ℕ) → x < S.columns → v.first x ≡ false → v.last x ≡ false → v.block x ≡ block_of printed x
+  block_same x xl f l = sym (ap (λ k. k - 1) (column-place x xl) ∙ block-code (length blocks) (v.first x) (v.last x) (v.block x) f l)
+
+  lower_list : (k : ℕ) → k < length blocks → ListsBelow (λ j. v.covers k j ≡ true) k (get_or (map (λ (block : CcfBlock). block.lower) blocks) k [])
+  lower_list k kb = subst (λ list. ListsBelow (λ j. v.covers k j ≡ true) k list) (sym (get_or-map (λ (block : CcfBlock). block.lower) blocks k no_block [] kb)) (in_blocks k no_block kb).lower
+
+  pub lower_falls : (k l : ℕ) → lower l k ≡ true → k < l
+  lower_falls k l h = elim (lt_cases l (length blocks)) [
+    | inl low ↦ has-below l (get_or (map (λ (block : CcfBlock). block.lower) blocks) l []) k (lower_list l low).rising.below h
+    | inr high ↦
+        let past : get_or (map (λ (block : CcfBlock). block.lower) blocks) l [] ≡ [] =
+        get_or_past (map (λ (block : CcfBlock). block.lower) blocks) l [] (subst (λ n. n ≤ l) (sym (length-map blocks (λ (block : CcfBlock). block.lower))) high) in
+        absurd (differ refl (subst (λ list. has list k ≡ true) past h))
+  ]
+
+  lower_same : (l k : ℕ) → l < length blocks → k < length blocks → v.covers l k ≡ lower l k
+  lower_same l k lb kb = elim (lt_cases k l) [
+    | inl before ↦ same-tests (v.covers l k) (lower l k) ((lower_list l lb).exact k before).1 ((lower_list l lb).exact k before).0
+    | inr after ↦ same-tests (v.covers l k) (lower l k)
+        (λ h. absurd (omega (arith, rules.falling k l h, after)))
+        (λ h. absurd (omega (arith, lower_falls k l h, after)))
+  ]
+
+  starts_same : (x : ℕ) → x < S.columns → decomposed.starts x ≡ is_free H x
+  starts_same x xl = decomposed.starts_are x xl ∙ printed-free of engine solution tableau base mates bases matched P prints_p x xl
+
+  ends_same : (x : ℕ) → x < S.columns → decomposed.ends x ≡ is_end res_modulus N H x
+  ends_same x xl = decomposed.ends_are x xl ∙ printed-end of engine solution tableau base mates bases matched P prints_p x xl
+
+  arcs_same : (x y : ℕ) → x < S.columns → y < S.columns → arc x y ≡ leads_to res_modulus N H x y
+  arcs_same x y xl yl = printed-arc of engine solution tableau base mates bases matched P prints_p x xl y yl
+
+  rules-same : KeepsPlaces (leads_to res_modulus N H) S.columns (is_free H) (is_end res_modulus N H) (in_first printed) (in_last printed) (block_of printed) (length blocks) lower
+  rules-same = same-rules arc (leads_to res_modulus N H) S.columns decomposed.starts (is_free H) decomposed.ends (is_end res_modulus N H) arcs_same starts_same ends_same
+      v.first (in_first printed) v.last (in_last printed) v.block (block_of printed) (length blocks) v.covers lower first_same last_same
+      (λ x is. block_same x is.below is.not_first is.not_last) lower_same lower_falls
+      (subst (λ b. KeepsPlaces arc S.columns decomposed.starts decomposed.ends v.first v.last v.block b v.covers) (sym count) rules)
+
+  middle_block : (x : ℕ) → IsMiddle arc S.columns decomposed.starts decomposed.ends x → v.block x ≡ block_of printed x
+  middle_block x (xl, no_start, no_end) = block_same x xl
+      (not_true (v.first x) (λ h. no_start ((decomposed.lattice.parts.first x xl).0 h)))
+      (not_true (v.last x) (λ h. no_end ((decomposed.lattice.parts.last x xl).0 h)))
+
+  order-same : IsBelow (leads_to res_modulus N H) S.columns (is_free H) (is_end res_modulus N H) (block_of printed) (length blocks) v.below
+  order-same = same-below arc (leads_to res_modulus N H) S.columns decomposed.starts (is_free H) decomposed.ends (is_end res_modulus N H) arcs_same starts_same ends_same
+      v.block (block_of printed) (length blocks) v.below middle_block
+      (subst (λ b. IsBelow arc S.columns decomposed.starts decomposed.ends v.block b v.below) (sym count) decomposed.lattice.order)
+
+  covers : IsCover v.below (length blocks) v.covers
+  covers = subst (λ b. IsCover v.below b v.covers) (sym count) decomposed.lattice.covers
+
+  lists-same : IsCover v.below (length blocks) lower
+  lists-same = record {
+    is_below = λ k l kb lb h. covers.is_below k l kb lb (lower_same l k lb kb ∙ h);
+    none_between = λ k m l kb mb lb h. covers.none_between k m l kb mb lb (lower_same l k lb kb ∙ h);
+    all = λ k l kb lb h none. sym (lower_same l k lb kb) ∙ covers.all k l kb lb h none;
+  }
+
+  pub parts-printed : KeepsPartRules res_modulus N H printed v.below lower
+  parts-printed = record { rows = rows-printed; rules = rules-same; order = order-same; lists = lists-same }

@@ -1,0 +1,19 @@
+-- Matrices and patterns by their printed rows.
+use Rattle.std.specs.Prelude.{ℕ, ◌<◌, ◌≡◌, Bool, List}
+use Rattle.cert_text.specs.Ranges.{AreEntries, AreRising, IsMatrix, IsPattern}
+use Rattle.cert_text.specs.Readings.{entry_at, matrix_of, pattern_of, has}
+
+-- the entries of a row of n numbers that are not 0
+pub record PrintsRow (n : ℕ) (row : ℕ → ℕ) (entries : List (ℕ × ℕ)) : Type 0 where
+  pub are : AreEntries n entries
+  pub same : (j : ℕ) → j < n → entry_at entries j ≡ row j
+
+-- the rows of an m x n matrix
+pub record PrintsMatrix (m n : ℕ) (matrix : ℕ → ℕ → ℕ) (rows : List (List (ℕ × ℕ))) : Type 0 where
+  pub is : IsMatrix m n rows
+  pub same : (i j : ℕ) → i < m → j < n → matrix_of rows i j ≡ matrix i j
+
+-- the rows of an m x n pattern
+pub record PrintsPattern (m n : ℕ) (pattern : ℕ → ℕ → Bool) (rows : List (List ℕ)) : Type 0 where
+  pub is : IsPattern m n rows
+  pub same : (i j : ℕ) → i < m → j < n → pattern_of rows i j ≡ pattern i j

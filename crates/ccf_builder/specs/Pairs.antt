@@ -1,0 +1,16 @@
+-- Lists of rows with their columns.
+use Rattle.std.specs.Prelude.{ℕ, ◌<◌, ◌≡◌, List, length}
+use Rattle.bipartite_matching.specs.Matchings.{Matching, HasPair}
+use Rattle.cert_text.specs.Readings.{pair_at}
+
+-- each of the first m rows that has a column, with that column, by rising row; Has says of a row and a column that it has it
+pub record ListsPairs (Has : ℕ → ℕ → Type 0) (m : ℕ) (pairs : List (ℕ × ℕ)) : Type 0 where
+  pub below : (k : ℕ) → k < length pairs → (pair_at pairs k).0 < m
+  pub member : (k : ℕ) → k < length pairs → Has (pair_at pairs k).0 (pair_at pairs k).1
+  pub rising : (k l : ℕ) → k < l → l < length pairs → (pair_at pairs k).0 < (pair_at pairs l).0
+  pub all : (r y : ℕ) → r < m → Has r y → (k : ℕ) × (k < length pairs) × (pair_at pairs k ≡ (r, y))
+
+-- the T row r is matched with column y, one of n
+pub record IsMate (M : Matching) (n r y : ℕ) : Type 0 where
+  pub pair : HasPair M r y
+  pub below : y < n

@@ -1,0 +1,50 @@
+-- The part of each column and of each row, and the lists of a part.
+use Rattle.std.specs.Prelude.{ℕ, ◌<◌, ◌≡◌, ◌↔◌, Bool, true, List, length, slice_get, Some}
+use Rattle.cert_text.specs.Ranges.{AreRising}
+use Rattle.cert_text.specs.Readings.{has, pair_at}
+use Rattle.cert_text.specs.declared.part.CcfPart.{CcfPart}
+use Rattle.cert_text.specs.declared.part.CcfBlock.{CcfBlock}
+use Rattle.minimiser_lattice.specs.Parts.{Parts, part_in}
+use Rattle.minimiser_lattice.specs.declared.lattice.Part.{Part}
+use Rattle.minimiser_lattice.specs.declared.lattice.Part.TheVariants.{First, Block, Last}
+
+-- the part of each column
+pub record PlacesColumns (v : Parts) (columns : List Part) : Type 0 where
+  pub count : length columns ≡ v.places
+  pub part : (x : ℕ) → x < v.places → slice_get columns x ≡ Some (part_in v x)
+
+-- the part of each of m rows: that of its column, and the last one where it has none
+pub record PlacesRows (m : ℕ) (pairs : List (ℕ × ℕ)) (columns rows : List Part) : Type 0 where
+  pub count : length rows ≡ m
+  pub listed : (k : ℕ) → k < length pairs → slice_get rows (pair_at pairs k).0 ≡ slice_get columns (pair_at pairs k).1
+  pub others : (i : ℕ) → i < m → ((k : ℕ) → k < length pairs → (pair_at pairs k).0 ≡ i → ⊥) → slice_get rows i ≡ Some Last
+
+-- the list holds, rising, exactly the numbers below n of which P is true
+pub record ListsBelow (P : ℕ → Type 0) (n : ℕ) (list : List ℕ) : Type 0 where
+  pub rising : AreRising n list
+  pub exact : (x : ℕ) → x < n → (has list x ≡ true) ↔ P x
+
+-- the numbers that stand in this part
+abbrev pub ListsPart : List Part → Part → List ℕ → Type 0
+ListsPart parts part = ListsBelow (λ x. slice_get parts x ≡ Some part) (length parts)
+
+-- the parts of the columns, the Q rows and the T rows
+pub record Placing : Type 0 where
+  pub columns : List Part
+  pub q_rows : List Part
+  pub t_rows : List Part
+
+-- the columns and rows that stand in this part
+pub record HasPart (placing : Placing) (part : Part) (c : CcfPart) : Type 0 where
+  pub columns : ListsPart placing.columns part c.columns
+  pub q_rows : ListsPart placing.q_rows part c.q_rows
+  pub t_rows : ListsPart placing.t_rows part c.t_rows
+
+-- the blocks that block k covers
+abbrev pub ListsLower : Parts → ℕ → List ℕ → Type 0
+ListsLower v k = ListsBelow (λ j. v.covers k j ≡ true) k
+
+-- block k: its columns and rows, and the blocks that it covers
+pub record HasBlock (placing : Placing) (v : Parts) (k : ℕ) (block : CcfBlock) : Type 0 where
+  pub part : HasPart placing (Block k) block.part
+  pub lower : ListsLower v k block.lower
