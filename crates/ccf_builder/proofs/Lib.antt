@@ -8,3 +8,4 @@ pub mod Products
 pub mod RowParts
 pub mod PrintedPair
 pub mod PrintedParts
+pub mod Built

@@ -307,3 +307,21 @@ module _ (of : Layers) (engine : Standing Dense) (solution : IsSolution of engin
 
   pub parts-printed : KeepsPartRules res_modulus N H printed v.below lower
   parts-printed = record { rows = rows-printed; rules = rules-same; order = order-same; lists = lists-same }
+
+  -- each block has a column
+  pub block-some : (k : ℕ) (d : CcfBlock) → k < length blocks → 0 < length (get_or blocks k d).part.columns
+  block-some k d kb =
+      let column = rules.member k (subst (λ b. k < b) count kb) in
+      let x : ℕ = column.0 in
+      let here : slice_get placing.columns x ≡ Some (Block k) = column-told x column.1.below ∙ ap Some (block-is x (v.first x) (v.last x) k column.1.not_first column.1.not_last column.2) in
+      let low : x < length placing.columns = subst (λ n. x < n) (sym (of_columns.count ∙ decomposed.places)) column.1.below in
+      has-some (get_or blocks k d).part.columns x (((in_blocks k d kb).part.columns.exact x low).1 here)
+    where
+      block-is : (x : ℕ) (f l : Bool) (k : ℕ) → f ≡ false → l ≡ false → v.block x ≡ k → cond f First (cond l Last (Block (v.block x))) ≡ Block k
+      block-is x true l k ef el e = absurd (differ ef refl)
+      block-is x false true k ef el e = absurd (differ el refl)
+      block-is x false false k ef el e = ap Block e
+
+      has-some : (xs : List ℕ) (x : ℕ) → has xs x ≡ true → 0 < length xs
+      has-some [] x h = absurd (differ refl h)
+      has-some (y ∷ xs) x h = omega arith

@@ -1,7 +1,8 @@
 -- Matrices and patterns by their printed rows.
 use Rattle.std.specs.Prelude.{ℕ, ◌<◌, ◌≡◌, Bool, List}
-use Rattle.cert_text.specs.Ranges.{AreEntries, AreRising, IsMatrix, IsPattern}
-use Rattle.cert_text.specs.Readings.{entry_at, matrix_of, pattern_of, has}
+use Rattle.cert_text.specs.Ranges.{AreEntries, IsMatrix, IsPattern}
+use Rattle.cert_text.specs.Readings.{entry_at, matrix_of, pattern_of}
+use Rattle.row_transform.specs.Tableaus.{State}
 
 -- the entries of a row of n numbers that are not 0
 pub record PrintsRow (n : ℕ) (row : ℕ → ℕ) (entries : List (ℕ × ℕ)) : Type 0 where
@@ -17,3 +18,9 @@ pub record PrintsMatrix (m n : ℕ) (matrix : ℕ → ℕ → ℕ) (rows : List 
 pub record PrintsPattern (m n : ℕ) (pattern : ℕ → ℕ → Bool) (rows : List (List ℕ)) : Type 0 where
   pub is : IsPattern m n rows
   pub same : (i j : ℕ) → i < m → j < n → pattern_of rows i j ≡ pattern i j
+
+-- the rows of S, of its inverse U, and of P
+pub record PrintsTableau (S : State) (s u p : List (List (ℕ × ℕ))) : Type 0 where
+  pub s_is : PrintsMatrix S.rows S.rows S.s s
+  pub u_is : PrintsMatrix S.rows S.rows S.u u
+  pub p_is : PrintsMatrix S.rows S.columns S.p p

@@ -1,5 +1,5 @@
 -- The part of each column and of each row, and the lists of a part.
-use Rattle.std.specs.Prelude.{ℕ, ◌<◌, ◌≡◌, ◌↔◌, Bool, true, List, length, slice_get, Some}
+use Rattle.std.specs.Prelude.{ℕ, ◌<◌, ◌≡◌, ◌↔◌, Bool, true, List, length, slice_get, slice_index_or, Some}
 use Rattle.cert_text.specs.Ranges.{AreRising}
 use Rattle.cert_text.specs.Readings.{has, pair_at}
 use Rattle.cert_text.specs.declared.part.CcfPart.{CcfPart}
@@ -48,3 +48,14 @@ ListsLower v k = ListsBelow (λ j. v.covers k j ≡ true) k
 pub record HasBlock (placing : Placing) (v : Parts) (k : ℕ) (block : CcfBlock) : Type 0 where
   pub part : HasPart placing (Block k) block.part
   pub lower : ListsLower v k block.lower
+
+-- the parts: each column stands in its own, each row of q_rows and t_rows in that of its column, or in the last one
+pub record PrintsParts (v : Parts) (q_rows t_rows : ℕ) (base mates : List (ℕ × ℕ)) (first : CcfPart) (blocks : List CcfBlock) (last : CcfPart) : Type 0 where
+  pub placing : Placing
+  pub columns : PlacesColumns v placing.columns
+  pub q_are : PlacesRows q_rows base placing.columns placing.q_rows
+  pub t_are : PlacesRows t_rows mates placing.columns placing.t_rows
+  pub first_is : HasPart placing First first
+  pub count : length blocks ≡ v.blocks
+  pub blocks_are : (k : ℕ) (d : CcfBlock) → k < length blocks → HasBlock placing v k (slice_index_or blocks k d)
+  pub last_is : HasPart placing Last last

@@ -2,6 +2,7 @@ use Rattle.ccf_builder.proofs.PartLists.{once, place}
 use Rattle.ccf_builder.proofs.PairLists.{are-pairs}
 use Rattle.ccf_builder.proofs.SameTableau.{same-ends}
 use Rattle.ccf_builder.proofs.Counts.{rows-counted}
+use Rattle.ccf_builder.proofs.Built.{of-each}
 use Rattle.ccf_builder.proofs.PrintedParts.{parts-printed}
 use Rattle.ccf_builder.proofs.PrintedPair.{pair-size}
 use Rattle.ccf_builder.proofs.RowParts.{bare-part}
