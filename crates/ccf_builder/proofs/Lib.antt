@@ -9,3 +9,7 @@ pub mod RowParts
 pub mod PrintedPair
 pub mod PrintedParts
 pub mod Built
+pub mod Tabulating
+pub mod PlacedRows
+pub mod PrintedRows
+pub mod NextBlock

@@ -72,8 +72,7 @@ module _ (P : ℕ → Type 0) where
     exact = λ x low. elim (nat_cases x n) [
       | inl same ↦ (λ _. subst P (sym same) is, λ _. has-push list n x ∙ either-second (has list x) (eqb n x) (eqb_from n x (sym same)))
       | inr other ↦
-          let before : x < n = omega (arith, low, other) in
-          (
+          let before : x < n = omega (arith, low, other) in (
             λ h. elim (either_cases (has list x) (eqb n x) (sym (has-push list n x) ∙ h)) [
               | inl old ↦ (lists.exact x before).0 old
               | inr new ↦ absurd (other (sym (eqb_true n x new)))

@@ -105,7 +105,7 @@ module _ (Has : ℕ → ℕ → Type 0) (m n : ℕ) (pairs : List (ℕ × ℕ)) 
   column-same y yl = same-tests (has_column pairs y) (B y)
       (λ h. let at = has-found pairs y h in subst (λ x. B x ≡ true) at.2 (of_item at.0 at.1).1)
       (λ h. let at = lists.all (row y) y (low y yl h) (has y yl h) in
-          some_below-holds (length pairs) (λ k. eqb (pair_at pairs k).1 y) at.0 at.1 (eqb_from (pair_at pairs at.0).1 y (ap (λ (x : ℕ × ℕ). x.1) at.2)))
+      some_below-holds (length pairs) (λ k. eqb (pair_at pairs k).1 y) at.0 at.1 (eqb_from (pair_at pairs at.0).1 y (ap (λ (x : ℕ × ℕ). x.1) at.2)))
 
   pub row-same : (y : ℕ) → y < n → B y ≡ true → row_with pairs y ≡ row y
   row-same y yl h =

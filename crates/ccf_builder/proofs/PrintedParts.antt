@@ -133,7 +133,7 @@ module _ (of : Layers) (engine : Standing Dense) (solution : IsSolution of engin
   bounded-here x xl = subst (λ b. IsOfBlocks b (part_in v x)) (sym count) (bounded x xl)
 
   pub column-told : (x : ℕ) → x < S.columns → slice_get placing.columns x ≡ Some (part_in v x)
-  column-told x xl = of_columns.part x (subst (λ n. x < n) (sym decomposed.places) xl)
+  column-told x xl = of_columns.at x (subst (λ n. x < n) (sym decomposed.places) xl)
 
   -- the columns
   column_blocks : (k : ℕ) → k < length blocks → ListsPart placing.columns (Block k) (get_or blocks k no_block).part.columns
@@ -220,24 +220,24 @@ module _ (of : Layers) (engine : Standing Dense) (solution : IsSolution of engin
     columns = λ x xl. subst (λ n. n ≤ length blocks + 1) (sym (column-place x xl)) (place-few (length blocks) (part_in v x) (bounded-here x xl));
     base = λ y yl h.
         q_row-place (row_with base y) (row-with-below (IsBaseColumn S) S.rows S.columns base bases S.base S.row (base_told of engine solution tableau) (base_has of engine solution tableau) (base_low of engine solution tableau)
-            v placing.columns placing.q_rows decomposed.places of_columns of_q bounded y h)
+        v placing.columns placing.q_rows decomposed.places of_columns of_q bounded y h)
         ∙ ap (place_of_part (length blocks)) (column-part (IsBaseColumn S) S.rows S.columns base bases S.base S.row (base_told of engine solution tableau) (base_has of engine solution tableau) (base_low of engine solution tableau)
-            v placing.columns placing.q_rows decomposed.places of_columns of_q bounded y h)
+        v placing.columns placing.q_rows decomposed.places of_columns of_q bounded y h)
         ∙ sym (column-place y yl);
     matched = λ y yl h.
         t_row-place (row_with mates y) (row-with-below (IsMate engine.matching S.columns) N.t_rows S.columns mates matched (is_matched engine.matching) (mate_of engine.matching) (mate_told of engine solution tableau) (mate_has of engine solution tableau) (mate_low of engine solution tableau)
-            v placing.columns placing.t_rows decomposed.places of_columns of_t bounded y h)
+        v placing.columns placing.t_rows decomposed.places of_columns of_t bounded y h)
         ∙ ap (place_of_part (length blocks)) (column-part (IsMate engine.matching S.columns) N.t_rows S.columns mates matched (is_matched engine.matching) (mate_of engine.matching) (mate_told of engine solution tableau) (mate_has of engine solution tableau) (mate_low of engine solution tableau)
-            v placing.columns placing.t_rows decomposed.places of_columns of_t bounded y h)
+        v placing.columns placing.t_rows decomposed.places of_columns of_t bounded y h)
         ∙ sym (column-place y yl);
     other_q = λ i il none.
         q_row-place i il ∙ ap (place_of_part (length blocks)) (bare-part (IsBaseColumn S) S.rows S.columns base bases S.base S.row (base_told of engine solution tableau) (base_has of engine solution tableau) (base_low of engine solution tableau)
-            v placing.columns placing.q_rows decomposed.places of_columns of_q bounded i il
-            (λ y yl member same. differ none (some_below-holds S.columns (λ z. has_column base z && eqb (row_with base z) i) y yl (both_true (has_column base y) (eqb (row_with base y) i) member (eqb_from (row_with base y) i same)))));
+        v placing.columns placing.q_rows decomposed.places of_columns of_q bounded i il
+        (λ y yl member same. differ none (some_below-holds S.columns (λ z. has_column base z && eqb (row_with base z) i) y yl (both_true (has_column base y) (eqb (row_with base y) i) member (eqb_from (row_with base y) i same)))));
     other_t = λ i il none.
         t_row-place i il ∙ ap (place_of_part (length blocks)) (bare-part (IsMate engine.matching S.columns) N.t_rows S.columns mates matched (is_matched engine.matching) (mate_of engine.matching) (mate_told of engine solution tableau) (mate_has of engine solution tableau) (mate_low of engine solution tableau)
-            v placing.columns placing.t_rows decomposed.places of_columns of_t bounded i il
-            (λ y yl member same. differ none (some_below-holds S.columns (λ z. has_column mates z && eqb (row_with mates z) i) y yl (both_true (has_column mates y) (eqb (row_with mates y) i) member (eqb_from (row_with mates y) i same)))));
+        v placing.columns placing.t_rows decomposed.places of_columns of_t bounded i il
+        (λ y yl member same. differ none (some_below-holds S.columns (λ z. has_column mates z && eqb (row_with mates z) i) y yl (both_true (has_column mates y) (eqb (row_with mates y) i) member (eqb_from (row_with mates y) i same)))));
   }
 
   first_same : (x : ℕ) → x < S.columns → v.first x ≡ in_first printed x

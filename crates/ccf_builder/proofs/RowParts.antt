@@ -28,7 +28,7 @@ module _ (Has : ℕ → ℕ → Type 0) (m n : ℕ) (pairs : List (ℕ × ℕ)) 
   pub paired-part : (k : ℕ) → k < length pairs → part_of_row (pair_at pairs k).0 ≡ part_in v (pair_at pairs k).1
   paired-part k kl =
       let column : (pair_at pairs k).1 < v.places = subst (λ c. (pair_at pairs k).1 < c) (sym wide) (column-below Has m n pairs lists B row told has low k kl) in
-      get_or_from_slice_get rows (pair_at pairs k).0 (part_in v (pair_at pairs k).1) Last (of_rows.listed k kl ∙ of_columns.part (pair_at pairs k).1 column)
+      get_or_from_slice_get rows (pair_at pairs k).0 (part_in v (pair_at pairs k).1) Last (of_rows.listed k kl ∙ of_columns.at (pair_at pairs k).1 column)
 
   -- a row has a pair or none
   pub row-cases : (i : ℕ) → ((k : ℕ) × (k < length pairs) × ((pair_at pairs k).0 ≡ i)) ⊎ ((k : ℕ) → k < length pairs → (pair_at pairs k).0 ≡ i → ⊥)

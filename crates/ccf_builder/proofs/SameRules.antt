@@ -56,7 +56,7 @@ module _ (arc brc : ℕ → ℕ → Bool) (n : ℕ) (S T E G : ℕ → Bool) (sa
           let bx = blocks x (middle-back x mx) in
           let by = blocks y (middle-back y my) in
           subst (λ k. below k (clock x) ≡ true) by (subst (λ k. below (block y) k ≡ true) bx
-              (is.made x y (middle-back x mx) (middle-back y my) (same-reaches brc arc n back x y my.0 r) (λ e. apart (sym by ∙ e ∙ bx))));
+          (is.made x y (middle-back x mx) (middle-back y my) (same-reaches brc arc n back x y my.0 r) (λ e. apart (sym by ∙ e ∙ bx))));
     }
 
   module _ (F H L K : ℕ → Bool) (block clock : ℕ → ℕ) (b : ℕ) (lower mower : ℕ → ℕ → Bool)
@@ -77,9 +77,12 @@ module _ (arc brc : ℕ → ℕ → Bool) (n : ℕ) (S T E G : ℕ → Bool) (sa
       leads x y is yl h = elim (rules.block_leads x y (in_back x is) yl (same x y is.below yl ∙ h)) [
         | inl in_first ↦ inl (sym (first y yl) ∙ in_first)
         | inr (other, inl equal) ↦ inr (in_block y other, inl (sym (blocks y other) ∙ equal ∙ at x is))
-        | inr (other, inr chain) ↦ inr (in_block y other, inr (
-            subst (λ k. ReachesOn mower b k (clock y)) (at x is) (subst (λ k. ReachesOn mower b (block x) k) (blocks y other)
-                (same-reaches_on lower mower b lists (block x) (block y) (rules.number y other) chain))))
+        | inr (other, inr chain) ↦ inr (
+          in_block y other,
+          inr (
+              subst (λ k. ReachesOn mower b k (clock y)) (at x is) (subst (λ k. ReachesOn mower b (block x) k) (blocks y other)
+              (same-reaches_on lower mower b lists (block x) (block y) (rules.number y other) chain))),
+        )
       ]
 
       least : (x k : ℕ) → InBlock n H K x → k < clock x →

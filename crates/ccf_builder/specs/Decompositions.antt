@@ -1,19 +1,13 @@
 -- The parts of an engine's arcs.
-use Rattle.std.specs.Prelude.{ℕ, ◌<◌, ◌≡◌, Bool, List, length}
+use Rattle.std.specs.Prelude.{ℕ, ◌<◌, ◌≡◌, Bool}
 use Rattle.closed_sets.specs.Closed.{NoEndReached}
 use Rattle.closed_sets.specs.Rules.{KeepsRules}
-use Rattle.exchange_graph.specs.Marks.{members_of}
 use Rattle.residue_field.specs.Modulus.{res_modulus}
 use Rattle.row_transform.specs.Tableaus.{State}
 use Rattle.bipartite_matching.specs.Matchings.{Matching}
 use Rattle.mixed_matrices.specs.Arcs.{is_end, is_free, leads_to}
 use Rattle.independent_matching.specs.Sides.{layers_of, tableau_of}
 use Rattle.minimiser_lattice.specs.Parts.{Parts, IsLattice}
-
--- a mark for each of n columns, set where the column is in A
-pub record AreMarks (A : ℕ → Bool) (n : ℕ) (marks : List Bool) : Type 0 where
-  pub count : length marks ≡ n
-  pub tells : (x : ℕ) → x < n → members_of marks x ≡ A x
 
 -- these are the parts of the arcs of a tableau and a matching, from the free columns and to the ends
 pub record IsDecomposition (S : State) (M : Matching) (v : Parts) : Type 0 where

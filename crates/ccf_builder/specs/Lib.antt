@@ -1,3 +1,4 @@
+pub mod Tabulations
 pub mod Promises
 pub mod Pairs
 pub mod Solutions

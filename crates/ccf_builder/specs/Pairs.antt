@@ -11,6 +11,12 @@ pub record ListsPairs (Has : ℕ → ℕ → Type 0) (m : ℕ) (pairs : List (�
   pub rising : (k l : ℕ) → k < l → l < length pairs → (pair_at pairs k).0 < (pair_at pairs l).0
   pub all : (r y : ℕ) → r < m → Has r y → (k : ℕ) × (k < length pairs) × (pair_at pairs k ≡ (r, y))
 
+-- by rising row, rows below m and columns below n
+pub record AreWithin (m n : ℕ) (pairs : List (ℕ × ℕ)) : Type 0 where
+  pub row : (k : ℕ) → k < length pairs → (pair_at pairs k).0 < m
+  pub column : (k : ℕ) → k < length pairs → (pair_at pairs k).1 < n
+  pub rising : (k l : ℕ) → k < l → l < length pairs → (pair_at pairs k).0 < (pair_at pairs l).0
+
 -- the T row r is matched with column y, one of n
 pub record IsMate (M : Matching) (n r y : ℕ) : Type 0 where
   pub pair : HasPair M r y

@@ -4,14 +4,14 @@ use Rattle.cert_text.specs.Ranges.{AreRising}
 use Rattle.cert_text.specs.Readings.{has, pair_at}
 use Rattle.cert_text.specs.declared.part.CcfPart.{CcfPart}
 use Rattle.cert_text.specs.declared.part.CcfBlock.{CcfBlock}
+use Rattle.ccf_builder.specs.Tabulations.{Tabulates}
 use Rattle.minimiser_lattice.specs.Parts.{Parts, part_in}
 use Rattle.minimiser_lattice.specs.declared.lattice.Part.{Part}
 use Rattle.minimiser_lattice.specs.declared.lattice.Part.TheVariants.{First, Block, Last}
 
 -- the part of each column
-pub record PlacesColumns (v : Parts) (columns : List Part) : Type 0 where
-  pub count : length columns ≡ v.places
-  pub part : (x : ℕ) → x < v.places → slice_get columns x ≡ Some (part_in v x)
+abbrev pub PlacesColumns : Parts → List Part → Type 0
+PlacesColumns v columns = Tabulates (part_in v) v.places columns
 
 -- the part of each of m rows: that of its column, and the last one where it has none
 pub record PlacesRows (m : ℕ) (pairs : List (ℕ × ℕ)) (columns rows : List Part) : Type 0 where

@@ -6,7 +6,8 @@ ghost use Rattle.mixed_matrices.specs.Arcs.{is_end, is_free};
 ghost use Rattle.row_transform.specs.Dense.{state_of};
 ghost use Rattle.independent_matching.specs.Sides.{layers_of, tableau_of};
 ghost use Rattle.minimiser_lattice.specs.Views.{parts_in};
-ghost use Rattle.ccf_builder.specs.Decompositions.{AreMarks, IsDecomposition};
+ghost use Rattle.ccf_builder.specs.Decompositions.{IsDecomposition};
+ghost use Rattle.ccf_builder.specs.Tabulations.{Tabulates};
 
 use crate::memory::NoMemory;
 use independent_matching::Engine;
@@ -28,7 +29,7 @@ pub fn decompose(alloc: Global, engine: &Engine) -> Result<Lattice, NoMemory>
 
 /// A mark for each column, set where it is free.
 fn free_marks(alloc: Global, engine: &Engine) -> Result<Vec<bool>, NoMemory>
-    ensures { IfOk result (λ marks. AreMarks (is_free (tableau_of (state_of res_modulus engine.now.tableau) engine.now.matching)) (state_of res_modulus engine.now.tableau).columns marks.items) }
+    ensures { IfOk result (λ marks. Tabulates (is_free (tableau_of (state_of res_modulus engine.now.tableau) engine.now.matching)) (state_of res_modulus engine.now.tableau).columns marks.items) }
 {
     let columns = engine.tableau().columns();
     let mut marks = Vec::with_capacity(alloc, columns)?;
@@ -40,7 +41,7 @@ fn free_marks(alloc: Global, engine: &Engine) -> Result<Vec<bool>, NoMemory>
 
 /// A mark for each column, set where it is an end.
 fn end_marks(alloc: Global, engine: &Engine) -> Result<Vec<bool>, NoMemory>
-    ensures { IfOk result (λ marks. AreMarks (is_end res_modulus (layers_of (state_of res_modulus engine.now.tableau) engine.now.matching) (tableau_of (state_of res_modulus engine.now.tableau) engine.now.matching)) (state_of res_modulus engine.now.tableau).columns marks.items) }
+    ensures { IfOk result (λ marks. Tabulates (is_end res_modulus (layers_of (state_of res_modulus engine.now.tableau) engine.now.matching) (tableau_of (state_of res_modulus engine.now.tableau) engine.now.matching)) (state_of res_modulus engine.now.tableau).columns marks.items) }
 {
     let columns = engine.tableau().columns();
     let mut marks = Vec::with_capacity(alloc, columns)?;

@@ -5,12 +5,14 @@ ghost use Rattle.residue_field.specs.Modulus.{res_modulus};
 ghost use Rattle.dense_q.specs.Tables.{entry, height};
 ghost use Rattle.sparse_t.specs.Incidences.{touches};
 ghost use Rattle.cert_text.specs.Ranges.{AreRising};
-ghost use Rattle.ccf_builder.specs.Matrices.{PrintsMatrix, PrintsPattern, PrintsRow};
+ghost use Rattle.row_transform.specs.Dense.{state_of};
+ghost use Rattle.ccf_builder.specs.Matrices.{PrintsMatrix, PrintsPattern, PrintsRow, PrintsTableau};
 
 use crate::memory::NoMemory;
 use cert_text::Items;
 use dense_q::Mat;
 use residue_field::{Field, Res};
+use row_transform::{DenseTableau, Tableau};
 use sparse_t::Pattern;
 use std::alloc::Global;
 
@@ -22,6 +24,8 @@ fn entries_of(alloc: Global, matrix: &Mat<Res>, row: usize) -> Result<Items<(usi
     let mut entries = Vec::new(alloc);
     for column in 0..matrix.cols() {
         let number = matrix.get(row, column);
+        // its number is a residue
+        number.in_field();
         if !number.is_zero() {
             entries.push((column, number))?;
         }
@@ -30,10 +34,7 @@ fn entries_of(alloc: Global, matrix: &Mat<Res>, row: usize) -> Result<Items<(usi
 }
 
 /// The rows of a matrix.
-pub fn rows_of(
-    alloc: Global,
-    matrix: &Mat<Res>,
-) -> Result<Items<Items<(usize, Res)>>, NoMemory>
+fn rows_of(alloc: Global, matrix: &Mat<Res>) -> Result<Items<Items<(usize, Res)>>, NoMemory>
     ensures { IfOk result (PrintsMatrix (height matrix.now) matrix.now.width (entry matrix.now)) }
 {
     let mut rows = Vec::with_capacity(alloc, matrix.rows())?;
@@ -63,4 +64,24 @@ pub fn symbols_of(alloc: Global, pattern: &Pattern) -> Result<Items<Items<usize>
         rows.push(columns_of(alloc, pattern.row(row))?)?;
     }
     Ok(Items::from_vec(rows))
+}
+
+/// The printed rows of S, of its inverse U, and of P.
+#[derive(Drop)]
+pub struct PrintedTableau {
+    pub s: Items<Items<(usize, Res)>>,
+    pub u: Items<Items<(usize, Res)>>,
+    pub p: Items<Items<(usize, Res)>>,
+}
+
+/// The matrices of a tableau.
+pub fn tableau_of(alloc: Global, tableau: &DenseTableau<Res>) -> Result<PrintedTableau, NoMemory>
+    ensures { IfOk result (λ printed. PrintsTableau (state_of res_modulus tableau.now) printed.s printed.u printed.p) }
+{
+    let parts = tableau.parts()?;
+    Ok(PrintedTableau {
+        s: rows_of(alloc, &parts.s)?,
+        u: rows_of(alloc, &parts.u)?,
+        p: rows_of(alloc, &parts.p)?,
+    })
 }

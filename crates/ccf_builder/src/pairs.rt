@@ -1,10 +1,10 @@
-//! The lists of the pair: each Q row with its base column, and each T row with the column that it is matched with.
+//! The lists of the pair.
 
 ghost use Rattle.std.specs.Prelude.{◌≡◌, ◌≤◌, IfOk, length};
 ghost use Rattle.residue_field.specs.Modulus.{res_modulus};
 ghost use Rattle.row_transform.specs.Dense.{state_of};
 ghost use Rattle.row_transform.specs.Tableaus.{IsTableau, IsBaseColumn};
-ghost use Rattle.ccf_builder.specs.Pairs.{ListsPairs, IsMate};
+ghost use Rattle.ccf_builder.specs.Pairs.{AreWithin, IsMate, ListsPair, ListsPairs};
 
 use crate::memory::NoMemory;
 use independent_matching::Engine;
@@ -12,14 +12,32 @@ use residue_field::Field;
 use row_transform::Tableau;
 use std::alloc::Global;
 
+/// Each Q row with its base column, and each T row with the column with which it is matched, by rising row.
+#[derive(Drop)]
+pub struct Pair {
+    pub base: Vec<(usize, usize)>,
+    pub mates: Vec<(usize, usize)>,
+}
+
+/// The pair of the engine; there are so many T rows.
+pub fn pair_of(alloc: Global, engine: &Engine, t_rows: usize) -> Result<Pair, NoMemory>
+    requires { t_rows ≡ length engine.now.matching.pattern.rows }
+    ensures lists { IfOk result (λ pair. ListsPair (state_of res_modulus engine.now.tableau) engine.now.matching t_rows pair.base.items pair.mates.items) }
+    ensures base { IfOk result (λ pair. AreWithin (state_of res_modulus engine.now.tableau).rows (state_of res_modulus engine.now.tableau).columns pair.base.items) }
+    ensures mates { IfOk result (λ pair. AreWithin t_rows (state_of res_modulus engine.now.tableau).columns pair.mates.items) }
+{
+    Ok(Pair {
+        base: base_pairs(alloc, engine.tableau())?,
+        mates: mate_pairs(alloc, engine, t_rows)?,
+    })
+}
+
 /// Each row with a base column, and that column, by rising row.
-pub fn base_pairs<F: Field, T: Tableau<F>>(
+fn base_pairs<F: Field, T: Tableau<F>>(
     alloc: Global,
     tableau: &T,
 ) -> Result<Vec<(usize, usize)>, NoMemory>
     ensures base { IfOk result (λ pairs. ListsPairs (IsBaseColumn (T.state tableau.now)) (T.state tableau.now).rows pairs.items) }
-    ensures few { (T.state tableau.now).rows ≤ 8192 }
-    ensures tableau { IsTableau F.modulus (T.state tableau.now) }
 {
     let mut pairs = Vec::new(alloc);
     for row in 0..tableau.rows() {
@@ -31,11 +49,7 @@ pub fn base_pairs<F: Field, T: Tableau<F>>(
 }
 
 /// Each T row that is matched, and its column, by rising row; there are so many T rows.
-pub fn mate_pairs(
-    alloc: Global,
-    engine: &Engine,
-    rows: usize,
-) -> Result<Vec<(usize, usize)>, NoMemory>
+fn mate_pairs(alloc: Global, engine: &Engine, rows: usize) -> Result<Vec<(usize, usize)>, NoMemory>
     requires { rows ≡ length engine.now.matching.pattern.rows }
     ensures { IfOk result (λ pairs. ListsPairs (IsMate engine.now.matching (state_of res_modulus engine.now.tableau).columns) rows pairs.items) }
 {

@@ -1,15 +1,25 @@
 //! The printed parts.
 
-ghost use Rattle.std.specs.Prelude.{◌≡◌, ◌<◌, ◌≤◌, ℕ, IfOk, length, slice_index_or};
+ghost use Rattle.std.specs.Prelude.{◌≡◌, ◌<◌, ◌≤◌, ℕ, IfOk, length, slice_index_or, slice_get, Some, IsTrue, ◌↔◌};
 ghost use Rattle.minimiser_lattice.specs.Views.{parts_in};
 ghost use Rattle.cert_text.specs.declared.part.CcfBlock.{CcfBlock};
-ghost use Rattle.ccf_builder.specs.Placings.{HasBlock, HasPart, ListsLower, ListsPart};
+ghost use Rattle.ccf_builder.specs.Pairs.{AreWithin};
+ghost use Rattle.ccf_builder.specs.Placings.{HasBlock, HasPart, ListsLower, ListsPart, PrintsParts};
 
 use crate::memory::NoMemory;
-use crate::placing::Placing;
+use crate::pairs::Pair;
+use crate::placing::{Placing, column_parts, row_parts};
 use cert_text::{CcfBlock, CcfPart, Items};
 use minimiser_lattice::{Lattice, Part};
 use std::alloc::Global;
+
+/// Whether a number stands in this part.
+fn stands_in(parts: &[Part], number: usize, part: Part) -> bool
+    requires { number < length parts.now }
+    ensures { IsTrue result ↔ (slice_get parts.now number ≡ Some part) }
+{
+    parts[number] == part
+}
 
 /// The numbers that stand in this part, rising.
 fn numbers_in(alloc: Global, parts: &[Part], part: Part) -> Result<Items<usize>, NoMemory>
@@ -17,7 +27,7 @@ fn numbers_in(alloc: Global, parts: &[Part], part: Part) -> Result<Items<usize>,
 {
     let mut numbers = Vec::new(alloc);
     for number in 0..parts.len() {
-        if parts[number] == part {
+        if stands_in(parts, number, part) {
             numbers.push(number)?;
         }
     }
@@ -25,7 +35,7 @@ fn numbers_in(alloc: Global, parts: &[Part], part: Part) -> Result<Items<usize>,
 }
 
 /// The columns and the rows of this part.
-pub fn part_at(alloc: Global, placing: &Placing, part: Part) -> Result<CcfPart, NoMemory>
+fn part_at(alloc: Global, placing: &Placing, part: Part) -> Result<CcfPart, NoMemory>
     ensures { IfOk result (HasPart (record { columns = placing.now.columns.items; q_rows = placing.now.q_rows.items; t_rows = placing.now.t_rows.items }) part) }
 {
     Ok(CcfPart {
@@ -50,7 +60,7 @@ fn lower_blocks(alloc: Global, lattice: &Lattice, k: usize) -> Result<Items<usiz
 }
 
 /// The blocks, in their order.
-pub fn blocks_of(
+fn blocks_of(
     alloc: Global,
     lattice: &Lattice,
     placing: &Placing,
@@ -66,4 +76,42 @@ pub fn blocks_of(
         })?;
     }
     Ok(Items::from_vec(blocks))
+}
+
+/// The printed parts: the two tails, and the blocks in their order.
+#[derive(Drop)]
+pub struct PrintedParts {
+    pub first: CcfPart,
+    pub blocks: Items<CcfBlock>,
+    pub last: CcfPart,
+}
+
+/// The parts of so many columns, Q rows and T rows: each column in its own part, and each row in that of its column, or in
+/// the last one where it has none.
+pub fn parts_of(
+    alloc: Global,
+    lattice: &Lattice,
+    columns: usize,
+    q_rows: usize,
+    t_rows: usize,
+    pair: &Pair,
+) -> Result<PrintedParts, NoMemory>
+    requires columns { columns ≡ lattice.now.places }
+    requires base { AreWithin q_rows columns pair.now.base.items }
+    requires mates { AreWithin t_rows columns pair.now.mates.items }
+    ensures { IfOk result (λ parts. PrintsParts (parts_in lattice.now) q_rows t_rows pair.now.base.items pair.now.mates.items parts.first parts.blocks parts.last) }
+{
+    let column_places = column_parts(alloc, lattice, columns)?;
+    let q_places = row_parts(alloc, q_rows, &pair.base, &column_places)?;
+    let t_places = row_parts(alloc, t_rows, &pair.mates, &column_places)?;
+    let placing = Placing {
+        columns: column_places,
+        q_rows: q_places,
+        t_rows: t_places,
+    };
+    Ok(PrintedParts {
+        first: part_at(alloc, &placing, Part::First)?,
+        blocks: blocks_of(alloc, lattice, &placing)?,
+        last: part_at(alloc, &placing, Part::Last)?,
+    })
 }

@@ -1,8 +1,8 @@
 //! The part in which each column and each row stands.
 
-ghost use Rattle.std.specs.Prelude.{◌≡◌, ◌<◌, ℕ, IfOk, length};
-ghost use Rattle.cert_text.specs.Readings.{pair_at};
+ghost use Rattle.std.specs.Prelude.{◌≡◌, IfOk, length};
 ghost use Rattle.minimiser_lattice.specs.Views.{parts_in};
+ghost use Rattle.ccf_builder.specs.Pairs.{AreWithin};
 ghost use Rattle.ccf_builder.specs.Placings.{PlacesColumns, PlacesRows};
 
 use crate::memory::NoMemory;
@@ -18,11 +18,7 @@ pub struct Placing {
 }
 
 /// The part of each of these columns.
-pub fn column_parts(
-    alloc: Global,
-    lattice: &Lattice,
-    columns: usize,
-) -> Result<Vec<Part>, NoMemory>
+pub fn column_parts(alloc: Global, lattice: &Lattice, columns: usize) -> Result<Vec<Part>, NoMemory>
     requires { columns ≡ lattice.now.places }
     ensures { IfOk result (λ list. PlacesColumns (parts_in lattice.now) list.items) }
 {
@@ -40,9 +36,7 @@ pub fn row_parts(
     pairs: &[(usize, usize)],
     columns: &[Part],
 ) -> Result<Vec<Part>, NoMemory>
-    requires rows { (k : ℕ) → k < length pairs.now → (pair_at pairs.now k).0 < rows }
-    requires columns { (k : ℕ) → k < length pairs.now → (pair_at pairs.now k).1 < length columns.now }
-    requires rising { (k l : ℕ) → k < l → l < length pairs.now → (pair_at pairs.now k).0 < (pair_at pairs.now l).0 }
+    requires { AreWithin rows (length columns.now) pairs.now }
     ensures { IfOk result (λ list. PlacesRows rows pairs.now columns.now list.items) }
 {
     let mut parts = vec![in alloc; Part::Last; rows]?;

@@ -3,8 +3,8 @@
 ghost use Rattle.std.specs.Prelude.{◌≡◌, ◌<◌, IfOk};
 ghost use Rattle.ccf_builder.specs.Solutions.{IsSolution};
 
-use exchange_graph::Steps;
 use crate::memory::NoMemory;
+use exchange_graph::Steps;
 use independent_matching::Engine;
 use mixed_model::Layered;
 use std::alloc::Global;

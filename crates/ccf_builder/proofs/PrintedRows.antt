@@ -1,0 +1,126 @@
+-- Rows of a matrix and of a pattern, printed one after the other.
+use Rattle.std.proofs.Common.{◌≡◌, ◌≢◌, ℕ, ◌+◌, ◌<◌, ◌≤◌, Bool, true, false, ◌||◌, cond, eqb, nat_eq, List, [], ◌∷◌, ◌++◌, length, map, get_or, inl, inr, suc, refl, ap, sym, ◌∙◌, subst, arith}
+use Rattle.std.specs.List.{All}
+use Rattle.std.specs.List.Sorted.{IsStrictlyIncreasing}
+use Rattle.std.proofs.lemmas.List.{get_or_append_left, get_or_push, get_or-map, length-map, length_push, map-append}
+use Rattle.std.proofs.lemmas.List.Elements.{All-append, All-from_get_or}
+use Rattle.residue_theory.proofs.SumLaws.{nat_cases}
+use Rattle.residue_theory.proofs.SetLaws.{differ, eqb_from, eqb_true, lt_cases, not_true}
+use Rattle.residue_field.specs.Modulus.{res_modulus}
+use Rattle.sparse_t.specs.Lists.{IsBelow, has as touched}
+use Rattle.sparse_t.proofs.ListLaws.{nat_eq-apart, nat_eq-itself}
+use Rattle.cert_text.specs.Ranges.{AreEntries, AreRising}
+use Rattle.cert_text.specs.Readings.{entry_at, has}
+use Rattle.ccf_builder.specs.Matrices.{PrintsMatrix, PrintsPattern, PrintsRow}
+use Rattle.ccf_builder.proofs.MemberLists.{rising-push}
+use Rattle.ccf_builder.proofs.PairLists.{same-tests}
+
+-- a list with one item is all of it
+all-one : {A : Type 0} (P : A → Type 0) (x : A) → P x → All P (x ∷ [])
+all-one P x is = All-from_get_or P (x ∷ []) x (λ k kl. let zero_is : k ≡ 0 = omega (arith, kl) in subst (λ i. P (get_or (x ∷ []) i x)) (sym zero_is) is)
+
+keys : List (ℕ × ℕ) → List ℕ
+keys entries = map (λ (entry : ℕ × ℕ). entry.0) entries
+
+entry_at-push : (entries : List (ℕ × ℕ)) (n v j : ℕ) → n ≢ j → entry_at (entries ++ (n, v) ∷ []) j ≡ entry_at entries j
+entry_at-push [] n v j apart = ap (λ b. cond b v 0) (not_true (eqb n j) (λ h. apart (eqb_true n j h)))
+entry_at-push (entry ∷ entries) n v j apart = ap (λ x. cond (eqb entry.0 j) entry.1 x) (entry_at-push entries n v j apart)
+
+entry_at-new : (entries : List (ℕ × ℕ)) (n v : ℕ) → ((k : ℕ) → k < length entries → (get_or entries k (0, 0)).0 ≢ n) → entry_at (entries ++ (n, v) ∷ []) n ≡ v
+entry_at-new [] n v apart = ap (λ b. cond b v 0) (eqb_from n n refl)
+entry_at-new (entry ∷ entries) n v apart =
+    ap (λ b. cond b entry.1 (entry_at (entries ++ (n, v) ∷ []) n)) (not_true (eqb entry.0 n) (λ h. apart 0 (omega arith) (eqb_true entry.0 n h)))
+    ∙ entry_at-new entries n v (λ k kl. apart (suc k) (omega (arith, kl)))
+
+entry_at-none : (entries : List (ℕ × ℕ)) (n : ℕ) → ((k : ℕ) → k < length entries → (get_or entries k (0, 0)).0 ≢ n) → entry_at entries n ≡ 0
+entry_at-none [] n apart = refl
+entry_at-none (entry ∷ entries) n apart =
+    ap (λ b. cond b entry.1 (entry_at entries n)) (not_true (eqb entry.0 n) (λ h. apart 0 (omega arith) (eqb_true entry.0 n h)))
+    ∙ entry_at-none entries n (λ k kl. apart (suc k) (omega (arith, kl)))
+
+module _ (n : ℕ) (row : ℕ → ℕ) (entries : List (ℕ × ℕ)) (prints : PrintsRow n row entries) where
+  apart : (k : ℕ) → k < length entries → (get_or entries k (0, 0)).0 ≢ n
+  apart k kl e = absurd (omega (arith, (prints.are.within k (0, 0) kl).0, e))
+
+  keys_are : AreRising n (keys entries)
+  unfolding keys
+  keys_are = record {
+    rising = prints.are.rising;
+    below = All-from_get_or (λ x. x < n) (keys entries) 0 (λ k kl.
+        let low : k < length entries = subst (λ m. k < m) (length-map entries (λ (entry : ℕ × ℕ). entry.0)) kl in
+        subst (λ x. x < n) (sym (get_or-map (λ (entry : ℕ × ℕ). entry.0) entries k (0, 0) 0 low)) (prints.are.within k (0, 0) low).0);
+  }
+
+  -- one column more, with an entry that is not 0
+  pub row-more : (v : ℕ) → v ≡ row n → v ≢ 0 → v < res_modulus → PrintsRow (n + 1) row (entries ++ (n, v) ∷ [])
+  unfolding keys
+  row-more v is some small = record {
+    are = record {
+      rising = subst IsStrictlyIncreasing (sym (map-append (λ (entry : ℕ × ℕ). entry.0) entries ((n, v) ∷ []))) (rising-push n (n + 1) n (keys entries) keys_are (omega arith) (omega arith)).rising;
+      within = All-append (λ (entry : ℕ × ℕ). (entry.0 < n + 1) × (0 < entry.1) × (entry.1 < res_modulus)) entries ((n, v) ∷ [])
+          (λ k d kl. let at = prints.are.within k d kl in (omega (arith, at.0), at.1, at.2))
+          (all-one (λ (entry : ℕ × ℕ). (entry.0 < n + 1) × (0 < entry.1) × (entry.1 < res_modulus)) (n, v) (omega arith, omega (arith, some), small));
+    };
+    same = λ j low. elim (nat_cases j n) [
+      | inl equal ↦ subst (λ c. entry_at (entries ++ (n, v) ∷ []) c ≡ row c) (sym equal) (entry_at-new entries n v apart ∙ is)
+      | inr other ↦ entry_at-push entries n v j (λ e. other (sym e)) ∙ prints.same j (omega (arith, low, other))
+    ];
+  }
+
+  -- one column more, whose entry is 0
+  pub row-same : row n ≡ 0 → PrintsRow (n + 1) row entries
+  row-same is = record {
+    are = record { rising = prints.are.rising; within = λ k d kl. let at = prints.are.within k d kl in (omega (arith, at.0), at.1, at.2) };
+    same = λ j low. elim (nat_cases j n) [
+      | inl equal ↦ subst (λ c. entry_at entries c ≡ row c) (sym equal) (entry_at-none entries n apart ∙ sym is)
+      | inr other ↦ prints.same j (omega (arith, low, other))
+    ];
+  }
+
+-- the next row of a matrix
+pub matrix-push : (m n : ℕ) (matrix : ℕ → ℕ → ℕ) (rows : List (List (ℕ × ℕ))) (entries : List (ℕ × ℕ)) → PrintsMatrix m n matrix rows → PrintsRow n (matrix m) entries →
+    PrintsMatrix (m + 1) n matrix (rows ++ entries ∷ [])
+matrix-push m n matrix rows entries prints next = record {
+  is = record {
+    count = let long : length (rows ++ entries ∷ []) ≡ length rows + 1 = length_push rows entries in omega (arith, long, prints.is.count);
+    entries = All-append (AreEntries n) rows (entries ∷ []) prints.is.entries (all-one (AreEntries n) entries next.are);
+  };
+  same = λ i j il jl. elim (nat_cases i m) [
+    | inl last ↦
+        let at : get_or (rows ++ entries ∷ []) i [] ≡ entries = get_or_push rows entries [] i (prints.is.count ∙ sym last) in
+        ap (λ list. entry_at list j) at ∙ next.same j jl ∙ ap (λ r. matrix r j) (sym last)
+    | inr other ↦
+        let before : i < m = omega (arith, il, other) in
+        let at : get_or (rows ++ entries ∷ []) i [] ≡ get_or rows i [] = get_or_append_left rows (entries ∷ []) [] i (omega (arith, before, prints.is.count)) in
+        ap (λ list. entry_at list j) at ∙ prints.same i j before jl
+  ];
+}
+
+-- both words for a list that holds a number
+nat_same : (a b : ℕ) → eqb a b ≡ nat_eq a b
+nat_same a b = same-tests (eqb a b) (nat_eq a b)
+    (λ h. subst (λ x. nat_eq a x ≡ true) (eqb_true a b h) (nat_eq-itself a))
+    (λ h. elim (nat_cases a b) [ inl same ↦ eqb_from a b same | inr other ↦ absurd (differ (nat_eq-apart a b other) h) ])
+
+has-touched : (list : List ℕ) (x : ℕ) → has list x ≡ touched list x
+has-touched [] x = refl
+has-touched (y ∷ list) x = ap (λ b. b || has list x) (nat_same y x) ∙ ap (λ b. nat_eq y x || b) (has-touched list x)
+
+-- the next row of a pattern
+pub pattern-push : (m n : ℕ) (pattern : ℕ → ℕ → Bool) (rows : List (List ℕ)) (row : List ℕ) → PrintsPattern m n pattern rows →
+    IsStrictlyIncreasing row → IsBelow n row → ((j : ℕ) → j < n → touched row j ≡ pattern m j) → PrintsPattern (m + 1) n pattern (rows ++ row ∷ [])
+pattern-push m n pattern rows row prints rising below next = record {
+  is = record {
+    count = let long : length (rows ++ row ∷ []) ≡ length rows + 1 = length_push rows row in omega (arith, long, prints.is.count);
+    columns = All-append (AreRising n) rows (row ∷ []) prints.is.columns (all-one (AreRising n) row (record { rising = rising; below = All-from_get_or (λ x. x < n) row 0 (λ k kl. below k kl) }));
+  };
+  same = λ i j il jl. elim (nat_cases i m) [
+    | inl last ↦
+        let at : get_or (rows ++ row ∷ []) i [] ≡ row = get_or_push rows row [] i (prints.is.count ∙ sym last) in
+        ap (λ list. has list j) at ∙ has-touched row j ∙ next j jl ∙ ap (λ r. pattern r j) (sym last)
+    | inr other ↦
+        let before : i < m = omega (arith, il, other) in
+        let at : get_or (rows ++ row ∷ []) i [] ≡ get_or rows i [] = get_or_append_left rows (row ∷ []) [] i (omega (arith, before, prints.is.count)) in
+        ap (λ list. has list j) at ∙ prints.same i j before jl
+  ];
+}

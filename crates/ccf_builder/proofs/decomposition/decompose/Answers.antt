@@ -1,0 +1,33 @@
+use Rattle.std.proofs.Common.{◌≡◌, ◌<◌, ℕ, Bool, false, ap, sym, ◌∙◌, subst}
+use Rattle.std.proofs.lemmas.Option.{get_or_from_slice_get}
+use Rattle.residue_field.specs.Modulus.{res_modulus}
+use Rattle.closed_sets.specs.Closed.{NoEndReached}
+use Rattle.closed_sets.specs.Rules.{KeepsRules}
+use Rattle.exchange_graph.specs.Marks.{members_of}
+use Rattle.mixed_matrices.specs.Arcs.{is_end, is_free, leads_to}
+use Rattle.row_transform.specs.Dense.{Dense, state_of}
+use Rattle.independent_matching.specs.Sides.{layers_of, tableau_of}
+use Rattle.minimiser_lattice.specs.Parts.{IsLattice}
+use Rattle.minimiser_lattice.specs.Views.{parts_in}
+use Rattle.ccf_builder.proofs.decomposition.decompose.Goals as goal
+
+pub returns : goal.returns
+returns c =
+    let S = state_of res_modulus c.args.engine.now.tableau in
+    let M = c.args.engine.now.matching in
+    let free = is_free (tableau_of S M) in
+    let end = is_end res_modulus (layers_of S M) (tableau_of S M) in
+    let arc = leads_to res_modulus (layers_of S M) (tableau_of S M) in
+    let starts = members_of c.deref.result.now in
+    let ends = members_of c.deref-2.result.now in
+    let v = parts_in c.fill.new.self in
+    let places = c.in_ok-lattice.ensures ∙ c.columns.ensures.columns ∙ ap (λ (d : Dense). (state_of res_modulus d).columns) c.tableau.ensures in
+    record {
+      starts = starts;
+      ends = ends;
+      starts_are = λ x xl. ap (λ list. members_of list x) c.deref.ensures.value ∙ get_or_from_slice_get c.in_ok-free.free.items x (free x) false (c.in_ok-free.ensures.at x xl);
+      ends_are = λ x xl. ap (λ list. members_of list x) c.deref-2.ensures.value ∙ get_or_from_slice_get c.in_ok-ends.ends.items x (end x) false (c.in_ok-ends.ensures.at x xl);
+      places = c.fill.ensures.places ∙ places;
+      lattice = subst (λ n. IsLattice arc n starts ends v) places c.fill.ensures.lattice;
+      rules = subst (λ n. NoEndReached arc n starts ends → KeepsRules arc n starts ends v.first v.last v.block v.blocks v.covers) places c.fill.ensures.rules;
+    }

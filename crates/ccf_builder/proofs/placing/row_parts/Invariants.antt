@@ -1,0 +1,8 @@
+use Rattle.std.proofs.Common.{◌≡◌, ◌<◌, ℕ, length, slice_get, Some}
+use Rattle.cert_text.specs.Readings.{pair_at}
+use Rattle.minimiser_lattice.specs.declared.lattice.Part.TheVariants.{Last}
+use Rattle.ccf_builder.proofs.PlacedRows.{IsPlacedTo}
+use Rattle.ccf_builder.proofs.placing.row_parts.Given as goal
+
+abbrev pub invariant-loop-pair : goal.invariant-loop-pair
+invariant-loop-pair l = IsPlacedTo l.rows l.pairs l.columns l.pair-index l.parts.items

@@ -1,0 +1,20 @@
+use Rattle.std.proofs.Common.{subst, ◌∙◌}
+use Rattle.residue_field.specs.Modulus.{res_modulus}
+use Rattle.dense_q.specs.Tables.{entry}
+use Rattle.exchange_graph.specs.Results.{reached_of}
+use Rattle.row_transform.specs.Dense.{state_of}
+use Rattle.independent_matching.specs.Engines.{IsSolved}
+use Rattle.independent_matching.specs.Sides.{tableau_of}
+use Rattle.ccf_builder.proofs.solution.solve_counting.Goals as goal
+
+pub returns : goal.returns
+returns g c =
+    let q = entry c.args.layered.now.q in
+    let now = c.run.new.self in
+    let same = c.run.ensures.same q ∙ c.in_ok-engine.ensures.layers in
+    let entries = c.run.ensures.entries q c.in_ok-engine.ensures.entries in
+    record {
+      layers_are = same;
+      entries = entries;
+      solved = subst (λ M. IsSolved res_modulus M (tableau_of (state_of res_modulus now.tableau) now.matching) (reached_of now.found)) same (c.run.ensures.solved q entries);
+    }
