@@ -28,6 +28,7 @@ use Rattle.cert_text.proofs.PrintedRules.{KeepsPrintedRules}
 use Rattle.cert_text.proofs.RightFacts.{rules-right}
 use Rattle.cert_text.specs.declared.part.CcfPart.{CcfPart}
 use Rattle.cert_text.specs.declared.part.CcfBlock.{CcfBlock}
+use Rattle.cert_text.specs.declared.shape.Shape.{Shape}
 use Rattle.ccf_builder.specs.Decompositions.{IsDecomposition}
 use Rattle.ccf_builder.specs.Matrices.{PrintsPattern, PrintsTableau}
 use Rattle.ccf_builder.specs.Pairs.{ListsPair, ListsPairs, IsMate}
@@ -176,8 +177,33 @@ module _ (of : Layers) (layers_ok : AreLayers of) (engine : Standing Dense) (sol
     right = subst (λ K. IsRightCcf res_modulus (mixed_matrix_of model) K O contents) solution.layers_are
         (rules-right res_modulus prime_65521 (omega arith) (mixed_matrix_of model) N O laid contents fits rules)
 
+  -- the number of split rows is small
+  pub split-rows : IsOfModel of → split_of of ≤ t.rows + length of.t.rows
+  split-rows some = let counted = rows-counted (mixed_matrix_of some.model) N (O some.model some.is some.are) (laid some.model some.is some.are) in omega (arith, counted, t_rows_are, some.are.count)
+
+  pub split-size : IsOfModel of → split_of of ≤ size_of t engine.matching
+  split-size some = omega (arith, (ranked some.model some.is some.are).1, some.are.count)
+
   pub of-model : IsOfModel of → IsCcf contents
   of-model some = fits some.model some.is some.are
 
   pub of-each : OfEachModel of (λ M O. IsRightCcf res_modulus M (layered_matrix_of of) O contents)
   of-each model is are = right model is are
+
+  -- the same for equal parts
+  module _ (sizes : Shape) (rank : ℕ) (base_list mates_list : List (ℕ × ℕ)) (sizes_are : sizes ≡ contents.shape) (rank_is : rank ≡ contents.rank) (base_is : base_list ≡ base) (mates_are : mates_list ≡ mates) where
+    abbrev pub copied : Contents
+    copied = record { shape = sizes; rank = rank; base = base_list; mates = mates_list; s = s; u = u; p = P; t = T; first = first; blocks = blocks; last = last }
+
+    same : contents ≡ copied
+    same =
+        ap (λ k. record { shape = k; rank = contents.rank; base = base; mates = mates; s = s; u = u; p = P; t = T; first = first; blocks = blocks; last = last }) (sym sizes_are)
+        ∙ ap (λ k. record { shape = sizes; rank = k; base = base; mates = mates; s = s; u = u; p = P; t = T; first = first; blocks = blocks; last = last }) (sym rank_is)
+        ∙ ap (λ k. record { shape = sizes; rank = rank; base = k; mates = mates; s = s; u = u; p = P; t = T; first = first; blocks = blocks; last = last }) (sym base_is)
+        ∙ ap (λ k. record { shape = sizes; rank = rank; base = base_list; mates = k; s = s; u = u; p = P; t = T; first = first; blocks = blocks; last = last }) (sym mates_are)
+
+    pub copied-fits : IsOfModel of → IsCcf copied
+    copied-fits some = subst IsCcf same (of-model some)
+
+    pub copied-right : OfEachModel of (λ M O. IsRightCcf res_modulus M (layered_matrix_of of) O copied)
+    copied-right = subst (λ c. OfEachModel of (λ M O. IsRightCcf res_modulus M (layered_matrix_of of) O c)) same of-each

@@ -5,3 +5,4 @@ pub mod Solutions
 pub mod Decompositions
 pub mod Placings
 pub mod Matrices
+pub mod Printings

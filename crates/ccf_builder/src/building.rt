@@ -4,15 +4,19 @@ ghost use Rattle.std.specs.Prelude.{◌≡◌, ◌≤◌, ◌+◌, ◌-◌, leng
 ghost use Rattle.residue_field.specs.Modulus.{res_modulus};
 ghost use Rattle.mixed_model.specs.Layers.{layered_matrix_of, split_of};
 ghost use Rattle.cert_text.specs.Right.{HasShape, HasTransform, HasPairAndRank, HasForm, HasIdeals, HasCanonicalListing, IsRightCcf};
+ghost use Rattle.minimiser_lattice.specs.Views.{parts_in};
+ghost use Rattle.ccf_builder.specs.Printings.{IsDecomposed, IsPrinted};
 ghost use Rattle.ccf_builder.specs.Promises.{IsOfModel, OfEachModel};
 
 use crate::decomposition::decompose;
-use crate::matrices::{symbols_of, tableau_of};
+use crate::matrices::{PrintedTableau, symbols_of, tableau_of};
 use crate::memory::NoMemory;
-use crate::pairs::pair_of;
-use crate::parts::parts_of;
+use crate::pairs::{Pair, pair_of};
+use crate::parts::{PrintedParts, parts_of};
 use crate::solution::solve;
 use cert_text::{Ccf, Items, Shape};
+use independent_matching::Engine;
+use minimiser_lattice::Lattice;
 use mixed_model::Layered;
 use row_transform::Tableau;
 use std::alloc::Global;
@@ -36,26 +40,84 @@ fn built(alloc: Global, l: &Layered) -> Result<Ccf, NoMemory>
     requires { IsOfModel l.now }
     ensures { IfOk result (λ c. OfEachModel l.now (λ M O. IsRightCcf res_modulus M (layered_matrix_of l.now) O c)) }
 {
+    let solved = decomposed(alloc, l)?;
+    let printed = print(alloc, l, &solved)?;
+    Ok(assembled(l, solved, printed))
+}
+
+/// An engine with a best pair, the parts of its arcs, and the lists of the pair.
+#[derive(Drop)]
+struct Solved {
+    engine: Engine,
+    lattice: Lattice,
+    pair: Pair,
+}
+
+/// The lines of the matrices, of the symbols and of the parts.
+#[derive(Drop)]
+struct Printed {
+    tableau: PrintedTableau,
+    symbols: Items<Items<usize>>,
+    parts: PrintedParts,
+}
+
+/// Runs the engine, and decomposes its arcs.
+fn decomposed(alloc: Global, l: &Layered) -> Result<Solved, NoMemory>
+    ensures { IfOk result (λ s. IsDecomposed l.now s.engine (parts_in s.lattice) s.pair.base.items s.pair.mates.items) }
+{
     let engine = solve(alloc, l)?;
-    let (q_rows, columns) = (engine.tableau().rows(), engine.tableau().columns());
     let lattice = decompose(alloc, &engine)?;
     let pair = pair_of(alloc, &engine, l.t.rows())?;
-    let parts = parts_of(alloc, &lattice, columns, q_rows, l.t.rows(), &pair)?;
-    let tableau = tableau_of(alloc, engine.tableau())?;
-    let symbols = symbols_of(alloc, &l.t)?;
-    Ok(Ccf::new(
+    Ok(Solved {
+        engine,
+        lattice,
+        pair,
+    })
+}
+
+/// Prints what was found.
+fn print(alloc: Global, l: &Layered, solved: &Solved) -> Result<Printed, NoMemory>
+    requires { IsDecomposed l.now solved.now.engine (parts_in solved.now.lattice) solved.now.pair.base.items solved.now.pair.mates.items }
+    ensures { IfOk result (λ c. IsPrinted l.now solved.now.engine (parts_in solved.now.lattice) solved.now.pair.base.items solved.now.pair.mates.items c.tableau.s c.tableau.u c.tableau.p c.symbols c.parts.first c.parts.blocks c.parts.last) }
+{
+    let tableau = solved.engine.tableau();
+    Ok(Printed {
+        tableau: tableau_of(alloc, tableau)?,
+        symbols: symbols_of(alloc, &l.t)?,
+        parts: parts_of(
+            alloc,
+            &solved.lattice,
+            tableau.columns(),
+            tableau.rows(),
+            l.t.rows(),
+            &solved.pair,
+        )?,
+    })
+}
+
+/// The form with these lines.
+fn assembled(l: &Layered, solved: Solved, printed: Printed) -> Ccf
+    requires model { IsOfModel l.now }
+    requires decomposed { IsDecomposed l.now solved.engine (parts_in solved.lattice) solved.pair.base.items solved.pair.mates.items }
+    requires lines { IsPrinted l.now solved.engine (parts_in solved.lattice) solved.pair.base.items solved.pair.mates.items printed.tableau.s printed.tableau.u printed.tableau.p printed.symbols printed.parts.first printed.parts.blocks printed.parts.last }
+    ensures { OfEachModel l.now (λ M O. IsRightCcf res_modulus M (layered_matrix_of l.now) O result) }
+{
+    let split = l.split();
+    let q_rows = solved.engine.tableau().rows();
+    let columns = solved.engine.tableau().columns();
+    Ccf::new(
         shape_of(l, q_rows, columns),
-        engine.size() - l.split(),
-        Items::from_vec(pair.base),
-        Items::from_vec(pair.mates),
-        tableau.s,
-        tableau.u,
-        tableau.p,
-        symbols,
-        parts.first,
-        parts.blocks,
-        parts.last,
-    ))
+        solved.engine.size() - split,
+        Items::from_vec(solved.pair.base),
+        Items::from_vec(solved.pair.mates),
+        printed.tableau.s,
+        printed.tableau.u,
+        printed.tableau.p,
+        printed.symbols,
+        printed.parts.first,
+        printed.parts.blocks,
+        printed.parts.last,
+    )
 }
 
 /// The sizes of a layered matrix with so many Q rows and columns, and of its model.

@@ -13,6 +13,6 @@ loop-column-preserved c =
     let P : List (ℕ × ℕ) → Type 0 = PrintsRow (column + 1) row in
     elim c.if-not-is_zero.branch [
       | then-not-is_zero+in_ok-push w ↦ subst P (sym (ap (λ v. v.items) w.entries-is ∙ w.in_ok-push.ensures.items))
-        (row-more column row c.loop-column.entries.items c.loop-column.invariant c.get-number.result c.get-number.ensures (λ zero. differ w.if-not-is_zero.true (c.is_zero.ensures.1 zero)) c.in_field.ensures)
+          (row-more column row c.loop-column.entries.items c.loop-column.invariant c.get-number.result c.get-number.ensures (λ zero. differ w.if-not-is_zero.true (c.is_zero.ensures.1 zero)) c.in_field.ensures)
       | else-not-is_zero w ↦ subst P (sym (ap (λ v. v.items) w.entries-is)) (row-same column row c.loop-column.entries.items c.loop-column.invariant (sym c.get-number.ensures ∙ c.is_zero.ensures.0 w.if-not-is_zero.false))
     ]

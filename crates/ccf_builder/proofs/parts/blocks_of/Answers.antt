@@ -12,7 +12,7 @@ loop-k-preserved c =
     let k = c.loop-k.k in
     let P : List CcfBlock → Type 0 = λ blocks. (length blocks ≡ k + 1) × ((j : ℕ) (d : CcfBlock) → j < length blocks → HasBlock placing v j (slice_index_or blocks j d)) in
     subst P (sym c.in_ok-push.ensures.items) (next-block placing v k c.loop-k.blocks.items (record { part = c.in_ok-part_at.field-0; lower = c.in_ok-lower_blocks.field-0 }) c.loop-k.invariant
-        (record { part = c.in_ok-part_at.ensures; lower = c.in_ok-lower_blocks.ensures }))
+    (record { part = c.in_ok-part_at.ensures; lower = c.in_ok-lower_blocks.ensures }))
 
 pub returns-clause-blocks : goal.returns-clause-blocks
 returns-clause-blocks c =

@@ -1,0 +1,4 @@
+use Rattle.ccf_builder.proofs.building.build.Goals as goal
+
+pub returns : goal.returns
+returns c = ?
