@@ -49,3 +49,17 @@ fn rows_stand_by_rising_equation(rt: HostRuntime) -> Result<(), Fail> {
     assert_eq!(rt; layered.split(), 1);
     Ok(())
 }
+
+// Where no equation is split there is no auxiliary column.
+#[test]
+fn constants_symbols_and_nothing(rt: HostRuntime) -> Result<(), Fail> {
+    let rows = [(3, false), (0, true), (0, false)];
+    let layered = layer(rt.alloc(), &model(&rt, rt.alloc(), &rows)?)?;
+    assert!(rt; layered.q.rows() == 2 && layered.t.rows() == 1 && layered.q.cols() == 1);
+    assert!(rt; layered.q.get(0, 0) == Res::of(3) && layered.q.get(1, 0) == Res::of(0));
+    assert!(rt; layered.t.cols() == 1);
+    assert!(rt; layered.t.touches(0, 0));
+    assert_eq!(rt; (layered.q_origin(0), layered.q_origin(1), layered.t_origin(0)), (0, 2, 1));
+    assert_eq!(rt; layered.split(), 0);
+    Ok(())
+}
