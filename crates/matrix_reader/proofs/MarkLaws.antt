@@ -33,6 +33,7 @@ FoundOrAdded-from old new unknown j answer seen = by (position (bytes_eq unknown
         let same : length old.unknowns ≡ j = cc in
         (sym same, ltb-true (length old.unknowns) 4096 room, seen ∙ ap (λ b. record old { unknowns = cond b old.unknowns (old.unknowns ++ unknown ∷ []) }) absent)
     last false room absent e = let f : ⊥ = cc in absurd f
+
     by : (o : Option ℕ) → position (bytes_eq unknown) old.unknowns ≡ o → place_or_end old.unknowns o ≡ Ok j → FoundOrAdded o old new unknown j
     by (Some k) e a =
         let at = has_name-Some old.unknowns unknown k e in

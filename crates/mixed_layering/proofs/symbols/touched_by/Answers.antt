@@ -1,6 +1,4 @@
-use Rattle.std.proofs.Common.{◌+◌, ◌≡◌, length, sym, subst}
 use Rattle.mixed_model.specs.Models.{mixed_matrix_of}
-use Rattle.mixed_layering.specs.Places.{AreTouched, symbol_place}
 use Rattle.mixed_layering.proofs.PlaceLaws.{touched-split, touched-whole}
 use Rattle.mixed_layering.proofs.symbols.touched_by.Goals.{in-Some+in_ok-push, in_default}
 use Rattle.mixed_layering.proofs.symbols.touched_by.Goals as goal
