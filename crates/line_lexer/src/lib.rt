@@ -9,7 +9,7 @@ mod token;
 
 pub use cuts::{lines, tokens};
 pub use line::{Line, Lines};
-pub use names::name;
+pub use names::{name, short_name};
 pub use numbers::number;
 pub use token::{Token, Tokens};
 

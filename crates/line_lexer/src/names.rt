@@ -1,10 +1,13 @@
-ghost use Rattle.std.specs.Prelude.{◌≡◌, true, false, MatchResult};
+ghost use Rattle.std.specs.Prelude.{◌≡◌, true, false, not, MatchResult};
 ghost use Rattle.std.specs.List.{list_all};
-ghost use Rattle.line_lexer.specs.Names.{begins_name, continues_name, is_name};
+ghost use Rattle.line_lexer.specs.Names.{begins_name, continues_name, is_name, is_short_name};
+ghost use Rattle.line_lexer.specs.Numbers.{is_point};
 
 use refusals::Why;
 
 const LONGEST_NAME: usize = 64;
+
+const LONGEST_SHORT_NAME: usize = 30;
 
 /// Whether a text is a name: a letter or `_`, then letters, digits, `_` and `.`, 1 to 64 bytes in all.
 /// What is none is `Why::BadName`.
@@ -18,6 +21,32 @@ pub fn name(text: &str) -> Result<(), Why>
     } else {
         Err(Why::BadName)
     }
+}
+
+/// Whether a text is a short name: a letter or `_`, then letters, digits and `_`, 1 to 30 bytes in all.
+/// What is none is `Why::BadName`.
+pub fn short_name(text: &str) -> Result<(), Why>
+    ensures { MatchResult result
+        (λ _. is_short_name text.now ≡ true)
+        (λ why. (is_short_name text.now ≡ false) × (why ≡ Why.BadName)) }
+{
+    if is_short_name(text.as_bytes()) {
+        Ok(())
+    } else {
+        Err(Why::BadName)
+    }
+}
+
+fn is_short_name(text: &[u8]) -> bool
+    ensures { result ≡ is_short_name text.now }
+{
+    is_name(text) && text.len() <= LONGEST_SHORT_NAME && has_no_point(text)
+}
+
+fn has_no_point(bytes: &[u8]) -> bool
+    ensures { result ≡ list_all (λ byte. not (is_point byte)) bytes.now }
+{
+    bytes.iter().all(|byte| *byte != b'.')
 }
 
 fn is_name(text: &[u8]) -> bool

@@ -54,6 +54,16 @@ fn names_are_told(rt: HostRuntime) {
 }
 
 #[test]
+fn short_names_are_told(rt: HostRuntime) {
+    for text in ["x", "_", "R1", "a23456789_123456789_123456789_"] {
+        assert_eq!(rt; short_name(text), Ok(()), "{text}");
+    }
+    for text in ["", "1a", "a.b", "a-b", "a23456789_123456789_123456789_1"] {
+        assert_eq!(rt; short_name(text), Err(Why::BadName), "{text}");
+    }
+}
+
+#[test]
 fn numbers_are_told(rt: HostRuntime) {
     for (text, residue) in [
         ("0", 0),

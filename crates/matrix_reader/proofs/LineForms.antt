@@ -4,7 +4,8 @@ use Rattle.std.proofs.lemmas.List.{map-append, append-nil}
 use Rattle.std.proofs.lemmas.List.Sums.{fold-append}
 use Rattle.mixed_model.specs.Models.{MixedModel}
 use Rattle.matrix_reader.specs.Items.{unknown_of}
-use Rattle.matrix_reader.specs.EquationLists.{equation_of, equations_in, names_in, see, unknowns_in}
+use Rattle.mixed_model.specs.Names.{see}
+use Rattle.matrix_reader.specs.EquationLists.{equation_of, equations_in, names_in, unknowns_in}
 use Rattle.matrix_reader.specs.Models.{IsModelOf, LinesGive}
 use Rattle.matrix_reader.specs.ReaderStates.{so_far}
 use Rattle.matrix_reader.proofs.ModelSteps.{NamesOnly, NamesOnly-from}

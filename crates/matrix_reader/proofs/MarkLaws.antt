@@ -1,63 +1,77 @@
 -- Unknowns that are found, marked and added.
-use Rattle.std.proofs.Common.{◌≡◌, ◌≢◌, ℕ, ◌+◌, ◌<◌, Bool, true, false, cond, ◌||◌, List, [], ◌∷◌, ◌++◌, length, map, set, get_or, position, Option, Some, None, Ok, Err, refl, sym, ap, subst, ◌∙◌, arith, eqb, eq-eqb, ne_eqb, ltb, ltb-false, lt-ltb, le-ltb, ⊎_elim, length-append, length-set, get_or-set_same, get_or-set_other}
-use Rattle.std.specs.Option.{is_some}
+use Rattle.std.proofs.Common.{◌≡◌, ◌≢◌, ℕ, ◌+◌, ◌<◌, Bool, true, false, cond, ◌||◌, List, [], ◌∷◌, ◌++◌, length, map, set, get_or, position, Option, Some, None, Ok, Err, refl, sym, ap, subst, ◌∙◌, arith, eqb, eq-eqb, ne_eqb, ltb, ltb-true, lt-ltb, le-ltb, ⊎_elim, length-append, length-set, get_or-set_same, get_or-set_other}
 use Rattle.std.specs.Str.{bytes_eq}
 use Rattle.std.proofs.lemmas.Bool.{cases_lt, cases_eq, false_from_ne_true}
 use Rattle.std.proofs.lemmas.List.{map-append, get_or_append_left, get_or_push, get_or_past}
-use Rattle.std.proofs.lemmas.List.Folds.{list_any-append, list_any_at, list_any_none}
-use Rattle.std.proofs.lemmas.List.Quantifiers.{position-Some}
-use Rattle.std.proofs.lemmas.List.Sums.{fails_before_first}
+use Rattle.std.proofs.lemmas.List.Folds.{list_any-append, list_any_at}
 use Rattle.std.proofs.lemmas.Slice.Eq.{bytes_eq-Decides}
 use Rattle.refusals.specs.declared.Why.{Why}
 use Rattle.refusals.specs.declared.Why.TheVariants.{Twice as StandsTwice, TooMany as IsFull}
-use Rattle.line_lexer.proofs.PlaceLaws.{position_or_len-None}
-use Rattle.mixed_model.specs.declared.errors.AddError.{AddError}
-use Rattle.mixed_model.specs.declared.errors.AddError.TheVariants.{Twice, TooMany, NoMemory as OutOfMemory}
-use Rattle.mixed_model.specs.Names.{has_name, adding, AnswersAdd}
-use Rattle.mixed_model.specs.Models.{MixedModel, IsModel, with_unknown}
+use Rattle.mixed_model.specs.declared.errors.AddError.TheVariants.{TooMany}
+use Rattle.mixed_model.specs.Names.{see, has_name, seeing, place_or_end}
+use Rattle.mixed_model.specs.Models.{MixedModel, IsModel, with_unknown, with_seen_unknown}
+use Rattle.mixed_model.proofs.NameLaws.{has_name-Some, has_name-None}
 use Rattle.matrix_reader.specs.Items.{unknown_of}
-use Rattle.matrix_reader.specs.EquationLists.{equations_in, see, unknowns_in}
+use Rattle.matrix_reader.specs.EquationLists.{equations_in, unknowns_in}
 use Rattle.matrix_reader.specs.Rules.{place_rule, room_rule}
-use Rattle.matrix_reader.specs.Faults.{fault_of}
-use Rattle.matrix_reader.specs.ReaderStates.{IsWithin, MarkedFrom, UnmarkedFrom, UnseenFrom, OnBroken, so_far}
+use Rattle.matrix_reader.specs.ReaderStates.{IsWithin, MarkedFrom, UnmarkedFrom, SeenFrom, so_far}
 use Rattle.matrix_reader.specs.Models.{items_at}
 use Rattle.matrix_reader.proofs.SaidLaws.{items_at-last, absent-unseen}
 use Rattle.matrix_reader.proofs.SeenLaws.{names_apart}
 use Rattle.matrix_reader.proofs.LineForms.{equation_last}
 
-pub has_name-Some : (names : List (List ℕ)) (name : List ℕ) (k : ℕ) → position (bytes_eq name) names ≡ Some k → (k < length names) × (get_or names k [] ≡ name) × (has_name names name ≡ true)
-has_name-Some names name k found =
-    let at = position-Some (bytes_eq name) names k [] found in
-    (at.0, sym ((bytes_eq-Decides name (get_or names k [])).0 at.1), list_any_at (bytes_eq name) names k [] at.0 at.1)
+-- an unknown that was found or added: by where it stood
+abbrev pub FoundOrAdded : Option ℕ → MixedModel → MixedModel → List ℕ → ℕ → Type 0
+FoundOrAdded (Some k) old new unknown j = (j ≡ k) × (k < length old.unknowns) × (new ≡ old)
+FoundOrAdded None old new unknown j = (j ≡ length old.unknowns) × (length old.unknowns < 4096) × (new ≡ with_unknown old unknown)
 
-pub has_name-None : (names : List (List ℕ)) (name : List ℕ) → position (bytes_eq name) names ≡ None → has_name names name ≡ false
-has_name-None names name none =
-    let whole = position_or_len-None (bytes_eq name) names none in
-    list_any_none (bytes_eq name) names (λ k d at. fails_before_first (bytes_eq name) names k d (omega arith))
-
--- an unknown that isn't there is refused as one too many alone
-pub unseen_new : (old : MixedModel) (unknown : List ℕ) (error : AddError) → position (bytes_eq unknown) old.unknowns ≡ None → AnswersAdd {T = ℕ} (Err error) (adding old.unknowns unknown) → OnBroken (fault_of error) (UnseenFrom None old)
-unseen_new old unknown OutOfMemory none answer = tt
-unseen_new old unknown Twice none answer =
-    let absent = has_name-None old.unknowns unknown none in
-    by (ltb (length old.unknowns) 4096) (rw absent at answer)
+pub FoundOrAdded-from : (old new : MixedModel) (unknown : List ℕ) (j : ℕ) → seeing old.unknowns unknown ≡ Ok j → new ≡ with_seen_unknown old unknown → FoundOrAdded (position (bytes_eq unknown) old.unknowns) old new unknown j
+FoundOrAdded-from old new unknown j answer seen = by (position (bytes_eq unknown) old.unknowns) refl answer
   where
-    by : (b : Bool) → cond b (Ok (length old.unknowns)) (Err TooMany) ≡ Err Twice → OnBroken (fault_of Twice) (UnseenFrom None old)
-    by true e = let f : ⊥ = cc in absurd f
-    by false e = let f : ⊥ = cc in absurd f
-unseen_new old unknown TooMany none answer =
-    let absent = has_name-None old.unknowns unknown none in
-    by (ltb (length old.unknowns) 4096) refl (rw absent at answer)
-  where
-    by : (b : Bool) → ltb (length old.unknowns) 4096 ≡ b → cond b (Ok (length old.unknowns)) (Err TooMany) ≡ Err TooMany → OnBroken (fault_of TooMany) (UnseenFrom None old)
-    by true full e = let f : ⊥ = cc in absurd f
-    by false full e = (refl, ltb-false (length old.unknowns) 4096 full)
+    last : (b : Bool) → ltb (length old.unknowns) 4096 ≡ b → has_name old.unknowns unknown ≡ false → cond b (Ok (length old.unknowns)) (Err TooMany) ≡ Ok j → FoundOrAdded None old new unknown j
+    last true room absent e =
+        let same : length old.unknowns ≡ j = cc in
+        (sym same, ltb-true (length old.unknowns) 4096 room, seen ∙ ap (λ b. record old { unknowns = cond b old.unknowns (old.unknowns ++ unknown ∷ []) }) absent)
+    last false room absent e = let f : ⊥ = cc in absurd f
 
--- what the marking of an unknown that isn't there is refused for
-pub unmarked_new : (old : MixedModel) (lines : List ℕ) (line : ℕ) (error : AddError) → OnBroken (fault_of error) (UnseenFrom None old) → OnBroken (fault_of error) (UnmarkedFrom None line old lines)
-unmarked_new old lines line OutOfMemory why = tt
-unmarked_new old lines line Twice why = why
-unmarked_new old lines line TooMany why = why
+    by : (o : Option ℕ) → position (bytes_eq unknown) old.unknowns ≡ o → place_or_end old.unknowns o ≡ Ok j → FoundOrAdded o old new unknown j
+    by (Some k) e a =
+        let at = has_name-Some old.unknowns unknown k e in
+        let same : k ≡ j = cc in
+        (sym same, at.0, seen ∙ ap (λ b. record old { unknowns = cond b old.unknowns (old.unknowns ++ unknown ∷ []) }) at.2)
+    by None e a = last (ltb (length old.unknowns) 4096) refl (has_name-None old.unknowns unknown e) a
+
+-- how many unknowns there are then
+pub one_more : (o : Option ℕ) (old new : MixedModel) (unknown : List ℕ) (j : ℕ) → FoundOrAdded o old new unknown j → j ≡ length old.unknowns → length new.unknowns ≡ length old.unknowns + 1
+one_more (Some k) old new unknown j found last = absurd (omega (arith, found.0, found.1, last))
+one_more None old new unknown j found last = ap (λ model. length model.unknowns) found.2 ∙ length-append old.unknowns (unknown ∷ [])
+
+pub no_more : (o : Option ℕ) (old new : MixedModel) (unknown : List ℕ) (j : ℕ) → FoundOrAdded o old new unknown j → j ≢ length old.unknowns → length new.unknowns ≡ length old.unknowns
+no_more (Some k) old new unknown j found known = ap (λ model. length model.unknowns) found.2
+no_more None old new unknown j found known = absurd (known found.0)
+
+pub known_within : (o : Option ℕ) (old new : MixedModel) (unknown : List ℕ) (j : ℕ) → FoundOrAdded o old new unknown j → j ≢ length old.unknowns → j < length old.unknowns
+known_within (Some k) old new unknown j found known = omega (arith, found.0, found.1)
+known_within None old new unknown j found known = absurd (known found.0)
+
+-- one past the last column is that of a new unknown, which may stand anywhere
+pub marked_new : (o : Option ℕ) (old new : MixedModel) (unknown : List ℕ) (j line : ℕ) (lines new_lines : List ℕ) → FoundOrAdded o old new unknown j → IsModel new → j ≡ length old.unknowns → new_lines ≡ lines ++ line ∷ [] → MarkedFrom o line old new lines new_lines unknown j
+marked_new (Some k) old new unknown j line lines new_lines found is last pushed = absurd (omega (arith, found.0, found.1, last))
+marked_new None old new unknown j line lines new_lines found is last pushed = (found.0, found.1, found.2, is, pushed)
+
+pub seen_new : (o : Option ℕ) (old new : MixedModel) (unknown : List ℕ) (j line : ℕ) (lines new_lines : List ℕ) → FoundOrAdded o old new unknown j → IsModel new → j ≡ length old.unknowns → new_lines ≡ lines ++ line ∷ [] → SeenFrom o line old new lines new_lines unknown
+seen_new (Some k) old new unknown j line lines new_lines found is last pushed = absurd (omega (arith, found.0, found.1, last))
+seen_new None old new unknown j line lines new_lines found is last pushed = (found.1, found.2, is, pushed)
+
+-- an earlier column is that of a known one, which may not have stood in the line
+pub marked_known : (o : Option ℕ) (old new : MixedModel) (unknown : List ℕ) (j line : ℕ) (lines new_lines : List ℕ) → FoundOrAdded o old new unknown j → j ≢ length old.unknowns → new_lines ≡ set lines j line → get_or lines j 0 ≢ line → MarkedFrom o line old new lines new_lines unknown j
+marked_known (Some k) old new unknown j line lines new_lines found known marked elsewhere =
+    (found.0, found.2, subst (λ i. new_lines ≡ set lines i line) found.0 marked, subst (λ i. get_or lines i 0 ≢ line) found.0 elsewhere)
+marked_known None old new unknown j line lines new_lines found known marked elsewhere = absurd (known found.0)
+
+pub seen_known : (o : Option ℕ) (old new : MixedModel) (unknown : List ℕ) (j line : ℕ) (lines : List ℕ) → FoundOrAdded o old new unknown j → j ≢ length old.unknowns → SeenFrom o line old new lines lines unknown
+seen_known (Some k) old new unknown j line lines found known = (found.2, refl)
+seen_known None old new unknown j line lines found known = absurd (known found.0)
 
 -- what is known after an unknown is marked
 pub record Marks (before : List (List (List ℕ))) (name : List ℕ) (items : List (List ℕ)) (line : ℕ) (old new : MixedModel) (new_lines : List ℕ) (item : List ℕ) (j : ℕ) : Type 0 where
@@ -208,8 +222,3 @@ module _ (before : List (List (List ℕ))) (name : List ℕ) (items : List (List
           ap (λ b. cond b (Some StandsTwice) (room_rule (unknowns_in (before ++ so_far name items ∷ [])) (unknown_of item))) (fresh_new absent)
           ∙ ap (λ names. room_rule names (unknown_of item)) (sym at_line.read.gives.unknowns_are)
           ∙ rw (same, absent, le-ltb (length old.unknowns) 4096 full) refl
-
--- nothing is found where what is found is not something
-pub nothing_found : (o p : Option ℕ) → is_some o ≡ false → o ≡ p → p ≡ None
-nothing_found None p none same = sym same
-nothing_found (Some k) p none same = let f : ⊥ = cc in absurd f

@@ -4,12 +4,12 @@ use Rattle.std.specs.Str.{bytes_eq}
 use Rattle.std.proofs.lemmas.Bool.{cases_lt, eqb-false}
 use Rattle.std.proofs.lemmas.List.{map-append, get_or_append_left, get_or_push, get_or_past, length-map}
 use Rattle.mixed_model.specs.declared.entry.Entry.{Entry}
-use Rattle.mixed_model.specs.Names.{has_name}
+use Rattle.mixed_model.specs.Names.{see, has_name}
 use Rattle.mixed_model.specs.Models.{MixedModel, IsModel, row_of, constant_of, constant_at, symbol_of, with_equation}
 use Rattle.mixed_model.specs.Rows.{entry_in, constant_at_place, constant_in, symbol_in, IsFilled}
 use Rattle.mixed_model.proofs.RowLaws.{entry_in-None, entry_in-filled}
 use Rattle.matrix_reader.specs.Items.{unknown_of, item_constant, item_symbol}
-use Rattle.matrix_reader.specs.EquationLists.{Equation, see}
+use Rattle.matrix_reader.specs.EquationLists.{Equation}
 use Rattle.matrix_reader.specs.Models.{IsModelOf, items_at}
 use Rattle.matrix_reader.proofs.SaidLaws.{Reading, constants, symbols, items_at-before, items_at-last}
 use Rattle.matrix_reader.proofs.SeenLaws.{names_apart}

@@ -9,8 +9,8 @@ use Rattle.std.proofs.lemmas.List.Folds.{list_any-append}
 use Rattle.std.proofs.lemmas.List.Sums.{fold-append}
 use Rattle.std.proofs.lemmas.Map.Keys.{apart_from_distinct}
 use Rattle.std.proofs.lemmas.Slice.Eq.{bytes_eq-Decides}
-use Rattle.mixed_model.specs.Names.{has_name}
-use Rattle.matrix_reader.specs.EquationLists.{equation_of, equations_in, names_in, see, unknowns_in}
+use Rattle.mixed_model.specs.Names.{see, has_name}
+use Rattle.matrix_reader.specs.EquationLists.{equation_of, equations_in, names_in, unknowns_in}
 
 -- the equations and the unknowns of one more line
 pub equations_in-push : (lines : List (List (List ℕ))) (words : List (List ℕ)) → equations_in (lines ++ words ∷ []) ≡ equations_in lines ++ equation_of words

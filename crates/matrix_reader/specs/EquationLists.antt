@@ -1,8 +1,8 @@
 -- What the lines of an equation list give, each line as its words: equations, and the names of unknowns.
-use Rattle.std.specs.Prelude.{ℕ, List, [], ◌∷◌, ◌++◌, map, fold, drop, if◌then◌else◌, codes}
+use Rattle.std.specs.Prelude.{ℕ, List, [], ◌∷◌, map, fold, drop, if◌then◌else◌, codes}
 use Rattle.std.specs.List.{flat_map}
 use Rattle.std.specs.Str.{bytes_eq}
-use Rattle.mixed_model.specs.Names.{has_name}
+use Rattle.mixed_model.specs.Names.{see}
 use Rattle.matrix_reader.specs.Items.{unknown_of}
 
 -- an equation of a list: its name, and its items
@@ -30,10 +30,6 @@ equations_in lines = flat_map equation_of lines
 -- their names
 abbrev pub equation_names : List (List (List ℕ)) → List (List ℕ)
 equation_names lines = map (λ equation. equation.name) (equations_in lines)
-
--- a name put last, unless it is there
-abbrev pub see : List (List ℕ) → List ℕ → List (List ℕ)
-see seen name = if has_name seen name then seen else seen ++ name ∷ []
 
 -- the unknowns of some lines, in the order in which they first stand
 abbrev pub unknowns_in : List (List (List ℕ)) → List (List ℕ)

@@ -119,20 +119,17 @@ impl Reader {
         ensures marked { IfOk result (λ j. MarkedFrom (position (bytes_eq unknown.now) self.old.model.unknowns) line self.old.model self.new.model self.old.last_lines.items self.new.last_lines.items unknown.now j) }
         ensures unmarked { IfErr result (λ fault. OnBroken fault (UnmarkedFrom (position (bytes_eq unknown.now) self.old.model.unknowns) line self.old.model self.old.last_lines.items)) }
     {
-        match self.model.find_unknown(unknown) {
-            Some(j) => {
-                if self.last_lines[j] == line {
-                    return Err(LineFault::Broken(Why::Twice));
-                }
-                self.last_lines[j] = line;
-                Ok(j)
-            }
-            None => {
-                let j = self.model.add_unknown(unknown)?;
-                self.last_lines.push(line)?;
-                Ok(j)
-            }
+        let known = self.last_lines.len();
+        let j = self.model.find_or_add_unknown(unknown)?;
+        if j == known {
+            self.last_lines.push(line)?;
+            return Ok(j);
         }
+        if self.last_lines[j] == line {
+            return Err(LineFault::Broken(Why::Twice));
+        }
+        self.last_lines[j] = line;
+        Ok(j)
     }
 
     // Reads the words of an `unknown` line after its first one.
@@ -177,8 +174,8 @@ impl Reader {
         ensures seen { OnOk result (SeenFrom (position (bytes_eq unknown.now) self.old.model.unknowns) line self.old.model self.new.model self.old.last_lines.items self.new.last_lines.items unknown.now) }
         ensures unseen { IfErr result (λ fault. OnBroken fault (UnseenFrom (position (bytes_eq unknown.now) self.old.model.unknowns) self.old.model)) }
     {
-        if self.model.find_unknown(unknown).is_none() {
-            self.model.add_unknown(unknown)?;
+        let j = self.model.find_or_add_unknown(unknown)?;
+        if j == self.last_lines.len() {
             self.last_lines.push(line)?;
         }
         Ok(())

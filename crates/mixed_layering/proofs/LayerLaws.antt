@@ -1,8 +1,8 @@
 -- The parts of a layered matrix, put together.
-use Rattle.std.proofs.Common.{◌≡◌, ℕ, ◌+◌, ◌-◌, ◌<◌, Bool, true, false, not, cond, ◌||◌, eqb, eqb-true, List, length, slice_index, refl, sym, ap, subst, ◌∙◌, arith}
-use Rattle.residue_theory.specs.Sets.{some_below, both}
+use Rattle.std.proofs.Common.{◌≡◌, ℕ, ◌+◌, ◌<◌, Bool, true, false, not, cond, ◌||◌, eqb, eqb-true, List, length, slice_index, refl, sym, subst, ◌∙◌, arith}
+use Rattle.residue_theory.specs.Sets.{some_below}
 use Rattle.residue_theory.proofs.SetLaws.{some_below-holds}
-use Rattle.dense_q.specs.Tables.{Table, IsTableOf, height, entry}
+use Rattle.dense_q.specs.Tables.{Table, IsTableOf}
 use Rattle.sparse_t.specs.Incidences.{Incidence}
 use Rattle.mixed_matrices.specs.Models.{Mixed}
 use Rattle.mixed_matrices.specs.Layerings.{AreMembers, has_constant, has_symbol, gives_q}
@@ -10,7 +10,7 @@ use Rattle.mixed_model.specs.declared.origin.Origin.{Origin}
 use Rattle.mixed_model.specs.Models.{MixedModel, mixed_matrix_of}
 use Rattle.mixed_layering.specs.Columns.{AreColumns}
 use Rattle.mixed_layering.specs.Members.{AreRows}
-use Rattle.mixed_layering.specs.Places.{constant_place, symbol_place, AreRowsOfSymbols}
+use Rattle.mixed_layering.specs.Places.{constant_place, AreRowsOfSymbols}
 use Rattle.mixed_layering.specs.Layers.{AreLayersOf}
 use Rattle.mixed_layering.proofs.SplitLaws.{told-unknown, told-auxiliary}
 

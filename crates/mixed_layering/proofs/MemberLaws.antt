@@ -1,5 +1,5 @@
 -- Lists of the members of a set, by rising number.
-use Rattle.std.proofs.Common.{◌≡◌, ◌≢◌, ℕ, zero, suc, ◌+◌, ◌-◌, ◌<◌, ◌≤◌, Bool, true, false, cond, List, [], ◌∷◌, ◌++◌, length, get_or, refl, sym, ap, subst, ◌∙◌, arith, ⊎_elim, add-one, length-append, slice_index}
+use Rattle.std.proofs.Common.{◌≡◌, ℕ, ◌+◌, ◌-◌, ◌<◌, ◌≤◌, Bool, true, false, List, [], ◌∷◌, ◌++◌, length, get_or, refl, sym, ap, subst, ◌∙◌, arith, ⊎_elim, add-one, length-append}
 use Rattle.std.specs.List.Sorted.{IsStrictlyIncreasing}
 use Rattle.std.proofs.lemmas.Bool.{cases_lt}
 use Rattle.std.proofs.lemmas.List.{get_or_append_left}
@@ -9,7 +9,7 @@ use Rattle.residue_theory.specs.Sums.{size_on}
 use Rattle.residue_theory.proofs.SumLaws.{size_on-within}
 use Rattle.residue_theory.proofs.CountLaws.{size-everything, sum_on-join}
 use Rattle.mixed_matrices.specs.Models.{Mixed}
-use Rattle.mixed_matrices.specs.Layerings.{AreMembers, gives_q, has_symbol}
+use Rattle.mixed_matrices.specs.Layerings.{gives_q, has_symbol}
 use Rattle.mixed_layering.specs.Members.{AreListed, AreRows, AreEquations, AreSplit}
 
 module _ (A : ℕ → Bool) (i : ℕ) (list : List ℕ) (listed : AreListed A i list) where

@@ -1,20 +1,20 @@
 -- What stands in the rows of a layered matrix, and how it comes there.
-use Rattle.std.proofs.Common.{◌≡◌, ◌≢◌, ℕ, ◌+◌, ◌-◌, ◌<◌, ◌≤◌, Bool, true, false, cond, ◌||◌, eqb, eqb-true, ne_eqb, eq-eqb, List, [], ◌∷◌, ◌++◌, length, get_or, slice_index, replicate, nat_eq, Option, Some, None, refl, sym, ap, subst, ◌∙◌, arith, ⊎_elim, length-append}
+use Rattle.std.proofs.Common.{◌≡◌, ℕ, ◌+◌, ◌<◌, ◌≤◌, Bool, true, false, cond, ◌||◌, eqb, eqb-true, ne_eqb, eq-eqb, List, [], ◌∷◌, ◌++◌, length, get_or, slice_index, replicate, refl, sym, ap, subst, ◌∙◌, arith, ⊎_elim, length-append}
 use Rattle.std.specs.Option.{unwrap_or}
 use Rattle.std.specs.List.Sorted.{IsStrictlyIncreasing}
 use Rattle.std.proofs.lemmas.Bool.{cases_lt, eqb-false}
 use Rattle.std.proofs.lemmas.List.{get_or-replicate, get_or_append_left}
 use Rattle.std.proofs.Math.Seq.{get_or-append_seam}
 use Rattle.dense_q.specs.Tables.{entry, zero_table}
-use Rattle.sparse_t.specs.Lists.{has, IsBelow}
-use Rattle.sparse_t.specs.Incidences.{Incidence, touches, with_last_row}
+use Rattle.sparse_t.specs.Lists.{has}
+use Rattle.sparse_t.specs.Incidences.{Incidence, with_last_row}
 use Rattle.sparse_t.proofs.ListLaws.{has-append, has-none, rising-append, below-append}
 use Rattle.mixed_matrices.specs.Models.{Mixed}
-use Rattle.mixed_model.specs.Models.{MixedModel, IsModel, row_of, constant_at, symbol_of, mixed_matrix_of}
+use Rattle.mixed_model.specs.Models.{MixedModel, IsModel, row_of, constant_at, mixed_matrix_of}
 use Rattle.mixed_model.proofs.ModelLaws.{beyond_unknowns}
 use Rattle.mixed_layering.specs.Columns.{StandsIn, IsAbsent}
 use Rattle.mixed_layering.specs.Places.{constant_place, symbol_place, AreTouched, AreRowsOfSymbols}
-use Rattle.mixed_layering.proofs.SplitLaws.{own_place, no_place, told, by_column}
+use Rattle.mixed_layering.proofs.SplitLaws.{own_place, no_place, by_column}
 
 -- a table of zeros
 pub zero_entry : (h w i j : ℕ) → i < h → j < w → entry (zero_table h w) i j ≡ 0

@@ -1,11 +1,10 @@
 -- What one entry more tells of the places of a row.
-use Rattle.std.proofs.Common.{◌≡◌, ◌≢◌, ℕ, ◌+◌, ◌<◌, ◌≤◌, Bool, true, false, cond, ◌||◌, eqb, eqb-true, List, [], ◌∷◌, ◌++◌, length, get_or, Option, Some, None, nat_eq, refl, sym, ap, subst, ◌∙◌, arith, ⊎_elim, length-append}
+use Rattle.std.proofs.Common.{◌≡◌, ℕ, ◌<◌, ◌≤◌, Bool, true, false, cond, ◌||◌, eqb, eqb-true, List, [], ◌∷◌, ◌++◌, length, get_or, Some, None, nat_eq, refl, sym, ap, subst, ◌∙◌, arith, ⊎_elim, length-append}
 use Rattle.std.specs.Option.{unwrap_or}
-use Rattle.std.specs.List.Sorted.{IsStrictlyIncreasing}
 use Rattle.std.proofs.lemmas.Bool.{cases_lt}
 use Rattle.std.proofs.Math.Seq.{get_or-append_seam}
 use Rattle.sparse_t.specs.Lists.{has, IsBelow}
-use Rattle.sparse_t.proofs.ListLaws.{has-at, has-append, rising-append, below-append}
+use Rattle.sparse_t.proofs.ListLaws.{has-at, has-append}
 use Rattle.mixed_model.specs.declared.entry.Entry.{Entry}
 use Rattle.mixed_model.specs.Rows.{entry_in, constant_at_place, symbol_at_place, constant_in, symbol_in, IsRow, IsWithin}
 use Rattle.mixed_model.proofs.RowLaws.{entry_in-next, entry_in-lower}

@@ -1,5 +1,5 @@
 -- Where an equation stands among the split ones, and what that says of the auxiliary columns.
-use Rattle.std.proofs.Common.{◌≡◌, ◌≢◌, ℕ, ◌+◌, ◌-◌, ◌<◌, ◌≤◌, Bool, true, false, cond, eqb, ltb, ne_eqb, eq-eqb, List, length, get_or, slice_index, nat_eq, refl, sym, ap, subst, ◌∙◌, arith, ⊎_elim, ltb-false, lt-ltb}
+use Rattle.std.proofs.Common.{◌≡◌, ℕ, ◌+◌, ◌-◌, ◌<◌, false, cond, eqb, ltb, ne_eqb, eq-eqb, List, length, slice_index, refl, sym, ap, subst, ◌∙◌, arith, ⊎_elim, lt-ltb}
 use Rattle.std.specs.List.Sorted.{IsStrictlyIncreasing}
 use Rattle.std.proofs.lemmas.Bool.{cases_lt, le-ltb}
 use Rattle.sparse_t.proofs.ListLaws.{rises}

@@ -9,7 +9,11 @@ use mixed_model::Origin;
 use std::alloc::Global;
 
 /// The origins of the columns: the unknowns in order, then the split equations.
-pub fn column_origins(alloc: Global, unknowns: usize, split: &[usize]) -> Result<Vec<Origin>, NoMemory>
+pub fn column_origins(
+    alloc: Global,
+    unknowns: usize,
+    split: &[usize],
+) -> Result<Vec<Origin>, NoMemory>
     ensures { IfOk result (λ origins. AreColumns unknowns split.now (length split.now) origins.items) }
 {
     let mut origins = Vec::new(alloc);

@@ -30,10 +30,14 @@ fn model(rt: &impl Abort, alloc: Global, rows: &[(u64, bool)]) -> Result<Mixed, 
 #[test]
 fn a_split_entry(rt: HostRuntime) -> Result<(), Fail> {
     let layered = layer(rt.alloc(), &model(&rt, rt.alloc(), &[(1, true)])?)?;
-    assert!(rt; layered.q.rows() == 1 && layered.q.cols() == 2);
-    assert!(rt; layered.t.rows() == 1 && layered.t.cols() == 2);
-    assert!(rt; layered.q.get(0, 0) == Res::of(1) && layered.q.get(0, 1) == Res::of(1));
-    assert!(rt; layered.t.touches(0, 0) && layered.t.touches(0, 1));
+    assert!(rt; layered.q.rows() == 1);
+    assert!(rt; layered.q.cols() == 2);
+    assert!(rt; layered.q.get(0, 0) == Res::of(1));
+    assert!(rt; layered.q.get(0, 1) == Res::of(1));
+    assert!(rt; layered.t.rows() == 1);
+    assert!(rt; layered.t.cols() == 2);
+    assert!(rt; layered.t.touches(0, 0));
+    assert!(rt; layered.t.touches(0, 1));
     assert_eq!(rt; layered.column_origin(1), Origin::Split(0));
     Ok(())
 }
@@ -43,9 +47,29 @@ fn a_split_entry(rt: HostRuntime) -> Result<(), Fail> {
 fn rows_stand_by_rising_equation(rt: HostRuntime) -> Result<(), Fail> {
     let rows = [(0, false), (0, true), (3, false), (5, true)];
     let layered = layer(rt.alloc(), &model(&rt, rt.alloc(), &rows)?)?;
-    assert!(rt; layered.q.rows() == 3 && layered.t.rows() == 2 && layered.q.cols() == 2);
-    assert_eq!(rt; (layered.q_origin(0), layered.q_origin(1), layered.q_origin(2)), (0, 2, 3));
-    assert_eq!(rt; (layered.t_origin(0), layered.t_origin(1)), (1, 3));
     assert_eq!(rt; layered.split(), 1);
+    assert!(rt; layered.q.rows() == 3);
+    assert_eq!(rt; layered.q_origin(0), 0);
+    assert_eq!(rt; layered.q_origin(1), 2);
+    assert_eq!(rt; layered.q_origin(2), 3);
+    assert!(rt; layered.t.rows() == 2);
+    assert_eq!(rt; layered.t_origin(0), 1);
+    assert_eq!(rt; layered.t_origin(1), 3);
+    Ok(())
+}
+
+// Where no equation is split there is no auxiliary column.
+#[test]
+fn constants_symbols_and_nothing(rt: HostRuntime) -> Result<(), Fail> {
+    let rows = [(3, false), (0, true), (0, false)];
+    let layered = layer(rt.alloc(), &model(&rt, rt.alloc(), &rows)?)?;
+    assert_eq!(rt; layered.split(), 0);
+    assert!(rt; layered.q.rows() == 2);
+    assert!(rt; layered.q.cols() == 1);
+    assert!(rt; layered.q.get(0, 0) == Res::of(3));
+    assert!(rt; layered.q.get(1, 0) == Res::of(0));
+    assert!(rt; layered.t.rows() == 1);
+    assert!(rt; layered.t.cols() == 1);
+    assert!(rt; layered.t.touches(0, 0));
     Ok(())
 }

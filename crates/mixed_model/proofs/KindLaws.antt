@@ -1,5 +1,5 @@
 -- What an equation holds: constants, symbols, or both, read from its row.
-use Rattle.std.proofs.Common.{◌≡◌, ◌≢◌, ℕ, zero, suc, ◌+◌, ◌<◌, Bool, true, false, not, cond, ◌||◌, List, [], ◌∷◌, length, get_or, Option, Some, None, is_some, refl, sym, ap, subst, ◌∙◌, arith, eqb, ne_eqb}
+use Rattle.std.proofs.Common.{◌≡◌, ℕ, suc, ◌<◌, Bool, true, false, not, cond, ◌||◌, List, [], ◌∷◌, length, get_or, Option, Some, None, is_some, refl, sym, ap, ◌∙◌, arith, eqb, ne_eqb}
 use Rattle.std.specs.List.{list_any}
 use Rattle.std.specs.Option.{unwrap_or}
 use Rattle.std.proofs.lemmas.List.Folds.{list_any_at}
@@ -7,7 +7,7 @@ use Rattle.mixed_matrices.specs.Layerings.{has_constant, has_symbol}
 use Rattle.residue_theory.specs.Sets.{some_below}
 use Rattle.residue_theory.proofs.SetLaws.{some_below-found, some_below-holds}
 use Rattle.mixed_model.specs.declared.entry.Entry.{Entry}
-use Rattle.mixed_model.specs.Rows.{entry_in, constant_at_place, symbol_at_place, constant_in, symbol_in, IsFilled, IsRow, IsWithin}
+use Rattle.mixed_model.specs.Rows.{entry_in, constant_at_place, symbol_at_place, constant_in, symbol_in, IsRow, IsWithin}
 use Rattle.mixed_model.specs.Models.{MixedModel, IsModel, row_of, mixed_matrix_of}
 use Rattle.mixed_model.proofs.RowLaws.{entry_in-place, entry_in-filled}
 

@@ -1,6 +1,10 @@
 -- Lists of names, and a name that is added to one.
-use Rattle.std.proofs.Common.{◌≡◌, ℕ, ◌+◌, ◌<◌, ◌≤◌, Bool, IsTrue, true, false, not, ◌||◌, cond, List, [], ◌∷◌, ◌++◌, length, map, position, Ok, Err, Some, None, refl, sym, ap, ◌∙◌, arith, ltb, lt-ltb, le-ltb, length-append}
+use Rattle.std.proofs.Common.{◌≡◌, ℕ, ◌+◌, ◌<◌, ◌≤◌, Bool, IsTrue, true, false, not, ◌||◌, cond, List, [], ◌∷◌, ◌++◌, length, map, position, get_or, Result, Ok, Err, Some, None, refl, sym, ap, subst, ◌∙◌, arith, ltb, ltb-false, lt-ltb, le-ltb, length-append}
 use Rattle.std.specs.List.{IsDistinct, list_any, position_or_len}
+use Rattle.std.proofs.lemmas.List.Folds.{list_any_at, list_any_none}
+use Rattle.std.proofs.lemmas.List.Quantifiers.{position-Some}
+use Rattle.std.proofs.lemmas.List.Sums.{fails_before_first, prefix_len-le-length}
+use Rattle.std.proofs.lemmas.Slice.Eq.{bytes_eq-Decides}
 use Rattle.std.specs.Str.{bytes_eq}
 use Rattle.std.specs.Cmp.Lexicographic.{nat_list_eq_equiv}
 use Rattle.std.proofs.lemmas.List.{length-map, map-append}
@@ -10,7 +14,8 @@ use Rattle.indexmap.specs.IndexSet.{insert_key}
 use Rattle.std.proofs.lemmas.List.Elements.{All-push}
 use Rattle.std.proofs.lemmas.Map.Keys.{IsDistinct-push}
 use Rattle.mixed_model.specs.declared.errors.AddError.TheVariants.{Twice, TooMany}
-use Rattle.mixed_model.specs.Names.{is_label, IsNameList, has_name, adding}
+use Rattle.mixed_model.specs.Names.{is_label, IsNameList, has_name, see, appending, adding, seeing, place_or_end, AnswersAdd}
+use Rattle.mixed_model.specs.declared.errors.AddError.{AddError}
 
 pub list_any_map : {X Y : Type 0} (test : Y → Bool) (f : X → Y) (xs : List X) → list_any test (map f xs) ≡ list_any (λ x. test (f x)) xs
 list_any_map test f [] = refl
@@ -26,16 +31,54 @@ position_map test f xs =
     let long : length (map f xs) ≡ length xs = length-map xs f in
     λ i. cond (ltb (same i) (long i)) (Some (same i)) None
 
+-- where a name is found, and what that says
+pub has_name-Some : (names : List (List ℕ)) (name : List ℕ) (k : ℕ) → position (bytes_eq name) names ≡ Some k → (k < length names) × (get_or names k [] ≡ name) × (has_name names name ≡ true)
+has_name-Some names name k found =
+    let at = position-Some (bytes_eq name) names k [] found in
+    (at.0, sym ((bytes_eq-Decides name (get_or names k [])).0 at.1), list_any_at (bytes_eq name) names k [] at.0 at.1)
+
+-- no place is found where the first one that passes is past the end
+no_place : {X : Type 0} (test : X → Bool) (xs : List X) → position test xs ≡ None → position_or_len test xs ≡ length xs
+no_place test xs none = by (ltb (position_or_len test xs) (length xs)) refl
+  where
+    by : (b : Bool) → ltb (position_or_len test xs) (length xs) ≡ b → position_or_len test xs ≡ length xs
+    by true e = let f : ⊥ = cc in absurd f
+    by false e = omega (arith, ltb-false (position_or_len test xs) (length xs) e, prefix_len-le-length (λ x. not (test x)) xs)
+
+pub has_name-None : (names : List (List ℕ)) (name : List ℕ) → position (bytes_eq name) names ≡ None → has_name names name ≡ false
+has_name-None names name none =
+    let whole = no_place (bytes_eq name) names none in
+    list_any_none (bytes_eq name) names (λ k d at. fails_before_first (bytes_eq name) names k d (omega arith))
+
+pub appending-TooMany : (names : List (List ℕ)) → 4096 ≤ length names → appending names ≡ Err TooMany
+appending-TooMany names full = rw (le-ltb (length names) 4096 full) refl
+
+pub appending-Ok : (names : List (List ℕ)) → length names < 4096 → appending names ≡ Ok (length names)
+appending-Ok names room = rw (lt-ltb (length names) 4096 room) refl
+
+pub ruleset appending_laws = (appending-TooMany, appending-Ok)
+
 pub adding-Twice : (names : List (List ℕ)) (name : List ℕ) → has_name names name ≡ true → adding names name ≡ Err Twice
 adding-Twice names name there = rw there refl
 
-pub adding-TooMany : (names : List (List ℕ)) (name : List ℕ) → has_name names name ≡ false → 4096 ≤ length names → adding names name ≡ Err TooMany
-adding-TooMany names name new full = rw (new, le-ltb (length names) 4096 full) refl
+pub adding-new : (names : List (List ℕ)) (name : List ℕ) → has_name names name ≡ false → (result : Result ℕ AddError) → AnswersAdd result (appending names) → AnswersAdd result (adding names name)
+adding-new names name new result answer = rw new answer
 
-pub adding-Ok : (names : List (List ℕ)) (name : List ℕ) → has_name names name ≡ false → length names < 4096 → adding names name ≡ Ok (length names)
-adding-Ok names name new room = rw (new, lt-ltb (length names) 4096 room) refl
+pub ruleset adding_laws = (adding-Twice, adding-new)
 
-pub ruleset adding_laws = (adding-Twice, adding-TooMany, adding-Ok)
+pub seeing-found : (names : List (List ℕ)) (name : List ℕ) (place : ℕ) → position (bytes_eq name) names ≡ Some place → seeing names name ≡ Ok place
+seeing-found names name place found = ap (place_or_end names) found
+
+pub seeing-new : (names : List (List ℕ)) (name : List ℕ) → position (bytes_eq name) names ≡ None → (result : Result ℕ AddError) → AnswersAdd result (appending names) → AnswersAdd result (seeing names name)
+seeing-new names name none result answer = subst (λ found. AnswersAdd result (place_or_end names found)) (sym none) answer
+
+pub see-found : (names : List (List ℕ)) (name : List ℕ) (place : ℕ) → position (bytes_eq name) names ≡ Some place → names ≡ see names name
+see-found names name place found = rw (has_name-Some names name place found).2 refl
+
+pub see-new : (names : List (List ℕ)) (name : List ℕ) → has_name names name ≡ false → see names name ≡ names ++ name ∷ []
+see-new names name new = rw new refl
+
+pub ruleset seeing_laws = (seeing-found, seeing-new, see-found, see-new, has_name-None)
 
 pub no_names : IsNameList []
 unfolding IsDistinct

@@ -2,7 +2,7 @@
 use Rattle.std.specs.Prelude.{◌≡◌, ℕ, ◌&&◌, ◌||◌, Bool, List, [], ◌∷◌, ◌++◌, length, nat_eq, if◌then◌else◌, Option, Some, unwrap_or, slice_index_or, All}
 use Rattle.mixed_matrices.specs.Models.{Mixed}
 use Rattle.mixed_model.specs.declared.entry.Entry.{Entry}
-use Rattle.mixed_model.specs.Names.{IsNameList}
+use Rattle.mixed_model.specs.Names.{IsNameList, see}
 use Rattle.mixed_model.specs.Rows.{IsRow, IsWithin, constant_in, symbol_in}
 
 -- A model: the names of its equations and of its unknowns, in order, and for each equation its entries by rising column.
@@ -54,6 +54,10 @@ with_equation model name = record model { equations = model.equations ++ name �
 -- one more unknown
 abbrev pub with_unknown : MixedModel → List ℕ → MixedModel
 with_unknown model name = record model { unknowns = model.unknowns ++ name ∷ [] }
+
+-- one more unknown, unless it is there
+abbrev pub with_seen_unknown : MixedModel → List ℕ → MixedModel
+with_seen_unknown model name = record model { unknowns = see model.unknowns name }
 
 -- The new model is the old one with a constant at the place (i, j).
 pub record PutsAt (old new : MixedModel) (i j constant : ℕ) : Type 0 where

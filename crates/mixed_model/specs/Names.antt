@@ -1,5 +1,5 @@
 -- Lists of names, and a name that is added to one.
-use Rattle.std.specs.Prelude.{◌≡◌, ℕ, ◌≤◌, All, Bool, not, ◌&&◌, ◌||◌, IsTrue, List, length, nat_eq, nat_le, nat_lt, if◌then◌else◌, Result, Ok, Err}
+use Rattle.std.specs.Prelude.{◌≡◌, ℕ, ◌≤◌, All, Bool, not, ◌&&◌, ◌||◌, IsTrue, List, [], ◌∷◌, ◌++◌, length, nat_eq, nat_le, nat_lt, position, if◌then◌else◌, Option, Some, None, Result, Ok, Err}
 use Rattle.std.specs.List.{IsDistinct, list_all, list_any}
 use Rattle.std.specs.Str.{bytes_eq}
 use Rattle.mixed_model.specs.declared.errors.AddError.{AddError}
@@ -19,11 +19,26 @@ pub record IsNameList (names : List (List ℕ)) : Type 0 where
 abbrev pub has_name : List (List ℕ) → List ℕ → Bool
 has_name names name = list_any (bytes_eq name) names
 
+-- a name put last, unless it is there
+abbrev pub see : List (List ℕ) → List ℕ → List (List ℕ)
+see names name = if has_name names name then names else names ++ name ∷ []
+
+-- What putting a name last answers while there is memory: its place, or that there are 4,096.
+abbrev pub appending : List (List ℕ) → Result ℕ AddError
+appending names = if nat_lt (length names) 4096 then Ok (length names) else Err TooMany
+
 -- What adding a name answers while there is memory: its place, or why it is not added.
 abbrev pub adding : List (List ℕ) → List ℕ → Result ℕ AddError
-adding names name =
-    if has_name names name then Err Twice
-    else (if nat_lt (length names) 4096 then Ok (length names) else Err TooMany)
+adding names name = if has_name names name then Err Twice else appending names
+
+-- the place where a name was found, or what putting one last answers
+abbrev pub place_or_end : List (List ℕ) → Option ℕ → Result ℕ AddError
+place_or_end names (Some place) = Ok place
+place_or_end names None = appending names
+
+-- What seeing a name answers while there is memory: its place, where it is there or can be put last.
+abbrev pub seeing : List (List ℕ) → List ℕ → Result ℕ AddError
+seeing names name = place_or_end names (position (bytes_eq name) names)
 
 -- The answer is the wanted one, or memory ran out.
 abbrev pub AnswersAdd : {T : Type 0} → Result T AddError → Result T AddError → Type 0

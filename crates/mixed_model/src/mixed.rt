@@ -1,9 +1,9 @@
 ghost use Rattle.std.specs.Prelude.{ℕ, ◌≡◌, ◌≢◌, ◌<◌, IsTrue, [], length, position, slice_get, Some, IfOk, OnOk, OnErr};
 ghost use Rattle.std.specs.Str.{bytes_eq};
 ghost use Rattle.mixed_matrices.specs.Layerings.{has_constant, has_symbol};
-ghost use Rattle.mixed_model.specs.Names.{is_label, adding, AnswersAdd};
+ghost use Rattle.mixed_model.specs.Names.{is_label, adding, seeing, AnswersAdd};
 ghost use Rattle.mixed_model.specs.Rows.{putting, putting_symbol};
-ghost use Rattle.mixed_model.specs.Models.{MixedModel, IsModel, PutsAt, PutsSymbolAt, constant_of, symbol_of, row_of, mixed_matrix_of, empty_model, with_equation, with_unknown};
+ghost use Rattle.mixed_model.specs.Models.{MixedModel, IsModel, PutsAt, PutsSymbolAt, constant_of, symbol_of, row_of, mixed_matrix_of, empty_model, with_equation, with_unknown, with_seen_unknown};
 
 use crate::entry::{Entries, Entry};
 use crate::errors::{AddError, NoMemory};
@@ -171,6 +171,18 @@ impl Mixed {
         ensures model { IsModel self.new }
     {
         self.unknowns.add(name)
+    }
+
+    /// The number of the unknown of this name, which is added where there is none. `TooMany` comes where there is
+    /// none and 4,096 others are. A refusal changes nothing.
+    pub fn find_or_add_unknown(&mut self, name: &str) -> Result<usize, AddError>
+        requires { IsTrue (is_label name.now) }
+        ensures answer { AnswersAdd result (seeing self.old.unknowns name.now) }
+        ensures seen { OnOk result (self.new ≡ with_seen_unknown self.old name.now) }
+        ensures kept { OnErr result (self.new ≡ self.old) }
+        ensures model { IsModel self.new }
+    {
+        self.unknowns.find_or_add(name)
     }
 
     /// Puts a constant other than 0 at the place of equation `i` and unknown `j`. `Twice` comes where one is

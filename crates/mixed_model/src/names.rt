@@ -2,7 +2,7 @@ ghost use Rattle.std.specs.Prelude.{◌≡◌, ◌∷◌, ◌++◌, [], ◌<◌,
 ghost use Rattle.std.specs.List.{list_all};
 ghost use Rattle.std.specs.Str.{bytes_eq};
 ghost use Rattle.std.specs.String.{string_bytes};
-ghost use Rattle.mixed_model.specs.Names.{is_label, IsNameList, has_name, adding, AnswersAdd};
+ghost use Rattle.mixed_model.specs.Names.{is_label, IsNameList, has_name, see, appending, adding, seeing, AnswersAdd};
 
 use crate::errors::AddError;
 use indexmap::IndexSet;
@@ -73,14 +73,16 @@ impl Names {
 
     #[tactic(auto, using(crate::proofs::NameLaws::position_map))]
     pub(crate) fn find(&self, name: &str) -> Option<usize>
-        ensures { result ≡ position (bytes_eq name.now) self.now }
+        ensures place { result ≡ position (bytes_eq name.now) self.now }
+        ensures names { IsNameList self.now }
     {
         self.texts.get_index_of(name)
     }
 
     #[tactic(auto, using(crate::proofs::NameLaws::list_any_map))]
     fn has(&self, name: &str) -> bool
-        ensures { result ≡ has_name self.now name.now }
+        ensures there { result ≡ has_name self.now name.now }
+        ensures names { IsNameList self.now }
     {
         self.texts.contains(name)
     }
@@ -97,6 +99,34 @@ impl Names {
         if self.has(name) {
             return Err(AddError::Twice);
         }
+        self.append(name)
+    }
+
+    // The place of a name, which is put last unless it is there. A refusal changes nothing.
+    #[tactic(auto, using(crate::proofs::NameLaws::seeing_laws))]
+    pub(crate) fn find_or_add(&mut self, name: &str) -> Result<usize, AddError>
+        requires { IsTrue (is_label name.now) }
+        ensures answer { AnswersAdd result (seeing self.old name.now) }
+        ensures seen { OnOk result (self.new ≡ see self.old name.now) }
+        ensures kept { OnErr result (self.new ≡ self.old) }
+        ensures names { IsNameList self.new }
+    {
+        match self.find(name) {
+            Some(place) => Ok(place),
+            None => self.append(name),
+        }
+    }
+
+    // Puts a new name last, and gives its place. A refusal changes nothing.
+    #[tactic(auto, using(crate::proofs::NameLaws::appending_laws))]
+    fn append(&mut self, name: &str) -> Result<usize, AddError>
+        requires label { IsTrue (is_label name.now) }
+        requires new { has_name self.old name.now ≡ false }
+        ensures answer { AnswersAdd result (appending self.old) }
+        ensures added { OnOk result (self.new ≡ self.old ++ name.now ∷ []) }
+        ensures kept { OnErr result (self.new ≡ self.old) }
+        ensures names { IsNameList self.new }
+    {
         let place = self.len();
         if place >= MOST {
             return Err(AddError::TooMany);

@@ -29,6 +29,16 @@ fn names_stand_in_first_seen_order(rt: HostRuntime) -> Result<(), Fail> {
 }
 
 #[test]
+fn an_unknown_is_found_or_added(rt: HostRuntime) -> Result<(), Fail> {
+    let mut model = rectangle(rt.alloc())?;
+    assert_eq!(rt; model.find_or_add_unknown("y"), Ok(1));
+    assert_eq!(rt; model.find_or_add_unknown("u"), Ok(3));
+    assert_eq!(rt; model.find_or_add_unknown("u"), Ok(3));
+    assert_eq!(rt; model.unknowns(), 4);
+    Ok(())
+}
+
+#[test]
 fn constants_stand_by_rising_column(rt: HostRuntime) -> Result<(), Fail> {
     let mut model = rectangle(rt.alloc())?;
     for (column, number) in [(2, 5), (0, 65_520), (1, 7)] {
@@ -114,5 +124,7 @@ fn a_model_has_at_most_4096_unknowns(rt: HostRuntime) -> Result<(), Fail> {
     }
     assert_eq!(rt; model.add_unknown("x4096"), Err(AddError::TooMany));
     assert_eq!(rt; model.add_unknown("x4095"), Err(AddError::Twice));
+    assert_eq!(rt; model.find_or_add_unknown("x4096"), Err(AddError::TooMany));
+    assert_eq!(rt; model.find_or_add_unknown("x4095"), Ok(4095));
     Ok(())
 }

@@ -1,5 +1,3 @@
-use Rattle.std.proofs.Common.{◌+◌, ◌++◌, ◌∷◌, [], sym, subst}
-use Rattle.mixed_layering.specs.Columns.{AreColumns}
 use Rattle.mixed_layering.proofs.ColumnLaws.{columns-unknown, columns-split}
 use Rattle.mixed_layering.proofs.columns.column_origins.Goals as goal
 

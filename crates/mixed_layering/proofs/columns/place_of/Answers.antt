@@ -1,4 +1,4 @@
-use Rattle.std.proofs.Common.{◌≡◌, ap, sym, subst}
+use Rattle.std.proofs.Common.{sym, subst}
 use Rattle.std.specs.Option.{MatchOption}
 use Rattle.mixed_layering.specs.Columns.{StandsIn, IsAbsent}
 use Rattle.mixed_layering.proofs.ColumnLaws.{found_place}

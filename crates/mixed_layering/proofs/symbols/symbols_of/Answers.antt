@@ -1,4 +1,3 @@
-use Rattle.std.proofs.Common.{sym, subst}
 use Rattle.mixed_model.specs.Models.{mixed_matrix_of}
 use Rattle.mixed_layering.proofs.PlaceLaws.{rows-next}
 use Rattle.mixed_layering.proofs.symbols.symbols_of.Goals as goal

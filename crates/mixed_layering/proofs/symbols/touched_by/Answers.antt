@@ -1,6 +1,4 @@
-use Rattle.std.proofs.Common.{◌+◌, ◌≡◌, length, sym, subst}
 use Rattle.mixed_model.specs.Models.{mixed_matrix_of}
-use Rattle.mixed_layering.specs.Places.{AreTouched, symbol_place}
 use Rattle.mixed_layering.proofs.PlaceLaws.{touched-split, touched-whole}
 use Rattle.mixed_layering.proofs.symbols.touched_by.Goals.{in-Some+in_ok-push, in_default}
 use Rattle.mixed_layering.proofs.symbols.touched_by.Goals as goal
@@ -12,8 +10,8 @@ returns c =
     let list = c.in_ok-columns.columns.items in
     elim c.match-place_of.branch [
       | in-Some+in_ok-push w ↦
-        rw (w.columns-is, w.in_ok-push.ensures.items, w.unknowns.ensures.count)
-        (touched-split M c.args.equation split list c.in_ok-columns.ensures w.in-Some.place c.requires.split.rising w.in-Some.ensures)
+          rw (w.columns-is, w.in_ok-push.ensures.items, w.unknowns.ensures.count)
+          (touched-split M c.args.equation split list c.in_ok-columns.ensures w.in-Some.place c.requires.split.rising w.in-Some.ensures)
       | in_default w ↦
-        rw w.columns-is (touched-whole M c.args.equation split list c.in_ok-columns.ensures w.in_default.ensures)
+          rw w.columns-is (touched-whole M c.args.equation split list c.in_ok-columns.ensures w.in_default.ensures)
     ]

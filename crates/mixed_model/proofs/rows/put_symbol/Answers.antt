@@ -1,4 +1,4 @@
-use Rattle.std.proofs.Common.{◌≡◌, None, sym, subst, arith}
+use Rattle.std.proofs.Common.{◌≡◌, None, sym, subst}
 use Rattle.mixed_model.specs.Rows.{PutsSymbol, StandsAt, FitsBetween, entry_in}
 use Rattle.mixed_model.proofs.RowLaws.{place_takes_symbol, gap_takes_symbol}
 use Rattle.mixed_model.proofs.rows.put_symbol.Goals as goal

@@ -1,18 +1,34 @@
-use Rattle.std.proofs.Common.{◌≡◌, None, position, sym, subst}
+use Rattle.std.proofs.Common.{position, arith}
 use Rattle.std.specs.Str.{bytes_eq}
-use Rattle.std.proofs.lemmas.Result.{err_from_is_err_and}
-use Rattle.matrix_reader.specs.Faults.{fault_of}
-use Rattle.matrix_reader.specs.ReaderStates.{UnseenFrom, OnBroken}
-use Rattle.matrix_reader.proofs.MarkLaws.{nothing_found, unseen_new}
+use Rattle.matrix_reader.proofs.MarkLaws.{FoundOrAdded-from, one_more, no_more, seen_new, seen_known}
 use Rattle.matrix_reader.proofs.reader.Reader.see.Goals as goal
 
-pub returns-in_err-add_unknown-clause-unseen : goal.returns-in_err-add_unknown-clause-unseen
-returns-in_err-add_unknown-clause-unseen c =
-    let failed = err_from_is_err_and c.from_residual.result c.from_residual.ensures.1 in
+pub returns-in_ok-push-clause-lengths : goal.returns-in_ok-push-clause-lengths
+returns-in_ok-push-clause-lengths c =
     let old = c.args.self.now.model in
-    let error = c.in_err-add_unknown.field-0.0 in
-    let none : position (bytes_eq c.args.unknown.now) old.unknowns ≡ None = nothing_found c.find_unknown.result _ c.if-is_none.ensures c.find_unknown.ensures in
-    rw failed.1
-    (subst (λ fault. OnBroken fault (UnseenFrom (position (bytes_eq c.args.unknown.now) old.unknowns) old)) (sym failed.2)
-    (subst (λ o. OnBroken (fault_of error) (UnseenFrom o old)) (sym none)
-    (unseen_new old c.args.unknown.now error none c.in_err-add_unknown.ensures.answer)))
+    let place = position (bytes_eq c.args.unknown.now) old.unknowns in
+    let found = FoundOrAdded-from old c.find_or_add_unknown.new.self c.args.unknown.now c.in_ok-j.j c.in_ok-j.ensures.answer c.in_ok-j.ensures.seen in
+    let more = one_more place old c.find_or_add_unknown.new.self c.args.unknown.now c.in_ok-j.j found (omega arith) in
+    omega (arith, more, c.requires.lengths, c.in_ok-push.ensures.len)
+
+pub returns-in_ok-push-clause-seen : goal.returns-in_ok-push-clause-seen
+returns-in_ok-push-clause-seen c =
+    let old = c.args.self.now.model in
+    let place = position (bytes_eq c.args.unknown.now) old.unknowns in
+    let found = FoundOrAdded-from old c.find_or_add_unknown.new.self c.args.unknown.now c.in_ok-j.j c.in_ok-j.ensures.answer c.in_ok-j.ensures.seen in
+    seen_new place old c.find_or_add_unknown.new.self c.args.unknown.now c.in_ok-j.j c.args.line c.args.self.now.last_lines.items c.push.new.self.items found c.in_ok-j.ensures.model (omega arith) c.in_ok-push.ensures.items
+
+pub returns-else-j-len-clause-lengths : goal.returns-else-j-len-clause-lengths
+returns-else-j-len-clause-lengths c =
+    let old = c.args.self.now.model in
+    let place = position (bytes_eq c.args.unknown.now) old.unknowns in
+    let found = FoundOrAdded-from old c.find_or_add_unknown.new.self c.args.unknown.now c.in_ok-j.j c.in_ok-j.ensures.answer c.in_ok-j.ensures.seen in
+    let same = no_more place old c.find_or_add_unknown.new.self c.args.unknown.now c.in_ok-j.j found (λ last. omega (arith, last)) in
+    omega (arith, same, c.requires.lengths)
+
+pub returns-else-j-len-clause-seen : goal.returns-else-j-len-clause-seen
+returns-else-j-len-clause-seen c =
+    let old = c.args.self.now.model in
+    let place = position (bytes_eq c.args.unknown.now) old.unknowns in
+    let found = FoundOrAdded-from old c.find_or_add_unknown.new.self c.args.unknown.now c.in_ok-j.j c.in_ok-j.ensures.answer c.in_ok-j.ensures.seen in
+    seen_known place old c.find_or_add_unknown.new.self c.args.unknown.now c.in_ok-j.j c.args.line c.args.self.now.last_lines.items found (λ last. omega (arith, last))
