@@ -42,7 +42,7 @@ impl<F: Field, T: Tableau<F>> Model for Engine<F, T> {
 
     ghost view = { λ e. record { tableau = e.improver.pair.tableau; matching = e.improver.pair.mates; found = e.improver.search } };
 
-    ghost invariant = { λ e. IsReady F.modulus (T.state e.improver.pair.tableau) e.improver.pair.mates e.improver.search.places e.improver.free.items e.improver.ends.items e.improver.size };
+    ghost invariant = { λ e. IsReady F.modulus (T.state e.improver.pair.tableau) e.improver.pair.mates e.improver.search.places e.improver.free.items e.improver.ends.items e.improver.guesses.items e.improver.size };
 }
 
 impl Engine<Res, DenseTableau<Res>> {

@@ -12,6 +12,7 @@ loop-next-init g c =
     let at = step_of c.args.self.now.search in
     record {
       moving = moving-start g.F.Field.modulus S M c.requires.pair at c.args.last c.args.end c.requires.route;
+      guesses = c.requires.guesses;
       count = refl;
       search = refl;
       free = refl;
@@ -42,8 +43,8 @@ loop-next-preserved g c =
     let M₀ = c.args.self.now.pair.mates in
     let S = g.T.Tableau.state c.loop-next.self.pair.tableau in
     let M = c.loop-next.self.pair.mates in
-    let S' = g.T.Tableau.state c.take.new.self.tableau in
-    let M' = c.take.new.self.mates in
+    let S' = g.T.Tableau.state c.take.new.self.pair.tableau in
+    let M' = c.take.new.self.pair.mates in
     let at = step_of c.args.self.now.search in
     let i = c.loop-next.left - 1 in
     let I = c.loop-next.invariant in
@@ -54,11 +55,12 @@ loop-next-preserved g c =
       moving = subst (λ next. IsMoving p S₀ M₀ (route (tableau_of S₀ M₀) at c.args.last (in_q c.args.end) (number c.args.end)) S' M' next i) (sym (c.row_of-next.ensures ∙ ap (row_had (tableau_of S M)) x_is))
           (moving-next p S₀ M₀ c.requires.pair at c.args.last c.args.end c.requires.route S M c.loop-next.next c.in-Some.row c.loop-next.left I.moving c.in-Some.is i here S' M' c.take.ensures.layers c.take.ensures.pattern
           (subst (λ x. Takes p (layers_of S M) (tableau_of S M) (tableau_of S' M') c.in-Some.row x) x_is c.take.ensures.takes));
+      guesses = c.take.ensures.guesses;
       count = omega (arith, c.take.ensures.steps, I.count, moving-count p S₀ M₀ c.requires.pair at c.args.last c.args.end c.requires.route S M c.loop-next.next c.in-Some.row c.loop-next.left I.moving c.in-Some.is i here);
-      search = I.search;
-      free = I.free;
-      ends = I.ends;
-      size = I.size;
+      search = c.take.ensures.search ∙ I.search;
+      free = c.take.ensures.free ∙ I.free;
+      ends = c.take.ensures.ends ∙ I.ends;
+      size = c.take.ensures.count ∙ I.size;
     }
 
 pub returns-clause-pair : goal.returns-clause-pair

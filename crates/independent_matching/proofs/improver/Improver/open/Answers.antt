@@ -9,9 +9,10 @@ returns-clause-ready g c =
     let S = g.T.Tableau.state c.args.tableau in
     let M = c.args.mates in
     let e = c.mark.new.self in
-    subst (λ q. IsReady p (g.T.Tableau.state q.tableau) q.mates e.search.places e.free.items e.ends.items e.size) (sym c.mark.ensures.pair) (record {
+    subst (λ q. IsReady p (g.T.Tableau.state q.tableau) q.mates e.search.places e.free.items e.ends.items e.guesses.items e.size) (sym c.mark.ensures.pair) (record {
       pair = open-tableau p S M c.requires.no_base c.requires.unmatched c.requires.kernel;
       sized = c.mark.ensures.sized;
       marks = c.mark.ensures.marks;
+      guessed = c.mark.ensures.guesses;
       count = c.mark.ensures.count ∙ open-size p S M c.requires.no_base c.requires.unmatched;
     })
