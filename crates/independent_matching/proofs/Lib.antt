@@ -6,3 +6,4 @@ pub mod OpenLaws
 pub mod EngineLaws
 pub mod NextLaws
 pub mod GuessLaws
+pub mod StepLaws

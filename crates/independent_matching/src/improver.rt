@@ -1,8 +1,9 @@
 ghost use Rattle.std.specs.Prelude.{◌≡◌, ◌≢◌, ℕ, ◌+◌, ◌*◌, ◌<◌, ◌≤◌, Bool, true, false, suc, cond, IfOk, IfSome, IfNone, is_some, IsTrue, IsFalse};
 ghost use Rattle.linear_algebra.specs.Kernels.{SameKernel};
 ghost use Rattle.residue_theory.specs.Sums.{size_on};
+ghost use Rattle.exchange_graph.specs.Marks.{members_of};
 ghost use Rattle.exchange_graph.specs.Results.{reached_of, step_of};
-ghost use Rattle.mixed_matrices.specs.Arcs.{HasNoWalk, IsReachedFromFree, is_end};
+ghost use Rattle.mixed_matrices.specs.Arcs.{HasNoWalk, IsReachedFromFree, is_end, is_free};
 ghost use Rattle.mixed_matrices.specs.Tableaus.{HasTableau};
 ghost use Rattle.mixed_augmentation.specs.Moves.{IsFreeRow, IsRoute, route};
 ghost use Rattle.independent_matching.specs.Engines.{AreFewSteps};
@@ -177,7 +178,91 @@ impl<F: Field, T: Tableau<F>> Improver<F, T> {
         }
     }
 
-    // Makes the pair larger by one column, or finds that it is best.
+    // Gives the free column x a row that it may take and that no column has.
+    fn give<L: Ledger>(&mut self, x: usize, row: Row, steps: &mut Steps<L>)
+        requires width { self.old.pair.mates.pattern.width ≡ (T.state self.old.pair.tableau).columns }
+        requires x { x < (T.state self.old.pair.tableau).columns }
+        requires guesses { AreGuesses F.modulus (T.state self.old.pair.tableau) self.old.guesses.items }
+        requires pair { HasTableau F.modulus (layers_of (T.state self.old.pair.tableau) self.old.pair.mates) (tableau_of (T.state self.old.pair.tableau) self.old.pair.mates) }
+        requires free { is_free (tableau_of (T.state self.old.pair.tableau) self.old.pair.mates) x ≡ true }
+        requires row { IsFreeRow F.modulus (layers_of (T.state self.old.pair.tableau) self.old.pair.mates) (tableau_of (T.state self.old.pair.tableau) self.old.pair.mates) x (in_q row) (number row) }
+        ensures layers { layers_of (T.state self.new.pair.tableau) self.new.pair.mates ≡ layers_of (T.state self.old.pair.tableau) self.old.pair.mates }
+        ensures width { self.new.pair.mates.pattern.width ≡ self.old.pair.mates.pattern.width }
+        ensures pair { HasTableau F.modulus (layers_of (T.state self.old.pair.tableau) self.old.pair.mates) (tableau_of (T.state self.new.pair.tableau) self.new.pair.mates) }
+        ensures size { size_of (T.state self.new.pair.tableau) self.new.pair.mates ≡ size_of (T.state self.old.pair.tableau) self.old.pair.mates + 1 }
+        ensures steps { steps.new ≤ steps.old + 1 }
+        ensures search { self.new.search ≡ self.old.search }
+        ensures free { self.new.free ≡ self.old.free }
+        ensures ends { self.new.ends ≡ self.old.ends }
+        ensures count { self.new.size ≡ self.old.size }
+        ensures guesses { AreGuesses F.modulus (T.state self.new.pair.tableau) self.new.guesses.items }
+        ensures narrow { (T.state self.old.pair.tableau).columns ≤ 8192 }
+    {
+        // there are at most 8,192 columns, so that the size fits
+        let _columns = self.pair.tableau.columns();
+        self.take(row, x, steps);
+    }
+
+    // A free column that is an end: a walk of one column.
+    fn free_end(&self) -> Option<usize>
+        requires { IsSized (T.state self.now.pair.tableau) self.now.pair.mates self.now.search.places self.now.free.items self.now.ends.items }
+        ensures below { IfSome result (λ x. x < (T.state self.now.pair.tableau).columns) }
+        ensures free { IfSome result (λ x. members_of self.now.free.items x ≡ true) }
+        ensures end { IfSome result (λ x. members_of self.now.ends.items x ≡ true) }
+    {
+        for x in 0..self.free.len() {
+            if self.free[x] && self.ends[x] {
+                return Some(x);
+            }
+        }
+        None
+    }
+
+    // Makes the pair larger by the free column x, which is an end.
+    fn grow<L: Ledger>(&mut self, x: usize, steps: &mut Steps<L>)
+        requires ready { IsReady F.modulus (T.state self.old.pair.tableau) self.old.pair.mates self.old.search.places self.old.free.items self.old.ends.items self.old.guesses.items self.old.size }
+        requires x { x < (T.state self.old.pair.tableau).columns }
+        requires free { members_of self.old.free.items x ≡ true }
+        requires end { members_of self.old.ends.items x ≡ true }
+        ensures ready { IsReady F.modulus (T.state self.new.pair.tableau) self.new.pair.mates self.new.search.places self.new.free.items self.new.ends.items self.new.guesses.items self.new.size }
+        ensures layers { layers_of (T.state self.new.pair.tableau) self.new.pair.mates ≡ layers_of (T.state self.old.pair.tableau) self.old.pair.mates }
+        ensures size { size_of (T.state self.new.pair.tableau) self.new.pair.mates ≡ size_of (T.state self.old.pair.tableau) self.old.pair.mates + 1 }
+        ensures steps { steps.new ≤ steps.old + 1 }
+    {
+        let row = self.free_row(x).unwrap();
+        self.give(x, row, steps);
+        self.mark();
+        self.size += 1;
+    }
+
+    // Makes the pair larger along a shortest walk, or finds that it is best.
+    fn improve_along<L: Ledger>(&mut self, steps: &mut Steps<L>) -> bool
+        requires ready { IsReady F.modulus (T.state self.old.pair.tableau) self.old.pair.mates self.old.search.places self.old.free.items self.old.ends.items self.old.guesses.items self.old.size }
+        ensures ready { IsReady F.modulus (T.state self.new.pair.tableau) self.new.pair.mates self.new.search.places self.new.free.items self.new.ends.items self.new.guesses.items self.new.size }
+        ensures layers { layers_of (T.state self.new.pair.tableau) self.new.pair.mates ≡ layers_of (T.state self.old.pair.tableau) self.old.pair.mates }
+        ensures size { IsTrue result → size_of (T.state self.new.pair.tableau) self.new.pair.mates ≡ size_of (T.state self.old.pair.tableau) self.old.pair.mates + 1 }
+        ensures pivots { IsTrue result → steps.new ≤ steps.old + (T.state self.old.pair.tableau).columns + size_on (T.state self.old.pair.tableau).base (T.state self.old.pair.tableau).columns + 1 }
+        ensures pair { IsFalse result → self.new.pair ≡ self.old.pair }
+        ensures no_walk { IsFalse result → HasNoWalk F.modulus (layers_of (T.state self.new.pair.tableau) self.new.pair.mates) (tableau_of (T.state self.new.pair.tableau) self.new.pair.mates) }
+        ensures reached { IsFalse result → IsReachedFromFree F.modulus (layers_of (T.state self.new.pair.tableau) self.new.pair.mates) (tableau_of (T.state self.new.pair.tableau) self.new.pair.mates) (reached_of self.new.search) }
+        ensures looks { IsFalse result → steps.new ≤ steps.old + (T.state self.old.pair.tableau).columns }
+    {
+        match self
+            .search
+            .shortest(&self.pair, &self.free, &self.ends, steps)
+        {
+            None => false,
+            Some(last) => {
+                let end = self.free_row(self.search.step(last)).unwrap();
+                self.augment(last, end, steps);
+                self.mark();
+                self.size += 1;
+                true
+            }
+        }
+    }
+
+    // Makes the pair larger by one column, or finds that it is best. No column is looked at where a free one is an end.
     pub fn improve<L: Ledger, M: Ledger>(
         &mut self,
         searches: &mut Steps<M>,
@@ -195,18 +280,12 @@ impl<F: Field, T: Tableau<F>> Improver<F, T> {
         ensures searches { searches.new ≡ searches.old + 1 }
     {
         searches.tick();
-        match self
-            .search
-            .shortest(&self.pair, &self.free, &self.ends, steps)
-        {
-            None => false,
-            Some(last) => {
-                let end = self.free_row(self.search.step(last)).unwrap();
-                self.augment(last, end, steps);
-                self.mark();
-                self.size += 1;
+        match self.free_end() {
+            Some(x) => {
+                self.grow(x, steps);
                 true
             }
+            None => self.improve_along(steps),
         }
     }
 
