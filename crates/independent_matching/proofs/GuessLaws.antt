@@ -1,10 +1,10 @@
 -- Columns in which P has no entry at a row without base column, and what a pivot does to them.
-use Rattle.std.proofs.Common.{◌≡◌, ◌≢◌, ◌%◌, ◌<◌, ◌∙◌, ◌⊎◌, ℕ, Bool, true, false, List, length, Option, Some, None, IfNone, replicate, slice_set, slice_index_or, inl, inr, refl, sym, ap, subst, arith}
+use Rattle.std.proofs.Common.{◌≡◌, ◌≢◌, ◌%◌, ◌<◌, ◌∙◌, ℕ, true, false, List, length, Option, Some, None, IfNone, replicate, slice_set, inl, inr, refl, sym, ap, subst, arith}
 use Rattle.std.proofs.lemmas.List.{get_or-replicate, get_or-set_same, get_or-set_other, length-replicate, length-set}
 use Rattle.residue_theory.proofs.SetLaws.{differ}
 use Rattle.residue_theory.proofs.SumLaws.{nat_cases}
 use Rattle.bipartite_matching.specs.Matchings.{Matching}
-use Rattle.row_transform.specs.Tableaus.{State, IsBare}
+use Rattle.row_transform.specs.Tableaus.{State}
 use Rattle.mixed_augmentation.specs.Moves.{TakesRow, TakesMate}
 use Rattle.mixed_augmentation.proofs.Moves.{test_cases}
 use Rattle.mixed_matrices.specs.LayeredMatrices.{Layered}

@@ -1,5 +1,5 @@
 -- A tableau and a matching, and the tableau of the layered matrix that they make.
-use Rattle.std.proofs.Common.{◌≡◌, ◌≢◌, ◌%◌, ◌<◌, ◌∙◌, ℕ, Bool, true, false, List, length, Some, None, slice_index, inl, inr, refl, sym, ap, subst, arith}
+use Rattle.std.proofs.Common.{◌≡◌, ◌<◌, ◌∙◌, ℕ, Bool, true, false, List, length, Some, None, slice_index, inl, inr, refl, sym, ap, subst, arith}
 use Rattle.linear_algebra.specs.Bases.{HasNoBase}
 use Rattle.residue_theory.proofs.SumLaws.{nat_cases}
 use Rattle.sparse_t.specs.Incidences.{height, touches, AreRowsOf}

@@ -1,5 +1,5 @@
 -- A walk of one column: a free column that is an end takes a free row.
-use Rattle.std.proofs.Common.{◌≡◌, ◌+◌, ◌<◌, ℕ, true, Some, None, refl, sym, arith}
+use Rattle.std.proofs.Common.{◌≡◌, ◌+◌, ◌<◌, ◌≤◌, ℕ, Bool, true, false, cond, Some, refl, sym, arith}
 use Rattle.bipartite_matching.specs.Matchings.{Matching}
 use Rattle.row_transform.specs.Tableaus.{State}
 use Rattle.search_laws.specs.Searches.{IsShortest}
@@ -11,6 +11,13 @@ use Rattle.independent_matching.specs.declared.row.Row.{Row}
 use Rattle.independent_matching.specs.Sides.{CanTake, IsMoving, Takes, in_q, layers_of, number, row_had, size_of, tableau_of}
 use Rattle.independent_matching.proofs.MoveLaws.{can-take, moving-next, moving-size, moving-start, moving-tableau}
 use Rattle.independent_matching.proofs.SideLaws.{free-end}
+
+pub one-step : (row : Row) → cond (in_q row) 1 0 ≤ 1
+one-step row = go (in_q row)
+  where
+    go : (b : Bool) → cond b 1 0 ≤ 1
+    go true = omega arith
+    go false = omega arith
 
 module _ (p : ℕ) (S : State) (M : Matching) (tableau : HasTableau p (layers_of S M) (tableau_of S M)) (x : ℕ) (below : x < S.columns) (row : Row)
     (free : is_free (tableau_of S M) x ≡ true) (E : IsFreeRow p (layers_of S M) (tableau_of S M) x (in_q row) (number row)) where

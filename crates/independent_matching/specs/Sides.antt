@@ -1,5 +1,5 @@
 -- A tableau of Q and a matching in T, read as a tableau of the layered matrix of Q and T.
-use Rattle.std.specs.Prelude.{ℕ, ◌+◌, ◌<◌, ◌≤◌, ◌≡◌, ◌≢◌, ◌%◌, ◌&&◌, Bool, eqb, not, true, false, List, length, Option, Some, None, cond, is_some, unwrap_or, slice_index_or}
+use Rattle.std.specs.Prelude.{ℕ, ◌+◌, ◌*◌, ◌<◌, ◌≤◌, ◌≡◌, ◌≢◌, ◌%◌, ◌&&◌, Bool, eqb, not, true, false, List, length, Option, Some, None, cond, is_some, unwrap_or, slice_index_or}
 use Rattle.linear_algebra.specs.Bases.{HasNoBase}
 use Rattle.sparse_t.specs.Incidences.{height, touches}
 use Rattle.bipartite_matching.specs.Matchings.{Matching, HasPair, mate_at}
@@ -123,10 +123,11 @@ pub record IsSized (S : State) (M : Matching) (places : ℕ) (free ends : List B
   pub free_count : length free ≡ S.columns
   pub end_count : length ends ≡ S.columns
 
--- the base and the matched columns are a pair of that size, and the marks are right
-pub record IsReady (p : ℕ) (S : State) (M : Matching) (places : ℕ) (free ends : List Bool) (guesses : List (Option ℕ)) (size : ℕ) : Type 0 where
+-- the base and the matched columns are a pair of that size, the marks are right, and there were few pivots
+pub record IsReady (p : ℕ) (S : State) (M : Matching) (places : ℕ) (free ends : List Bool) (guesses : List (Option ℕ)) (size pivots : ℕ) : Type 0 where
   pub pair : HasTableau p (layers_of S M) (tableau_of S M)
   pub sized : IsSized S M places free ends
   pub marks : (x : ℕ) → x < S.columns → AreMarks p S M free ends x
   pub guessed : AreGuesses p S guesses
   pub count : size ≡ size_of S M
+  pub few : pivots ≤ size * size

@@ -22,7 +22,7 @@ use std::sync::ledger::Ledger;
 
 // A pair and its size, a search for walks in it, and marks of its free columns and its ends. For each column a Q row is
 // guessed that makes it an end, the one that last did, to be tried first when the ends are marked again. Where none is
-// guessed no Q row makes it an end; that stays so until a pivot at a row where P has an entry in the column.
+// guessed no Q row makes it an end; that stays so until a pivot at a row where P has an entry in the column. All pivots are counted.
 #[derive(Drop)]
 pub struct Improver<F: Field, T: Tableau<F>> {
     pub pair: Pair<F, T>,
@@ -31,6 +31,7 @@ pub struct Improver<F: Field, T: Tableau<F>> {
     pub ends: Vec<bool>,
     pub size: usize,
     pub guesses: Vec<Option<usize>>,
+    pub pivots: usize,
 }
 
 impl<F: Field, T: Tableau<F>> Improver<F, T> {
@@ -40,7 +41,7 @@ impl<F: Field, T: Tableau<F>> Improver<F, T> {
         requires kernel { SameKernel F.modulus (T.state tableau).rows (T.state tableau).columns (T.state tableau).q (T.state tableau).p }
         requires no_base { (y : ℕ) → (T.state tableau).base y ≡ false }
         requires unmatched { (y : ℕ) → is_matched mates y ≡ false }
-        ensures ready { IfOk result (λ e. IsReady F.modulus (T.state e.pair.tableau) e.pair.mates e.search.places e.free.items e.ends.items e.guesses.items e.size) }
+        ensures ready { IfOk result (λ e. IsReady F.modulus (T.state e.pair.tableau) e.pair.mates e.search.places e.free.items e.ends.items e.guesses.items e.size e.pivots) }
         ensures tableau { IfOk result (λ e. e.pair.tableau ≡ tableau) }
         ensures mates { IfOk result (λ e. e.pair.mates ≡ mates) }
     {
@@ -57,6 +58,7 @@ impl<F: Field, T: Tableau<F>> Improver<F, T> {
             ends: vec![in alloc; false; columns]?,
             size: 0,
             guesses: vec![in alloc; Some(0); columns]?,
+            pivots: 0,
         };
         improver.mark();
         Ok(improver)
@@ -67,6 +69,7 @@ impl<F: Field, T: Tableau<F>> Improver<F, T> {
         requires width { self.old.pair.mates.pattern.width ≡ (T.state self.old.pair.tableau).columns }
         requires places { self.old.search.places ≡ (T.state self.old.pair.tableau).columns }
         requires last { last < self.old.search.places }
+        requires few { self.old.pivots ≤ size_of (T.state self.old.pair.tableau) self.old.pair.mates * size_of (T.state self.old.pair.tableau) self.old.pair.mates }
         requires guesses { AreGuesses F.modulus (T.state self.old.pair.tableau) self.old.guesses.items }
         requires pair { HasTableau F.modulus (layers_of (T.state self.old.pair.tableau) self.old.pair.mates) (tableau_of (T.state self.old.pair.tableau) self.old.pair.mates) }
         requires route { IsRoute F.modulus (layers_of (T.state self.old.pair.tableau) self.old.pair.mates) (tableau_of (T.state self.old.pair.tableau) self.old.pair.mates) (route (tableau_of (T.state self.old.pair.tableau) self.old.pair.mates) (step_of self.old.search) last (in_q end) (number end)) }
@@ -75,6 +78,8 @@ impl<F: Field, T: Tableau<F>> Improver<F, T> {
         ensures pair { HasTableau F.modulus (layers_of (T.state self.old.pair.tableau) self.old.pair.mates) (tableau_of (T.state self.new.pair.tableau) self.new.pair.mates) }
         ensures size { size_of (T.state self.new.pair.tableau) self.new.pair.mates ≡ size_of (T.state self.old.pair.tableau) self.old.pair.mates + 1 }
         ensures steps { steps.new ≤ steps.old + size_on (T.state self.old.pair.tableau).base (T.state self.old.pair.tableau).columns + 1 }
+        ensures pivots { steps.new + self.old.pivots ≡ steps.old + self.new.pivots }
+        ensures few { self.new.pivots ≤ size_of (T.state self.new.pair.tableau) self.new.pair.mates * size_of (T.state self.new.pair.tableau) self.new.pair.mates }
         ensures search { self.new.search ≡ self.old.search }
         ensures free { self.new.free ≡ self.old.free }
         ensures ends { self.new.ends ≡ self.old.ends }
@@ -97,6 +102,7 @@ impl<F: Field, T: Tableau<F>> Improver<F, T> {
     // Moves column x to the row, out of the T row that it has.
     fn take<L: Ledger>(&mut self, row: Row, x: usize, steps: &mut Steps<L>)
         requires width { self.old.pair.mates.pattern.width ≡ (T.state self.old.pair.tableau).columns }
+        requires few { self.old.pivots ≤ 16384 * 8192 }
         requires x { x < (T.state self.old.pair.tableau).columns }
         requires can { CanTake F.modulus (layers_of (T.state self.old.pair.tableau) self.old.pair.mates) (tableau_of (T.state self.old.pair.tableau) self.old.pair.mates) row x }
         requires guesses { AreGuesses F.modulus (T.state self.old.pair.tableau) self.old.guesses.items }
@@ -104,6 +110,7 @@ impl<F: Field, T: Tableau<F>> Improver<F, T> {
         ensures layers { layers_of (T.state self.new.pair.tableau) self.new.pair.mates ≡ layers_of (T.state self.old.pair.tableau) self.old.pair.mates }
         ensures pattern { self.new.pair.mates.pattern ≡ self.old.pair.mates.pattern }
         ensures steps { steps.new ≡ steps.old + cond (in_q row) 1 0 }
+        ensures pivots { self.new.pivots ≡ self.old.pivots + cond (in_q row) 1 0 }
         ensures guesses { AreGuesses F.modulus (T.state self.new.pair.tableau) self.new.guesses.items }
         ensures search { self.new.search ≡ self.old.search }
         ensures free { self.new.free ≡ self.old.free }
@@ -112,6 +119,7 @@ impl<F: Field, T: Tableau<F>> Improver<F, T> {
     {
         self.unsettle(row);
         self.pair.take(row, x, steps);
+        self.pivots += row.pivots();
     }
 
     // Guesses a row again for each column in which P has an entry at the Q row, at which a pivot is to come.
@@ -168,6 +176,7 @@ impl<F: Field, T: Tableau<F>> Improver<F, T> {
         ensures sized { IsSized (T.state self.old.pair.tableau) self.old.pair.mates self.new.search.places self.new.free.items self.new.ends.items }
         ensures pair { self.new.pair ≡ self.old.pair }
         ensures search { self.new.search ≡ self.old.search }
+        ensures pivots { self.new.pivots ≡ self.old.pivots }
         ensures count { self.new.size ≡ self.old.size }
     {
         for x in 0..self.free.len() {
@@ -181,6 +190,7 @@ impl<F: Field, T: Tableau<F>> Improver<F, T> {
     // Gives the free column x a row that it may take and that no column has.
     fn give<L: Ledger>(&mut self, x: usize, row: Row, steps: &mut Steps<L>)
         requires width { self.old.pair.mates.pattern.width ≡ (T.state self.old.pair.tableau).columns }
+        requires few { self.old.pivots ≤ size_of (T.state self.old.pair.tableau) self.old.pair.mates * size_of (T.state self.old.pair.tableau) self.old.pair.mates }
         requires x { x < (T.state self.old.pair.tableau).columns }
         requires guesses { AreGuesses F.modulus (T.state self.old.pair.tableau) self.old.guesses.items }
         requires pair { HasTableau F.modulus (layers_of (T.state self.old.pair.tableau) self.old.pair.mates) (tableau_of (T.state self.old.pair.tableau) self.old.pair.mates) }
@@ -190,6 +200,8 @@ impl<F: Field, T: Tableau<F>> Improver<F, T> {
         ensures width { self.new.pair.mates.pattern.width ≡ self.old.pair.mates.pattern.width }
         ensures pair { HasTableau F.modulus (layers_of (T.state self.old.pair.tableau) self.old.pair.mates) (tableau_of (T.state self.new.pair.tableau) self.new.pair.mates) }
         ensures size { size_of (T.state self.new.pair.tableau) self.new.pair.mates ≡ size_of (T.state self.old.pair.tableau) self.old.pair.mates + 1 }
+        ensures pivots { steps.new + self.old.pivots ≡ steps.old + self.new.pivots }
+        ensures few { self.new.pivots ≤ size_of (T.state self.new.pair.tableau) self.new.pair.mates * size_of (T.state self.new.pair.tableau) self.new.pair.mates }
         ensures steps { steps.new ≤ steps.old + 1 }
         ensures search { self.new.search ≡ self.old.search }
         ensures free { self.new.free ≡ self.old.free }
@@ -220,13 +232,14 @@ impl<F: Field, T: Tableau<F>> Improver<F, T> {
 
     // Makes the pair larger by the free column x, which is an end.
     fn grow<L: Ledger>(&mut self, x: usize, steps: &mut Steps<L>)
-        requires ready { IsReady F.modulus (T.state self.old.pair.tableau) self.old.pair.mates self.old.search.places self.old.free.items self.old.ends.items self.old.guesses.items self.old.size }
+        requires ready { IsReady F.modulus (T.state self.old.pair.tableau) self.old.pair.mates self.old.search.places self.old.free.items self.old.ends.items self.old.guesses.items self.old.size self.old.pivots }
         requires x { x < (T.state self.old.pair.tableau).columns }
         requires free { members_of self.old.free.items x ≡ true }
         requires end { members_of self.old.ends.items x ≡ true }
-        ensures ready { IsReady F.modulus (T.state self.new.pair.tableau) self.new.pair.mates self.new.search.places self.new.free.items self.new.ends.items self.new.guesses.items self.new.size }
+        ensures ready { IsReady F.modulus (T.state self.new.pair.tableau) self.new.pair.mates self.new.search.places self.new.free.items self.new.ends.items self.new.guesses.items self.new.size self.new.pivots }
         ensures layers { layers_of (T.state self.new.pair.tableau) self.new.pair.mates ≡ layers_of (T.state self.old.pair.tableau) self.old.pair.mates }
         ensures size { size_of (T.state self.new.pair.tableau) self.new.pair.mates ≡ size_of (T.state self.old.pair.tableau) self.old.pair.mates + 1 }
+        ensures pivots { steps.new + self.old.pivots ≡ steps.old + self.new.pivots }
         ensures steps { steps.new ≤ steps.old + 1 }
     {
         let row = self.free_row(x).unwrap();
@@ -237,14 +250,15 @@ impl<F: Field, T: Tableau<F>> Improver<F, T> {
 
     // Makes the pair larger along a shortest walk, or finds that it is best.
     fn improve_along<L: Ledger>(&mut self, steps: &mut Steps<L>) -> bool
-        requires ready { IsReady F.modulus (T.state self.old.pair.tableau) self.old.pair.mates self.old.search.places self.old.free.items self.old.ends.items self.old.guesses.items self.old.size }
-        ensures ready { IsReady F.modulus (T.state self.new.pair.tableau) self.new.pair.mates self.new.search.places self.new.free.items self.new.ends.items self.new.guesses.items self.new.size }
+        requires ready { IsReady F.modulus (T.state self.old.pair.tableau) self.old.pair.mates self.old.search.places self.old.free.items self.old.ends.items self.old.guesses.items self.old.size self.old.pivots }
+        ensures ready { IsReady F.modulus (T.state self.new.pair.tableau) self.new.pair.mates self.new.search.places self.new.free.items self.new.ends.items self.new.guesses.items self.new.size self.new.pivots }
         ensures layers { layers_of (T.state self.new.pair.tableau) self.new.pair.mates ≡ layers_of (T.state self.old.pair.tableau) self.old.pair.mates }
         ensures size { IsTrue result → size_of (T.state self.new.pair.tableau) self.new.pair.mates ≡ size_of (T.state self.old.pair.tableau) self.old.pair.mates + 1 }
         ensures pivots { IsTrue result → steps.new ≤ steps.old + (T.state self.old.pair.tableau).columns + size_on (T.state self.old.pair.tableau).base (T.state self.old.pair.tableau).columns + 1 }
         ensures pair { IsFalse result → self.new.pair ≡ self.old.pair }
         ensures no_walk { IsFalse result → HasNoWalk F.modulus (layers_of (T.state self.new.pair.tableau) self.new.pair.mates) (tableau_of (T.state self.new.pair.tableau) self.new.pair.mates) }
         ensures reached { IsFalse result → IsReachedFromFree F.modulus (layers_of (T.state self.new.pair.tableau) self.new.pair.mates) (tableau_of (T.state self.new.pair.tableau) self.new.pair.mates) (reached_of self.new.search) }
+        ensures counted { steps.new + self.old.pivots ≤ steps.old + self.new.pivots + (T.state self.old.pair.tableau).columns }
         ensures looks { IsFalse result → steps.new ≤ steps.old + (T.state self.old.pair.tableau).columns }
     {
         match self
@@ -268,14 +282,15 @@ impl<F: Field, T: Tableau<F>> Improver<F, T> {
         searches: &mut Steps<M>,
         steps: &mut Steps<L>,
     ) -> bool
-        requires ready { IsReady F.modulus (T.state self.old.pair.tableau) self.old.pair.mates self.old.search.places self.old.free.items self.old.ends.items self.old.guesses.items self.old.size }
-        ensures ready { IsReady F.modulus (T.state self.new.pair.tableau) self.new.pair.mates self.new.search.places self.new.free.items self.new.ends.items self.new.guesses.items self.new.size }
+        requires ready { IsReady F.modulus (T.state self.old.pair.tableau) self.old.pair.mates self.old.search.places self.old.free.items self.old.ends.items self.old.guesses.items self.old.size self.old.pivots }
+        ensures ready { IsReady F.modulus (T.state self.new.pair.tableau) self.new.pair.mates self.new.search.places self.new.free.items self.new.ends.items self.new.guesses.items self.new.size self.new.pivots }
         ensures layers { layers_of (T.state self.new.pair.tableau) self.new.pair.mates ≡ layers_of (T.state self.old.pair.tableau) self.old.pair.mates }
         ensures size { IsTrue result → size_of (T.state self.new.pair.tableau) self.new.pair.mates ≡ size_of (T.state self.old.pair.tableau) self.old.pair.mates + 1 }
         ensures pivots { IsTrue result → steps.new ≤ steps.old + (T.state self.old.pair.tableau).columns + size_on (T.state self.old.pair.tableau).base (T.state self.old.pair.tableau).columns + 1 }
         ensures pair { IsFalse result → self.new.pair ≡ self.old.pair }
         ensures no_walk { IsFalse result → HasNoWalk F.modulus (layers_of (T.state self.new.pair.tableau) self.new.pair.mates) (tableau_of (T.state self.new.pair.tableau) self.new.pair.mates) }
         ensures reached { IsFalse result → IsReachedFromFree F.modulus (layers_of (T.state self.new.pair.tableau) self.new.pair.mates) (tableau_of (T.state self.new.pair.tableau) self.new.pair.mates) (reached_of self.new.search) }
+        ensures counted { steps.new + self.old.pivots ≤ steps.old + self.new.pivots + (T.state self.old.pair.tableau).columns }
         ensures looks { IsFalse result → steps.new ≤ steps.old + (T.state self.old.pair.tableau).columns }
         ensures searches { searches.new ≡ searches.old + 1 }
     {
@@ -291,8 +306,8 @@ impl<F: Field, T: Tableau<F>> Improver<F, T> {
 
     // Ends with a best pair.
     pub fn run<L: Ledger, M: Ledger>(&mut self, searches: &mut Steps<M>, steps: &mut Steps<L>)
-        requires ready { IsReady F.modulus (T.state self.old.pair.tableau) self.old.pair.mates self.old.search.places self.old.free.items self.old.ends.items self.old.guesses.items self.old.size }
-        ensures ready { IsReady F.modulus (T.state self.new.pair.tableau) self.new.pair.mates self.new.search.places self.new.free.items self.new.ends.items self.new.guesses.items self.new.size }
+        requires ready { IsReady F.modulus (T.state self.old.pair.tableau) self.old.pair.mates self.old.search.places self.old.free.items self.old.ends.items self.old.guesses.items self.old.size self.old.pivots }
+        ensures ready { IsReady F.modulus (T.state self.new.pair.tableau) self.new.pair.mates self.new.search.places self.new.free.items self.new.ends.items self.new.guesses.items self.new.size self.new.pivots }
         ensures layers { layers_of (T.state self.new.pair.tableau) self.new.pair.mates ≡ layers_of (T.state self.old.pair.tableau) self.old.pair.mates }
         ensures no_walk { HasNoWalk F.modulus (layers_of (T.state self.new.pair.tableau) self.new.pair.mates) (tableau_of (T.state self.new.pair.tableau) self.new.pair.mates) }
         ensures reached { IsReachedFromFree F.modulus (layers_of (T.state self.new.pair.tableau) self.new.pair.mates) (tableau_of (T.state self.new.pair.tableau) self.new.pair.mates) (reached_of self.new.search) }

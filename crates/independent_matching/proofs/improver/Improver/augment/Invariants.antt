@@ -14,6 +14,7 @@ invariant-loop-next g l =
       moving : IsMoving g.F.Field.modulus S M R (g.T.Tableau.state l.self.pair.tableau) l.self.pair.mates l.next l.left;
       guesses : AreGuesses g.F.Field.modulus (g.T.Tableau.state l.self.pair.tableau) l.self.guesses.items;
       count : l.steps + size_on R.in_q l.left ≡ l.fn.steps + size_on R.in_q (l.last + 1);
+      pivots : l.steps + l.fn.self.pivots ≡ l.fn.steps + l.self.pivots;
       search : l.self.search ≡ l.fn.self.search;
       free : l.self.free ≡ l.fn.self.free;
       ends : l.self.ends ≡ l.fn.self.ends;

@@ -6,6 +6,7 @@ abbrev pub invariant-loop-x : goal.invariant-loop-x
 invariant-loop-x g l = record {
   pair : l.self.pair ≡ l.fn.self.pair;
   size : l.self.size ≡ l.fn.self.size;
+  pivots : l.self.pivots ≡ l.fn.self.pivots;
   search : l.self.search ≡ l.fn.self.search;
   free_count : length l.self.free.items ≡ length l.fn.self.free.items;
   end_count : length l.self.ends.items ≡ length l.fn.self.ends.items;
