@@ -22,7 +22,8 @@ use std::sync::ledger::Ledger;
 
 // A pair and its size, a search for walks in it, and marks of its free columns and its ends. For each column a Q row is
 // guessed that makes it an end, the one that last did, to be tried first when the ends are marked again. Where none is
-// guessed no Q row makes it an end; that stays so until a pivot at a row where P has an entry in the column. All pivots are counted.
+// guessed no Q row makes it an end; that stays so until a pivot at a row where P has an entry in the column. All pivots
+// are counted.
 #[derive(Drop)]
 pub struct Improver<F: Field, T: Tableau<F>> {
     pub pair: Pair<F, T>,
