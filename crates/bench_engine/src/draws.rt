@@ -11,7 +11,7 @@ pub enum Family {
 }
 
 impl Family {
-    pub fn named(name: &str) -> Option<Family> {
+    pub(crate) fn named(name: &str) -> Option<Family> {
         match name {
             "symbols" => Some(Family::Symbols),
             "constants" => Some(Family::Constants),
@@ -20,7 +20,7 @@ impl Family {
         }
     }
 
-    pub fn name(self) -> &'static str {
+    pub(crate) fn name(self) -> &'static str {
         match self {
             Family::Symbols => "symbols",
             Family::Constants => "constants",
@@ -46,7 +46,7 @@ pub struct Draws {
 }
 
 impl Draws {
-    pub fn new(first: u64) -> Draws {
+    pub(crate) fn new(first: u64) -> Draws {
         Draws { last: first }
     }
 
@@ -64,7 +64,7 @@ pub struct Place {
 }
 
 /// The places of an equation over so many unknowns: up to three.
-pub fn equation(
+pub(crate) fn equation(
     alloc: Global,
     draws: &mut Draws,
     family: Family,

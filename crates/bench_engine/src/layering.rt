@@ -11,7 +11,7 @@ use std::alloc::Global;
 
 /// The layered matrix of drawn equations: the constants of one that has symbols too stand in a row of their own, with
 /// an auxiliary column.
-pub fn layered(
+pub(crate) fn layered(
     alloc: Global,
     draws: &mut Draws,
     family: Family,

@@ -1,23 +1,22 @@
 //! Runs the engine on a layered matrix that is drawn at random, and writes what it finds. The words are a family
-//! (`symbols`, `constants` or `mixed`) and how many equations and unknowns there are, from 1 to 4,096.
+//! (`symbols`, `constants` or `mixed`) and how many equations and unknowns there are, from 1 to 4,096. It tells how many
+//! searches there were, how many columns they reached in all, each of which they look at once at most, and how many
+//! pivots: looks and pivots are the engine's steps.
 #![tactic(auto)]
 
-ghost use Rattle.std.specs.Prelude.{◌≡◌, ◌≤◌, ◌<◌, IfSome};
+ghost use Rattle.std.specs.Prelude.{◌≤◌, IfSome};
 
 mod draws;
 mod layering;
+mod solving;
 
-use draws::{Draws, Family};
-use exchange_graph::Steps;
-use independent_matching::{Engine, NoMemory};
-use layering::layered;
-use row_transform::Tableau;
-use std::alloc::Global;
+use draws::Family;
+use solving::{Found, solve};
 use std::env;
 use std::marker::Brand;
 use std::process::ExitCode;
 use std::rt::Env;
-use std::sync::ledger::{Blank, Ledger};
+use std::sync::ledger::Blank;
 
 fn main(rt: HostRuntime) -> ExitCode {
     let Some((family, size)) = words(&rt) else {
@@ -31,9 +30,12 @@ fn main(rt: HostRuntime) -> ExitCode {
         pair,
         free,
         least,
+        searches,
+        reached,
+        pivots,
     } = found;
     let written = println!(rt;
-        "{} {size}: {columns} columns, {pair} in the pair, {free} free, {least} in the least minimiser",
+        "{} {size}: {columns} columns, {pair} in the pair, {free} free, {least} in the least minimiser; {searches} searches, {reached} columns reached, {pivots} pivots",
         family.name()
     );
     match written {
@@ -60,38 +62,4 @@ fn words(rt: &(impl Env + AllocGlobal)) -> Option<(Family, usize)>
         }
         _ => None,
     }
-}
-
-struct Found {
-    columns: usize,
-    pair: usize,
-    free: usize,
-    least: usize,
-}
-
-fn solve<L: Ledger>(
-    alloc: Global,
-    family: Family,
-    size: usize,
-    blank: Blank,
-) -> Result<Found, NoMemory>
-    requires size { 1 ≤ size }
-    requires few { size ≤ 4096 }
-    requires name { blank.name ≡ L.name }
-    requires parts { blank.parts ≡ L.parts }
-    requires some { 0 < blank.parts }
-{
-    let mut draws = Draws::new(size as u64);
-    let layered = layered(alloc, &mut draws, family, size)?;
-    let mut engine = Engine::open(alloc, &layered)?;
-    engine.run(&mut Steps::<L>::new(blank));
-    let columns = engine.tableau().columns();
-    Ok(Found {
-        columns,
-        pair: engine.size(),
-        free: (0..columns).filter(|col| engine.free(*col)).count(),
-        least: (0..columns)
-            .filter(|col| engine.least_minimiser(*col))
-            .count(),
-    })
 }

@@ -18,7 +18,7 @@ pub enum Kind {
 }
 
 impl Kind {
-    pub fn named(name: &str) -> Option<Self> {
+    pub(crate) fn named(name: &str) -> Option<Self> {
         match name {
             "chain" => Some(Kind::Chain),
             "ring" => Some(Kind::Ring),

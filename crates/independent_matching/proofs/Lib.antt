@@ -5,3 +5,5 @@ pub mod RunLaws
 pub mod OpenLaws
 pub mod EngineLaws
 pub mod NextLaws
+pub mod GuessLaws
+pub mod StepLaws

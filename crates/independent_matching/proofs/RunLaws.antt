@@ -1,5 +1,6 @@
 -- The loop of searches.
 use Rattle.std.proofs.Common.{◌≡◌, ◌+◌, ◌-◌, ◌*◌, ◌<◌, ◌≤◌, ℕ, Bool, true, false, cond, IsTrue, IsFalse, refl, sym, subst, arith}
+use Rattle.std.proofs.lemmas.Nat.{mul-le}
 use Rattle.residue_theory.specs.Sets.{either, everything}
 use Rattle.residue_theory.specs.Sums.{size_on}
 use Rattle.residue_theory.proofs.CountLaws.{size-either, size-everything}
@@ -32,3 +33,11 @@ run-going n u v base k start before after h s b e = subst (λ w. after + k ≤ s
 -- the last one
 pub run-count : (n s u v start before after : ℕ) → before + (s * n + s * s) ≤ start + u * n + u * u → after ≤ before + n → v ≡ u → AreFewSteps n s v start after
 run-count n s u v start before after h l e = subst (λ w. AreFewSteps n s w start after) (sym e) (omega (arith, h, l))
+
+-- the pivots up to now are as many as the square of a size at most: they can be counted
+pub pivots-bound : (n k : ℕ) → k ≤ n * n → n ≤ 8192 → k ≤ 8192 * 8192
+pivots-bound n k h l = omega (arith, h, mul-le n n 8192 8192 l l)
+
+-- and stay so when the pair grows
+pub pivots-more : (u v k more after : ℕ) → k ≤ u * u → after ≤ k + more → more ≤ u + 1 → v ≡ u + 1 → after ≤ v * v
+pivots-more u v k more after h a m e = subst (λ w. after ≤ w * w) (sym e) (omega (arith, h, a, m))

@@ -1,5 +1,5 @@
 -- A tableau and a matching, and the tableau of the layered matrix that they make.
-use Rattle.std.proofs.Common.{◌≡◌, ◌≢◌, ◌%◌, ◌<◌, ◌∙◌, ℕ, Bool, true, false, List, length, Some, None, slice_index, inl, inr, refl, sym, ap, subst, arith}
+use Rattle.std.proofs.Common.{◌≡◌, ◌<◌, ◌∙◌, ℕ, Bool, true, false, List, length, Some, None, slice_index, inl, inr, refl, sym, ap, subst, arith}
 use Rattle.linear_algebra.specs.Bases.{HasNoBase}
 use Rattle.residue_theory.proofs.SumLaws.{nat_cases}
 use Rattle.sparse_t.specs.Incidences.{height, touches, AreRowsOf}
@@ -9,8 +9,8 @@ use Rattle.mixed_matrices.specs.Arcs.{is_end}
 use Rattle.mixed_augmentation.specs.Moves.{IsFreeRow}
 use Rattle.mixed_augmentation.proofs.Routes.{end-free_row, free_row-end}
 use Rattle.residue_theory.proofs.SetLaws.{not_true}
-use Rattle.row_transform.specs.Tableaus.{State, IsBare}
-use Rattle.independent_matching.specs.Sides.{HasNoMate, layers_of, tableau_of}
+use Rattle.row_transform.specs.Tableaus.{State}
+use Rattle.independent_matching.specs.Sides.{HasNoMate, IsQuiet, layers_of, tableau_of}
 use Rattle.bipartite_matching.proofs.MateLaws.{pair-matched, parted-here, parted-other}
 
 -- a parting makes no pair
@@ -47,7 +47,7 @@ module _ (p : ℕ) (S : State) (M : Matching) (x : ℕ) where
   free-end in_q row E = sym (free_row-end p (layers_of S M) (tableau_of S M) x in_q row E)
 
   pub none-end : M.pattern.width ≡ S.columns → ((row : ℕ) → row < height M.pattern → touches M.pattern row x ≡ true → HasNoMate M row → ⊥) →
-      ((row : ℕ) → row < S.rows → S.p row x % p ≢ 0 → IsBare S row → ⊥) → false ≡ is_end p (layers_of S M) (tableau_of S M) x
+      IsQuiet p S x → false ≡ is_end p (layers_of S M) (tableau_of S M) x
   none-end width t_rows q_rows = sym (not_true (is_end p (layers_of S M) (tableau_of S M) x) (λ h. let (in_q, row, E) = end-free_row p (layers_of S M) (tableau_of S M) x h in refuted in_q row E))
     where
       refuted : (in_q : Bool) (row : ℕ) → IsFreeRow p (layers_of S M) (tableau_of S M) x in_q row → ⊥

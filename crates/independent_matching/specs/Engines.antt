@@ -13,11 +13,12 @@ use Rattle.mixed_matrices.specs.StructuralRanks.{IsLayeredRank}
 use Rattle.mixed_matrices.specs.Tableaus.{Tableau, HasTableau}
 use Rattle.independent_matching.specs.Sides.{layers_of}
 
--- the tableau of Q, the matching in T, and what the last search found
+-- the tableau of Q, the matching in T, what the last search found, and how many pivots there were
 pub record Standing (A : Type 0) : Type 0 where
   pub tableau : A
   pub matching : Matching
   pub found : Found
+  pub pivots : ℕ
 
 -- the layered matrix with the entries q in place of those that the tableau keeps
 abbrev pub layers : (ℕ → ℕ → ℕ) → State → Matching → Layered

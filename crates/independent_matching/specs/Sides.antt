@@ -1,9 +1,9 @@
 -- A tableau of Q and a matching in T, read as a tableau of the layered matrix of Q and T.
-use Rattle.std.specs.Prelude.{ℕ, ◌+◌, ◌<◌, ◌≤◌, ◌≡◌, ◌≢◌, ◌%◌, ◌&&◌, Bool, eqb, not, true, false, List, length, Option, Some, None, cond, is_some, unwrap_or}
+use Rattle.std.specs.Prelude.{ℕ, ◌+◌, ◌*◌, ◌<◌, ◌≤◌, ◌≡◌, ◌≢◌, ◌%◌, ◌&&◌, Bool, eqb, not, true, false, List, length, Option, Some, None, cond, is_some, unwrap_or, slice_index_or}
 use Rattle.linear_algebra.specs.Bases.{HasNoBase}
 use Rattle.sparse_t.specs.Incidences.{height, touches}
 use Rattle.bipartite_matching.specs.Matchings.{Matching, HasPair, mate_at}
-use Rattle.row_transform.specs.Tableaus.{State}
+use Rattle.row_transform.specs.Tableaus.{State, IsBare}
 use Rattle.exchange_graph.specs.Marks.{members_of}
 use Rattle.mixed_matrices.specs.Arcs.{is_end, is_free}
 use Rattle.mixed_matrices.specs.LayeredMatrices.{Layered}
@@ -99,6 +99,23 @@ pub record AreMarks (p : ℕ) (S : State) (M : Matching) (free ends : List Bool)
   pub free_tells : members_of free x ≡ is_free (tableau_of S M) x
   pub end_tells : members_of ends x ≡ is_end p (layers_of S M) (tableau_of S M) x
 
+-- P has no entry in x at a Q row without base column
+abbrev pub IsQuiet : ℕ → State → ℕ → Type 0
+IsQuiet p S x = (row : ℕ) → row < S.rows → S.p row x % p ≢ 0 → IsBare S row → ⊥
+
+-- the Q row that is guessed for x
+abbrev pub guess_at : List (Option ℕ) → ℕ → Option ℕ
+guess_at guesses x = slice_index_or guesses x None
+
+-- each column for which no row is guessed is quiet
+pub record AreGuesses (p : ℕ) (S : State) (guesses : List (Option ℕ)) : Type 0 where
+  pub count : length guesses ≡ S.columns
+  pub quiet : (x : ℕ) → x < S.columns → guess_at guesses x ≡ None → IsQuiet p S x
+
+-- P has no entry in the row in a column for which no row is guessed
+abbrev pub AreUntouched : ℕ → State → List (Option ℕ) → ℕ → Type 0
+AreUntouched p S guesses row = (x : ℕ) → x < S.columns → guess_at guesses x ≡ None → S.p row x % p ≡ 0
+
 -- a matching, a search and marks over the columns of the tableau
 pub record IsSized (S : State) (M : Matching) (places : ℕ) (free ends : List Bool) : Type 0 where
   pub width : M.pattern.width ≡ S.columns
@@ -106,9 +123,11 @@ pub record IsSized (S : State) (M : Matching) (places : ℕ) (free ends : List B
   pub free_count : length free ≡ S.columns
   pub end_count : length ends ≡ S.columns
 
--- the base and the matched columns are a pair of that size, and the marks are right
-pub record IsReady (p : ℕ) (S : State) (M : Matching) (places : ℕ) (free ends : List Bool) (size : ℕ) : Type 0 where
+-- the base and the matched columns are a pair of that size, the marks are right, and there were few pivots
+pub record IsReady (p : ℕ) (S : State) (M : Matching) (places : ℕ) (free ends : List Bool) (guesses : List (Option ℕ)) (size pivots : ℕ) : Type 0 where
   pub pair : HasTableau p (layers_of S M) (tableau_of S M)
   pub sized : IsSized S M places free ends
   pub marks : (x : ℕ) → x < S.columns → AreMarks p S M free ends x
+  pub guessed : AreGuesses p S guesses
   pub count : size ≡ size_of S M
+  pub few : pivots ≤ size * size

@@ -40,9 +40,9 @@ impl<F: Field, T: Tableau<F>> Model for Engine<F, T> {
 
     ghost Value = { Standing T };
 
-    ghost view = { λ e. record { tableau = e.improver.pair.tableau; matching = e.improver.pair.mates; found = e.improver.search } };
+    ghost view = { λ e. record { tableau = e.improver.pair.tableau; matching = e.improver.pair.mates; found = e.improver.search; pivots = e.improver.pivots } };
 
-    ghost invariant = { λ e. IsReady F.modulus (T.state e.improver.pair.tableau) e.improver.pair.mates e.improver.search.places e.improver.free.items e.improver.ends.items e.improver.size };
+    ghost invariant = { λ e. IsReady F.modulus (T.state e.improver.pair.tableau) e.improver.pair.mates e.improver.search.places e.improver.free.items e.improver.ends.items e.improver.guesses.items e.improver.size e.improver.pivots };
 }
 
 impl Engine<Res, DenseTableau<Res>> {
@@ -64,7 +64,8 @@ impl Engine<Res, DenseTableau<Res>> {
 impl<F: Field, T: Tableau<F>> Engine<F, T> {
     /// Searches once for a shortest walk from a free column to an end. Where there is one, the pair grows by a column
     /// along it, from its end backwards; else the pair is best and stays. A step is a look at a column in the search,
-    /// at most one for each column, or a pivot, at most as many as there were base columns and one.
+    /// at most one for each column and none where a free column is an end, or a pivot, at most as many as there were base
+    /// columns and one.
     pub fn improve<L: Ledger, M: Ledger>(
         &mut self,
         searches: &mut Steps<M>,
@@ -77,6 +78,7 @@ impl<F: Field, T: Tableau<F>> Engine<F, T> {
         ensures solved { IsFalse result → (q : ℕ → ℕ → ℕ) → AreEntries F.modulus (T.state self.new.tableau) q → IsSolved F.modulus (layers q (T.state self.new.tableau) self.new.matching) (tableau_of (T.state self.new.tableau) self.new.matching) (reached_of self.new.found) }
         ensures kept { IsFalse result → (self.new.tableau ≡ self.old.tableau) × (self.new.matching ≡ self.old.matching) }
         ensures looks { IsFalse result → steps.new ≤ steps.old + (T.state self.old.tableau).columns }
+        ensures counted { steps.new + self.old.pivots ≤ steps.old + self.new.pivots + (T.state self.old.tableau).columns }
         ensures searches { searches.new ≡ searches.old + 1 }
     {
         self.improver.improve(searches, steps)
@@ -129,6 +131,15 @@ impl<F: Field, T: Tableau<F>> Engine<F, T> {
         ensures pair { (q : ℕ → ℕ → ℕ) → AreEntries F.modulus (T.state self.now.tableau) q → HasTableau F.modulus (layers q (T.state self.now.tableau) self.now.matching) (tableau_of (T.state self.now.tableau) self.now.matching) }
     {
         self.improver.size
+    }
+
+    /// How many pivots there have been. With at most so many looks as there are columns for each search, these are all
+    /// steps.
+    pub fn pivots(&self) -> usize
+        ensures pivots { result ≡ self.now.pivots }
+        ensures few { result ≤ size_of (T.state self.now.tableau) self.now.matching * size_of (T.state self.now.tableau) self.now.matching }
+    {
+        self.improver.pivots
     }
 
     /// Whether the column is one of the pair's independent columns of Q.

@@ -5,7 +5,7 @@ ghost use Rattle.row_transform.specs.Tableaus.{IsBare};
 ghost use Rattle.exchange_graph.specs.Ranges.{HasNone, IsLeast};
 ghost use Rattle.mixed_matrices.specs.Arcs.{is_end, is_free, leads_to};
 ghost use Rattle.mixed_augmentation.specs.Moves.{IsFreeRow, IsUnlinked};
-ghost use Rattle.independent_matching.specs.Sides.{HasNoMate, IsNearer, q_arc, t_arc, is_matched, mate_of, layers_of, tableau_of, in_q, number, row_had, CanTake, Takes};
+ghost use Rattle.independent_matching.specs.Sides.{HasNoMate, IsNearer, IsQuiet, q_arc, t_arc, is_matched, mate_of, layers_of, tableau_of, in_q, number, row_had, CanTake, Takes};
 
 use crate::row::Row;
 use bipartite_matching::Match;
@@ -42,7 +42,7 @@ impl<F: Field, T: Tableau<F>> Arcs for Pair<F, T> {
 
 impl<F: Field, T: Tableau<F>> Pair<F, T> {
     // Whether P has an entry there that is not zero.
-    fn has_entry(&self, row: usize, x: usize) -> bool
+    pub fn has_entry(&self, row: usize, x: usize) -> bool
         requires row { row < (T.state self.now.tableau).rows }
         requires x { x < (T.state self.now.tableau).columns }
         ensures { result ≡ not (eqb ((T.state self.now.tableau).p row x % F.modulus) 0) }
@@ -203,14 +203,17 @@ impl<F: Field, T: Tableau<F>> Pair<F, T> {
         row < self.tableau.rows() && self.tableau.base_of(row).is_none() && self.has_entry(row, x)
     }
 
-    // A Q row without base column where P has an entry in x; `guess` is tried first, and need not be right.
-    fn free_q_row(&self, x: usize, guess: usize) -> Option<usize>
-        requires { x < (T.state self.now.tableau).columns }
+    // A Q row without base column where P has an entry in x; none where no row is guessed. The guess is tried first, and
+    // need not be right.
+    fn free_q_row(&self, x: usize, guess: Option<usize>) -> Option<usize>
+        requires x { x < (T.state self.now.tableau).columns }
+        requires quiet { IfNone guess (IsQuiet F.modulus (T.state self.now.tableau) x) }
         ensures some { IfSome result (λ row. row < (T.state self.now.tableau).rows) }
         ensures entry { IfSome result (λ row. (T.state self.now.tableau).p row x % F.modulus ≢ 0) }
         ensures bare { IfSome result (IsBare (T.state self.now.tableau)) }
-        ensures none { IfNone result ((row : ℕ) → row < (T.state self.now.tableau).rows → (T.state self.now.tableau).p row x % F.modulus ≢ 0 → IsBare (T.state self.now.tableau) row → ⊥) }
+        ensures none { IfNone result (IsQuiet F.modulus (T.state self.now.tableau) x) }
     {
+        let guess = guess?;
         let rows = self.tableau.rows();
         // a base column is 0 at all rows but its own
         if self.tableau.row_of(x).is_some() {
@@ -227,13 +230,15 @@ impl<F: Field, T: Tableau<F>> Pair<F, T> {
         None
     }
 
-    // A row that x may take and that no column has; one of T comes first, since it needs no pivot.
-    // `guess` is a Q row that is tried first.
-    pub fn free_row(&self, x: usize, guess: usize) -> Option<Row>
+    // A row that x may take and that no column has; one of T comes first, since it needs no pivot. The guess is a Q row
+    // that is tried first, or none where no Q row will do.
+    pub fn free_row(&self, x: usize, guess: Option<usize>) -> Option<Row>
         requires width { self.now.mates.pattern.width ≡ (T.state self.now.tableau).columns }
         requires x { x < (T.state self.now.tableau).columns }
+        requires quiet { IfNone guess (IsQuiet F.modulus (T.state self.now.tableau) x) }
         ensures free { IfSome result (λ row. IsFreeRow F.modulus (layers_of (T.state self.now.tableau) self.now.mates) (tableau_of (T.state self.now.tableau) self.now.mates) x (in_q row) (number row)) }
         ensures end { is_some result ≡ is_end F.modulus (layers_of (T.state self.now.tableau) self.now.mates) (tableau_of (T.state self.now.tableau) self.now.mates) x }
+        ensures quiet { IfNone result (IsQuiet F.modulus (T.state self.now.tableau) x) }
     {
         match self.free_t_row(x) {
             Some(row) => Some(Row::T(row)),

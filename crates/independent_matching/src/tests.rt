@@ -164,3 +164,30 @@ fn walks_where_a_greedy_pair_stops(rt: HostRuntime) -> Result<(), Fail> {
     let q = constants(rt.alloc(), 3, &[])?;
     assert_solved(&rt, rt.alloc(), q, t, 3, "ttt")
 }
+
+fn assert_pivots(
+    rt: &impl Abort,
+    alloc: Global,
+    q: Mat<Res>,
+    t: Pattern,
+    pivots: usize,
+) -> Result<(), Fail>
+    requires { t.width ≡ q.width }
+{
+    let engine = solved::<Brand>(alloc, q, t, Blank::new(1))?;
+    assert_eq!(rt; engine.pivots(), pivots);
+    Ok(())
+}
+
+// A column that takes a Q row takes a pivot, and one that takes a T row takes none.
+#[test]
+fn counts_pivots(rt: HostRuntime) -> Result<(), Fail> {
+    let t = Pattern::empty(rt.alloc(), 2)?;
+    let q = constants(rt.alloc(), 2, &[&[1, 1], &[1, 2]])?;
+    assert_pivots(&rt, rt.alloc(), q, t, 2)?;
+    let mut t = Pattern::empty(rt.alloc(), 2)?;
+    t.push_row(&[0, 1])?;
+    t.push_row(&[0])?;
+    let q = constants(rt.alloc(), 2, &[])?;
+    assert_pivots(&rt, rt.alloc(), q, t, 0)
+}

@@ -1,8 +1,10 @@
-use Rattle.std.proofs.Common.{◌≡◌, ◌+◌, ◌-◌, ◌<◌, ◌∙◌, ap, sym, subst, refl, arith}
+use Rattle.std.proofs.Common.{◌≡◌, ◌+◌, ◌-◌, ◌<◌, ◌≤◌, ◌∙◌, ap, sym, subst, refl, arith}
+use Rattle.residue_theory.specs.Sums.{size_on}
 use Rattle.exchange_graph.specs.Results.{step_of}
 use Rattle.mixed_augmentation.specs.Moves.{route}
-use Rattle.independent_matching.specs.Sides.{CanTake, IsMoving, Takes, in_q, layers_of, number, row_had, tableau_of}
+use Rattle.independent_matching.specs.Sides.{CanTake, IsMoving, Takes, in_q, layers_of, number, row_had, size_of, tableau_of}
 use Rattle.independent_matching.proofs.MoveLaws.{can-take, moving-count, moving-next, moving-none, moving-pivots, moving-positive, moving-size, moving-start, moving-tableau}
+use Rattle.independent_matching.proofs.RunLaws.{base-bound, pivots-bound, pivots-more, size-bound}
 use Rattle.independent_matching.proofs.improver.Improver.augment.Goals as goal
 
 pub loop-next-init : goal.loop-next-init
@@ -12,7 +14,9 @@ loop-next-init g c =
     let at = step_of c.args.self.now.search in
     record {
       moving = moving-start g.F.Field.modulus S M c.requires.pair at c.args.last c.args.end c.requires.route;
+      guesses = c.requires.guesses;
       count = refl;
+      pivots = refl;
       search = refl;
       free = refl;
       ends = refl;
@@ -42,8 +46,8 @@ loop-next-preserved g c =
     let M₀ = c.args.self.now.pair.mates in
     let S = g.T.Tableau.state c.loop-next.self.pair.tableau in
     let M = c.loop-next.self.pair.mates in
-    let S' = g.T.Tableau.state c.take.new.self.tableau in
-    let M' = c.take.new.self.mates in
+    let S' = g.T.Tableau.state c.take.new.self.pair.tableau in
+    let M' = c.take.new.self.pair.mates in
     let at = step_of c.args.self.now.search in
     let i = c.loop-next.left - 1 in
     let I = c.loop-next.invariant in
@@ -54,11 +58,13 @@ loop-next-preserved g c =
       moving = subst (λ next. IsMoving p S₀ M₀ (route (tableau_of S₀ M₀) at c.args.last (in_q c.args.end) (number c.args.end)) S' M' next i) (sym (c.row_of-next.ensures ∙ ap (row_had (tableau_of S M)) x_is))
           (moving-next p S₀ M₀ c.requires.pair at c.args.last c.args.end c.requires.route S M c.loop-next.next c.in-Some.row c.loop-next.left I.moving c.in-Some.is i here S' M' c.take.ensures.layers c.take.ensures.pattern
           (subst (λ x. Takes p (layers_of S M) (tableau_of S M) (tableau_of S' M') c.in-Some.row x) x_is c.take.ensures.takes));
+      guesses = c.take.ensures.guesses;
       count = omega (arith, c.take.ensures.steps, I.count, moving-count p S₀ M₀ c.requires.pair at c.args.last c.args.end c.requires.route S M c.loop-next.next c.in-Some.row c.loop-next.left I.moving c.in-Some.is i here);
-      search = I.search;
-      free = I.free;
-      ends = I.ends;
-      size = I.size;
+      pivots = omega (arith, c.take.ensures.steps, c.take.ensures.pivots, I.pivots);
+      search = c.take.ensures.search ∙ I.search;
+      free = c.take.ensures.free ∙ I.free;
+      ends = c.take.ensures.ends ∙ I.ends;
+      size = c.take.ensures.count ∙ I.size;
     }
 
 pub returns-clause-pair : goal.returns-clause-pair
@@ -87,3 +93,33 @@ returns-clause-steps g c =
       moving-pivots p S₀ M₀ c.requires.pair at c.args.last c.args.end c.requires.route,
       moving-none p S₀ M₀ c.requires.pair at c.args.last c.args.end c.requires.route (g.T.Tableau.state c.loop-next.self.pair.tableau) c.loop-next.self.pair.mates c.loop-next.next c.loop-next.left c.loop-next.invariant.moving c.in_default.is,
     )
+
+pub take-requires-clause-few : goal.take-requires-clause-few
+take-requires-clause-few g c =
+    let p = g.F.Field.modulus in
+    let S₀ = g.T.Tableau.state c.args.self.now.pair.tableau in
+    let M₀ = c.args.self.now.pair.mates in
+    let at = step_of c.args.self.now.search in
+    let small : size_of S₀ M₀ ≤ 8192 = omega (arith, size-bound p S₀ M₀ c.requires.pair, c.columns-columns.ensures.narrow, c.columns-columns.ensures.columns) in
+    omega (
+      arith,
+      small,
+      c.loop-next.invariant.count,
+      c.loop-next.invariant.pivots,
+      pivots-bound (size_of S₀ M₀) c.args.self.now.pivots c.requires.few small,
+      moving-pivots p S₀ M₀ c.requires.pair at c.args.last c.args.end c.requires.route,
+      base-bound S₀ M₀,
+    )
+
+pub returns-clause-few : goal.returns-clause-few
+returns-clause-few g c =
+    let p = g.F.Field.modulus in
+    let S₀ = g.T.Tableau.state c.args.self.now.pair.tableau in
+    let M₀ = c.args.self.now.pair.mates in
+    let S = g.T.Tableau.state c.loop-next.self.pair.tableau in
+    let M = c.loop-next.self.pair.mates in
+    let at = step_of c.args.self.now.search in
+    pivots-more (size_of S₀ M₀) (size_of S M) c.args.self.now.pivots (size_on S₀.base S₀.columns + 1) c.loop-next.self.pivots c.requires.few
+    (omega (arith, c.loop-next.invariant.count, c.loop-next.invariant.pivots, moving-pivots p S₀ M₀ c.requires.pair at c.args.last c.args.end c.requires.route))
+    (omega (arith, base-bound S₀ M₀))
+    (moving-size p S₀ M₀ c.requires.pair at c.args.last c.args.end c.requires.route S M c.loop-next.next c.loop-next.left c.loop-next.invariant.moving c.in_default.is)

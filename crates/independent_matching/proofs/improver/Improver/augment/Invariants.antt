@@ -2,7 +2,7 @@ use Rattle.std.proofs.Common.{◌≡◌, ◌+◌}
 use Rattle.residue_theory.specs.Sums.{size_on}
 use Rattle.exchange_graph.specs.Results.{step_of}
 use Rattle.mixed_augmentation.specs.Moves.{route}
-use Rattle.independent_matching.specs.Sides.{IsMoving, in_q, number, tableau_of}
+use Rattle.independent_matching.specs.Sides.{AreGuesses, IsMoving, in_q, number, tableau_of}
 use Rattle.independent_matching.proofs.improver.Improver.augment.Given as goal
 
 abbrev pub invariant-loop-next : goal.invariant-loop-next
@@ -12,7 +12,9 @@ invariant-loop-next g l =
     let R = route (tableau_of S M) (step_of l.fn.self.search) l.last (in_q l.fn.end) (number l.fn.end) in
     record {
       moving : IsMoving g.F.Field.modulus S M R (g.T.Tableau.state l.self.pair.tableau) l.self.pair.mates l.next l.left;
+      guesses : AreGuesses g.F.Field.modulus (g.T.Tableau.state l.self.pair.tableau) l.self.guesses.items;
       count : l.steps + size_on R.in_q l.left ≡ l.fn.steps + size_on R.in_q (l.last + 1);
+      pivots : l.steps + l.fn.self.pivots ≡ l.fn.steps + l.self.pivots;
       search : l.self.search ≡ l.fn.self.search;
       free : l.self.free ≡ l.fn.self.free;
       ends : l.self.ends ≡ l.fn.self.ends;

@@ -13,7 +13,7 @@ invariant-loop-grown g l =
     let S = g.T.Tableau.state l.self.pair.tableau in
     let M = l.self.pair.mates in
     record {
-      ready : IsReady p S M l.self.search.places l.self.free.items l.self.ends.items l.self.size;
+      ready : IsReady p S M l.self.search.places l.self.free.items l.self.ends.items l.self.guesses.items l.self.size l.self.pivots;
       layers : layers_of S M ≡ layers_of S₀ M₀;
       going : IsTrue l.grown → l.steps + (size_of S₀ M₀ * S₀.columns + size_of S₀ M₀ * size_of S₀ M₀) ≤ l.fn.steps + size_of S M * S₀.columns + size_of S M * size_of S M;
       no_walk : IsFalse l.grown → HasNoWalk p (layers_of S M) (tableau_of S M);

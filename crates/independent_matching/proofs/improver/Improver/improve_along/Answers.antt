@@ -7,7 +7,7 @@ use Rattle.search_laws.specs.Searches.{IsShortest}
 use Rattle.independent_matching.specs.Sides.{in_q, layers_of, number, tableau_of}
 use Rattle.independent_matching.proofs.RunLaws.{size-bound}
 use Rattle.independent_matching.proofs.SearchLaws.{search-route, some-read}
-use Rattle.independent_matching.proofs.improver.Improver.improve.Goals as goal
+use Rattle.independent_matching.proofs.improver.Improver.improve_along.Goals as goal
 
 pub augment-requires-clause-route : goal.augment-requires-clause-route
 augment-requires-clause-route g c =
