@@ -1,7 +1,8 @@
 -- What a run answers.
 use Rattle.std.specs.Prelude.{◌≡◌, ℕ, ◌≤◌, ◌<◌, ◌⊎◌, List, [], length, Option, Some}
 use Rattle.port_io.specs.Bytes.{Took, Appended, Ended}
-use Rattle.report_cli.specs.Certificates.{Contents, certificate_text}
+use Rattle.cert_text.specs.Texts.{certificate_text}
+use Rattle.cert_text.specs.declared.certificate.Certificate.{Certificate}
 use Rattle.report_cli.specs.RightFor.{IsRightFor, IsRefused}
 use Rattle.report_cli.specs.Words.{AskForAnalysis}
 use Rattle.report_cli.specs.Writing.{PartWritten}
@@ -14,7 +15,7 @@ model_limit = 8388608
 
 -- the text of a certificate that is right for the input
 pub record IsCertified (input text : List ℕ) : Type 0 where
-  pub certificate : Contents
+  pub certificate : Certificate
   pub right : IsRightFor input certificate
   pub text_is : text ≡ certificate_text certificate
 

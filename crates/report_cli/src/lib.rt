@@ -2,17 +2,9 @@
 #![tactic(auto)]
 
 mod analysis;
-mod certificate;
 mod digits;
-mod first;
-mod lines;
 mod numbers;
-mod pairs;
-mod parts;
-mod rows;
 mod running;
-mod shape;
-mod solution;
 mod status;
 mod telling;
 #[cfg(test)]

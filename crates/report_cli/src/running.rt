@@ -5,16 +5,17 @@ ghost use Rattle.std.specs.String.{string_bytes};
 ghost use Rattle.port_io.specs.Causes.{Rose};
 ghost use Rattle.port_io.specs.Bytes.{Appended, TookAtMost};
 ghost use Rattle.report_cli.specs.Answer.{Answered, CutShort, OnlyAnswer, Tells, WritesNothing, TakesAnyText, IsDelivered};
-ghost use Rattle.report_cli.specs.Certificates.{certificate_text};
+ghost use Rattle.cert_text.specs.Texts.{certificate_text};
 ghost use Rattle.report_cli.specs.Writing.{PartWritten};
 ghost use Rattle.report_cli.specs.Notes.{Noted, note_of};
 
-use crate::analysis::{Analysis, analyse};
-use crate::certificate::Certificate;
+use crate::analysis::analyse;
 use crate::status::Status;
 use crate::telling::tell;
 use crate::words::ask_for_analysis;
+use cert_text::Certificate;
 use port_io::{ReadError, Sink, Source, read_all};
+use refusals::ReadModel;
 use std::alloc::Global;
 
 /// The most bytes of a model's text.
@@ -82,19 +83,20 @@ fn work<S: Source, K: Sink>(alloc: Global, words: &[String], source: &mut S, out
         Err(ReadError::NoMemory) => return Status::Memory,
     };
     match analyse(alloc, input) {
-        Ok(Analysis::Certified(certificate)) => deliver(out, &certificate),
-        Ok(Analysis::Refused(refused)) => Status::Refused(refused),
-        Err(_) => Status::Memory,
+        Ok(certificate) => deliver(out, &certificate),
+        Err(ReadModel::Refused(refused)) => Status::Refused(refused),
+        Err(ReadModel::NoMemory) => Status::Memory,
     }
 }
 
 /// Writes the whole text of a certificate, and flushes it.
 fn deliver<K: Sink>(out: &mut K, certificate: &Certificate) -> Status
+    requires { length certificate.now.echo ≤ 8388608 }
     ensures ends { IsDelivered result (Appended (K.written out.old) (K.written out.new) (certificate_text certificate.now) × IsTrue (K.flushed out.new)) (Rose (K.faults out.old) (K.faults out.new) × PartWritten (K.written out.old) (K.written out.new) (certificate_text certificate.now)) }
     ensures counts { K.faults out.old ≤ K.faults out.new }
     ensures calm { K.takes out.old (length (certificate_text certificate.now)) → K.faults out.new ≡ K.faults out.old }
 {
-    match certificate.write(out) {
+    match cert_text::write(certificate, out) {
         Err(_) => Status::WriteFault,
         Ok(()) => match out.flush() {
             Ok(()) => Status::Done,
