@@ -2,5 +2,8 @@ pub mod Numbers
 pub mod Words
 pub mod Writing
 pub mod Notes
-pub mod Answer
 pub mod RightFor
+pub mod LayerTexts
+pub mod Columns
+pub mod Reports
+pub mod Answer

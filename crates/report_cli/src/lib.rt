@@ -1,15 +1,16 @@
 //! The top call: a run of the program over any source and sinks.
 #![tactic(auto)]
 
-mod analysis;
+mod command;
 mod digits;
+mod layer_lines;
 mod numbers;
+mod report;
 mod running;
 mod status;
 mod telling;
 #[cfg(test)]
 mod tests;
-mod words;
 
 pub use running::run;
 pub use status::Status;

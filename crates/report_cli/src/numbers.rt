@@ -1,7 +1,7 @@
-//! Pieces and numbers, put into a buffer and a sink.
+//! Pieces, numbers and items, put into a buffer and a sink.
 
 ghost use Rattle.std.specs.Prelude.{◌≡◌, ℕ, ◌+◌, ◌∷◌};
-ghost use Rattle.cert_text.specs.Texts.{marked};
+ghost use Rattle.cert_text.specs.Texts.{item, marked};
 ghost use Rattle.cert_text.specs.Writing.{IsPut};
 
 use crate::digits::{LONGEST, put_digits};
@@ -30,4 +30,17 @@ pub fn put_number<K: Sink>(
     let mut place = [0u8; LONGEST];
     let start = put_digits(mark, number, &mut place);
     buffer.put(out, &place[start..])
+}
+
+/// Puts the item `key=value` behind a space.
+pub fn put_item<K: Sink>(
+    buffer: &mut PieceBuffer,
+    out: &mut K,
+    key: usize,
+    value: u64,
+) -> Result<(), WriteFault>
+    ensures { IsPut (K.written out.old) buffer.old (K.faults out.old) (K.takes out.old) (K.written out.new) buffer.new (K.faults out.new) (K.takes out.new) (item key value) result }
+{
+    put_number(buffer, out, b' ', key as u64)?;
+    put_number(buffer, out, b'=', value)
 }

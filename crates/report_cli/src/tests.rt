@@ -107,6 +107,14 @@ fn certified_holding<'a>(input: &'a [u8], holds: &'a [u8], ends: &'a [u8]) -> Ca
     }
 }
 
+/// A case of `layer` that is answered by a text with this beginning and this end.
+fn layered<'a>(input: &'a [u8], begins: &'a [u8], ends: &'a [u8]) -> Case<'a> {
+    Case {
+        words: ["mixed", "layer", "matrix"],
+        ..calm(input, 0, begins, ends, b"")
+    }
+}
+
 /// A case that is refused with this note.
 fn refused<'a>(input: &'a [u8], notes: &'a [u8]) -> Case<'a> {
     calm(input, 3, b"", b"", notes)
@@ -247,6 +255,43 @@ fn spellings_at_the_edges(rt: HostRuntime) -> Result<(), Fail> {
     Ok(())
 }
 
+#[test]
+fn layers_of_lists(rt: HostRuntime) -> Result<(), Fail> {
+    let split = b"columns 2\nc1 x\nc2 *a\nq1 a 1=1 2=1\nt1 a 1 2\n";
+    let columns = b"columns 1\nc1 x\n";
+    let one = b"\nq1 a 1=1\n";
+    let zero = b"\nq1 a\n";
+    let cases = [
+        layered(b"eq a x=1+?\n", split, split),
+        layered(b"eq a x=65522\n", columns, one),
+        layered(b"eq a x=0\n", columns, zero),
+        layered(b"eq a x=0/5\n", columns, zero),
+        layered(b"eq a x=-1\n", columns, b"\nq1 a 1=65520\n"),
+        layered(b"eq a x=1/3\n", columns, b"\nq1 a 1=43681\n"),
+        layered(b"eq a x=0.5\n", columns, b"\nq1 a 1=32761\n"),
+    ];
+    for case in cases {
+        expect_case(&rt, rt.alloc(), &case)?;
+    }
+    Ok(())
+}
+
+#[test]
+fn layers_of_lists_that_break_a_rule(rt: HostRuntime) -> Result<(), Fail> {
+    for case in [
+        refused(b"eq a x=1 x=2\n", b"mixed: line 1: twice\n"),
+        refused(b"eq a\neq a\n", b"mixed: line 2: twice\n"),
+        refused(b"eq a x=1/0\n", b"mixed: line 1: vanishes in the field\n"),
+    ] {
+        let case = Case {
+            words: ["mixed", "layer", "matrix"],
+            ..case
+        };
+        expect_case(&rt, rt.alloc(), &case)?;
+    }
+    Ok(())
+}
+
 /// A balance of two streams, and a spring between two masses.
 const EXAMPLES: [&[u8]; 2] = [
     b"# two streams join\nunknown feed\r\neq mass feed=1 back=1 out=-1\neq split back=1 out=-0.25\n",
@@ -256,15 +301,28 @@ const EXAMPLES: [&[u8]; 2] = [
 #[test]
 fn each_beginning_is_answered(rt: HostRuntime) -> Result<(), Fail> {
     let alloc = rt.alloc();
-    let words = words_of(alloc, &["mixed", "analyse", "matrix"])?;
-    for text in EXAMPLES {
-        for end in 0..=text.len() {
-            let mut source = MemSource::new(alloc, &text[..end], ROOM, &[])?;
-            let mut out = MemSink::new(alloc, ROOM, ROOM, &[])?;
-            let mut notes = MemSink::new(alloc, ROOM, ROOM, &[])?;
-            let status = run(alloc, &words, &mut source, &mut out, &mut notes);
-            assert!(rt; matches!(status, Status::Done | Status::Refused(_)));
+    for command in ["analyse", "layer"] {
+        let words = words_of(alloc, &["mixed", command, "matrix"])?;
+        for text in EXAMPLES {
+            expect_beginnings(&rt, alloc, &words, text)?;
         }
+    }
+    Ok(())
+}
+
+/// Runs each beginning of a text, which is answered by a text or by a refusal.
+fn expect_beginnings(
+    rt: &impl Abort,
+    alloc: Global,
+    words: &[String],
+    text: &[u8],
+) -> Result<(), Fail> {
+    for end in 0..=text.len() {
+        let mut source = MemSource::new(alloc, &text[..end], ROOM, &[])?;
+        let mut out = MemSink::new(alloc, ROOM, ROOM, &[])?;
+        let mut notes = MemSink::new(alloc, ROOM, ROOM, &[])?;
+        let status = run(alloc, words, &mut source, &mut out, &mut notes);
+        assert!(rt; matches!(status, Status::Done | Status::Refused(_)));
     }
     Ok(())
 }
@@ -274,7 +332,8 @@ fn other_words(rt: HostRuntime) -> Result<(), Fail> {
     for words in [
         ["mixed", "analyse", "netlist"],
         ["mixed", "analyse", "picture"],
-        ["mixed", "layer", "matrix"],
+        ["mixed", "layer", "netlist"],
+        ["mixed", "order", "matrix"],
     ] {
         let case = Case {
             words,
@@ -298,6 +357,17 @@ fn streams_that_fail(rt: HostRuntime) -> Result<(), Fail> {
                 b"mixed-certificat",
                 b"mixed-certificat",
                 b"mixed: write fault\n",
+            )
+        },
+        Case {
+            most: 16,
+            out_fails: &[2],
+            status: 5,
+            notes: b"mixed: write fault\n",
+            ..layered(
+                b"eq a x=1+?\n",
+                b"columns 2\nc1 x\nc",
+                b"columns 2\nc1 x\nc",
             )
         },
         Case {
