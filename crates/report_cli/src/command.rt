@@ -30,12 +30,12 @@ impl Command {
         ensures { MatchOption result (IsNoName (string_bytes word.now)) (λ command. string_bytes word.now ≡ name_of command) }
     {
         if is_word(word, "analyse") {
-            return Some(Command::Analyse);
+            Some(Command::Analyse)
+        } else if is_word(word, "layer") {
+            Some(Command::Layer)
+        } else {
+            None
         }
-        if is_word(word, "layer") {
-            return Some(Command::Layer);
-        }
-        None
     }
 }
 

@@ -30,4 +30,4 @@ loop-column-preserved g c =
 pub returns : goal.returns
 returns g c =
     let origins = c.args.layered.now.column_origins in
-    loop_ends (columns_end c.args.model.now (c.loop-column.column + 1) origins c.loop-column.column (omega (arith, c.cols-column-end.ensures.cols, c.layered.invariant.column_origins, ap (λ (l : Layers). length l.column_origins) c.layered.view_is))) c.loop-column.invariant
+    loop_ends {text = column_lines c.args.model.now 1 c.args.layered.now.column_origins} (columns_end c.args.model.now (c.loop-column.column + 1) origins c.loop-column.column (omega (arith, c.cols-column-end.ensures.cols, c.layered.invariant.column_origins, ap (λ (l : Layers). length l.column_origins) c.layered.view_is))) c.loop-column.invariant

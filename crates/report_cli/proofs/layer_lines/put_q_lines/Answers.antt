@@ -13,7 +13,7 @@ pub returns-in_err-put_q_line : goal.returns-in_err-put_q_line
 returns-in_err-put_q_line g c =
     let rows = c.args.layered.now.q.rows in
     let within : c.loop-row.row < length rows = omega (arith, c.rows-row-end.ensures.rows ∙ ap (λ (l : Layers). height l.q) c.layered.view_is) in
-    put_failed c.from_residual.ensures.1
+    put_failed {x = row_lines q_line c.args.model.now.equations c.args.layered.now.q_origins 0 c.args.layered.now.q.rows} c.from_residual.ensures.1
     (loop_breaks (row_lines q_line c.args.model.now.equations c.args.layered.now.q_origins (c.loop-row.row + 1) (drop (c.loop-row.row + 1) rows)) (rows_left q_line c.args.model.now.equations c.args.layered.now.q_origins rows c.loop-row.row within) c.loop-row.invariant c.in_err-put_q_line.ensures)
 
 pub loop-row-preserved : goal.loop-row-preserved
@@ -25,4 +25,4 @@ loop-row-preserved g c =
 pub returns : goal.returns
 returns g c =
     let rows = c.args.layered.now.q.rows in
-    loop_ends (rows_end q_line c.args.model.now.equations c.args.layered.now.q_origins rows c.loop-row.row (omega (arith, c.rows-row-end.ensures.rows ∙ ap (λ (l : Layers). height l.q) c.layered.view_is))) c.loop-row.invariant
+    loop_ends {text = row_lines q_line c.args.model.now.equations c.args.layered.now.q_origins 0 c.args.layered.now.q.rows} (rows_end q_line c.args.model.now.equations c.args.layered.now.q_origins rows c.loop-row.row (omega (arith, c.rows-row-end.ensures.rows ∙ ap (λ (l : Layers). height l.q) c.layered.view_is))) c.loop-row.invariant

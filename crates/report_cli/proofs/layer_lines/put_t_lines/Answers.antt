@@ -13,7 +13,7 @@ pub returns-in_err-put_t_line : goal.returns-in_err-put_t_line
 returns-in_err-put_t_line g c =
     let rows = c.args.layered.now.t.rows in
     let within : c.loop-row.row < length rows = omega (arith, c.rows-row-end.ensures.rows ∙ ap (λ (l : Layers). height l.t) c.layered.view_is) in
-    put_failed c.from_residual.ensures.1
+    put_failed {x = row_lines t_line c.args.model.now.equations c.args.layered.now.t_origins 0 c.args.layered.now.t.rows} c.from_residual.ensures.1
     (loop_breaks (row_lines t_line c.args.model.now.equations c.args.layered.now.t_origins (c.loop-row.row + 1) (drop (c.loop-row.row + 1) rows)) (rows_left t_line c.args.model.now.equations c.args.layered.now.t_origins rows c.loop-row.row within) c.loop-row.invariant c.in_err-put_t_line.ensures)
 
 pub loop-row-preserved : goal.loop-row-preserved
@@ -25,4 +25,4 @@ loop-row-preserved g c =
 pub returns : goal.returns
 returns g c =
     let rows = c.args.layered.now.t.rows in
-    loop_ends (rows_end t_line c.args.model.now.equations c.args.layered.now.t_origins rows c.loop-row.row (omega (arith, c.rows-row-end.ensures.rows ∙ ap (λ (l : Layers). height l.t) c.layered.view_is))) c.loop-row.invariant
+    loop_ends {text = row_lines t_line c.args.model.now.equations c.args.layered.now.t_origins 0 c.args.layered.now.t.rows} (rows_end t_line c.args.model.now.equations c.args.layered.now.t_origins rows c.loop-row.row (omega (arith, c.rows-row-end.ensures.rows ∙ ap (λ (l : Layers). height l.t) c.layered.view_is))) c.loop-row.invariant
