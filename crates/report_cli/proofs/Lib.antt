@@ -1,11 +1,7 @@
-pub mod DigitSteps
-pub mod Pieces
-pub mod Puts
 pub mod Noting
-pub mod Written
 pub mod Refusals
 pub mod Runs
-pub mod PairLists
-pub mod MemberLists
-pub mod RightLaws
-pub mod Solved
+pub mod Certified
+pub mod LayerPieces
+pub mod LayerFacts
+pub mod Reported

@@ -7,10 +7,11 @@ use Rattle.mixed_model.specs.Models.{MixedModel}
 use Rattle.matrix_reader.specs.Models.{GivesModel}
 use Rattle.report_cli.specs.declared.status.Status.{Status}
 use Rattle.report_cli.specs.declared.status.Status.TheVariants.{Done, Usage, Refused, TooLong, ReadFault, WriteFault, Memory}
-use Rattle.report_cli.specs.Words.{AskForAnalysis}
+use Rattle.report_cli.specs.Words.{AsksForNothing}
 use Rattle.report_cli.specs.RightFor.{IsRefused}
 use Rattle.report_cli.proofs.Refusals.{given-unrefused, refused-alone}
-use Rattle.report_cli.specs.Answer.{IsAnswer, Answered, OnlyAnswer, Tells, model_limit}
+use Rattle.report_cli.specs.Answer.{IsAnswer, IsReported, AsksForCommand, Answered, OnlyAnswer, Tells, model_limit}
+use Rattle.report_cli.proofs.Reported.{gives_model}
 
 -- what was taken of a known input is no longer than it
 took_prefix : (input : List ℕ) (after : Option (List ℕ)) (read : List ℕ) → Took (Some input) after read → length read ≤ length input
@@ -31,21 +32,25 @@ read_is left after input read is took ended = took_whole input after read (at_in
 too_long : {A : Type 0} (input : List ℕ) → model_limit < length input → length input ≤ model_limit → A
 too_long {A} input long short = absurd (omega (arith, long, short))
 
+-- the model of an input that has a report
+model_of : (words : List (List ℕ)) (input text : List ℕ) → IsReported words input text → (model : MixedModel) × GivesModel input model
+model_of words input text reported = gives_model reported.command input reported.report reported.right
+
 -- words that ask for nothing
-usage_only : (words : List (List ℕ)) (input : List ℕ) (answer : Status) (text : List ℕ) → (AskForAnalysis words → ⊥) → IsAnswer words input answer text → Usage ≡ answer
+usage_only : (words : List (List ℕ)) (input : List ℕ) (answer : Status) (text : List ℕ) → AsksForNothing words → IsAnswer words input answer text → Usage ≡ answer
 usage_only words input Usage text never a = refl
-usage_only words input Done text never a = absurd (never a.0)
-usage_only words input (Refused refused) text never a = absurd (never a.0)
-usage_only words input (TooLong limit) text never a = absurd (never a.0)
+usage_only words input Done text never a = absurd (never a.1.command a.1.asks)
+usage_only words input (Refused refused) text never a = absurd (never a.0.0 a.0.1)
+usage_only words input (TooLong limit) text never a = absurd (never a.0.0 a.0.1)
 usage_only words input ReadFault text never a = absurd a
 usage_only words input WriteFault text never a = absurd a
 usage_only words input Memory text never a = absurd a
 
 -- an input past the limit
-long_only : (words : List (List ℕ)) (input : List ℕ) (limit : ℕ) (answer : Status) (text : List ℕ) → AskForAnalysis words → limit ≡ model_limit → model_limit < length input →
+long_only : (words : List (List ℕ)) (input : List ℕ) (limit : ℕ) (answer : Status) (text : List ℕ) → AsksForCommand words → limit ≡ model_limit → model_limit < length input →
     IsAnswer words input answer text → TooLong limit ≡ answer
-long_only words input limit Usage text asks is long a = absurd (a.0 asks)
-long_only words input limit Done text asks is long a = too_long input long a.1
+long_only words input limit Usage text asks is long a = absurd (a.0 asks.0 asks.1)
+long_only words input limit Done text asks is long a = too_long input long a.0
 long_only words input limit (Refused refused) text asks is long a = too_long input long a.1
 long_only words input limit (TooLong other) text asks is long a = ap TooLong (is ∙ sym a.1)
 long_only words input limit ReadFault text asks is long a = absurd a
@@ -53,10 +58,10 @@ long_only words input limit WriteFault text asks is long a = absurd a
 long_only words input limit Memory text asks is long a = absurd a
 
 -- an input that breaks a rule
-refused_only : (words : List (List ℕ)) (input : List ℕ) (refused : Refusal) (answer : Status) (text : List ℕ) → AskForAnalysis words → length input ≤ model_limit → IsRefused input refused →
+refused_only : (words : List (List ℕ)) (input : List ℕ) (refused : Refusal) (answer : Status) (text : List ℕ) → AsksForCommand words → length input ≤ model_limit → IsRefused input refused →
     IsAnswer words input answer text → Refused refused ≡ answer
-refused_only words input refused Usage text asks short is a = absurd (a.0 asks)
-refused_only words input refused Done text asks short is a = given-unrefused input refused a.2.right.model a.2.right.gives is
+refused_only words input refused Usage text asks short is a = absurd (a.0 asks.0 asks.1)
+refused_only words input refused Done text asks short is a = let model = model_of words input text a.1 in given-unrefused input refused model.0 model.1 is
 refused_only words input refused (Refused other) text asks short is a = ap Refused (refused-alone input refused other is a.2)
 refused_only words input refused (TooLong limit) text asks short is a = too_long input a.2 short
 refused_only words input refused ReadFault text asks short is a = absurd a
@@ -64,9 +69,9 @@ refused_only words input refused WriteFault text asks short is a = absurd a
 refused_only words input refused Memory text asks short is a = absurd a
 
 -- an input that gives a model
-done_only : (words : List (List ℕ)) (input : List ℕ) (model : MixedModel) (answer : Status) (text : List ℕ) → AskForAnalysis words → length input ≤ model_limit → GivesModel input model →
+done_only : (words : List (List ℕ)) (input : List ℕ) (model : MixedModel) (answer : Status) (text : List ℕ) → AsksForCommand words → length input ≤ model_limit → GivesModel input model →
     IsAnswer words input answer text → Done ≡ answer
-done_only words input model Usage text asks short gives a = absurd (a.0 asks)
+done_only words input model Usage text asks short gives a = absurd (a.0 asks.0 asks.1)
 done_only words input model Done text asks short gives a = refl
 done_only words input model (Refused refused) text asks short gives a = given-unrefused input refused model gives a.2
 done_only words input model (TooLong limit) text asks short gives a = too_long input a.2 short
@@ -89,7 +94,8 @@ only words left after written written' (Refused refused) a no_read no_write = λ
 only words left after written written' Done a no_read no_write = λ input answer text is given.
     let same : a.read ≡ input = read_is left after input a.read is a.took a.ended in
     let own : IsAnswer words input Done a.text = subst (λ r. IsAnswer words r Done a.text) same a.answer in
-    inl (done_only words input own.2.right.model answer text own.0 own.1 own.2.right.gives given)
+    let model = model_of words input a.text own.1 in
+    inl (done_only words input model.0 answer text (own.1.command, own.1.asks) own.0 model.1 given)
 only words left after written written' ReadFault a no_read no_write = absurd (no_read refl)
 only words left after written written' WriteFault a no_read no_write = absurd (no_write refl)
 only words left after written written' Memory a no_read no_write = λ input answer text is given. inr refl

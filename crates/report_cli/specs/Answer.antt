@@ -1,10 +1,12 @@
 -- What a run answers.
 use Rattle.std.specs.Prelude.{◌≡◌, ℕ, ◌≤◌, ◌<◌, ◌⊎◌, List, [], length, Option, Some}
 use Rattle.port_io.specs.Bytes.{Took, Appended, Ended}
-use Rattle.report_cli.specs.Certificates.{Contents, certificate_text}
-use Rattle.report_cli.specs.RightFor.{IsRightFor, IsRefused}
-use Rattle.report_cli.specs.Words.{AskForAnalysis}
+use Rattle.report_cli.specs.Reports.{IsReportFor, report_text}
+use Rattle.report_cli.specs.RightFor.{IsRefused}
+use Rattle.report_cli.specs.Words.{AsksFor, AsksForNothing}
 use Rattle.report_cli.specs.Writing.{PartWritten}
+use Rattle.report_cli.specs.declared.command.Command.{Command}
+use Rattle.report_cli.specs.declared.report.Report.{Report}
 use Rattle.report_cli.specs.declared.status.Status.{Status}
 use Rattle.report_cli.specs.declared.status.Status.TheVariants.{Done, Usage, Refused, TooLong, ReadFault, WriteFault, Memory}
 
@@ -12,18 +14,24 @@ use Rattle.report_cli.specs.declared.status.Status.TheVariants.{Done, Usage, Ref
 abbrev pub model_limit : ℕ
 model_limit = 8388608
 
--- the text of a certificate that is right for the input
-pub record IsCertified (input text : List ℕ) : Type 0 where
-  pub certificate : Contents
-  pub right : IsRightFor input certificate
-  pub text_is : text ≡ certificate_text certificate
+-- the words ask for a command
+abbrev pub AsksForCommand : List (List ℕ) → Type 0
+AsksForCommand words = (command : Command) × AsksFor words command
+
+-- the text of a report that the words ask for
+pub record IsReported (words : List (List ℕ)) (input text : List ℕ) : Type 0 where
+  pub command : Command
+  pub asks : AsksFor words command
+  pub report : Report
+  pub right : IsReportFor command input report
+  pub text_is : text ≡ report_text report
 
 -- a run with these words on this whole input ends with this status and this text on `out`, when nothing fails
 abbrev pub IsAnswer : List (List ℕ) → List ℕ → Status → List ℕ → Type 0
-IsAnswer words input Usage text = (AskForAnalysis words → ⊥) × (text ≡ [])
-IsAnswer words input (TooLong limit) text = AskForAnalysis words × (limit ≡ model_limit) × (model_limit < length input) × (text ≡ [])
-IsAnswer words input (Refused refusal) text = AskForAnalysis words × (length input ≤ model_limit) × IsRefused input refusal × (text ≡ [])
-IsAnswer words input Done text = AskForAnalysis words × (length input ≤ model_limit) × IsCertified input text
+IsAnswer words input Usage text = AsksForNothing words × (text ≡ [])
+IsAnswer words input (TooLong limit) text = AsksForCommand words × (limit ≡ model_limit) × (model_limit < length input) × (text ≡ [])
+IsAnswer words input (Refused refusal) text = AsksForCommand words × (length input ≤ model_limit) × IsRefused input refusal × (text ≡ [])
+IsAnswer words input Done text = (length input ≤ model_limit) × IsReported words input text
 IsAnswer words input ReadFault text = ⊥
 IsAnswer words input WriteFault text = ⊥
 IsAnswer words input Memory text = ⊥

@@ -1,12 +1,9 @@
 pub mod Numbers
 pub mod Words
-pub mod Certificates
 pub mod Writing
 pub mod Notes
-pub mod Answer
-pub mod Analyses
-pub mod Right
-pub mod Pairs
-pub mod Sizes
-pub mod Solutions
 pub mod RightFor
+pub mod LayerTexts
+pub mod Columns
+pub mod Reports
+pub mod Answer

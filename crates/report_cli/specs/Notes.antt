@@ -3,7 +3,7 @@ use Rattle.std.specs.Prelude.{◌≡◌, ℕ, ◌⊎◌, List, [], ◌++◌, Opt
 use Rattle.port_io.specs.Bytes.{Appended}
 use Rattle.port_io.specs.Causes.{Rose}
 use Rattle.refusals.specs.Texts.{refusal_text}
-use Rattle.report_cli.specs.Certificates.{spaced}
+use Rattle.cert_text.specs.Texts.{spaced}
 use Rattle.report_cli.specs.declared.status.Status.{Status}
 use Rattle.report_cli.specs.declared.status.Status.TheVariants.{Done, Usage, Refused, TooLong, ReadFault, WriteFault, Memory}
 

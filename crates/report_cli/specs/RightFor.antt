@@ -3,17 +3,25 @@ use Rattle.std.specs.Prelude.{◌≡◌, ℕ, List}
 use Rattle.refusals.specs.declared.Refused.{Refused}
 use Rattle.refusals.specs.declared.ReadModel.TheVariants.{Refused as Refusal}
 use Rattle.residue_field.specs.Modulus.{res_modulus}
-use Rattle.mixed_model.specs.Models.{MixedModel}
+use Rattle.mixed_matrices.specs.LayeredMatrices.{Layered}
+use Rattle.mixed_matrices.specs.Layerings.{Origins, IsLayeredMatrixOf}
+use Rattle.mixed_model.specs.Models.{MixedModel, mixed_matrix_of}
 use Rattle.matrix_reader.specs.Models.{GivesModel, IsRefusal}
-use Rattle.report_cli.specs.Certificates.{Contents}
-use Rattle.report_cli.specs.Right.{IsRight}
+use Rattle.cert_text.specs.Right.{IsRightCcf}
+use Rattle.cert_text.specs.declared.certificate.Certificate.{Certificate}
+use Rattle.cert_text.specs.declared.kind.Kind.TheVariants.{Matrix}
 
--- the input keeps each rule and gives a model; a certificate is right for that model, and its echo is the input
-pub record IsRightFor (input : List ℕ) (certificate : Contents) : Type 0 where
+-- the input keeps each rule and gives a model, and the certificate repeats the input and has a right canonical form of the
+-- model's layered matrix
+pub record IsRightFor (input : List ℕ) (certificate : Certificate) : Type 0 where
   pub model : MixedModel
   pub gives : GivesModel input model
+  pub kind : certificate.kind ≡ Matrix
   pub echo : certificate.echo ≡ input
-  pub right : IsRight res_modulus model certificate
+  pub layered : Layered
+  pub origins : Origins
+  pub layers : IsLayeredMatrixOf (mixed_matrix_of model) layered origins
+  pub right : IsRightCcf res_modulus (mixed_matrix_of model) layered origins certificate.ccf
 
 -- the refusal holds the first rule that the input breaks, and its line
 abbrev pub IsRefused : List ℕ → Refused → Type 0

@@ -1,8 +1,8 @@
 //! Pieces, numbers and items, put into a buffer and a sink.
 
 ghost use Rattle.std.specs.Prelude.{◌≡◌, ℕ, ◌+◌, ◌∷◌};
-ghost use Rattle.report_cli.specs.Certificates.{marked, item};
-ghost use Rattle.report_cli.specs.Writing.{IsPut};
+ghost use Rattle.cert_text.specs.Texts.{item, marked};
+ghost use Rattle.cert_text.specs.Writing.{IsPut};
 
 use crate::digits::{LONGEST, put_digits};
 use port_io::{PieceBuffer, Sink, WriteFault};

@@ -5,16 +5,16 @@ ghost use Rattle.std.specs.String.{string_bytes};
 ghost use Rattle.port_io.specs.Causes.{Rose};
 ghost use Rattle.port_io.specs.Bytes.{Appended, TookAtMost};
 ghost use Rattle.report_cli.specs.Answer.{Answered, CutShort, OnlyAnswer, Tells, WritesNothing, TakesAnyText, IsDelivered};
-ghost use Rattle.report_cli.specs.Certificates.{certificate_text};
+ghost use Rattle.report_cli.specs.Reports.{IsWritable, report_text};
 ghost use Rattle.report_cli.specs.Writing.{PartWritten};
 ghost use Rattle.report_cli.specs.Notes.{Noted, note_of};
 
-use crate::analysis::{Analysis, analyse};
-use crate::certificate::Certificate;
+use crate::command::Command;
+use crate::report::Report;
 use crate::status::Status;
 use crate::telling::tell;
-use crate::words::ask_for_analysis;
 use port_io::{ReadError, Sink, Source, read_all};
+use refusals::ReadModel;
 use std::alloc::Global;
 
 /// The most bytes of a model's text.
@@ -72,29 +72,30 @@ fn work<S: Source, K: Sink>(alloc: Global, words: &[String], source: &mut S, out
     ensures calm_source { S.never_fails source.old → S.faults source.new ≡ S.faults source.old }
     ensures calm_out { (input : List ℕ) → S.left source.old ≡ Some input → TakesAnyText (map string_bytes words.now) input (K.takes out.old) → K.faults out.new ≡ K.faults out.old }
 {
-    if !ask_for_analysis(words) {
+    let Some(command) = Command::of(words) else {
         return Status::Usage;
-    }
+    };
     let input = match read_all(alloc, source, MODEL_LIMIT) {
         Ok(input) => input,
         Err(ReadError::ReadFault) => return Status::ReadFault,
         Err(ReadError::TooLong) => return Status::TooLong(MODEL_LIMIT),
         Err(ReadError::NoMemory) => return Status::Memory,
     };
-    match analyse(alloc, input) {
-        Ok(Analysis::Certified(certificate)) => deliver(out, &certificate),
-        Ok(Analysis::Refused(refused)) => Status::Refused(refused),
-        Err(_) => Status::Memory,
+    match Report::of(alloc, command, input) {
+        Ok(report) => deliver(out, &report),
+        Err(ReadModel::Refused(refused)) => Status::Refused(refused),
+        Err(ReadModel::NoMemory) => Status::Memory,
     }
 }
 
-/// Writes the whole text of a certificate, and flushes it.
-fn deliver<K: Sink>(out: &mut K, certificate: &Certificate) -> Status
-    ensures ends { IsDelivered result (Appended (K.written out.old) (K.written out.new) (certificate_text certificate.now) × IsTrue (K.flushed out.new)) (Rose (K.faults out.old) (K.faults out.new) × PartWritten (K.written out.old) (K.written out.new) (certificate_text certificate.now)) }
+/// Writes the whole text of a report, and flushes it.
+fn deliver<K: Sink>(out: &mut K, report: &Report) -> Status
+    requires { IsWritable report.now }
+    ensures ends { IsDelivered result (Appended (K.written out.old) (K.written out.new) (report_text report.now) × IsTrue (K.flushed out.new)) (Rose (K.faults out.old) (K.faults out.new) × PartWritten (K.written out.old) (K.written out.new) (report_text report.now)) }
     ensures counts { K.faults out.old ≤ K.faults out.new }
-    ensures calm { K.takes out.old (length (certificate_text certificate.now)) → K.faults out.new ≡ K.faults out.old }
+    ensures calm { K.takes out.old (length (report_text report.now)) → K.faults out.new ≡ K.faults out.old }
 {
-    match certificate.write(out) {
+    match report.write(out) {
         Err(_) => Status::WriteFault,
         Ok(()) => match out.flush() {
             Ok(()) => Status::Done,

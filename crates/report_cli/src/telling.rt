@@ -3,7 +3,7 @@
 ghost use Rattle.std.specs.Prelude.{◌≤◌};
 ghost use Rattle.refusals.specs.Texts.{number_text, place_number, place_text, place_word, refusal_text, why_text};
 ghost use Rattle.report_cli.specs.Notes.{limit_text, words_of, line_of, note_of, Noted};
-ghost use Rattle.report_cli.specs.Writing.{IsPut};
+ghost use Rattle.cert_text.specs.Writing.{IsPut};
 
 use crate::numbers::{put_number, put_piece};
 use crate::status::Status;

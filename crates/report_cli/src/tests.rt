@@ -20,9 +20,10 @@ struct Case<'a> {
     source_fails: &'a [u64],
     out_fails: &'a [u64],
     notes_fail: &'a [u64],
-    /// What is wanted: the status, how the output begins and ends, and what is noted.
+    /// What is wanted: the status, how the output begins and ends, what stands in it, and what is noted.
     status: u8,
     begins: &'a [u8],
+    holds: &'a [u8],
     ends: &'a [u8],
     notes: &'a [u8],
 }
@@ -44,6 +45,7 @@ fn calm<'a>(
         notes_fail: &[],
         status,
         begins,
+        holds: b"",
         ends,
         notes,
     }
@@ -57,6 +59,16 @@ fn words_of(alloc: Global, words: &[&str]) -> Result<Vec<String>, Fail> {
     Ok(all)
 }
 
+/// Whether the piece stands in the text.
+fn holds(text: &[u8], piece: &[u8]) -> bool {
+    for start in 0..=text.len() {
+        if text[start..].starts_with(piece) {
+            return true;
+        }
+    }
+    false
+}
+
 /// Runs a case, and compares what it leaves. A run of status 2 takes no byte.
 fn expect_case(rt: &impl Abort, alloc: Global, case: &Case) -> Result<(), Fail> {
     let words = words_of(alloc, &case.words)?;
@@ -66,33 +78,12 @@ fn expect_case(rt: &impl Abort, alloc: Global, case: &Case) -> Result<(), Fail> 
     let status = run(alloc, &words, &mut source, &mut out, &mut notes);
     assert_eq!(rt; status.number(), case.status);
     assert!(rt; out.bytes().starts_with(case.begins));
+    assert!(rt; holds(out.bytes(), case.holds));
     assert!(rt; out.bytes().ends_with(case.ends));
     assert_eq!(rt; notes.bytes(), case.notes);
     if status == Status::Usage {
         let left = read_all(alloc, &mut source, 1000)?;
         assert_eq!(rt; left.as_slice(), case.input);
-    }
-    Ok(())
-}
-
-#[test]
-fn lists_of_constants(rt: HostRuntime) -> Result<(), Fail> {
-    let whole =
-        b"mixed-certificate 1\nkind matrix\nlength 9\neq a x=1\n\nshape 1 1 1 0 1\nrank 1\nbase 1=1\nmatch\nS 1: 1=1\nU 1: 1=1\nP 1: 1=1\nend\n";
-    let empty =
-        b"mixed-certificate 1\nkind matrix\nlength 0\n\nshape 0 0 0 0 0\nrank 0\nbase\nmatch\nend\n";
-    let pair =
-        b"mixed-certificate 1\nkind matrix\nlength 26\neq a x=1 y=1\neq b x=1 y=1\n\nshape 2 2 2 0 2\nrank 1\nbase ";
-    let lone =
-        b"mixed-certificate 1\nkind matrix\nlength 5\neq a\n\nshape 1 0 1 0 0\nrank 0\nbase\nmatch\nS 1: 1=";
-    let cases = [
-        calm(b"", 0, empty, empty, b""),
-        calm(b"eq a x=1\n", 0, whole, whole, b""),
-        calm(b"eq a x=1 y=1\neq b x=1 y=1\n", 0, pair, b"\nend\n", b""),
-        calm(b"eq a\n", 0, lone, b"\nP 1:\nend\n", b""),
-    ];
-    for case in cases {
-        expect_case(&rt, rt.alloc(), &case)?;
     }
     Ok(())
 }
@@ -108,20 +99,99 @@ fn certified<'a>(input: &'a [u8], ends: &'a [u8]) -> Case<'a> {
     )
 }
 
+/// A case that is answered by a certificate that holds this piece and has this end.
+fn certified_holding<'a>(input: &'a [u8], holds: &'a [u8], ends: &'a [u8]) -> Case<'a> {
+    Case {
+        holds,
+        ..certified(input, ends)
+    }
+}
+
+/// A case of `layer` that is answered by a text with this beginning and this end.
+fn layered<'a>(input: &'a [u8], begins: &'a [u8], ends: &'a [u8]) -> Case<'a> {
+    Case {
+        words: ["mixed", "layer", "matrix"],
+        ..calm(input, 0, begins, ends, b"")
+    }
+}
+
 /// A case that is refused with this note.
 fn refused<'a>(input: &'a [u8], notes: &'a [u8]) -> Case<'a> {
     calm(input, 3, b"", b"", notes)
 }
 
 #[test]
-fn a_carriage_return_and_an_unknown(rt: HostRuntime) -> Result<(), Fail> {
+fn certificates_of_one_form(rt: HostRuntime) -> Result<(), Fail> {
+    let empty =
+        b"mixed-certificate 1\nkind matrix\nlength 0\n\nshape 0 0 0 0 0\nrank 0\nbase\nmatch\nfirst |\nlast |\nend\n";
+    let one =
+        b"mixed-certificate 1\nkind matrix\nlength 9\neq a x=1\n\nshape 1 1 1 0 1\nrank 1\nbase 1=1\nmatch\nS 1: 1=1\nU 1: 1=1\nP 1: 1=1\nfirst |\nblock 1: 1 | q1 |\nlast |\nend\n";
     let returned =
-        b"mixed-certificate 1\nkind matrix\nlength 10\neq a x=1\r\n\nshape 1 1 1 0 1\nrank 1\nbase 1=1\nmatch\nS 1: 1=1\nU 1: 1=1\nP 1: 1=1\nend\n";
+        b"mixed-certificate 1\nkind matrix\nlength 10\neq a x=1\r\n\nshape 1 1 1 0 1\nrank 1\nbase 1=1\nmatch\nS 1: 1=1\nU 1: 1=1\nP 1: 1=1\nfirst |\nblock 1: 1 | q1 |\nlast |\nend\n";
     let unknown =
-        b"mixed-certificate 1\nkind matrix\nlength 10\nunknown x\n\nshape 0 1 0 0 1\nrank 0\nbase\nmatch\nend\n";
+        b"mixed-certificate 1\nkind matrix\nlength 10\nunknown x\n\nshape 0 1 0 0 1\nrank 0\nbase\nmatch\nfirst 1 |\nlast |\nend\n";
+    let triangle =
+        b"mixed-certificate 1\nkind matrix\nlength 22\neq a x=? y=?\neq b x=?\n\nshape 2 2 0 2 2\nrank 2\nbase\nmatch 1=2 2=1\nT 1: 1 2\nT 2: 1\nfirst |\nblock 1: 2 | t1 |\nblock 2: 1 | t2 | 1\nlast |\nend\n";
+    let loose =
+        b"mixed-certificate 1\nkind matrix\nlength 18\neq a x=?\neq b y=?\n\nshape 2 2 0 2 2\nrank 2\nbase\nmatch 1=1 2=2\nT 1: 1\nT 2: 2\nfirst |\nblock 1: 1 | t1 |\nblock 2: 2 | t2 |\nlast |\nend\n";
     let cases = [
+        calm(b"", 0, empty, empty, b""),
+        calm(b"eq a x=1\n", 0, one, one, b""),
         calm(b"eq a x=1\r\n", 0, returned, returned, b""),
         calm(b"unknown x\n", 0, unknown, unknown, b""),
+        calm(b"eq a x=? y=?\neq b x=?\n", 0, triangle, triangle, b""),
+        calm(b"eq a x=?\neq b y=?\n", 0, loose, loose, b""),
+    ];
+    for case in cases {
+        expect_case(&rt, rt.alloc(), &case)?;
+    }
+    Ok(())
+}
+
+#[test]
+fn certificates_of_several_forms(rt: HostRuntime) -> Result<(), Fail> {
+    let pair = b"eq a x=1 y=1\neq b x=1 y=1\n";
+    let over = b"eq a x=1 y=1\neq b x=1 y=?\n";
+    let tails = b"eq a x=1\neq b x=1\n";
+    let cases = [
+        certified_holding(pair, b"\nshape 2 2 2 0 2\nrank 1\nbase ", b"\nend\n"),
+        certified_holding(pair, b"\nmatch\n", b"\nend\n"),
+        certified_holding(pair, b"\nfirst 1 2 | q", b"\nend\n"),
+        certified_holding(pair, b"\nlast | q", b"\nend\n"),
+        certified_holding(
+            b"eq a\n",
+            b"\nshape 1 0 1 0 0\nrank 0\nbase\nmatch\nS 1: 1=",
+            b"\nP 1:\nfirst |\nlast | q1\nend\n",
+        ),
+        certified_holding(
+            over,
+            b"\nshape 2 2 2 1 3\nrank 2\nbase ",
+            b" t1 | 1\nlast |\nend\n",
+        ),
+        certified_holding(
+            over,
+            b"\nT 1: 2 3\nfirst |\nblock 1: 1 | q",
+            b" t1 | 1\nlast |\nend\n",
+        ),
+        certified_holding(over, b"\nblock 2: 2 3 | q", b" t1 | 1\nlast |\nend\n"),
+        certified_holding(
+            b"eq a x=? y=1\neq b x=1 y=?\n",
+            b"\nshape 2 2 2 2 4\nrank 2\n",
+            b"\nfirst |\nblock 1: 1 2 3 4 | q1 q2 t1 t2 |\nlast |\nend\n",
+        ),
+        certified_holding(
+            b"eq a x=1+?\n",
+            b"\nrank 1\n",
+            b"\nblock 1: 1 2 | q1 t1 |\nlast |\nend\n",
+        ),
+        certified_holding(
+            b"eq a x=?\neq b x=?\n",
+            b"\nrank 1\n",
+            b"\nfirst |\nlast 1 | t1 t2\nend\n",
+        ),
+        certified_holding(tails, b"\nrank 1\n", b"\nend\n"),
+        certified_holding(tails, b"\nfirst |\nblock 1: 1 | q", b"\nend\n"),
+        certified_holding(tails, b"\nlast | q", b"\nend\n"),
     ];
     for case in cases {
         expect_case(&rt, rt.alloc(), &case)?;
@@ -156,21 +226,21 @@ fn lists_that_break_a_rule(rt: HostRuntime) -> Result<(), Fail> {
 
 #[test]
 fn spellings_at_the_edges(rt: HostRuntime) -> Result<(), Fail> {
-    let one = b"\nP 1: 1=1\nend\n";
-    let zero = b"\nP 1:\nend\n";
-    let empty = b"\nshape 0 0 0 0 0\nrank 0\nbase\nmatch\nend\n";
+    let one = b"\nP 1: 1=1\nfirst |\nblock 1: 1 | q1 |\nlast |\nend\n";
+    let zero = b"\nP 1:\n";
+    let empty = b"\nshape 0 0 0 0 0\nrank 0\nbase\nmatch\nfirst |\nlast |\nend\n";
     let cases = [
         certified(b"eq a x=000000000000000001", one),
-        certified(b"eq a x=+0/5\n", zero),
-        certified(b"eq a x=0.0\n", zero),
-        certified(b"eq a x=-0\n", zero),
+        certified_holding(b"eq a x=+0/5\n", zero, b"\nend\n"),
+        certified_holding(b"eq a x=0.0\n", zero, b"\nend\n"),
+        certified_holding(b"eq a x=-0\n", zero, b"\nend\n"),
         certified(b"\teq\ta\t\tx=2.5 \t\n", one),
         certified(b"eq a x=1# \xe4\xff\n", one),
         certified(b"\n", empty),
         certified(b"# alone \x01\x7f\xff", empty),
         certified(
             b"unknown abcdefghijklmnopqrstuvwxyz_ABCDEFGHIJKLMNOPQRSTUVWXYZ.123456789_",
-            b"\nshape 0 1 0 0 1\nrank 0\nbase\nmatch\nend\n",
+            b"\nshape 0 1 0 0 1\nrank 0\nbase\nmatch\nfirst 1 |\nlast |\nend\n",
         ),
         refused(
             b"unknown abcdefghijklmnopqrstuvwxyz_ABCDEFGHIJKLMNOPQRSTUVWXYZ.123456789_x",
@@ -185,6 +255,43 @@ fn spellings_at_the_edges(rt: HostRuntime) -> Result<(), Fail> {
     Ok(())
 }
 
+#[test]
+fn layers_of_lists(rt: HostRuntime) -> Result<(), Fail> {
+    let split = b"columns 2\nc1 x\nc2 *a\nq1 a 1=1 2=1\nt1 a 1 2\n";
+    let columns = b"columns 1\nc1 x\n";
+    let one = b"\nq1 a 1=1\n";
+    let zero = b"\nq1 a\n";
+    let cases = [
+        layered(b"eq a x=1+?\n", split, split),
+        layered(b"eq a x=65522\n", columns, one),
+        layered(b"eq a x=0\n", columns, zero),
+        layered(b"eq a x=0/5\n", columns, zero),
+        layered(b"eq a x=-1\n", columns, b"\nq1 a 1=65520\n"),
+        layered(b"eq a x=1/3\n", columns, b"\nq1 a 1=43681\n"),
+        layered(b"eq a x=0.5\n", columns, b"\nq1 a 1=32761\n"),
+    ];
+    for case in cases {
+        expect_case(&rt, rt.alloc(), &case)?;
+    }
+    Ok(())
+}
+
+#[test]
+fn layers_of_lists_that_break_a_rule(rt: HostRuntime) -> Result<(), Fail> {
+    for case in [
+        refused(b"eq a x=1 x=2\n", b"mixed: line 1: twice\n"),
+        refused(b"eq a\neq a\n", b"mixed: line 2: twice\n"),
+        refused(b"eq a x=1/0\n", b"mixed: line 1: vanishes in the field\n"),
+    ] {
+        let case = Case {
+            words: ["mixed", "layer", "matrix"],
+            ..case
+        };
+        expect_case(&rt, rt.alloc(), &case)?;
+    }
+    Ok(())
+}
+
 /// A balance of two streams, and a spring between two masses.
 const EXAMPLES: [&[u8]; 2] = [
     b"# two streams join\nunknown feed\r\neq mass feed=1 back=1 out=-1\neq split back=1 out=-0.25\n",
@@ -194,15 +301,28 @@ const EXAMPLES: [&[u8]; 2] = [
 #[test]
 fn each_beginning_is_answered(rt: HostRuntime) -> Result<(), Fail> {
     let alloc = rt.alloc();
-    let words = words_of(alloc, &["mixed", "analyse", "matrix"])?;
-    for text in EXAMPLES {
-        for end in 0..=text.len() {
-            let mut source = MemSource::new(alloc, &text[..end], ROOM, &[])?;
-            let mut out = MemSink::new(alloc, ROOM, ROOM, &[])?;
-            let mut notes = MemSink::new(alloc, ROOM, ROOM, &[])?;
-            let status = run(alloc, &words, &mut source, &mut out, &mut notes);
-            assert!(rt; matches!(status, Status::Done | Status::Refused(_)));
+    for command in ["analyse", "layer"] {
+        let words = words_of(alloc, &["mixed", command, "matrix"])?;
+        for text in EXAMPLES {
+            expect_beginnings(&rt, alloc, &words, text)?;
         }
+    }
+    Ok(())
+}
+
+/// Runs each beginning of a text, which is answered by a text or by a refusal.
+fn expect_beginnings(
+    rt: &impl Abort,
+    alloc: Global,
+    words: &[String],
+    text: &[u8],
+) -> Result<(), Fail> {
+    for end in 0..=text.len() {
+        let mut source = MemSource::new(alloc, &text[..end], ROOM, &[])?;
+        let mut out = MemSink::new(alloc, ROOM, ROOM, &[])?;
+        let mut notes = MemSink::new(alloc, ROOM, ROOM, &[])?;
+        let status = run(alloc, words, &mut source, &mut out, &mut notes);
+        assert!(rt; matches!(status, Status::Done | Status::Refused(_)));
     }
     Ok(())
 }
@@ -212,7 +332,8 @@ fn other_words(rt: HostRuntime) -> Result<(), Fail> {
     for words in [
         ["mixed", "analyse", "netlist"],
         ["mixed", "analyse", "picture"],
-        ["mixed", "layer", "matrix"],
+        ["mixed", "layer", "netlist"],
+        ["mixed", "order", "matrix"],
     ] {
         let case = Case {
             words,
@@ -239,6 +360,17 @@ fn streams_that_fail(rt: HostRuntime) -> Result<(), Fail> {
             )
         },
         Case {
+            most: 16,
+            out_fails: &[2],
+            status: 5,
+            notes: b"mixed: write fault\n",
+            ..layered(
+                b"eq a x=1+?\n",
+                b"columns 2\nc1 x\nc",
+                b"columns 2\nc1 x\nc",
+            )
+        },
+        Case {
             source_fails: &[1],
             ..calm(pair, 4, b"", b"", b"mixed: read fault\n")
         },
@@ -252,7 +384,7 @@ fn streams_that_fail(rt: HostRuntime) -> Result<(), Fail> {
                 b"eq a x=1\n",
                 0,
                 b"mixed-certificate 1\n",
-                b"P 1: 1=1\nend\n",
+                b"P 1: 1=1\nfirst |\nblock 1: 1 | q1 |\nlast |\nend\n",
                 b"",
             )
         },
@@ -266,7 +398,7 @@ fn streams_that_fail(rt: HostRuntime) -> Result<(), Fail> {
 #[test]
 fn a_comment_of_the_most_bytes(rt: HostRuntime) -> Result<(), Fail> {
     let input = vec![in rt.alloc(); b'#'; 8_388_608]?;
-    let ends = b"##\nshape 0 0 0 0 0\nrank 0\nbase\nmatch\nend\n";
+    let ends = b"##\nshape 0 0 0 0 0\nrank 0\nbase\nmatch\nfirst |\nlast |\nend\n";
     let begins = b"mixed-certificate 1\nkind matrix\nlength 8388608\n##";
     expect_case(&rt, rt.alloc(), &calm(&input, 0, begins, ends, b""))?;
     let input = vec![in rt.alloc(); b'#'; 8_388_609]?;
@@ -280,8 +412,12 @@ fn as_many_unknowns_as_there_may_be(rt: HostRuntime) -> Result<(), Fail> {
     for number in 1..=4096 {
         text.push_str(&format!(in rt.alloc(); "unknown x{number}\n")?)?;
     }
-    let ends = b"\nshape 0 4096 0 0 4096\nrank 0\nbase\nmatch\nend\n";
-    expect_case(&rt, rt.alloc(), &certified(text.as_bytes(), ends))?;
+    let shape = b"\nshape 0 4096 0 0 4096\n";
+    expect_case(
+        &rt,
+        rt.alloc(),
+        &certified_holding(text.as_bytes(), shape, b"\nend\n"),
+    )?;
     text.push_str("unknown x4097\n")?;
     let note = b"mixed: line 4097: too many\n";
     expect_case(&rt, rt.alloc(), &refused(text.as_bytes(), note))

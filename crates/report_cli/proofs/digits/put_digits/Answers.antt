@@ -1,5 +1,5 @@
 use Rattle.std.proofs.Common.{◌≡◌, ◌≤◌, ◌+◌, ◌-◌, arith}
-use Rattle.report_cli.proofs.DigitSteps.{digit_before, mark_before, two_places, tenth_below}
+use Rattle.cert_text.proofs.DigitSteps.{digit_before, mark_before, two_places, tenth_below}
 use Rattle.report_cli.proofs.digits.put_digits.Goals as goal
 
 pub loop-left-preserved : goal.loop-left-preserved

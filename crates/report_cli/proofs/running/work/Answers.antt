@@ -1,22 +1,19 @@
-use Rattle.std.proofs.Common.{◌≡◌, ◌≤◌, ℕ, List, map, refl, subst, arith, length}
-use Rattle.std.proofs.lemmas.Grind.{common_steps}
-use Rattle.std.specs.String.{string_bytes}
-use Rattle.report_cli.specs.Analyses.{IsAnalysis}
-use Rattle.report_cli.specs.Certificates.{certificate_text}
-use Rattle.report_cli.specs.RightFor.{IsRightFor}
-use Rattle.report_cli.specs.Words.{AskForAnalysis}
+use Rattle.std.proofs.Common.{◌≡◌, ◌≤◌, ℕ, List, refl, subst, length}
 use Rattle.report_cli.specs.Answer.{model_limit}
-use Rattle.report_cli.specs.declared.analysis.Analysis.{Analysis}
+use Rattle.report_cli.specs.Reports.{IsReportFor, report_text}
+use Rattle.report_cli.proofs.Reported.{writable}
 use Rattle.report_cli.proofs.Runs.{read_is}
 use Rattle.report_cli.proofs.running.work.Goals as goal
 
-pub returns-in-Ok-Certified-clause-calm_out : goal.returns-in-Ok-Certified-clause-calm_out
-returns-in-Ok-Certified-clause-calm_out g c = λ input is takes.
+pub deliver-requires : goal.deliver-requires
+deliver-requires g c = writable c.in-Some.command c.in-Ok.input.items c.in-Ok-of.report c.in-Ok-of.ensures.right c.in-Ok.ensures.within
+
+pub returns-in-Ok-of-clause-calm_out : goal.returns-in-Ok-of-clause-calm_out
+returns-in-Ok-of-clause-calm_out g c = λ input is takes.
     let read : List ℕ = c.in-Ok.input.items in
-    let certificate = c.in-Ok-Certified.certificate in
-    let asks : AskForAnalysis (map string_bytes c.args.words.now) = grind (arith, common_steps) in
+    let command = c.in-Some.command in
+    let report = c.in-Ok-of.report in
     let same : read ≡ input = read_is (g.S.Source.left c.args.source.now) (g.S.Source.left c.read_all.new.source) input read is c.in-Ok.ensures.all.0 c.in-Ok.ensures.all.1 in
     let short : length input ≤ model_limit = subst (λ r. length r ≤ model_limit) same c.in-Ok.ensures.within in
-    let P : Analysis → Type 0 = λ found. IsAnalysis read found in
-    let right : IsRightFor read certificate = subst P c.in-Ok-Certified.field-0-is c.in-Ok-Certified.ensures in
-    c.deliver.ensures.calm (takes (certificate_text certificate) (asks, short, record { certificate = certificate; right = subst (λ r. IsRightFor r certificate) same right; text_is = refl }))
+    let right : IsReportFor command input report = subst (λ r. IsReportFor command r report) same c.in-Ok-of.ensures.right in
+    c.deliver.ensures.calm (takes (report_text report) (short, record { command = command; asks = c.in-Some.ensures; report = report; right = right; text_is = refl }))

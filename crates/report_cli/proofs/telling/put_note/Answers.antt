@@ -1,4 +1,4 @@
-use Rattle.report_cli.proofs.Puts.{put_is}
+use Rattle.cert_text.proofs.Puts.{put_is}
 use Rattle.report_cli.proofs.Noting.{note_is}
 use Rattle.report_cli.proofs.telling.put_note.Goals as goal
 

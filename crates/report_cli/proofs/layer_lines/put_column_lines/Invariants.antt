@@ -1,0 +1,9 @@
+use Rattle.std.proofs.Common.{drop, ◌+◌}
+use Rattle.cert_text.specs.Writing.{IsPutUpTo}
+use Rattle.report_cli.specs.LayerTexts.{column_lines}
+use Rattle.report_cli.proofs.layer_lines.put_column_lines.Given as goal
+
+abbrev pub invariant-loop-column : goal.invariant-loop-column
+invariant-loop-column g l =
+    let K = g.K.Sink in
+    IsPutUpTo (K.written l.initial.out) l.initial.buffer (K.faults l.initial.out) (K.takes l.initial.out) (K.written l.out) l.buffer (K.faults l.out) (K.takes l.out) (column_lines l.model 1 l.layered.column_origins) (column_lines l.model (l.column + 1) (drop l.column l.layered.column_origins))

@@ -1,9 +1,0 @@
-use Rattle.std.proofs.Common.{drop}
-use Rattle.report_cli.specs.Certificates.{pairs_text}
-use Rattle.report_cli.specs.Writing.{IsPutUpTo}
-use Rattle.report_cli.proofs.lines.put_pairs.Given as goal
-
-abbrev pub invariant-loop-pair : goal.invariant-loop-pair
-invariant-loop-pair g l =
-    let K = g.K.Sink in
-    IsPutUpTo (K.written l.initial.out) l.initial.buffer (K.faults l.initial.out) (K.takes l.initial.out) (K.written l.out) l.buffer (K.faults l.out) (K.takes l.out) (pairs_text l.pairs) (pairs_text (drop l.pair-index l.pairs))

@@ -1,4 +1,0 @@
-use Rattle.report_cli.proofs.solution.solve.Given as goal
-
-abbrev pub ghosts-solve_counting : goal.ghosts-solve_counting
-ghosts-solve_counting a = record { name = a.blank.name; parts = a.blank.parts }

@@ -1,0 +1,85 @@
+//! What a command writes of an input.
+
+ghost use Rattle.std.specs.Prelude.{◌≡◌, ◌≤◌, length, IfErr, IfOk, IsOk, OnErr, OnOk};
+ghost use Rattle.cert_text.specs.Writing.{IsCut};
+ghost use Rattle.matrix_reader.specs.Models.{IsRefusal};
+ghost use Rattle.mixed_layering.specs.Layers.{AreLayersOf};
+ghost use Rattle.port_io.specs.Bytes.{Appended};
+ghost use Rattle.port_io.specs.Causes.{HasCause};
+ghost use Rattle.report_cli.specs.LayerTexts.{layer_text};
+ghost use Rattle.report_cli.specs.Reports.{IsReportFor, IsWritable, report_text};
+ghost use Rattle.report_cli.specs.Writing.{PartWritten};
+
+use crate::command::Command;
+use crate::layer_lines::put_layers;
+use ccf_builder::build;
+use cert_text::{Certificate, Items, Kind};
+use mixed_layering::layer;
+use mixed_model::{Layered, Mixed};
+use port_io::{PieceBuffer, Sink, WriteFault};
+use refusals::ReadModel;
+use std::alloc::Global;
+
+/// What a command writes of an input.
+#[derive(Drop)]
+pub enum Report {
+    /// The certificate of the input.
+    Certificate(Certificate),
+    /// The model that the input gives, and the layered matrix of the model.
+    Layers(Mixed, Layered),
+}
+
+impl Report {
+    /// What the command writes of an equation list of at most 8,388,608 bytes, or why the list is refused.
+    pub fn of(alloc: Global, command: Command, input: Vec<u8>) -> Result<Report, ReadModel>
+        requires { length input.items ≤ 8388608 }
+        ensures right { IfOk result (IsReportFor command input.items) }
+        ensures refused { IfErr result (IsRefusal input.items) }
+    {
+        let model = matrix_reader::read(alloc, &input)?;
+        let Ok(layered) = layer(alloc, &model) else {
+            return Err(ReadModel::NoMemory);
+        };
+        match command {
+            Command::Layer => Ok(Report::Layers(model, layered)),
+            Command::Analyse => {
+                let Ok(ccf) = build(alloc, &layered) else {
+                    return Err(ReadModel::NoMemory);
+                };
+                Ok(Report::Certificate(Certificate {
+                    kind: Kind::Matrix,
+                    echo: Items::from_vec(input),
+                    ccf,
+                }))
+            }
+        }
+    }
+
+    /// Appends the whole text to the sink, in pieces of some KiB, and takes no memory. It does not flush. Where the sink
+    /// fails, a first part of the text was appended.
+    pub fn write<K: Sink>(&self, out: &mut K) -> Result<(), WriteFault>
+        requires { IsWritable self.now }
+        ensures whole { OnOk result (Appended (K.written out.old) (K.written out.new) (report_text self.now)) }
+        ensures part { OnErr result (PartWritten (K.written out.old) (K.written out.new) (report_text self.now)) }
+        ensures cause { HasCause (K.faults out.old) (K.faults out.new) result }
+        ensures calm { K.takes out.old (length (report_text self.now)) → (K.faults out.new ≡ K.faults out.old) × IsOk result × K.takes out.new 0 }
+    {
+        match self {
+            Report::Certificate(certificate) => cert_text::write(certificate, out),
+            Report::Layers(model, layered) => write_layers(out, model, layered),
+        }
+    }
+}
+
+/// Appends the text of the layered matrix of a model to the sink.
+fn write_layers<K: Sink>(out: &mut K, model: &Mixed, layered: &Layered) -> Result<(), WriteFault>
+    requires { AreLayersOf model.now layered.now }
+    ensures whole { OnOk result (Appended (K.written out.old) (K.written out.new) (layer_text model.now layered.now)) }
+    ensures part { IfErr result (IsCut (K.written out.old) (K.written out.new) (layer_text model.now layered.now)) }
+    ensures cause { HasCause (K.faults out.old) (K.faults out.new) result }
+    ensures calm { K.takes out.old (length (layer_text model.now layered.now)) → (K.faults out.new ≡ K.faults out.old) × IsOk result × K.takes out.new 0 }
+{
+    let mut buffer = PieceBuffer::new();
+    put_layers(&mut buffer, out, model, layered)?;
+    buffer.hand_on(out)
+}
