@@ -12,3 +12,6 @@ mod solution;
 
 pub use building::build;
 pub use memory::NoMemory;
+
+#[cfg(test)]
+mod tests;
