@@ -77,6 +77,7 @@ impl<F: Field, T: Tableau<F>> Engine<F, T> {
         ensures pivots { IsTrue result → steps.new ≤ steps.old + (T.state self.old.tableau).columns + size_on (T.state self.old.tableau).base (T.state self.old.tableau).columns + 1 }
         ensures solved { IsFalse result → (q : ℕ → ℕ → ℕ) → AreEntries F.modulus (T.state self.new.tableau) q → IsSolved F.modulus (layers q (T.state self.new.tableau) self.new.matching) (tableau_of (T.state self.new.tableau) self.new.matching) (reached_of self.new.found) }
         ensures kept { IsFalse result → (self.new.tableau ≡ self.old.tableau) × (self.new.matching ≡ self.old.matching) }
+        ensures no_pivot { IsFalse result → self.new.pivots ≡ self.old.pivots }
         ensures looks { IsFalse result → steps.new ≤ steps.old + (T.state self.old.tableau).columns }
         ensures counted { steps.new + self.old.pivots ≤ steps.old + self.new.pivots + (T.state self.old.tableau).columns }
         ensures searches { searches.new ≡ searches.old + 1 }

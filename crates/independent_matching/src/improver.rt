@@ -257,6 +257,7 @@ impl<F: Field, T: Tableau<F>> Improver<F, T> {
         ensures size { IsTrue result → size_of (T.state self.new.pair.tableau) self.new.pair.mates ≡ size_of (T.state self.old.pair.tableau) self.old.pair.mates + 1 }
         ensures pivots { IsTrue result → steps.new ≤ steps.old + (T.state self.old.pair.tableau).columns + size_on (T.state self.old.pair.tableau).base (T.state self.old.pair.tableau).columns + 1 }
         ensures pair { IsFalse result → self.new.pair ≡ self.old.pair }
+        ensures no_pivot { IsFalse result → self.new.pivots ≡ self.old.pivots }
         ensures no_walk { IsFalse result → HasNoWalk F.modulus (layers_of (T.state self.new.pair.tableau) self.new.pair.mates) (tableau_of (T.state self.new.pair.tableau) self.new.pair.mates) }
         ensures reached { IsFalse result → IsReachedFromFree F.modulus (layers_of (T.state self.new.pair.tableau) self.new.pair.mates) (tableau_of (T.state self.new.pair.tableau) self.new.pair.mates) (reached_of self.new.search) }
         ensures counted { steps.new + self.old.pivots ≤ steps.old + self.new.pivots + (T.state self.old.pair.tableau).columns }
@@ -289,6 +290,7 @@ impl<F: Field, T: Tableau<F>> Improver<F, T> {
         ensures size { IsTrue result → size_of (T.state self.new.pair.tableau) self.new.pair.mates ≡ size_of (T.state self.old.pair.tableau) self.old.pair.mates + 1 }
         ensures pivots { IsTrue result → steps.new ≤ steps.old + (T.state self.old.pair.tableau).columns + size_on (T.state self.old.pair.tableau).base (T.state self.old.pair.tableau).columns + 1 }
         ensures pair { IsFalse result → self.new.pair ≡ self.old.pair }
+        ensures no_pivot { IsFalse result → self.new.pivots ≡ self.old.pivots }
         ensures no_walk { IsFalse result → HasNoWalk F.modulus (layers_of (T.state self.new.pair.tableau) self.new.pair.mates) (tableau_of (T.state self.new.pair.tableau) self.new.pair.mates) }
         ensures reached { IsFalse result → IsReachedFromFree F.modulus (layers_of (T.state self.new.pair.tableau) self.new.pair.mates) (tableau_of (T.state self.new.pair.tableau) self.new.pair.mates) (reached_of self.new.search) }
         ensures counted { steps.new + self.old.pivots ≤ steps.old + self.new.pivots + (T.state self.old.pair.tableau).columns }
