@@ -43,3 +43,7 @@ pub record IsSolved (p : ℕ) (L : Layered) (F : Tableau) (reached : ℕ → Boo
 -- last at most as many pivots as there were base columns, and one
 abbrev pub AreFewSteps : ℕ → ℕ → ℕ → ℕ → ℕ → Type 0
 AreFewSteps n s m before after = after + (s * n + s * s) ≤ before + (m + 1) * n + m * m
+
+-- the pivots told tell the steps: besides them there were at most n looks in each search
+abbrev pub AreTold : ℕ → ℕ → ℕ → ℕ → ℕ → ℕ → ℕ → Type 0
+AreTold n s m before after pivots told = after + pivots + s * n ≤ before + told + (m + 1) * n

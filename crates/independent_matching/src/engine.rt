@@ -10,7 +10,7 @@ ghost use Rattle.residue_field.specs.Modulus.{res_modulus};
 ghost use Rattle.row_transform.specs.Dense.{state_of};
 ghost use Rattle.mixed_matrices.specs.Tableaus.{HasTableau};
 ghost use Rattle.mixed_model.specs.Layers.{layered_matrix_of};
-ghost use Rattle.independent_matching.specs.Engines.{Standing, AreEntries, AreFewSteps, IsSolved, layers};
+ghost use Rattle.independent_matching.specs.Engines.{Standing, AreEntries, AreFewSteps, AreTold, IsSolved, layers};
 ghost use Rattle.independent_matching.specs.Sides.{layers_of, size_of, tableau_of};
 
 use crate::improver::Improver;
@@ -77,6 +77,7 @@ impl<F: Field, T: Tableau<F>> Engine<F, T> {
         ensures pivots { IsTrue result → steps.new ≤ steps.old + (T.state self.old.tableau).columns + size_on (T.state self.old.tableau).base (T.state self.old.tableau).columns + 1 }
         ensures solved { IsFalse result → (q : ℕ → ℕ → ℕ) → AreEntries F.modulus (T.state self.new.tableau) q → IsSolved F.modulus (layers q (T.state self.new.tableau) self.new.matching) (tableau_of (T.state self.new.tableau) self.new.matching) (reached_of self.new.found) }
         ensures kept { IsFalse result → (self.new.tableau ≡ self.old.tableau) × (self.new.matching ≡ self.old.matching) }
+        ensures no_pivot { IsFalse result → self.new.pivots ≡ self.old.pivots }
         ensures looks { IsFalse result → steps.new ≤ steps.old + (T.state self.old.tableau).columns }
         ensures counted { steps.new + self.old.pivots ≤ steps.old + self.new.pivots + (T.state self.old.tableau).columns }
         ensures searches { searches.new ≡ searches.old + 1 }
@@ -93,6 +94,7 @@ impl<F: Field, T: Tableau<F>> Engine<F, T> {
         ensures entries { (q : ℕ → ℕ → ℕ) → AreEntries F.modulus (T.state self.old.tableau) q → AreEntries F.modulus (T.state self.new.tableau) q }
         ensures solved { (q : ℕ → ℕ → ℕ) → AreEntries F.modulus (T.state self.new.tableau) q → IsSolved F.modulus (layers q (T.state self.new.tableau) self.new.matching) (tableau_of (T.state self.new.tableau) self.new.matching) (reached_of self.new.found) }
         ensures steps { AreFewSteps (T.state self.old.tableau).columns (size_of (T.state self.old.tableau) self.old.matching) (size_of (T.state self.new.tableau) self.new.matching) steps.old steps.new }
+        ensures told { AreTold (T.state self.old.tableau).columns (size_of (T.state self.old.tableau) self.old.matching) (size_of (T.state self.new.tableau) self.new.matching) steps.old steps.new self.old.pivots self.new.pivots }
     {
         self.run_from::<L, Brand>(Blank::new(1), steps);
     }
@@ -106,6 +108,7 @@ impl<F: Field, T: Tableau<F>> Engine<F, T> {
         ensures entries { (q : ℕ → ℕ → ℕ) → AreEntries F.modulus (T.state self.old.tableau) q → AreEntries F.modulus (T.state self.new.tableau) q }
         ensures solved { (q : ℕ → ℕ → ℕ) → AreEntries F.modulus (T.state self.new.tableau) q → IsSolved F.modulus (layers q (T.state self.new.tableau) self.new.matching) (tableau_of (T.state self.new.tableau) self.new.matching) (reached_of self.new.found) }
         ensures steps { AreFewSteps (T.state self.old.tableau).columns (size_of (T.state self.old.tableau) self.old.matching) (size_of (T.state self.new.tableau) self.new.matching) steps.old steps.new }
+        ensures told { AreTold (T.state self.old.tableau).columns (size_of (T.state self.old.tableau) self.old.matching) (size_of (T.state self.new.tableau) self.new.matching) steps.old steps.new self.old.pivots self.new.pivots }
     {
         self.run_counted(&mut Steps::<M>::new(blank), steps);
     }
@@ -120,6 +123,7 @@ impl<F: Field, T: Tableau<F>> Engine<F, T> {
         ensures entries { (q : ℕ → ℕ → ℕ) → AreEntries F.modulus (T.state self.old.tableau) q → AreEntries F.modulus (T.state self.new.tableau) q }
         ensures solved { (q : ℕ → ℕ → ℕ) → AreEntries F.modulus (T.state self.new.tableau) q → IsSolved F.modulus (layers q (T.state self.new.tableau) self.new.matching) (tableau_of (T.state self.new.tableau) self.new.matching) (reached_of self.new.found) }
         ensures steps { AreFewSteps (T.state self.old.tableau).columns (size_of (T.state self.old.tableau) self.old.matching) (size_of (T.state self.new.tableau) self.new.matching) steps.old steps.new }
+        ensures told { AreTold (T.state self.old.tableau).columns (size_of (T.state self.old.tableau) self.old.matching) (size_of (T.state self.new.tableau) self.new.matching) steps.old steps.new self.old.pivots self.new.pivots }
         ensures searches { searches.new + size_of (T.state self.old.tableau) self.old.matching ≡ searches.old + size_of (T.state self.new.tableau) self.new.matching + 1 }
     {
         self.improver.run(searches, steps);

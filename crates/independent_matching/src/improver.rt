@@ -6,7 +6,7 @@ ghost use Rattle.exchange_graph.specs.Results.{reached_of, step_of};
 ghost use Rattle.mixed_matrices.specs.Arcs.{HasNoWalk, IsReachedFromFree, is_end, is_free};
 ghost use Rattle.mixed_matrices.specs.Tableaus.{HasTableau};
 ghost use Rattle.mixed_augmentation.specs.Moves.{IsFreeRow, IsRoute, route};
-ghost use Rattle.independent_matching.specs.Engines.{AreFewSteps};
+ghost use Rattle.independent_matching.specs.Engines.{AreFewSteps, AreTold};
 ghost use Rattle.independent_matching.specs.Sides.{AreGuesses, AreMarks, AreUntouched, CanTake, IsQuiet, IsReady, IsSized, Takes, in_q, is_matched, layers_of, number, size_of, tableau_of};
 
 use crate::memory::NoMemory;
@@ -257,6 +257,7 @@ impl<F: Field, T: Tableau<F>> Improver<F, T> {
         ensures size { IsTrue result → size_of (T.state self.new.pair.tableau) self.new.pair.mates ≡ size_of (T.state self.old.pair.tableau) self.old.pair.mates + 1 }
         ensures pivots { IsTrue result → steps.new ≤ steps.old + (T.state self.old.pair.tableau).columns + size_on (T.state self.old.pair.tableau).base (T.state self.old.pair.tableau).columns + 1 }
         ensures pair { IsFalse result → self.new.pair ≡ self.old.pair }
+        ensures no_pivot { IsFalse result → self.new.pivots ≡ self.old.pivots }
         ensures no_walk { IsFalse result → HasNoWalk F.modulus (layers_of (T.state self.new.pair.tableau) self.new.pair.mates) (tableau_of (T.state self.new.pair.tableau) self.new.pair.mates) }
         ensures reached { IsFalse result → IsReachedFromFree F.modulus (layers_of (T.state self.new.pair.tableau) self.new.pair.mates) (tableau_of (T.state self.new.pair.tableau) self.new.pair.mates) (reached_of self.new.search) }
         ensures counted { steps.new + self.old.pivots ≤ steps.old + self.new.pivots + (T.state self.old.pair.tableau).columns }
@@ -289,6 +290,7 @@ impl<F: Field, T: Tableau<F>> Improver<F, T> {
         ensures size { IsTrue result → size_of (T.state self.new.pair.tableau) self.new.pair.mates ≡ size_of (T.state self.old.pair.tableau) self.old.pair.mates + 1 }
         ensures pivots { IsTrue result → steps.new ≤ steps.old + (T.state self.old.pair.tableau).columns + size_on (T.state self.old.pair.tableau).base (T.state self.old.pair.tableau).columns + 1 }
         ensures pair { IsFalse result → self.new.pair ≡ self.old.pair }
+        ensures no_pivot { IsFalse result → self.new.pivots ≡ self.old.pivots }
         ensures no_walk { IsFalse result → HasNoWalk F.modulus (layers_of (T.state self.new.pair.tableau) self.new.pair.mates) (tableau_of (T.state self.new.pair.tableau) self.new.pair.mates) }
         ensures reached { IsFalse result → IsReachedFromFree F.modulus (layers_of (T.state self.new.pair.tableau) self.new.pair.mates) (tableau_of (T.state self.new.pair.tableau) self.new.pair.mates) (reached_of self.new.search) }
         ensures counted { steps.new + self.old.pivots ≤ steps.old + self.new.pivots + (T.state self.old.pair.tableau).columns }
@@ -313,6 +315,7 @@ impl<F: Field, T: Tableau<F>> Improver<F, T> {
         ensures no_walk { HasNoWalk F.modulus (layers_of (T.state self.new.pair.tableau) self.new.pair.mates) (tableau_of (T.state self.new.pair.tableau) self.new.pair.mates) }
         ensures reached { IsReachedFromFree F.modulus (layers_of (T.state self.new.pair.tableau) self.new.pair.mates) (tableau_of (T.state self.new.pair.tableau) self.new.pair.mates) (reached_of self.new.search) }
         ensures steps { AreFewSteps (T.state self.old.pair.tableau).columns (size_of (T.state self.old.pair.tableau) self.old.pair.mates) (size_of (T.state self.new.pair.tableau) self.new.pair.mates) steps.old steps.new }
+        ensures told { AreTold (T.state self.old.pair.tableau).columns (size_of (T.state self.old.pair.tableau) self.old.pair.mates) (size_of (T.state self.new.pair.tableau) self.new.pair.mates) steps.old steps.new self.old.pivots self.new.pivots }
         ensures searches { searches.new + size_of (T.state self.old.pair.tableau) self.old.pair.mates ≡ searches.old + size_of (T.state self.new.pair.tableau) self.new.pair.mates + 1 }
     {
         let mut grown = true;
