@@ -6,5 +6,4 @@ pub mod Puts
 pub mod RightFacts
 pub mod RuleFacts
 pub mod Smallness
-pub mod TestForms
 pub mod Written

@@ -12,8 +12,6 @@ mod lists;
 mod numbers;
 mod part;
 mod shape;
-#[cfg(test)]
-mod tests;
 
 pub use ccf::Ccf;
 pub use certificate::{Certificate, write};
