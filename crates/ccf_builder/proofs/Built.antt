@@ -1,7 +1,6 @@
 -- What is printed of an engine that has run on the layered matrix of a model is right for the model.
-use Rattle.std.proofs.Common.{◌≡◌, ℕ, ◌+◌, ◌-◌, ◌<◌, ◌≤◌, Bool, true, List, length, get_or, refl, ap, sym, ◌∙◌, subst, arith}
+use Rattle.std.proofs.Common.{◌≡◌, ℕ, ◌+◌, ◌-◌, ◌<◌, ◌≤◌, List, length, get_or, refl, ap, sym, ◌∙◌, subst, arith}
 use Rattle.residue_theory.specs.Sets.{either}
-use Rattle.residue_theory.specs.Sums.{size_on}
 use Rattle.residue_theory.proofs.CountLaws.{size-either}
 use Rattle.residue_theory.proofs.Primes.{prime_65521}
 use Rattle.residue_field.specs.Modulus.{res_modulus}
@@ -9,7 +8,6 @@ use Rattle.dense_q.specs.Tables.{entry}
 use Rattle.sparse_t.specs.Incidences.{touches}
 use Rattle.mixed_matrices.specs.LayeredMatrices.{Layered}
 use Rattle.mixed_matrices.specs.Layerings.{Origins, IsLayeredMatrixOf}
-use Rattle.mixed_matrices.specs.Models.{Mixed}
 use Rattle.mixed_matrices.specs.StructuralRanks.{IsStructuralRank}
 use Rattle.mixed_layering_laws.proofs.LayeringRank.{model_rank}
 use Rattle.mixed_layering.specs.Layers.{AreLayersOf, origins_of}

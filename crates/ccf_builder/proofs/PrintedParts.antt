@@ -1,54 +1,41 @@
 -- The printed parts of an engine's arcs keep their rules.
-use Rattle.std.proofs.Common.{◌≡◌, ℕ, zero, suc, ◌+◌, ◌-◌, ◌<◌, ◌≤◌, ◌%◌, ◌⊎◌, inl, inr, Bool, true, false, cond, eqb, ◌&&◌, List, [], ◌∷◌, ◌++◌, length, map, get_or, slice_get, slice_index_or, Option, Some, refl, ap, sym, ◌∙◌, subst, arith}
+use Rattle.std.proofs.Common.{◌≡◌, ℕ, ◌+◌, ◌-◌, ◌<◌, ◌≤◌, inl, inr, Bool, true, false, cond, eqb, ◌&&◌, List, [], ◌∷◌, ◌++◌, length, map, get_or, slice_get, slice_index_or, Some, refl, ap, sym, ◌∙◌, subst, arith}
 use Rattle.std.proofs.lemmas.List.{get_or-map, get_or_past, length-map}
-use Rattle.residue_theory.specs.Sums.{size_on}
-use Rattle.residue_theory.proofs.SumLaws.{nat_cases, sum_on-same}
-use Rattle.residue_theory.proofs.SetLaws.{differ, both_true, eqb_from, eqb_true, not_true, lt_cases, search_below, some_below-holds}
+use Rattle.residue_theory.proofs.SetLaws.{differ, both_true, eqb_from, eqb_true, not_true, lt_cases, some_below-holds}
 use Rattle.residue_field.specs.Modulus.{res_modulus}
 use Rattle.dense_q.specs.Tables.{entry}
-use Rattle.sparse_t.specs.Incidences.{touches}
-use Rattle.bipartite_matching.specs.Matchings.{Matching, HasPair}
-use Rattle.bipartite_matching.proofs.MateLaws.{pair-matched, matched-pair}
-use Rattle.exchange_graph.specs.Results.{reached_of}
 use Rattle.closed_sets.specs.Blocks.{IsBelow}
 use Rattle.closed_sets.specs.Closed.{IsMiddle, NoEndReached}
 use Rattle.closed_sets.specs.Orders.{IsCover}
-use Rattle.closed_sets.specs.Rules.{InBlock, KeepsRules as KeepsPlaces}
-use Rattle.mixed_matrices.specs.Arcs.{has_base, has_match, is_end, is_free, leads_to, HasNoWalk}
+use Rattle.closed_sets.specs.Rules.{KeepsRules as KeepsPlaces}
+use Rattle.mixed_matrices.specs.Arcs.{has_base, has_match, is_end, is_free, leads_to}
 use Rattle.mixed_matrices.specs.CheckerRules.{HasRows, KeepsPartRules, block_of, in_first, in_last}
 use Rattle.mixed_matrices.specs.Forms.{Parts as Forms}
 use Rattle.mixed_matrices.specs.LayeredMatrices.{Layered}
-use Rattle.mixed_matrices.specs.Tableaus.{Tableau, HasTableau}
-use Rattle.mixed_model.specs.Layers.{Layers, layered_matrix_of, split_of}
+use Rattle.mixed_matrices.specs.Tableaus.{Tableau}
+use Rattle.mixed_model.specs.Layers.{Layers}
 use Rattle.row_transform.specs.Dense.{Dense, state_of}
 use Rattle.row_transform.specs.Tableaus.{State, IsTableau, IsBaseColumn}
-use Rattle.independent_matching.specs.Engines.{Standing, IsSolved, layers}
-use Rattle.independent_matching.specs.Sides.{layers_of, tableau_of, is_matched, mate_of, size_of}
+use Rattle.independent_matching.specs.Engines.{Standing}
+use Rattle.independent_matching.specs.Sides.{layers_of, is_matched, mate_of}
 use Rattle.independent_matching.proofs.EngineLaws.{same-arcs as kept-arcs, same-ends as kept-ends}
 use Rattle.minimiser_lattice.specs.Parts.{Parts, part_in}
 use Rattle.minimiser_lattice.specs.declared.lattice.Part.{Part}
 use Rattle.minimiser_lattice.specs.declared.lattice.Part.TheVariants.{First, Block, Last}
-use Rattle.cert_text.specs.Contents.{Contents}
-use Rattle.cert_text.specs.Readings.{matrix_of, pattern_of, pair_at, has, has_column, row_with, tableau_of as printed_tableau, column_lists, q_row_lists, t_row_lists, parts_of, lower_of, place_of, StandsOnce, ColumnsDiffer, IsUnitColumn}
-use Rattle.cert_text.specs.Right.{HasProduct, HasUnitColumns}
-use Rattle.cert_text.specs.Rules.{HasMatching}
+use Rattle.cert_text.specs.Readings.{has, has_column, row_with, place_of, StandsOnce}
 use Rattle.cert_text.specs.declared.part.CcfPart.{CcfPart}
 use Rattle.cert_text.specs.declared.part.CcfBlock.{CcfBlock}
-use Rattle.cert_text.specs.declared.shape.Shape.{Shape}
 use Rattle.ccf_builder.specs.Decompositions.{IsDecomposition}
-use Rattle.ccf_builder.specs.Matrices.{PrintsMatrix, PrintsPattern}
+use Rattle.ccf_builder.specs.Matrices.{PrintsMatrix}
 use Rattle.ccf_builder.specs.Pairs.{ListsPairs, IsMate}
 use Rattle.ccf_builder.specs.Placings.{PlacesColumns, PlacesRows, Placing, HasPart, HasBlock, ListsBelow, ListsPart}
 use Rattle.ccf_builder.specs.Solutions.{IsSolution}
 use Rattle.ccf_builder.proofs.MemberLists.{has-below}
-use Rattle.cert_text.proofs.PairLists.{has-found}
-use Rattle.std.proofs.lemmas.Option.{get_or_from_slice_get, slice_get-get_or}
-use Rattle.ccf_builder.proofs.PairLists.{are-pairs, column-below, columns-differ, column-same, counted, row-of, row-same, same-tests}
-use Rattle.ccf_builder.proofs.PrintedPair.{t, M, L, F, G, solved, base_told, base_has, base_low, mate_told, mate_has, mate_low, base-same, base-row, mate-same, mate-row, printed-arc, printed-free, printed-end}
+use Rattle.ccf_builder.proofs.PairLists.{same-tests}
+use Rattle.ccf_builder.proofs.PrintedPair.{t, L, F, G, solved, base_told, base_has, base_low, mate_told, mate_has, mate_low, printed-arc, printed-free, printed-end}
 use Rattle.ccf_builder.proofs.RowParts.{bare-part, column-part, part_of_row, row-bounded, row-part, row-with-below}
-use Rattle.ccf_builder.proofs.PartLists.{IsOfBlocks, lists, once, place, place_of_part}
+use Rattle.ccf_builder.proofs.PartLists.{IsOfBlocks, once, place, place_of_part}
 use Rattle.ccf_builder.proofs.SameRules.{same-below, same-clear, same-rules}
-use Rattle.ccf_builder.proofs.SameTableau.{same-arcs, same-ends, same-free, same-has_base, same-has_match}
 
 -- no rows and no columns
 abbrev pub no_part : CcfPart

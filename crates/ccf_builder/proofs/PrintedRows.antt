@@ -1,11 +1,11 @@
 -- Rows of a matrix and of a pattern, printed one after the other.
-use Rattle.std.proofs.Common.{◌≡◌, ◌≢◌, ℕ, ◌+◌, ◌<◌, ◌≤◌, Bool, true, false, ◌||◌, cond, eqb, nat_eq, List, [], ◌∷◌, ◌++◌, length, map, get_or, inl, inr, suc, refl, ap, sym, ◌∙◌, subst, arith}
+use Rattle.std.proofs.Common.{◌≡◌, ◌≢◌, ℕ, ◌+◌, ◌<◌, Bool, true, ◌||◌, cond, eqb, nat_eq, List, [], ◌∷◌, ◌++◌, length, map, get_or, inl, inr, suc, refl, ap, sym, ◌∙◌, subst, arith}
 use Rattle.std.specs.List.{All}
 use Rattle.std.specs.List.Sorted.{IsStrictlyIncreasing}
 use Rattle.std.proofs.lemmas.List.{get_or_append_left, get_or_push, get_or-map, length-map, length_push, map-append}
 use Rattle.std.proofs.lemmas.List.Elements.{All-append, All-from_get_or}
 use Rattle.residue_theory.proofs.SumLaws.{nat_cases}
-use Rattle.residue_theory.proofs.SetLaws.{differ, eqb_from, eqb_true, lt_cases, not_true}
+use Rattle.residue_theory.proofs.SetLaws.{differ, eqb_from, eqb_true, not_true}
 use Rattle.residue_field.specs.Modulus.{res_modulus}
 use Rattle.sparse_t.specs.Lists.{IsBelow, has as touched}
 use Rattle.sparse_t.proofs.ListLaws.{nat_eq-apart, nat_eq-itself}

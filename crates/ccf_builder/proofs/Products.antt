@@ -1,5 +1,5 @@
 -- Products of matrices with the same entries.
-use Rattle.std.proofs.Common.{◌≡◌, ℕ, ◌+◌, ◌*◌, ◌<◌, ◌%◌, ap, sym, ◌∙◌}
+use Rattle.std.proofs.Common.{◌≡◌, ℕ, ◌*◌, ◌<◌, ◌%◌, ap, sym, ◌∙◌}
 use Rattle.residue_theory.specs.Sets.{everything}
 use Rattle.residue_theory.proofs.SumLaws.{sum_on-ext}
 use Rattle.residue_theory.proofs.ResidueLaws.{agree-sum, agree-mul}

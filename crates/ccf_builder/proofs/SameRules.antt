@@ -1,5 +1,5 @@
 -- Rules of printed parts, carried over to arcs, starts, ends and parts that are the same at all places.
-use Rattle.std.proofs.Common.{◌≡◌, ℕ, zero, suc, ◌<◌, ◌≤◌, ◌⊎◌, inl, inr, Bool, true, false, refl, ap, sym, ◌∙◌, subst}
+use Rattle.std.proofs.Common.{◌≡◌, ℕ, zero, suc, ◌<◌, ◌⊎◌, inl, inr, Bool, true, sym, ◌∙◌, subst}
 use Rattle.closed_sets.specs.Blocks.{IsBelow}
 use Rattle.closed_sets.specs.Closed.{IsMiddle, NoEndReached}
 use Rattle.closed_sets.specs.Rules.{InBlock, KeepsRules}

@@ -1,5 +1,5 @@
 -- Two tableaus that are the same at all rows and columns have the same arcs, free columns and ends.
-use Rattle.std.proofs.Common.{◌≡◌, ℕ, zero, suc, ◌+◌, ◌<◌, ◌%◌, Bool, true, false, ◌&&◌, ◌||◌, not, eqb, refl, ap, sym, ◌∙◌, subst, arith}
+use Rattle.std.proofs.Common.{◌≡◌, ℕ, zero, suc, ◌<◌, ◌%◌, Bool, true, false, ◌&&◌, ◌||◌, not, eqb, refl, ap, ◌∙◌, subst, arith}
 use Rattle.residue_theory.specs.Sets.{some_below}
 use Rattle.mixed_matrices.specs.Arcs.{has_base, has_match, is_end, is_free, leads_to}
 use Rattle.mixed_matrices.specs.LayeredMatrices.{Layered}

@@ -1,12 +1,11 @@
 -- What is known of an engine, the parts of its arcs and its pair, and of what is printed of them.
-use Rattle.std.specs.Prelude.{ℕ, Bool, List, length}
+use Rattle.std.specs.Prelude.{ℕ, List, length}
 use Rattle.residue_field.specs.Modulus.{res_modulus}
 use Rattle.sparse_t.specs.Incidences.{touches}
 use Rattle.cert_text.specs.declared.part.CcfPart.{CcfPart}
 use Rattle.cert_text.specs.declared.part.CcfBlock.{CcfBlock}
 use Rattle.mixed_model.specs.Layers.{Layers}
 use Rattle.row_transform.specs.Dense.{Dense, state_of}
-use Rattle.row_transform.specs.Tableaus.{IsTableau}
 use Rattle.independent_matching.specs.Engines.{Standing}
 use Rattle.minimiser_lattice.specs.Parts.{Parts}
 use Rattle.ccf_builder.specs.Decompositions.{IsDecomposition}

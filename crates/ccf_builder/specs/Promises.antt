@@ -1,6 +1,4 @@
 -- What `build` asks of a layered matrix, and what it tells of a form.
-use Rattle.std.specs.Prelude.{ℕ}
-use Rattle.residue_field.specs.Modulus.{res_modulus}
 use Rattle.mixed_matrices.specs.Layerings.{Origins}
 use Rattle.mixed_matrices.specs.Models.{Mixed}
 use Rattle.mixed_model.specs.Models.{MixedModel, IsModel, mixed_matrix_of}

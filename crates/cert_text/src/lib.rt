@@ -17,5 +17,6 @@ pub use ccf::Ccf;
 pub use certificate::{Certificate, write};
 pub use items::Items;
 pub use kind::Kind;
+pub use numbers::{put_item, put_number, put_piece};
 pub use part::{CcfBlock, CcfPart};
 pub use shape::Shape;

@@ -9,7 +9,7 @@ ghost use Rattle.report_cli.specs.LayerTexts.{name_at, head_text, column_name, c
 ghost use Rattle.report_cli.specs.Columns.{IsOriginIn};
 ghost use Rattle.sparse_t.specs.Incidences.{row_at as columns_at};
 
-use crate::numbers::{put_item, put_number, put_piece};
+use cert_text::{put_item, put_number, put_piece};
 use dense_q::Mat;
 use mixed_model::{Layered, Mixed, Origin};
 use port_io::{PieceBuffer, Sink, WriteFault};

@@ -2,9 +2,7 @@
 #![tactic(auto)]
 
 mod command;
-mod digits;
 mod layer_lines;
-mod numbers;
 mod report;
 mod running;
 mod status;

@@ -5,8 +5,8 @@ ghost use Rattle.refusals.specs.Texts.{number_text, place_number, place_text, pl
 ghost use Rattle.report_cli.specs.Notes.{limit_text, words_of, line_of, note_of, Noted};
 ghost use Rattle.cert_text.specs.Writing.{IsPut};
 
-use crate::numbers::{put_number, put_piece};
 use crate::status::Status;
+use cert_text::{put_number, put_piece};
 use port_io::{PieceBuffer, Sink, WriteFault};
 use refusals::{Place, Refused, Why};
 

@@ -1,4 +1,4 @@
-use Rattle.std.proofs.Common.{◌≡◌, ◌<◌, ℕ, Bool, false, ap, sym, ◌∙◌, subst}
+use Rattle.std.proofs.Common.{false, ap, ◌∙◌, subst}
 use Rattle.std.proofs.lemmas.Option.{get_or_from_slice_get}
 use Rattle.residue_field.specs.Modulus.{res_modulus}
 use Rattle.closed_sets.specs.Closed.{NoEndReached}

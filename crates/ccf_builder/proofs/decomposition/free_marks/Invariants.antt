@@ -1,7 +1,7 @@
 use Rattle.residue_field.specs.Modulus.{res_modulus}
 use Rattle.mixed_matrices.specs.Arcs.{is_free}
 use Rattle.row_transform.specs.Dense.{state_of}
-use Rattle.independent_matching.specs.Sides.{layers_of, tableau_of}
+use Rattle.independent_matching.specs.Sides.{tableau_of}
 use Rattle.ccf_builder.specs.Tabulations.{Tabulates}
 use Rattle.ccf_builder.proofs.decomposition.free_marks.Given as goal
 

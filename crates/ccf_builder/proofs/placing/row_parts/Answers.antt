@@ -1,4 +1,4 @@
-use Rattle.ccf_builder.proofs.PlacedRows.{IsPlacedTo, placed-all, placed-more, placed-none}
+use Rattle.ccf_builder.proofs.PlacedRows.{IsPlacedTo, placed-more, placed-none}
 use Rattle.std.proofs.Common.{rules, get_or, subst, sym}
 use Rattle.std.proofs.lemmas.Option.{slice_get-get_or}
 use Rattle.cert_text.specs.Readings.{pair_at}

@@ -1,6 +1,3 @@
-use Rattle.std.proofs.Common.{◌≡◌, ◌<◌, ℕ, length, slice_get, Some}
-use Rattle.cert_text.specs.Readings.{pair_at}
-use Rattle.minimiser_lattice.specs.declared.lattice.Part.TheVariants.{Last}
 use Rattle.ccf_builder.proofs.PlacedRows.{IsPlacedTo}
 use Rattle.ccf_builder.proofs.placing.row_parts.Given as goal
 
