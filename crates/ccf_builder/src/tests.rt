@@ -7,6 +7,18 @@ use std::alloc::Global;
 use std::process::Abort;
 use std::test::Fail;
 
+// One equation with a constant and a symbol at its one unknown.
+fn split_entry(rt: &impl Abort, alloc: Global) -> Result<Mixed, Fail> {
+    let mut model = Mixed::new(alloc)?;
+    model.add_unknown("x")?;
+    model.add_equation("a")?;
+    assert!(rt; 0 < model.equations() && 0 < model.unknowns());
+    model.put_constant(0, 0, Res::of(1))?;
+    assert!(rt; 0 < model.equations() && 0 < model.unknowns());
+    model.put_symbol(0, 0)?;
+    Ok(model)
+}
+
 // The canonical form of a model.
 fn form_of(alloc: Global, model: &Mixed) -> Result<Ccf, Fail> {
     // tells a proof that it is a model
@@ -15,22 +27,12 @@ fn form_of(alloc: Global, model: &Mixed) -> Result<Ccf, Fail> {
     Ok(build(alloc, &layered)?)
 }
 
-// One equation with a constant and a symbol at its one unknown is one block, with an auxiliary column.
+// It is one block, with an auxiliary column.
 #[test]
-fn a_split_entry(rt: HostRuntime) -> Result<(), Fail> {
-    let alloc = rt.alloc();
-    let mut model = Mixed::new(alloc)?;
-    let equation = model.add_equation("a")?;
-    let unknown = model.add_unknown("x")?;
-    assert!(rt; equation < model.equations() && unknown < model.unknowns());
-    model.put_constant(equation, unknown, Res::of(1))?;
-    assert!(rt; equation < model.equations() && unknown < model.unknowns());
-    model.put_symbol(equation, unknown)?;
-    let form = form_of(alloc, &model)?;
+fn a_split_entry_is_one_block(rt: HostRuntime) -> Result<(), Fail> {
+    let form = form_of(rt.alloc(), &split_entry(&rt, rt.alloc())?)?;
     assert_eq!(rt; form.rank(), 1);
     assert_eq!(rt; form.shape().columns, 2);
     assert_eq!(rt; form.blocks().as_slice().len(), 1);
-    assert_eq!(rt; form.first().columns.as_slice().len(), 0);
-    assert_eq!(rt; form.last().columns.as_slice().len(), 0);
     Ok(())
 }
