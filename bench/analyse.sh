@@ -9,8 +9,9 @@
 # 500, 1000, 2000 and 4000.
 # The rows are those of a table: family; equations; bytes in and out; seconds of the clock until the first byte is written,
 # and until the end; the processor's seconds in the program; the greatest memory; and then the processor's seconds of
-# `mixed layer matrix` on the same list, of bench_reader (reading alone) and of bench_engine (the engine alone).
-# No run is longer than 180 seconds. Build the program first:
+# `mixed layer matrix` on the same list, of bench_reader (reading alone) and of bench_engine (the engine alone). A run that
+# is longer than 180 seconds is stopped.
+# Build the program first:
 #   (cd crates/mixed && rt run -- analyse matrix < ../../examples/regular.txt)
 # and for the last two columns, where `-` stands without them:
 #   (cd crates/bench_reader && rt run < stdin); (cd crates/bench_engine && rt run -- mixed 60)
@@ -67,16 +68,20 @@ equations() {
 # Runs a command on the list and leaves the bytes that it wrote in `bytes`, the seconds of the clock until the first of
 # them in `first`, all seconds of the clock, the processor's and the KiB in `wall`, `user` and `memory`.
 measure() {
-    local start=$EPOCHREALTIME
-    /usr/bin/time -q -o "$work/time" -f '%e %U %M' timeout 180 "$@" < "$work/list" | {
+    local start=$EPOCHREALTIME status
+    /usr/bin/time -q -o "$work/time" -f '%x %e %U %M' timeout 180 "$@" < "$work/list" | {
         if IFS= read -r -N 1; then count=1; else count=0; fi
         echo "$EPOCHREALTIME" > "$work/first"
         echo $((count + $(wc -c))) > "$work/bytes"
     }
     bytes=$(cat "$work/bytes")
     first=$(awk -v start="$start" -v end="$(cat "$work/first")" 'BEGIN { printf "%.2f", end - start }')
-    read -r wall user memory < "$work/time"
-    if [ "$bytes" = 0 ]; then first="nothing in 180"; fi
+    read -r status wall user memory < "$work/time"
+    case $status in
+        0) ;;
+        124) wall="stopped at 180 s" ;;
+        *) wall="status $status" ;;
+    esac
 }
 
 # The processor's seconds of a program alone, or `-` where it is not built.
@@ -100,6 +105,7 @@ uptime
 echo "| family | equations | bytes in | bytes out | first byte | clock | processor | memory | layer | reader | engine |"
 echo "|---|---|---|---|---|---|---|---|---|---|---|"
 for family in ${1:-dense symbols constants mixed}; do
+    case $family in dense | symbols | constants | mixed) ;; *) echo "no family $family" >&2; exit 1 ;; esac
     if [ $# -gt 1 ]; then sizes=${*:2}; elif [ "$family" = dense ]; then sizes="250 500 1000"; else sizes="500 1000 2000 4000"; fi
     for size in $sizes; do row "$family" "$size"; done
 done
