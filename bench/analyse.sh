@@ -7,10 +7,10 @@
 # Without dense, and but for the places with both, these are the matrices of bench_engine.
 # Usage: bench/analyse.sh [FAMILY [EQUATIONS ..]]; without words all, the dense ones at 250, 500 and 1000, the others at
 # 500, 1000, 2000 and 4000.
-# The rows are those of a table: family; equations; bytes in and out; seconds of the clock until the first byte is written,
-# and until the end; the processor's seconds in the program; the greatest memory; and then the processor's seconds of
-# `mixed layer matrix` on the same list, of bench_reader (reading alone) and of bench_engine (the engine alone). A run that
-# is longer than 180 seconds is stopped.
+# The rows are those of a table: family; equations; bytes in and out; seconds of the clock from before the program is started
+# until its first byte is written, and of the whole program; the processor's seconds in it; the greatest memory; and then
+# the processor's seconds of `mixed layer matrix` on the same list, of bench_reader (reading alone) and of bench_engine (the
+# engine alone). A run that is longer than 180 seconds is stopped.
 # Build the program first:
 #   (cd crates/mixed && rt run -- analyse matrix < ../../examples/regular.txt)
 # and for the last two columns, where `-` stands without them:
@@ -106,7 +106,8 @@ echo "| family | equations | bytes in | bytes out | first byte | clock | process
 echo "|---|---|---|---|---|---|---|---|---|---|---|"
 for family in ${1:-dense symbols constants mixed}; do
     case $family in dense | symbols | constants | mixed) ;; *) echo "no family $family" >&2; exit 1 ;; esac
-    if [ $# -gt 1 ]; then sizes=${*:2}; elif [ "$family" = dense ]; then sizes="250 500 1000"; else sizes="500 1000 2000 4000"; fi
-    for size in $sizes; do row "$family" "$size"; done
+    sizes=${*:2}
+    if [ "$family" = dense ]; then sizes=${sizes:-250 500 1000}; fi
+    for size in ${sizes:-500 1000 2000 4000}; do row "$family" "$size"; done
 done
 uptime
