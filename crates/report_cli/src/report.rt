@@ -1,6 +1,6 @@
 //! What a command writes of an input.
 
-ghost use Rattle.std.specs.Prelude.{◌≡◌, ◌≤◌, length, IfErr, IfOk, IsOk, OnErr, OnOk};
+ghost use Rattle.std.specs.Prelude.{◌≡◌, ◌≤◌, length, IfErr, IfOk, IsOk, OnOk};
 ghost use Rattle.cert_text.specs.Writing.{IsCut};
 ghost use Rattle.matrix_reader.specs.Models.{IsRefusal};
 ghost use Rattle.mixed_layering.specs.Layers.{AreLayersOf};
@@ -8,7 +8,6 @@ ghost use Rattle.port_io.specs.Bytes.{Appended};
 ghost use Rattle.port_io.specs.Causes.{HasCause};
 ghost use Rattle.report_cli.specs.LayerTexts.{layer_text};
 ghost use Rattle.report_cli.specs.Reports.{IsReportFor, IsWritable, report_text};
-ghost use Rattle.report_cli.specs.Writing.{PartWritten};
 
 use crate::command::Command;
 use crate::layer_lines::put_layers;
@@ -56,11 +55,11 @@ impl Report {
     }
 
     /// Appends the whole text to the sink, in pieces of some KiB, and takes no memory. It does not flush. Where the sink
-    /// fails, a first part of the text was appended.
+    /// fails, a first part of the text was appended, and `written` counts its bytes.
     pub fn write<K: Sink>(&self, out: &mut K) -> Result<(), WriteFault>
         requires { IsWritable self.now }
         ensures whole { OnOk result (Appended (K.written out.old) (K.written out.new) (report_text self.now)) }
-        ensures part { OnErr result (PartWritten (K.written out.old) (K.written out.new) (report_text self.now)) }
+        ensures part { IfErr result (IsCut (K.written out.old) (K.written out.new) (report_text self.now)) }
         ensures cause { HasCause (K.faults out.old) (K.faults out.new) result }
         ensures calm { K.takes out.old (length (report_text self.now)) → (K.faults out.new ≡ K.faults out.old) × IsOk result × K.takes out.new 0 }
     {
