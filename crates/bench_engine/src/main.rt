@@ -1,7 +1,6 @@
 //! Runs the engine on a layered matrix that is drawn at random, and writes what it finds. The words are a family
 //! (`symbols`, `constants` or `mixed`) and how many equations and unknowns there are, from 1 to 4,096. It tells how many
-//! searches there were, how many columns they reached in all, each of which they look at once at most, and how many
-//! pivots: looks and pivots are the engine's steps.
+//! searches there were and how many steps, which are looks at columns and pivots.
 #![tactic(auto)]
 
 ghost use Rattle.std.specs.Prelude.{◌≤◌, IfSome};
@@ -31,12 +30,13 @@ fn main(rt: HostRuntime) -> ExitCode {
         free,
         least,
         searches,
-        reached,
+        looks,
         pivots,
     } = found;
     let written = println!(rt;
-        "{} {size}: {columns} columns, {pair} in the pair, {free} free, {least} in the least minimiser; {searches} searches, {reached} columns reached, {pivots} pivots",
-        family.name()
+        "{} {size}: {columns} columns, {pair} in the pair, {free} free, {least} in the least minimiser; {searches} searches, {} steps, of them {pivots} pivots",
+        family.name(),
+        looks.saturating_add(pivots)
     );
     match written {
         Ok(()) => ExitCode::from(0),

@@ -6,17 +6,16 @@ use exchange_graph::Steps;
 use independent_matching::{Engine, NoMemory};
 use row_transform::Tableau;
 use std::alloc::Global;
-use std::marker::Brand;
 use std::sync::ledger::{Blank, Ledger};
 
-/// What the engine finds, and what it takes.
+/// What the engine finds, and what it takes: its steps are looks at columns and pivots.
 pub struct Found {
     pub columns: usize,
     pub pair: usize,
     pub free: usize,
     pub least: usize,
     pub searches: usize,
-    pub reached: usize,
+    pub looks: usize,
     pub pivots: usize,
 }
 
@@ -37,58 +36,20 @@ pub(crate) fn solve<L: Ledger>(
     let layered = layered(alloc, &mut draws, family, size)?;
     let mut engine = Engine::open(alloc, &layered)?;
     let mut steps = Steps::<L>::new(blank);
-    let work = run::<L, Brand>(&mut engine, &mut steps, Blank::new(1));
+    engine.run(&mut steps);
     let columns = engine.tableau().columns();
+    let least = (0..columns)
+        .filter(|col| engine.least_minimiser(*col))
+        .count();
     Ok(Found {
         columns,
         pair: engine.size(),
         free: (0..columns).filter(|col| engine.free(*col)).count(),
-        least: reached(&engine),
-        searches: work.searches,
-        reached: work.reached,
+        least,
+        // the last one alone does not make the pair larger
+        searches: engine.size().saturating_add(1),
+        // the last one looked at each column that it reached
+        looks: engine.looks().saturating_add(least),
         pivots: engine.pivots(),
     })
-}
-
-#[derive(Clone, Copy)]
-struct Work {
-    searches: usize,
-    reached: usize,
-}
-
-// Improves the pair until it is best, and counts the searches and the columns that they reach.
-fn run<L: Ledger, M: Ledger>(engine: &mut Engine, steps: &mut Steps<L>, blank: Blank) -> Work
-    requires name { blank.name ≡ M.name }
-    requires parts { blank.parts ≡ M.parts }
-    requires some { 0 < blank.parts }
-{
-    let mut counter = Steps::<M>::new(blank);
-    let mut work = Work {
-        searches: 0,
-        reached: 0,
-    };
-    for _search in 0..engine.tableau().columns().saturating_add(1) {
-        let has_free_end = has_free_end(engine);
-        let is_grown = engine.improve(&mut counter, steps);
-        work.searches = work.searches.saturating_add(1);
-        if !has_free_end {
-            work.reached = work.reached.saturating_add(reached(engine));
-        }
-        if !is_grown {
-            break;
-        }
-    }
-    work
-}
-
-// Whether a free column is an end: then the engine does not search.
-fn has_free_end(engine: &Engine) -> bool {
-    (0..engine.tableau().columns()).any(|col| engine.free(col) && engine.end(col))
-}
-
-// How many columns the last search reached.
-fn reached(engine: &Engine) -> usize {
-    (0..engine.tableau().columns())
-        .filter(|col| engine.least_minimiser(*col))
-        .count()
 }

@@ -7,6 +7,7 @@ use Rattle.residue_theory.proofs.SumLaws.{nat_cases}
 use Rattle.residue_theory.proofs.SetLaws.{differ, either_cases, either-first, either-second, eqb_true, eqb_from, lt_cases}
 use Rattle.cert_text.specs.Ranges.{AreRising}
 use Rattle.cert_text.specs.Readings.{has}
+use Rattle.cert_text.proofs.PrintedRules.{has-below}
 use Rattle.ccf_builder.specs.Placings.{ListsBelow}
 
 pub has-push : (xs : List ℕ) (x k : ℕ) → has (xs ++ x ∷ []) k ≡ (has xs k || eqb x k)
@@ -20,14 +21,6 @@ has-push (y ∷ xs) x k = ap (λ b. eqb y k || b) (has-push xs x k) ∙ joined (
     joined : (a b c : Bool) → (a || (b || c)) ≡ ((a || b) || c)
     joined true b c = refl
     joined false b c = refl
-
--- a number that a list holds is below what all its numbers are below
-pub has-below : (n : ℕ) (xs : List ℕ) (k : ℕ) → All (λ x. x < n) xs → has xs k ≡ true → k < n
-has-below n [] k all h = absurd (differ refl h)
-has-below n (x ∷ xs) k all h = elim (either_cases (eqb x k) (has xs k) h) [
-  | inl here ↦ subst (λ y. y < n) (eqb_true x k here) (All-head (λ y. y < n) x xs all)
-  | inr later ↦ has-below n xs k (All-tail (λ y. y < n) x xs all) later
-]
 
 -- one more number, at the end
 pub rising-push : (n m x : ℕ) (xs : List ℕ) → AreRising n xs → n ≤ x → x < m → AreRising m (xs ++ x ∷ [])

@@ -30,7 +30,7 @@ use Rattle.ccf_builder.specs.Matrices.{PrintsMatrix}
 use Rattle.ccf_builder.specs.Pairs.{ListsPairs, IsMate}
 use Rattle.ccf_builder.specs.Placings.{PlacesColumns, PlacesRows, Placing, HasPart, HasBlock, ListsBelow, ListsPart}
 use Rattle.ccf_builder.specs.Solutions.{IsSolution}
-use Rattle.ccf_builder.proofs.MemberLists.{has-below}
+use Rattle.cert_text.proofs.PrintedRules.{has-below}
 use Rattle.ccf_builder.proofs.PairLists.{same-tests}
 use Rattle.ccf_builder.proofs.PrintedPair.{t, L, F, G, solved, base_told, base_has, base_low, mate_told, mate_has, mate_low, printed-arc, printed-free, printed-end}
 use Rattle.ccf_builder.proofs.RowParts.{bare-part, column-part, part_of_row, row-bounded, row-part, row-with-below}

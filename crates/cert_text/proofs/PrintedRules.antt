@@ -35,7 +35,7 @@ pub record KeepsPrintedRules (p : ℕ) (M : Mixed) (L : Layered) (c : Contents) 
   pub checked : HasCheckedParts p L c
 
 -- a number that a list holds is below what all its numbers are below
-has-below : (n : ℕ) (xs : List ℕ) (k : ℕ) → All (λ x. x < n) xs → has xs k ≡ true → k < n
+pub has-below : (n : ℕ) (xs : List ℕ) (k : ℕ) → All (λ x. x < n) xs → has xs k ≡ true → k < n
 has-below n [] k all h = absurd (differ refl h)
 has-below n (x ∷ xs) k all h = elim (either_cases (eqb x k) (has xs k) h) [
   | inl here ↦ subst (λ y. y < n) (eqb_true x k here) (All-head (λ y. y < n) x xs all)

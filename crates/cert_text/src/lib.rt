@@ -20,3 +20,6 @@ pub use kind::Kind;
 pub use numbers::{put_item, put_number, put_piece};
 pub use part::{CcfBlock, CcfPart};
 pub use shape::Shape;
+
+#[cfg(test)]
+mod tests;

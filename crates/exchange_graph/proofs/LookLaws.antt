@@ -3,8 +3,8 @@ use Rattle.std.proofs.Common.{◌≡◌, ℕ, ◌+◌, ◌<◌, ◌≤◌, ◌�
 use Rattle.residue_theory.proofs.SumLaws.{nat_cases}
 use Rattle.residue_theory.proofs.SetLaws.{differ, lt_cases}
 use Rattle.search_laws.specs.Searches.{State, IsSearch, IsPut, IsGrown, HasStarts, NoEndBefore, IsShortest}
-use Rattle.search_laws.proofs.SearchLaws.{search-put, search-next, grown-put, grown-same, grown-join, grown-starts, grown-ends, ends-next, starts-put, search-start, trace-all}
-use Rattle.exchange_graph.specs.Ranges.{HasNone, IsLeast}
+use Rattle.search_laws.proofs.SearchLaws.{search-put, search-next, grown-put, grown-same, grown-join, grown-starts, grown-ends, ends-next, starts-put, trace-all}
+use Rattle.number_ranges.specs.Ranges.{HasNone, IsLeast}
 use Rattle.exchange_graph.specs.Looks.{IsLookingFrom, IsStartingFrom}
 
 -- a place that waits stands behind the reached ones
@@ -117,10 +117,10 @@ looking-done arc n s₀ s f₀ head filled from place depth L none = search-next
       ]
     ]
 
-pub starting-first : (arc : ℕ → ℕ → Bool) (n : ℕ) (starts : ℕ → Bool) (s : State) (filled : ℕ) → filled ≡ 0 → ((j : ℕ) → j < n → s.order j ≡ j) → ((j : ℕ) → j < n → s.reached j ≡ false) →
+pub starting-first : (arc : ℕ → ℕ → Bool) (n : ℕ) (starts : ℕ → Bool) (s : State) (filled : ℕ) → filled ≡ 0 → IsSearch arc n s 0 0 → ((y : ℕ) → y < n → s.reached y ≡ false) →
     IsStartingFrom arc n starts s filled 0
-starting-first arc n starts s filled e same none = subst (λ m. IsStartingFrom arc n starts s m 0) (sym e) (record {
-  search = search-start arc n s same none;
+starting-first arc n starts s filled e S none = subst (λ m. IsStartingFrom arc n starts s m 0) (sym e) (record {
+  search = S;
   from = λ y l h. absurd (differ (none y l) h);
   scanned = λ y l. absurd (omega arith);
   waiting = λ y _ l. none y l;

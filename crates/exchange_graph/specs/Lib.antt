@@ -1,4 +1,3 @@
-pub mod Ranges
 pub mod Marks
 pub mod Waitings
 pub mod Looks

@@ -2,11 +2,12 @@
 use Rattle.std.specs.Prelude.{ℕ, Bool, List, slice_index}
 use Rattle.exchange_graph.specs.Marks.{members_of}
 
--- how many places there are, the marks of the reached ones, and the places of the walk
+-- how many places there are, the marks of the reached ones, the places of the walk, and how many were looked at
 pub record Found : Type 0 where
   pub places : ℕ
   pub marks : List Bool
   pub walk : List ℕ
+  pub looks : ℕ
 
 -- the reached set
 abbrev pub reached_of : Found → ℕ → Bool

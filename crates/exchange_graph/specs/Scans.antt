@@ -1,5 +1,5 @@
 -- What the arrays of a search mean.
-use Rattle.std.specs.Prelude.{ℕ, ◌<◌, ◌≡◌, true, false, vec_len, slice_index}
+use Rattle.std.specs.Prelude.{ℕ, ◌<◌, ◌≤◌, ◌≡◌, true, false, vec_len, slice_index}
 use Rattle.search_laws.specs.Searches.{State}
 use Rattle.exchange_graph.specs.Marks.{members_of}
 use Rattle.exchange_graph.specs.Waitings.{IsLeading, Waits}
@@ -33,13 +33,16 @@ pub record IsSized (s : Scan) : Type 0 where
   pub walk : vec_len s.walk ≡ places s
   pub waiting : vec_len s.waiting.ahead ≡ places s
 
--- `order` and `position` are each other's inverse, `before` holds places, and what is not reached waits
+-- `order` and `position` are each other's inverse, no place behind the `filled` first ones is reached, `before` holds
+-- places, and what is not reached waits
 pub record IsStored (s : Scan) : Type 0 where
   pub sized : IsSized s
   pub order_below : (i : ℕ) → i < places s → slice_index s.order.items i < places s
   pub position_below : (y : ℕ) → y < places s → position_of s y < places s
   pub position_order : (i : ℕ) → i < places s → position_of s (slice_index s.order.items i) ≡ i
   pub order_position : (y : ℕ) → y < places s → slice_index s.order.items (position_of s y) ≡ y
+  pub filled_le : s.filled ≤ places s
+  pub behind : (y : ℕ) → y < places s → s.filled ≤ position_of s y → members_of s.reached.items y ≡ false
   pub before_below : (y : ℕ) → y < places s → slice_index s.before.items y < places s
   pub leading : IsLeading s.waiting.ahead.items
   pub waits : (y : ℕ) → y < places s → members_of s.reached.items y ≡ false → Waits s.waiting.ahead.items y

@@ -1,5 +1,5 @@
 ghost use Rattle.std.specs.Prelude.{◌≡◌, ℕ, ◌<◌, ◌≤◌, Bool, IfSome, IfNone};
-ghost use Rattle.exchange_graph.specs.Ranges.{HasNone, IsLeast};
+ghost use Rattle.number_ranges.specs.Ranges.{HasNone, IsLeast};
 
 /// Arcs between places, which are the numbers below `places`.
 pub trait Arcs {

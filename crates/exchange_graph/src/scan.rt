@@ -13,7 +13,7 @@ use std::sync::ledger::Ledger;
 
 // `order` lists the places, the `filled` reached ones first and in the order in which they were reached; `position`
 // tells where in it each place stands. `depth` is how many arcs lead to a reached place, and `before` the place that
-// the last of these comes from.
+// the last of these comes from. `looks` is how many places the last search for a shortest walk looked at.
 #[derive(Drop)]
 pub struct Scan {
     pub order: Vec<usize>,
@@ -24,6 +24,7 @@ pub struct Scan {
     pub walk: Vec<usize>,
     pub waiting: Waiting,
     pub filled: usize,
+    pub looks: usize,
 }
 
 impl Scan {
@@ -31,6 +32,7 @@ impl Scan {
     pub fn open(alloc: Global, n: usize) -> Result<Self, AllocError>
         ensures stored { IfOk result (λ s. IsStored s) }
         ensures places { IfOk result (λ s. places s ≡ n) }
+        ensures looks { IfOk result (λ s. s.looks ≡ 0) }
     {
         let mut order = Vec::with_capacity(alloc, n)?;
         let mut position = Vec::with_capacity(alloc, n)?;
@@ -55,6 +57,7 @@ impl Scan {
             walk,
             waiting: Waiting::open(alloc, n)?,
             filled: 0,
+            looks: 0,
         })
     }
 
@@ -67,6 +70,7 @@ impl Scan {
         requires from { from < places self.old }
         ensures put { IsPut (state_of self.old) (state_of self.new) (position_of self.old place) self.old.filled from depth }
         ensures filled { self.new.filled ≡ self.old.filled + 1 }
+        ensures looks { self.new.looks ≡ self.old.looks }
         ensures stored { IsStored self.new }
         ensures places { places self.new ≡ places self.old }
     {
@@ -84,21 +88,20 @@ impl Scan {
         self.filled = filled + 1;
     }
 
-    // Reaches no place.
+    // Reaches no place: takes back those that are reached, and goes over no other.
     pub fn clear(&mut self)
         requires { IsStored self.old }
-        ensures order { (i : ℕ) → i < places self.old → slice_index self.new.order.items i ≡ i }
-        ensures reached { (i : ℕ) → i < places self.old → members_of self.new.reached.items i ≡ false }
+        ensures reached { (y : ℕ) → y < places self.old → members_of self.new.reached.items y ≡ false }
         ensures filled { self.new.filled ≡ 0 }
+        ensures looks { self.new.looks ≡ self.old.looks }
         ensures stored { IsStored self.new }
         ensures places { places self.new ≡ places self.old }
     {
-        for place in 0..self.order.len() {
-            self.order[place] = place;
-            self.position[place] = place;
+        for at in 0..self.filled {
+            let place = self.order[at];
             self.reached[place] = false;
+            self.waiting.put_back(place);
         }
-        self.waiting.fill();
         self.filled = 0;
     }
 
@@ -108,6 +111,7 @@ impl Scan {
         requires starts { length starts.now ≡ places self.old }
         ensures search { (arc : ℕ → ℕ → Bool) → IsSearch arc (places self.old) (state_of self.new) 0 self.new.filled }
         ensures starts { HasStarts (places self.old) (members_of starts.now) (state_of self.new) }
+        ensures looks { self.new.looks ≡ self.old.looks }
         ensures stored { IsStored self.new }
         ensures places { places self.new ≡ places self.old }
     {
@@ -129,6 +133,7 @@ impl Scan {
         ensures waits { result < places self.old → members_of self.old.reached.items result ≡ false }
         ensures state { state_of self.new ≡ state_of self.old }
         ensures filled { self.new.filled ≡ self.old.filled }
+        ensures looks { self.new.looks ≡ self.old.looks }
         ensures stored { IsStored self.new }
         ensures places { places self.new ≡ places self.old }
     {
@@ -143,6 +148,7 @@ impl Scan {
         requires search { IsSearch (A.leads arcs.now) (places self.old) (state_of self.old) head self.old.filled }
         ensures search { IsSearch (A.leads arcs.now) (places self.old) (state_of self.new) (head + 1) self.new.filled }
         ensures grown { IsGrown (places self.old) (state_of self.old) (state_of self.new) self.old.filled }
+        ensures looks { self.new.looks ≡ self.old.looks }
         ensures stored { IsStored self.new }
         ensures places { places self.new ≡ places self.old }
     {
@@ -184,6 +190,7 @@ impl Scan {
         requires places { A.places arcs.now ≡ places self.old }
         requires starts { length starts.now ≡ places self.old }
         ensures reached { IsReachedSet (A.leads arcs.now) (places self.old) (members_of starts.now) (members_of self.new.reached.items) }
+        ensures looks { self.new.looks ≡ self.old.looks }
         ensures stored { IsStored self.new }
         ensures places { places self.new ≡ places self.old }
     {
@@ -212,6 +219,8 @@ impl Scan {
         ensures reached { IfNone result (IsReachedSet (A.leads arcs.now) (places self.old) (members_of starts.now) (members_of self.new.reached.items)) }
         ensures looks { IfNone result (steps.new ≡ steps.old + size_on (members_of self.new.reached.items) (places self.old)) }
         ensures count { steps.new ≤ steps.old + places self.old }
+        ensures told { steps.new ≡ steps.old + self.new.looks }
+        ensures few { self.new.looks ≤ places self.old }
         ensures stored { IsStored self.new }
         ensures places { places self.new ≡ places self.old }
     {
@@ -222,12 +231,14 @@ impl Scan {
             if ends[place] {
                 let depth = self.depth[place];
                 self.trace(place, depth);
+                self.looks = head;
                 return Some(depth);
             }
             steps.tick();
             self.look(arcs, head);
             head += 1;
         }
+        self.looks = head;
         None
     }
 }

@@ -25,7 +25,7 @@ impl Model for Search {
 
     ghost Value = { Found };
 
-    ghost view = { λ s. record { places = places s.scan; marks = s.scan.reached.items; walk = s.scan.walk.items } };
+    ghost view = { λ s. record { places = places s.scan; marks = s.scan.reached.items; walk = s.scan.walk.items; looks = s.scan.looks } };
 
     ghost invariant = { λ s. IsStored s.scan };
 }
@@ -33,7 +33,8 @@ impl Model for Search {
 impl Search {
     /// A search over the places below n. It takes all the memory that the search will use.
     pub fn open(alloc: Global, n: usize) -> Result<Self, NoMemory>
-        ensures { IfOk result (λ s. s.places ≡ n) }
+        ensures places { IfOk result (λ s. s.places ≡ n) }
+        ensures looks { IfOk result (λ s. s.looks ≡ 0) }
     {
         Ok(Search {
             scan: Scan::open(alloc, n)?,
@@ -60,6 +61,8 @@ impl Search {
         ensures reached { IfNone result (IsReachedSet (A.leads arcs.now) self.old.places (members_of starts.now) (reached_of self.new)) }
         ensures looks { IfNone result (steps.new ≡ steps.old + size_on (reached_of self.new) self.old.places) }
         ensures count { steps.new ≤ steps.old + self.old.places }
+        ensures told { steps.new ≡ steps.old + self.new.looks }
+        ensures few { self.new.looks ≤ self.old.places }
         ensures places { self.new.places ≡ self.old.places }
     {
         self.scan.shortest(arcs, starts, ends, steps)
@@ -70,6 +73,7 @@ impl Search {
         requires places { A.places arcs.now ≡ self.old.places }
         requires starts { length starts.now ≡ self.old.places }
         ensures reached { IsReachedSet (A.leads arcs.now) self.old.places (members_of starts.now) (reached_of self.new) }
+        ensures looks { self.new.looks ≡ self.old.looks }
         ensures places { self.new.places ≡ self.old.places }
     {
         self.scan.reach(arcs, starts);
@@ -89,5 +93,12 @@ impl Search {
         ensures { result ≡ reached_of self.now x }
     {
         self.scan.reached[x]
+    }
+
+    /// How many places the last search for a shortest walk looked at: 0 before the first one.
+    pub fn looks(&self) -> usize
+        ensures { result ≡ self.now.looks }
+    {
+        self.scan.looks
     }
 }

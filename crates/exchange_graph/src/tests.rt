@@ -251,6 +251,39 @@ fn tells_walks_and_sets(rt: HostRuntime) -> Result<(), Fail> {
     Ok(())
 }
 
+// How many places were looked at before a search along a path of ten places, and in each of four that follow.
+fn looks_in_turn<L: Ledger>(alloc: Global, blank: Blank) -> Result<Vec<usize>, Fail>
+    requires name { blank.name ≡ L.name }
+    requires parts { blank.parts ≡ L.parts }
+    requires some { 0 < blank.parts }
+{
+    let path = Path { places: 10 };
+    let mut search = Search::open(alloc, 10)?;
+    let mut steps = Steps::<L>::new(blank);
+    let mut looks = Vec::new(alloc);
+    looks.push(search.looks())?;
+    let rows: [(&[usize], &[usize]); 4] = [
+        (&[0], &[9]),
+        (&[7], &[]),
+        (&[3, 8], &[5]),
+        (&[3], &[3]),
+    ];
+    for (starts, ends) in &rows {
+        let starts = marks(alloc, 10, starts)?;
+        let ends = marks(alloc, 10, ends)?;
+        search.shortest(&path, &starts, &ends, &mut steps);
+        looks.push(search.looks())?;
+    }
+    Ok(looks)
+}
+
+#[test]
+fn tells_the_looks_of_each_search(rt: HostRuntime) -> Result<(), Fail> {
+    let looks = looks_in_turn::<Brand>(rt.alloc(), Blank::new(1))?;
+    assert_eq!(rt; looks.as_slice(), [0, 9, 3, 4, 0].as_slice());
+    Ok(())
+}
+
 #[test]
 fn asks_for_each_arc_in_turn(rt: HostRuntime) -> Result<(), Fail> {
     let ring = Ring { places: 10 };

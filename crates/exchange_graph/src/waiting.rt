@@ -1,4 +1,4 @@
-ghost use Rattle.std.specs.Prelude.{◌≡◌, ℕ, ◌<◌, ◌≤◌, vec_len, IfOk};
+ghost use Rattle.std.specs.Prelude.{◌≡◌, ◌≢◌, ℕ, ◌<◌, ◌≤◌, vec_len, slice_index, IfOk};
 ghost use Rattle.exchange_graph.specs.Waitings.{IsLeading, Waits, SkipsTo, IsTaken, SameWaiting};
 
 use std::alloc::{AllocError, Global};
@@ -24,15 +24,14 @@ impl Waiting {
         Ok(Waiting { ahead })
     }
 
-    // All places wait.
-    pub fn fill(&mut self)
+    // One place waits again. Until all do, `ahead` may lead over it.
+    pub fn put_back(&mut self, place: usize)
+        requires { place < vec_len self.old.ahead }
         ensures places { vec_len self.new.ahead ≡ vec_len self.old.ahead }
-        ensures leading { IsLeading self.new.ahead.items }
-        ensures waits { (y : ℕ) → y < vec_len self.new.ahead → Waits self.new.ahead.items y }
+        ensures waits { Waits self.new.ahead.items place }
+        ensures others { (y : ℕ) → y ≢ place → slice_index self.new.ahead.items y ≡ slice_index self.old.ahead.items y }
     {
-        for place in 0..self.ahead.len() {
-            self.ahead[place] = place;
-        }
+        self.ahead[place] = place;
     }
 
     // One place waits no more.

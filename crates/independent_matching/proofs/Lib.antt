@@ -5,5 +5,6 @@ pub mod RunLaws
 pub mod OpenLaws
 pub mod EngineLaws
 pub mod NextLaws
-pub mod GuessLaws
+pub mod MarkLaws
 pub mod StepLaws
+pub mod LeftLaws

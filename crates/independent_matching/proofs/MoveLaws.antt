@@ -1,9 +1,10 @@
 -- The moves along a walk, over a tableau and a matching.
-use Rattle.std.proofs.Common.{◌≡◌, ◌≢◌, ◌+◌, ◌%◌, ◌<◌, ◌≤◌, ◌∙◌, ℕ, zero, suc, Bool, true, false, Option, Some, None, cond, inl, inr, refl, sym, ap, subst, arith}
+use Rattle.std.proofs.Common.{◌≡◌, ◌≢◌, ◌+◌, ◌%◌, ◌<◌, ◌≤◌, ◌∙◌, ℕ, zero, suc, Bool, true, false, not, ◌&&◌, ◌||◌, Option, Some, None, cond, inl, inr, refl, sym, ap, subst, arith}
 use Rattle.residue_theory.proofs.SetLaws.{differ}
 use Rattle.residue_theory.specs.Sums.{size_on}
 use Rattle.bipartite_matching.specs.Matchings.{Matching}
 use Rattle.row_transform.specs.Tableaus.{State}
+use Rattle.mixed_matrices.specs.Arcs.{is_free}
 use Rattle.mixed_matrices.specs.LayeredMatrices.{Layered}
 use Rattle.mixed_matrices.specs.Pairs.{pair_size}
 use Rattle.mixed_matrices.specs.Tableaus.{Tableau, HasTableau}
@@ -13,7 +14,7 @@ use Rattle.mixed_augmentation.proofs.Routes.{route-last_row, route-last_to}
 use Rattle.mixed_augmentation.proofs.Counting.{route-pivots}
 use Rattle.independent_matching.specs.declared.row.Row.{Row}
 use Rattle.independent_matching.specs.declared.row.Row.TheVariants.{Q, T}
-use Rattle.independent_matching.specs.Sides.{CanTake, IsMoving, Takes, in_q, layers_of, number, row_had, size_of, tableau_of}
+use Rattle.independent_matching.specs.Sides.{CanTake, IsFreeTaken, IsMoving, Takes, in_q, layers_of, number, row_had, size_of, tableau_of}
 
 some_is_no_none : {A : Type 0} (a : A) → Some a ≡ None → ⊥
 some_is_no_none a e = cc
@@ -22,14 +23,22 @@ same_some : (a b : Row) → Some a ≡ Some b → a ≡ b
 same_some a b e = cc
 
 -- the row that a column has
-had-base : (F : Tableau) (x : ℕ) → F.base x ≡ true → row_had F x ≡ Some (Q (F.row x))
+pub had-base : (F : Tableau) (x : ℕ) → F.base x ≡ true → row_had F x ≡ Some (Q (F.row x))
 had-base F x b = ap (λ c. cond c (Some (Q (F.row x))) (cond (F.matched x) (Some (T (F.mate x))) None)) b
 
-had-mate : (F : Tableau) (x : ℕ) → F.base x ≡ false → F.matched x ≡ true → row_had F x ≡ Some (T (F.mate x))
+pub had-mate : (F : Tableau) (x : ℕ) → F.base x ≡ false → F.matched x ≡ true → row_had F x ≡ Some (T (F.mate x))
 had-mate F x b m = ap (λ c. cond c (Some (Q (F.row x))) (cond (F.matched x) (Some (T (F.mate x))) None)) b ∙ ap (λ c. cond c (Some (T (F.mate x))) None) m
 
-had-none : (F : Tableau) (x : ℕ) → F.base x ≡ false → F.matched x ≡ false → row_had F x ≡ None
+pub had-none : (F : Tableau) (x : ℕ) → F.base x ≡ false → F.matched x ≡ false → row_had F x ≡ None
 had-none F x b m = ap (λ c. cond c (Some (Q (F.row x))) (cond (F.matched x) (Some (T (F.mate x))) None)) b ∙ ap (λ c. cond c (Some (T (F.mate x))) None) m
+
+-- a free column is none of the pair
+free-used : (F : Tableau) (x : ℕ) → is_free F x ≡ not (F.base x || F.matched x)
+unfolding is_free
+free-used F x = neither (F.base x) (F.matched x)
+  where
+    neither : (a b : Bool) → (not a && not b) ≡ not (a || b)
+    neither a b = grind arith
 
 module _ (p : ℕ) (S₀ : State) (M₀ : Matching) (tableau : HasTableau p (layers_of S₀ M₀) (tableau_of S₀ M₀)) (at : ℕ → ℕ) (last : ℕ) (end : Row)
     (W : IsRoute p (layers_of S₀ M₀) (tableau_of S₀ M₀) (route (tableau_of S₀ M₀) at last (in_q end) (number end))) where
@@ -71,7 +80,10 @@ module _ (p : ℕ) (S₀ : State) (M₀ : Matching) (tableau : HasTableau p (lay
       pub moving-below : at i < S₀.columns
       moving-below = W.below i i_le
 
-      pub moving-columns : S.columns ≡ S₀.columns
+      pub moving-apart : S.base (at i) ≡ true → (tableau_of S M).matched (at i) ≡ true → ⊥
+      moving-apart b m = differ (tableau.apart (at i) moving-below (sym (stage_now.same_base i (omega arith)) ∙ b)) (sym (stage_now.same_match i (omega arith)) ∙ m)
+
+      moving-columns : S.columns ≡ S₀.columns
       moving-columns = ap (λ (L : Layered). L.columns) V.layers
 
       takes_row : (r : Row) × (next ≡ Some r) × (in_q r ≡ R.in_q i) × (number r ≡ R.row i)
@@ -163,6 +175,12 @@ module _ (p : ℕ) (S₀ : State) (M₀ : Matching) (tableau : HasTableau p (lay
 
     pub moving-size : size_of S M ≡ size_of S₀ M₀ + 1
     moving-size = ap (λ (L : Layered). pair_size L S.base (tableau_of S M).matched) V.layers ∙ end-size p L₀ F₀ R tableau W (tableau_of S M) stage_end
+
+    pub moving-taken : IsFreeTaken S₀.columns F₀ (tableau_of S M) (at 0)
+    moving-taken = record {
+      here = free-used (tableau_of S M) (at 0) ∙ ap not (stage_end.used_first refl);
+      others = λ y l ne. free-used (tableau_of S M) y ∙ ap not (stage_end.used y l (inr ne)) ∙ sym (free-used F₀ y);
+    }
 
     pub moving-none : size_on R.in_q left ≡ 0
     moving-none = ap (λ k. size_on R.in_q k) moving-done

@@ -1,14 +1,13 @@
 -- The next column that a column leads to.
-use Rattle.std.proofs.Common.{◌≡◌, ◌≢◌, ◌+◌, ◌%◌, ◌<◌, ◌≤◌, ◌∙◌, ◌⊎◌, ◌&&◌, ◌||◌, ℕ, Bool, true, false, not, eqb, List, length, Option, Some, None, IfSome, IfNone, is_some, unwrap_or, slice_index, inl, inr, refl, sym, subst, arith}
+use Rattle.std.proofs.Common.{◌≡◌, ◌≢◌, ◌<◌, ◌≤◌, ◌∙◌, ◌⊎◌, ◌&&◌, ◌||◌, ℕ, Bool, true, false, not, eqb, List, length, Option, Some, None, IfSome, IfNone, is_some, unwrap_or, slice_index, inl, inr, refl, sym, ap, subst, arith}
 use Rattle.std.proofs.lemmas.Bool.Decides.{nat_tests}
 use Rattle.residue_theory.proofs.SetLaws.{both-first, both-second, both_true, differ, either-first, either-second, not_true}
-use Rattle.residue_theory.proofs.SumLaws.{nat_cases}
 use Rattle.sparse_t.specs.Incidences.{touches, AreRowsOf}
 use Rattle.sparse_t.proofs.ListLaws.{has-at, has-member}
 use Rattle.bipartite_matching.specs.Matchings.{Matching, HasPair, IsMatching}
 use Rattle.bipartite_matching.proofs.MateLaws.{matched-pair, pair-matched}
-use Rattle.exchange_graph.specs.Ranges.{HasNone, IsLeast}
-use Rattle.row_transform.specs.Tableaus.{State}
+use Rattle.number_ranges.specs.Ranges.{HasNone, IsLeast}
+use Rattle.row_transform.specs.Tableaus.{State, has_entry}
 use Rattle.mixed_matrices.specs.Arcs.{leads_to}
 use Rattle.independent_matching.specs.Sides.{IsNearer, is_matched, layers_of, mate_of, q_arc, t_arc, tableau_of}
 
@@ -18,54 +17,64 @@ other_test x y ne = grind (arith, nat_tests)
 other_tells : (x y : ℕ) → not (eqb x y) ≡ true → y ≢ x
 other_tells x y h = grind (arith, nat_tests)
 
+-- ---- the nearest of the columns of some rows
+module _ (x from end : ℕ) where
+  -- what is read of a row's column
+  read-some : (column : Option ℕ) (IsOne : ℕ → Type 0) → IfSome column IsOne → (y : ℕ) → column ≡ Some y → IsOne y
+  read-some column IsOne some y e = subst (λ c. IfSome c IsOne) e some
+
+  read-none : (column : Option ℕ) (IsOne : ℕ → Type 0) → IfSome column IsOne → IfNone column ((y : ℕ) → IsOne y → ⊥) → ((y z : ℕ) → IsOne y → IsOne z → y ≡ z) → (y : ℕ) → IsOne y → column ≡ Some y
+  read-none None IsOne some none one y h = absurd (none y h)
+  read-none (Some z) IsOne some none one y h = ap Some (one z y some h)
+
+  module _ (column : Option ℕ) (IsOne : ℕ → Type 0) (some : IfSome column IsOne) (least now : ℕ) (step : (now ≡ least) ⊎ IsNearer (λ y. column ≡ Some y) x from least now) where
+    next-less : now ≤ least
+    next-less = elim step [ inl e ↦ omega (arith, e) | inr w ↦ omega (arith, w.before) ]
+
+    pub next-within : least ≤ end → now ≤ end
+    next-within le = omega (arith, next-less, le)
+
+    pub next-found : (arc : ℕ → Bool) → ((y : ℕ) → IsOne y → y ≢ x → arc y ≡ true) → (least < end → (from ≤ least) × (arc least ≡ true)) → now < end → (from ≤ now) × (arc now ≡ true)
+    next-found arc hit found less = elim step [
+      | inl e ↦ subst (λ y. (from ≤ y) × (arc y ≡ true)) (sym e) (found (omega (arith, e, less)))
+      | inr w ↦ (w.from_on, hit now (read-some column IsOne some now w.one) w.other)
+    ]
+
+    -- what was not nearer before is not nearer now
+    pub next-kept : (IsOther : ℕ → Type 0) (y : ℕ) → (IsNearer IsOther x from least y → ⊥) → IsNearer IsOther x from now y → ⊥
+    next-kept IsOther y none w = none (record { one = w.one; other = w.other; from_on = w.from_on; before = omega (arith, w.before, next-less) })
+
+    -- and the row's own column is not
+    pub next-here : IfNone column ((y : ℕ) → IsOne y → ⊥) → ((y z : ℕ) → IsOne y → IsOne z → y ≡ z) → ((y : ℕ) → IsNearer (λ z. column ≡ Some z) x from now y → ⊥) → (y : ℕ) → IsNearer IsOne x from now y → ⊥
+    next-here missing one none y w = none y (record { one = read-none column IsOne some missing one y w.one; other = w.other; from_on = w.from_on; before = w.before })
+
+  -- after all rows
+  module _ (arc : ℕ → Bool) (least : ℕ) (none : (y : ℕ) → arc y ≡ true → from ≤ y → y < least → ⊥) where
+    none-before : HasNone arc from least
+    none-before y f l = not_true (arc y) (λ h. none y h f l)
+
+    pub last-least : least < end → (from ≤ least) × (arc least ≡ true) → IsLeast arc from end least
+    last-least l (f, h) = record { from_on = f; before_end = l; holds = h; none_before = none-before }
+
+    pub last-none : end ≤ least → HasNone arc from end
+    last-none le y f l = none-before y f (omega (arith, l, le))
+
 -- ---- by T rows
-module _ (M : Matching) (matching : IsMatching M) (x : ℕ) (list : List ℕ) (rows : AreRowsOf M.pattern x list) (from end : ℕ) where
-  arc-of : (k : ℕ) → k < length list → (y : ℕ) → HasPair M (slice_index list k) y → y ≢ x → t_arc M x y ≡ true
-  arc-of k l y h ne =
+module _ (M : Matching) (matching : IsMatching M) (x : ℕ) (list : List ℕ) (rows : AreRowsOf M.pattern x list) where
+  pub t_arc-of : (k : ℕ) → k < length list → (y : ℕ) → HasPair M (slice_index list k) y → y ≢ x → t_arc M x y ≡ true
+  t_arc-of k l y h ne =
       let row : ℕ = slice_index list k in
       let (m, e) = pair-matched M row y h in
       let t : touches M.pattern row x ≡ true = sym (rows.exact row (rows.below k l)) ∙ has-at list k row l refl in
       both_true (not (eqb x y)) (is_matched M y && touches M.pattern (mate_of M y) x) (other_test x y ne)
       (both_true (is_matched M y) (touches M.pattern (mate_of M y) x) m (subst (λ r. touches M.pattern r x ≡ true) (sym e) t))
 
-  arc-listed : (y : ℕ) → t_arc M x y ≡ true → (k : ℕ) × (k < length list) × HasPair M (slice_index list k) y × (y ≢ x)
-  arc-listed y h =
+  pub t_arc-none : (from least : ℕ) → ((k y : ℕ) → k < length list → IsNearer (HasPair M (slice_index list k)) x from least y → ⊥) → (y : ℕ) → t_arc M x y ≡ true → from ≤ y → y < least → ⊥
+  t_arc-none from least none y h f l =
       let rest : (is_matched M y && touches M.pattern (mate_of M y) x) ≡ true = both-second (not (eqb x y)) (is_matched M y && touches M.pattern (mate_of M y) x) h in
       let pair : HasPair M (mate_of M y) y = matched-pair M y (both-first (is_matched M y) (touches M.pattern (mate_of M y) x) rest) in
-      let (k, l, e) = has-member list (mate_of M y) (rows.exact (mate_of M y) (matching.row (mate_of M y) y pair) ∙ both-second (is_matched M y) (touches M.pattern (mate_of M y) x) rest) in
-      (k, l, subst (λ r. HasPair M r y) (sym e) pair, other_tells x y (both-first (not (eqb x y)) (is_matched M y && touches M.pattern (mate_of M y) x) h))
-
-  -- one row more
-  module _ (k least now : ℕ) (l : k < length list) (step : (now ≡ least) ⊎ IsNearer M (slice_index list k) x from least now) where
-    pub next-within : least ≤ end → now ≤ end
-    next-within le = elim step [ inl e ↦ omega (arith, e, le) | inr w ↦ omega (arith, w.before, le) ]
-
-    pub next-found : (least < end → (from ≤ least) × (t_arc M x least ≡ true)) → now < end → (from ≤ now) × (t_arc M x now ≡ true)
-    next-found found less = elim step [
-      | inl e ↦ subst (λ y. (from ≤ y) × (t_arc M x y ≡ true)) (sym e) (found (omega (arith, e, less)))
-      | inr w ↦ (w.from_on, arc-of k l now w.matched w.other)
-    ]
-
-    pub next-none : ((j y : ℕ) → j < k → IsNearer M (slice_index list j) x from least y → ⊥) → ((y : ℕ) → IsNearer M (slice_index list k) x from now y → ⊥) →
-        (j y : ℕ) → j < k + 1 → IsNearer M (slice_index list j) x from now y → ⊥
-    next-none old new j y jl w = elim (nat_cases j k) [
-      | inl e ↦ new y (subst (λ i. IsNearer M (slice_index list i) x from now y) e w)
-      | inr ne ↦ old j y (omega arith) (record { matched = w.matched; other = w.other; from_on = w.from_on; before = below })
-    ]
-      where
-        below : y < least
-        below = elim step [ inl e ↦ omega (arith, e, w.before) | inr v ↦ omega (arith, v.before, w.before) ]
-
-  -- after all rows
-  module _ (least : ℕ) (none : (j y : ℕ) → j < length list → IsNearer M (slice_index list j) x from least y → ⊥) where
-    none-before : HasNone (t_arc M x) from least
-    none-before y f l = not_true (t_arc M x y) (λ h. let (k, kl, pair, ne) = arc-listed y h in none k y kl (record { matched = pair; other = ne; from_on = f; before = l }))
-
-    pub last-least : least < end → (from ≤ least) × (t_arc M x least ≡ true) → IsLeast (t_arc M x) from end least
-    last-least l (f, h) = record { from_on = f; before_end = l; holds = h; none_before = none-before }
-
-    pub last-none : end ≤ least → HasNone (t_arc M x) from end
-    last-none le y f l = none-before y f (omega (arith, l, le))
+      let (k, kl, e) = has-member list (mate_of M y) (rows.exact (mate_of M y) (matching.row (mate_of M y) y pair) ∙ both-second (is_matched M y) (touches M.pattern (mate_of M y) x) rest) in
+      none k y kl (record { one = subst (λ r. HasPair M r y) (sym e) pair; other = other_tells x y (both-first (not (eqb x y)) (is_matched M y && touches M.pattern (mate_of M y) x) h); from_on = f; before = l })
 
 -- ---- by both
 module _ (p : ℕ) (S : State) (M : Matching) (x from end : ℕ) where
@@ -77,7 +86,7 @@ module _ (p : ℕ) (S : State) (M : Matching) (x from end : ℕ) where
 
   arc-is : (y : ℕ) → arc y ≡ (q_arc p S x y || t_arc M x y)
   unfolding leads_to
-  arc-is y = split (not (eqb x y)) (S.base y && not (eqb (S.p (S.row y) x % p) 0)) (is_matched M y && touches M.pattern (mate_of M y) x)
+  arc-is y = split (not (eqb x y)) (S.base y && has_entry p S (S.row y) x) (is_matched M y && touches M.pattern (mate_of M y) x)
 
   none-both : (to : ℕ) → HasNone (q_arc p S x) from to → HasNone (t_arc M x) from to → HasNone arc from to
   none-both to q t y f l = arc-is y ∙ neither (q_arc p S x y) (t_arc M x y) (q y f l) (t y f l)

@@ -1,5 +1,5 @@
 -- An engine before its first search.
-use Rattle.std.proofs.Common.{◌≡◌, ◌<◌, ◌%◌, ◌≤◌, ◌∙◌, ◌⊎◌, ℕ, false, replicate, Option, None, inl, inr, sym, ap, subst, is_some, slice_index_or, arith}
+use Rattle.std.proofs.Common.{◌≡◌, ◌<◌, ◌%◌, ◌≤◌, ◌∙◌, ◌⊎◌, ◌&&◌, ℕ, Bool, false, true, not, replicate, Option, None, inl, inr, sym, ap, subst, is_some, slice_index_or, arith}
 use Rattle.std.proofs.lemmas.List.{get_or-replicate, get_or_past, length-replicate}
 use Rattle.residue_theory.proofs.SetLaws.{differ, lt_cases}
 use Rattle.residue_theory.proofs.CountLaws.{size-zero}
@@ -8,6 +8,7 @@ use Rattle.linear_algebra_laws.proofs.Kernels.{kernel_of-agree}
 use Rattle.sparse_t.specs.Incidences.{Incidence}
 use Rattle.bipartite_matching.specs.Matchings.{Matching, empty_matching}
 use Rattle.row_transform.specs.Tableaus.{State, IsOpened}
+use Rattle.mixed_matrices.specs.Arcs.{is_free}
 use Rattle.mixed_matrices.specs.Tableaus.{HasTableau}
 use Rattle.independent_matching.specs.Engines.{AreEntries}
 use Rattle.independent_matching.specs.Sides.{is_matched, layers_of, size_of, tableau_of}
@@ -39,6 +40,13 @@ module _ (p : ℕ) (S : State) (M : Matching) (no_base : (y : ℕ) → S.base y 
     };
     apart = λ j l h. absurd (differ (no_base j) h);
   }
+
+  pub all-free : (x : ℕ) → is_free (tableau_of S M) x ≡ true
+  unfolding is_free
+  all-free x = neither (S.base x) (is_matched M x) (no_base x) (unmatched x)
+    where
+      neither : (a b : Bool) → a ≡ false → b ≡ false → (not a && not b) ≡ true
+      neither a b e f = grind arith
 
   pub open-size : 0 ≡ size_of S M
   open-size = omega (arith, size-zero S.base S.columns (λ j l. no_base j), size-zero (is_matched M) S.columns (λ j l. unmatched j))

@@ -8,7 +8,7 @@ use Rattle.residue_theory.proofs.SumLaws.{size_on-within}
 use Rattle.bipartite_matching.specs.Matchings.{Matching}
 use Rattle.row_transform.specs.Tableaus.{State}
 use Rattle.mixed_matrices.specs.Tableaus.{HasTableau}
-use Rattle.independent_matching.specs.Engines.{AreFewSteps, AreTold}
+use Rattle.independent_matching.specs.Engines.{AreFewSteps}
 use Rattle.independent_matching.specs.Sides.{is_matched, layers_of, size_of, tableau_of}
 
 pub size-bound : (p : ℕ) (S : State) (M : Matching) → HasTableau p (layers_of S M) (tableau_of S M) → size_of S M ≤ S.columns
@@ -42,10 +42,10 @@ pivots-bound n k h l = omega (arith, h, mul-le n n 8192 8192 l l)
 pub pivots-more : (u v k more after : ℕ) → k ≤ u * u → after ≤ k + more → more ≤ u + 1 → v ≡ u + 1 → after ≤ v * v
 pivots-more u v k more after h a m e = subst (λ w. after ≤ w * w) (sym e) (omega (arith, h, a, m))
 
--- what the pivots tell, after a search that succeeds
-pub told-going : (n s u v start before after first pivots told : ℕ) → before + first + s * n ≤ start + pivots + u * n → after + pivots ≤ before + told + n → v ≡ u + 1 → after + first + s * n ≤ start + told + v * n
-told-going n s u v start before after first pivots told h a e = subst (λ w. after + first + s * n ≤ start + told + w * n) (sym e) (omega (arith, h, a))
+-- the looks up to now can be counted
+pub looks-bound : (size n k : ℕ) → k ≤ size * n → size ≤ 8192 → n ≤ 8192 → k ≤ 8192 * 8192
+looks-bound size n k h s l = omega (arith, h, mul-le size n 8192 8192 s l)
 
--- after the last one
-pub told-last : (n s u v start before after first pivots told : ℕ) → before + first + s * n ≤ start + pivots + u * n → after + pivots ≤ before + told + n → v ≡ u → AreTold n s v start after first told
-told-last n s u v start before after first pivots told h a e = subst (λ w. AreTold n s w start after first told) (sym e) (omega (arith, h, a))
+-- and stay so when the pair grows
+pub looks-more : (u v n k more after : ℕ) → k ≤ u * n → after ≡ k + more → more ≤ n → v ≡ u + 1 → after ≤ v * n
+looks-more u v n k more after h a m e = subst (λ w. after ≤ w * n) (sym e) (omega (arith, h, a, m))

@@ -12,10 +12,19 @@ use Rattle.mixed_matrices.specs.Tableaus.{Tableau, HasTableau}
 use Rattle.mixed_augmentation.specs.Moves.{IsFreeRow, IsRoute, route}
 use Rattle.mixed_augmentation.proofs.Routes.{shortest-route}
 use Rattle.independent_matching.specs.declared.row.Row.{Row}
-use Rattle.independent_matching.specs.Sides.{AreMarks, in_q, layers_of, number, tableau_of}
+use Rattle.independent_matching.specs.declared.marks.Marks.{Marks}
+use Rattle.independent_matching.specs.Marks.{AreMarks}
+use Rattle.independent_matching.proofs.SideLaws.{mark-end}
+use Rattle.independent_matching.specs.Sides.{in_q, layers_of, number, tableau_of}
 use Rattle.std.specs.Prelude.{List}
 
-module _ (p : ℕ) (S : State) (M : Matching) (free ends : List Bool) (marks : (x : ℕ) → x < S.columns → AreMarks p S M free ends x) (n : ℕ) (same : n ≡ S.columns) where
+module _ (p : ℕ) (S : State) (M : Matching) (width : M.pattern.width ≡ S.columns) (m : Marks) (marks : AreMarks p S M m) (n : ℕ) (same : n ≡ S.columns) where
+  abbrev free : List Bool
+  free = m.free.items
+
+  abbrev ends : List Bool
+  ends = m.ends.items
+
   abbrev F : Tableau
   F = tableau_of S M
 
@@ -28,19 +37,22 @@ module _ (p : ℕ) (S : State) (M : Matching) (free ends : List Bool) (marks : (
   high : (x : ℕ) → x < S.columns → x < n
   high x l = omega (arith, l, same)
 
+  ends_tell : (x : ℕ) → x < S.columns → members_of ends x ≡ is_end p L F x
+  ends_tell x l = mark-end p S M x width m (marks.of_q.ends x l) (marks.by_t x l) (marks.of_q.by_q x l)
+
   start : (x : ℕ) → x < S.columns → members_of free x ≡ true → is_free F x ≡ true
-  start x l h = sym (marks x l).free_tells ∙ h
+  start x l h = sym (marks.free x l) ∙ h
 
   started : (x : ℕ) → x < S.columns → is_free F x ≡ true → members_of free x ≡ true
-  started x l h = (marks x l).free_tells ∙ h
+  started x l h = marks.free x l ∙ h
 
   end_tells : (x : ℕ) → x < S.columns → members_of ends x ≡ true → is_end p L F x ≡ true
-  end_tells x l h = sym (marks x l).end_tells ∙ h
+  end_tells x l h = sym (ends_tell x l) ∙ h
 
   end_told : (x : ℕ) → x < S.columns → is_end p L F x ≡ true → members_of ends x ≡ true
-  end_told x l h = (marks x l).end_tells ∙ h
+  end_told x l h = ends_tell x l ∙ h
 
-  pub shortest-told : (at : ℕ → ℕ) (k : ℕ) → IsShortest (leads_to p L F) n (members_of free) (members_of ends) at k → IsShortest (leads_to p L F) L.columns (is_free F) (is_end p L F) at k
+  shortest-told : (at : ℕ → ℕ) (k : ℕ) → IsShortest (leads_to p L F) n (members_of free) (members_of ends) at k → IsShortest (leads_to p L F) L.columns (is_free F) (is_end p L F) at k
   shortest-told at k W = subst (λ m. IsShortest (leads_to p L F) m (is_free F) (is_end p L F) at k) same (record {
     fewer = W.fewer;
     begins = start (at 0) (low (at 0) (W.below 0 (omega arith))) W.begins;

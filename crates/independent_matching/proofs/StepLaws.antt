@@ -1,5 +1,5 @@
 -- A walk of one column: a free column that is an end takes a free row.
-use Rattle.std.proofs.Common.{◌≡◌, ◌+◌, ◌<◌, ◌≤◌, ℕ, Bool, true, false, cond, Some, refl, sym, arith}
+use Rattle.std.proofs.Common.{◌≡◌, ◌+◌, ◌<◌, ◌≤◌, ℕ, Bool, true, false, cond, Some, ap, refl, sym, arith}
 use Rattle.bipartite_matching.specs.Matchings.{Matching}
 use Rattle.row_transform.specs.Tableaus.{State}
 use Rattle.search_laws.specs.Searches.{IsShortest}
@@ -8,8 +8,9 @@ use Rattle.mixed_matrices.specs.Tableaus.{HasTableau}
 use Rattle.mixed_augmentation.specs.Moves.{IsFreeRow, IsRoute, route}
 use Rattle.mixed_augmentation.proofs.Routes.{shortest-route}
 use Rattle.independent_matching.specs.declared.row.Row.{Row}
-use Rattle.independent_matching.specs.Sides.{CanTake, IsMoving, Takes, in_q, layers_of, number, row_had, size_of, tableau_of}
-use Rattle.independent_matching.proofs.MoveLaws.{can-take, moving-next, moving-size, moving-start, moving-tableau}
+use Rattle.independent_matching.specs.Sides.{AreRowsLeft, CanTake, IsFreeTaken, IsMoving, Takes, in_q, layers_of, number, row_had, size_of, tableau_of}
+use Rattle.independent_matching.proofs.LeftLaws.{move-rows, moved-rows, moving-rows}
+use Rattle.independent_matching.proofs.MoveLaws.{can-take, moving-apart, moving-next, moving-size, moving-start, moving-tableau, moving-taken}
 use Rattle.independent_matching.proofs.SideLaws.{free-end}
 
 pub one-step : (row : Row) → cond (in_q row) 1 0 ≤ 1
@@ -50,6 +51,13 @@ module _ (p : ℕ) (S : State) (M : Matching) (tableau : HasTableau p (layers_of
 
     pub one-tableau : HasTableau p (layers_of S M) (tableau_of S' M')
     one-tableau = moving-tableau p S M tableau at 0 row one-route S' M' (row_had (tableau_of S M) x) 0 after (after.none refl)
+
+    pub one-taken : IsFreeTaken S.columns (tableau_of S M) (tableau_of S' M') x
+    one-taken = moving-taken p S M tableau at 0 row one-route S' M' (row_had (tableau_of S M) x) 0 after (after.none refl)
+
+    pub one-rows : M.pattern.width ≡ S.columns → AreRowsLeft M M' row
+    one-rows width = moved-rows M M' row (row_had (tableau_of S M) x) (after.none refl)
+        (move-rows p S S' M M' width (ap (λ m. m.width) pattern) x below (moving-apart p S M tableau at 0 row one-route S M (Some row) row 1 start refl 0 refl) row takes M row (moving-rows M row))
 
     pub one-size : size_of S' M' ≡ size_of S M + 1
     one-size = moving-size p S M tableau at 0 row one-route S' M' (row_had (tableau_of S M) x) 0 after (after.none refl)

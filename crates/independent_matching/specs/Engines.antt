@@ -13,12 +13,14 @@ use Rattle.mixed_matrices.specs.StructuralRanks.{IsLayeredRank}
 use Rattle.mixed_matrices.specs.Tableaus.{Tableau, HasTableau}
 use Rattle.independent_matching.specs.Sides.{layers_of}
 
--- the tableau of Q, the matching in T, what the last search found, and how many pivots there were
+-- the tableau of Q, the matching in T, what the last search found, how many pivots there were, and how many looks of the searches
+-- that found a walk
 pub record Standing (A : Type 0) : Type 0 where
   pub tableau : A
   pub matching : Matching
   pub found : Found
   pub pivots : ℕ
+  pub looks : ℕ
 
 -- the layered matrix with the entries q in place of those that the tableau keeps
 abbrev pub layers : (ℕ → ℕ → ℕ) → State → Matching → Layered
@@ -43,7 +45,3 @@ pub record IsSolved (p : ℕ) (L : Layered) (F : Tableau) (reached : ℕ → Boo
 -- last at most as many pivots as there were base columns, and one
 abbrev pub AreFewSteps : ℕ → ℕ → ℕ → ℕ → ℕ → Type 0
 AreFewSteps n s m before after = after + (s * n + s * s) ≤ before + (m + 1) * n + m * m
-
--- the pivots told tell the steps: besides them there were at most n looks in each search
-abbrev pub AreTold : ℕ → ℕ → ℕ → ℕ → ℕ → ℕ → ℕ → Type 0
-AreTold n s m before after pivots told = after + pivots + s * n ≤ before + told + (m + 1) * n

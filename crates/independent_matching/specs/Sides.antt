@@ -1,14 +1,13 @@
 -- A tableau of Q and a matching in T, read as a tableau of the layered matrix of Q and T.
-use Rattle.std.specs.Prelude.{ℕ, ◌+◌, ◌*◌, ◌<◌, ◌≤◌, ◌≡◌, ◌≢◌, ◌%◌, ◌&&◌, Bool, eqb, not, true, false, List, length, Option, Some, None, cond, is_some, unwrap_or, slice_index_or}
+use Rattle.std.specs.Prelude.{ℕ, ◌+◌, ◌<◌, ◌≤◌, ◌≡◌, ◌≢◌, ◌%◌, ◌&&◌, ◌↔◌, Bool, eqb, not, true, false, Option, Some, None, cond, is_some, unwrap_or}
 use Rattle.linear_algebra.specs.Bases.{HasNoBase}
 use Rattle.sparse_t.specs.Incidences.{height, touches}
-use Rattle.bipartite_matching.specs.Matchings.{Matching, HasPair, mate_at}
-use Rattle.row_transform.specs.Tableaus.{State, IsBare}
-use Rattle.exchange_graph.specs.Marks.{members_of}
-use Rattle.mixed_matrices.specs.Arcs.{is_end, is_free}
+use Rattle.bipartite_matching.specs.Matchings.{Matching, mate_at}
+use Rattle.row_transform.specs.Tableaus.{State, IsBare, has_entry}
+use Rattle.mixed_matrices.specs.Arcs.{is_free}
 use Rattle.mixed_matrices.specs.LayeredMatrices.{Layered}
 use Rattle.mixed_matrices.specs.Pairs.{pair_size}
-use Rattle.mixed_matrices.specs.Tableaus.{Tableau, HasTableau}
+use Rattle.mixed_matrices.specs.Tableaus.{Tableau}
 use Rattle.mixed_augmentation.specs.Moves.{TakesRow, TakesMate, Route, IsStage}
 use Rattle.independent_matching.specs.declared.row.Row.{Row}
 use Rattle.independent_matching.specs.declared.row.Row.TheVariants.{Q, T}
@@ -30,14 +29,26 @@ t_arc M x y = not (eqb x y) && (is_matched M y && touches M.pattern (mate_of M y
 
 -- x leads to another column y by the Q row of y
 abbrev pub q_arc : ℕ → State → ℕ → ℕ → Bool
-q_arc p S x y = not (eqb x y) && (S.base y && not (eqb (S.p (S.row y) x % p) 0))
+q_arc p S x y = not (eqb x y) && (S.base y && has_entry p S (S.row y) x)
 
--- the T row is matched with y, another column than x, from `from` on and below `least`
-pub record IsNearer (M : Matching) (row x from least y : ℕ) : Type 0 where
-  pub matched : HasPair M row y
+-- y is one of the columns, another one than x, from `from` on and below `least`
+pub record IsNearer (IsOne : ℕ → Type 0) (x from least y : ℕ) : Type 0 where
+  pub one : IsOne y
   pub other : y ≢ x
   pub from_on : from ≤ y
   pub before : y < least
+
+-- no column has the Q row, and P has an entry in it in x
+pub record IsFreeQRow (p : ℕ) (S : State) (x row : ℕ) : Type 0 where
+  pub below : row < S.rows
+  pub entry : S.p row x % p ≢ 0
+  pub bare : IsBare S row
+
+-- no column has the T row, and it touches x
+pub record IsFreeTRow (M : Matching) (x row : ℕ) : Type 0 where
+  pub below : row < height M.pattern
+  pub touching : touches M.pattern row x ≡ true
+  pub loose : HasNoMate M row
 
 -- the layered matrix of Q and T
 abbrev pub layers_of : State → Matching → Layered
@@ -94,40 +105,16 @@ pub record IsMoving (p : ℕ) (S₀ : State) (M₀ : Matching) (R : Route) (S : 
   pub none : left ≡ 0 → next ≡ None
   pub some : (j : ℕ) → j + 1 ≡ left → (row : Row) × (next ≡ Some row) × (in_q row ≡ R.in_q j) × (number row ≡ R.row j)
 
--- the marks tell the free columns and the ends
-pub record AreMarks (p : ℕ) (S : State) (M : Matching) (free ends : List Bool) (x : ℕ) : Type 0 where
-  pub free_tells : members_of free x ≡ is_free (tableau_of S M) x
-  pub end_tells : members_of ends x ≡ is_end p (layers_of S M) (tableau_of S M) x
+-- the rows without mate are those from before, but for the given row where that is a T row
+abbrev pub AreRowsLeft : Matching → Matching → Row → Type 0
+AreRowsLeft M now given = (row : ℕ) → HasNoMate now row ↔ (HasNoMate M row × (given ≢ T row))
 
--- P has no entry in x at a Q row without base column
-abbrev pub IsQuiet : ℕ → State → ℕ → Type 0
-IsQuiet p S x = (row : ℕ) → row < S.rows → S.p row x % p ≢ 0 → IsBare S row → ⊥
+-- while the columns of a walk move, with `next` as the row that is taken next: with it taken, the rows without mate are those
+-- from before all moves, but for the last row of the walk
+abbrev pub AreRowsMoving : Matching → Row → Matching → Option Row → Type 0
+AreRowsMoving M₀ end M next = (row : ℕ) → (HasNoMate M row × (next ≢ Some (T row))) ↔ (HasNoMate M₀ row × (end ≢ T row))
 
--- the Q row that is guessed for x
-abbrev pub guess_at : List (Option ℕ) → ℕ → Option ℕ
-guess_at guesses x = slice_index_or guesses x None
-
--- each column for which no row is guessed is quiet
-pub record AreGuesses (p : ℕ) (S : State) (guesses : List (Option ℕ)) : Type 0 where
-  pub count : length guesses ≡ S.columns
-  pub quiet : (x : ℕ) → x < S.columns → guess_at guesses x ≡ None → IsQuiet p S x
-
--- P has no entry in the row in a column for which no row is guessed
-abbrev pub AreUntouched : ℕ → State → List (Option ℕ) → ℕ → Type 0
-AreUntouched p S guesses row = (x : ℕ) → x < S.columns → guess_at guesses x ≡ None → S.p row x % p ≡ 0
-
--- a matching, a search and marks over the columns of the tableau
-pub record IsSized (S : State) (M : Matching) (places : ℕ) (free ends : List Bool) : Type 0 where
-  pub width : M.pattern.width ≡ S.columns
-  pub search : places ≡ S.columns
-  pub free_count : length free ≡ S.columns
-  pub end_count : length ends ≡ S.columns
-
--- the base and the matched columns are a pair of that size, the marks are right, and there were few pivots
-pub record IsReady (p : ℕ) (S : State) (M : Matching) (places : ℕ) (free ends : List Bool) (guesses : List (Option ℕ)) (size pivots : ℕ) : Type 0 where
-  pub pair : HasTableau p (layers_of S M) (tableau_of S M)
-  pub sized : IsSized S M places free ends
-  pub marks : (x : ℕ) → x < S.columns → AreMarks p S M free ends x
-  pub guessed : AreGuesses p S guesses
-  pub count : size ≡ size_of S M
-  pub few : pivots ≤ size * size
+-- x is free no more, and each other one of the columns as before
+pub record IsFreeTaken (columns : ℕ) (F G : Tableau) (x : ℕ) : Type 0 where
+  pub here : is_free G x ≡ false
+  pub others : (y : ℕ) → y < columns → y ≢ x → is_free G y ≡ is_free F y

@@ -10,7 +10,7 @@ ghost use Rattle.residue_field.specs.Modulus.{res_modulus};
 ghost use Rattle.row_transform.specs.Dense.{state_of};
 ghost use Rattle.mixed_matrices.specs.Tableaus.{HasTableau};
 ghost use Rattle.mixed_model.specs.Layers.{layered_matrix_of};
-ghost use Rattle.independent_matching.specs.Engines.{Standing, AreEntries, AreFewSteps, AreTold, IsSolved, layers};
+ghost use Rattle.independent_matching.specs.Engines.{Standing, AreEntries, AreFewSteps, IsSolved, layers};
 ghost use Rattle.independent_matching.specs.Sides.{layers_of, size_of, tableau_of};
 
 use crate::improver::Improver;
@@ -36,13 +36,13 @@ pub struct Engine<F: Field = Res, T: Tableau<F> = DenseTableau<F>> {
 
 impl<F: Field, T: Tableau<F>> Model for Engine<F, T> {
     ghost use Rattle.independent_matching.specs.Engines.{Standing};
-    ghost use Rattle.independent_matching.specs.Sides.{IsReady};
+    ghost use Rattle.independent_matching.specs.Marks.{IsReady};
 
     ghost Value = { Standing T };
 
-    ghost view = { λ e. record { tableau = e.improver.pair.tableau; matching = e.improver.pair.mates; found = e.improver.search; pivots = e.improver.pivots } };
+    ghost view = { λ e. record { tableau = e.improver.pair.tableau; matching = e.improver.pair.mates; found = e.improver.search; pivots = e.improver.pivots; looks = e.improver.looks } };
 
-    ghost invariant = { λ e. IsReady F.modulus (T.state e.improver.pair.tableau) e.improver.pair.mates e.improver.search.places e.improver.free.items e.improver.ends.items e.improver.guesses.items e.improver.size e.improver.pivots };
+    ghost invariant = { λ e. IsReady F.modulus (T.state e.improver.pair.tableau) e.improver.pair.mates e.improver.search.places e.improver.marks e.improver.size e.improver.pivots e.improver.looks };
 }
 
 impl Engine<Res, DenseTableau<Res>> {
@@ -77,9 +77,10 @@ impl<F: Field, T: Tableau<F>> Engine<F, T> {
         ensures pivots { IsTrue result → steps.new ≤ steps.old + (T.state self.old.tableau).columns + size_on (T.state self.old.tableau).base (T.state self.old.tableau).columns + 1 }
         ensures solved { IsFalse result → (q : ℕ → ℕ → ℕ) → AreEntries F.modulus (T.state self.new.tableau) q → IsSolved F.modulus (layers q (T.state self.new.tableau) self.new.matching) (tableau_of (T.state self.new.tableau) self.new.matching) (reached_of self.new.found) }
         ensures kept { IsFalse result → (self.new.tableau ≡ self.old.tableau) × (self.new.matching ≡ self.old.matching) }
-        ensures no_pivot { IsFalse result → self.new.pivots ≡ self.old.pivots }
-        ensures looks { IsFalse result → steps.new ≤ steps.old + (T.state self.old.tableau).columns }
-        ensures counted { steps.new + self.old.pivots ≤ steps.old + self.new.pivots + (T.state self.old.tableau).columns }
+        ensures none_told { IsFalse result → (self.new.pivots ≡ self.old.pivots) × (self.new.looks ≡ self.old.looks) }
+        ensures looks { IsFalse result → steps.new ≡ steps.old + size_on (reached_of self.new.found) (T.state self.old.tableau).columns }
+        ensures told { IsTrue result → steps.new + (self.old.pivots + self.old.looks) ≡ steps.old + (self.new.pivots + self.new.looks) }
+        ensures few { IsFalse result → steps.new ≤ steps.old + (T.state self.old.tableau).columns }
         ensures searches { searches.new ≡ searches.old + 1 }
     {
         self.improver.improve(searches, steps)
@@ -94,7 +95,7 @@ impl<F: Field, T: Tableau<F>> Engine<F, T> {
         ensures entries { (q : ℕ → ℕ → ℕ) → AreEntries F.modulus (T.state self.old.tableau) q → AreEntries F.modulus (T.state self.new.tableau) q }
         ensures solved { (q : ℕ → ℕ → ℕ) → AreEntries F.modulus (T.state self.new.tableau) q → IsSolved F.modulus (layers q (T.state self.new.tableau) self.new.matching) (tableau_of (T.state self.new.tableau) self.new.matching) (reached_of self.new.found) }
         ensures steps { AreFewSteps (T.state self.old.tableau).columns (size_of (T.state self.old.tableau) self.old.matching) (size_of (T.state self.new.tableau) self.new.matching) steps.old steps.new }
-        ensures told { AreTold (T.state self.old.tableau).columns (size_of (T.state self.old.tableau) self.old.matching) (size_of (T.state self.new.tableau) self.new.matching) steps.old steps.new self.old.pivots self.new.pivots }
+        ensures told { steps.new + (self.old.pivots + self.old.looks) ≡ steps.old + (self.new.pivots + self.new.looks) + size_on (reached_of self.new.found) (T.state self.old.tableau).columns }
     {
         self.run_from::<L, Brand>(Blank::new(1), steps);
     }
@@ -108,7 +109,7 @@ impl<F: Field, T: Tableau<F>> Engine<F, T> {
         ensures entries { (q : ℕ → ℕ → ℕ) → AreEntries F.modulus (T.state self.old.tableau) q → AreEntries F.modulus (T.state self.new.tableau) q }
         ensures solved { (q : ℕ → ℕ → ℕ) → AreEntries F.modulus (T.state self.new.tableau) q → IsSolved F.modulus (layers q (T.state self.new.tableau) self.new.matching) (tableau_of (T.state self.new.tableau) self.new.matching) (reached_of self.new.found) }
         ensures steps { AreFewSteps (T.state self.old.tableau).columns (size_of (T.state self.old.tableau) self.old.matching) (size_of (T.state self.new.tableau) self.new.matching) steps.old steps.new }
-        ensures told { AreTold (T.state self.old.tableau).columns (size_of (T.state self.old.tableau) self.old.matching) (size_of (T.state self.new.tableau) self.new.matching) steps.old steps.new self.old.pivots self.new.pivots }
+        ensures told { steps.new + (self.old.pivots + self.old.looks) ≡ steps.old + (self.new.pivots + self.new.looks) + size_on (reached_of self.new.found) (T.state self.old.tableau).columns }
     {
         self.run_counted(&mut Steps::<M>::new(blank), steps);
     }
@@ -123,7 +124,7 @@ impl<F: Field, T: Tableau<F>> Engine<F, T> {
         ensures entries { (q : ℕ → ℕ → ℕ) → AreEntries F.modulus (T.state self.old.tableau) q → AreEntries F.modulus (T.state self.new.tableau) q }
         ensures solved { (q : ℕ → ℕ → ℕ) → AreEntries F.modulus (T.state self.new.tableau) q → IsSolved F.modulus (layers q (T.state self.new.tableau) self.new.matching) (tableau_of (T.state self.new.tableau) self.new.matching) (reached_of self.new.found) }
         ensures steps { AreFewSteps (T.state self.old.tableau).columns (size_of (T.state self.old.tableau) self.old.matching) (size_of (T.state self.new.tableau) self.new.matching) steps.old steps.new }
-        ensures told { AreTold (T.state self.old.tableau).columns (size_of (T.state self.old.tableau) self.old.matching) (size_of (T.state self.new.tableau) self.new.matching) steps.old steps.new self.old.pivots self.new.pivots }
+        ensures told { steps.new + (self.old.pivots + self.old.looks) ≡ steps.old + (self.new.pivots + self.new.looks) + size_on (reached_of self.new.found) (T.state self.old.tableau).columns }
         ensures searches { searches.new + size_of (T.state self.old.tableau) self.old.matching ≡ searches.old + size_of (T.state self.new.tableau) self.new.matching + 1 }
     {
         self.improver.run(searches, steps);
@@ -137,13 +138,21 @@ impl<F: Field, T: Tableau<F>> Engine<F, T> {
         self.improver.size
     }
 
-    /// How many pivots there have been. With at most so many looks as there are columns for each search, these are all
-    /// steps.
+    /// How many pivots there have been.
     pub fn pivots(&self) -> usize
         ensures pivots { result ≡ self.now.pivots }
         ensures few { result ≤ size_of (T.state self.now.tableau) self.now.matching * size_of (T.state self.now.tableau) self.now.matching }
     {
         self.improver.pivots
+    }
+
+    /// How many columns were looked at by the searches that found a walk. The last search, which finds none, looks at
+    /// each column of `least_minimiser` once. With these and the pivots that are all steps.
+    pub fn looks(&self) -> usize
+        ensures looks { result ≡ self.now.looks }
+        ensures few { result ≤ size_of (T.state self.now.tableau) self.now.matching * (T.state self.now.tableau).columns }
+    {
+        self.improver.looks
     }
 
     /// Whether the column is one of the pair's independent columns of Q.
@@ -178,7 +187,7 @@ impl<F: Field, T: Tableau<F>> Engine<F, T> {
         requires { col < (T.state self.now.tableau).columns }
         ensures { result ≡ is_free (tableau_of (T.state self.now.tableau) self.now.matching) col }
     {
-        self.improver.free[col]
+        self.improver.marks.free[col]
     }
 
     /// Whether the column is an end: P has an entry in it at a Q row without base column, or it touches a T row that
@@ -187,7 +196,7 @@ impl<F: Field, T: Tableau<F>> Engine<F, T> {
         requires { col < (T.state self.now.tableau).columns }
         ensures { result ≡ is_end F.modulus (layers_of (T.state self.now.tableau) self.now.matching) (tableau_of (T.state self.now.tableau) self.now.matching) col }
     {
-        self.improver.ends[col]
+        self.improver.marks.ends[col]
     }
 
     /// Whether the column is in the least minimiser of p(X) = rho(X) + gamma(X) - |X|, after `run`.

@@ -4,6 +4,7 @@
 
 mod engine;
 mod improver;
+mod marks;
 mod memory;
 mod pair;
 mod row;

@@ -1,11 +1,11 @@
-ghost use Rattle.std.specs.Prelude.{◌≡◌, ◌≢◌, ℕ, ◌+◌, ◌<◌, ◌≤◌, ◌%◌, ◌⊎◌, ◌&&◌, Bool, true, false, cond, min, not, eqb, Option, IfSome, IfNone, is_some, IsTrue, IsFalse};
-ghost use Rattle.sparse_t.specs.Incidences.{height, touches};
-ghost use Rattle.bipartite_matching.specs.Matchings.{HasPair, IsMatching, IsRowFree};
-ghost use Rattle.row_transform.specs.Tableaus.{IsBare};
-ghost use Rattle.exchange_graph.specs.Ranges.{HasNone, IsLeast};
-ghost use Rattle.mixed_matrices.specs.Arcs.{is_end, is_free, leads_to};
-ghost use Rattle.mixed_augmentation.specs.Moves.{IsFreeRow, IsUnlinked};
-ghost use Rattle.independent_matching.specs.Sides.{HasNoMate, IsNearer, IsQuiet, q_arc, t_arc, is_matched, mate_of, layers_of, tableau_of, in_q, number, row_had, CanTake, Takes};
+ghost use Rattle.std.specs.Prelude.{◌≡◌, ℕ, ◌+◌, ◌<◌, ◌≤◌, ◌%◌, ◌⊎◌, ◌&&◌, Bool, true, false, cond, min, not, eqb, Option, Some, IfSome, IfNone, IsTrue, IsFalse};
+ghost use Rattle.sparse_t.specs.Incidences.{touches};
+ghost use Rattle.bipartite_matching.specs.Matchings.{HasPair, IsMatching};
+ghost use Rattle.row_transform.specs.Tableaus.{has_entry};
+ghost use Rattle.number_ranges.specs.Ranges.{HasNone, IsLeast};
+ghost use Rattle.mixed_matrices.specs.Arcs.{is_free, leads_to};
+ghost use Rattle.mixed_augmentation.specs.Moves.{IsUnlinked};
+ghost use Rattle.independent_matching.specs.Sides.{IsFreeQRow, IsFreeTRow, IsNearer, q_arc, t_arc, is_matched, mate_of, layers_of, tableau_of, in_q, row_had, CanTake, Takes};
 
 use crate::row::Row;
 use bipartite_matching::Match;
@@ -45,7 +45,7 @@ impl<F: Field, T: Tableau<F>> Pair<F, T> {
     pub fn has_entry(&self, row: usize, x: usize) -> bool
         requires row { row < (T.state self.now.tableau).rows }
         requires x { x < (T.state self.now.tableau).columns }
-        ensures { result ≡ not (eqb ((T.state self.now.tableau).p row x % F.modulus) 0) }
+        ensures { result ≡ has_entry F.modulus (T.state self.now.tableau) row x }
     {
         !self.tableau.entry(row, x).is_zero()
     }
@@ -53,7 +53,7 @@ impl<F: Field, T: Tableau<F>> Pair<F, T> {
     fn leads_in_q(&self, x: usize, y: usize) -> bool
         requires x { x < (T.state self.now.tableau).columns }
         requires y { y < (T.state self.now.tableau).columns }
-        ensures { result ≡ (T.state self.now.tableau).base y && not (eqb ((T.state self.now.tableau).p ((T.state self.now.tableau).row y) x % F.modulus) 0) }
+        ensures { result ≡ (T.state self.now.tableau).base y && has_entry F.modulus (T.state self.now.tableau) ((T.state self.now.tableau).row y) x }
     {
         match self.tableau.row_of(y) {
             None => false,
@@ -82,40 +82,28 @@ impl<F: Field, T: Tableau<F>> Pair<F, T> {
     {
         let mut least = end;
         for row in self.mates.pattern().rows_of(x) {
-            least = self.nearer(*row as usize, x, from, least);
+            least = nearer(self.mates.mate_of_row(*row as usize), x, from, least);
         }
         if least < end { Some(least) } else { None }
     }
 
-    // The column matched with the T row, where that is another one than x, from `from` on and below `least`; else `least`.
-    fn nearer(&self, row: usize, x: usize, from: usize, least: usize) -> usize
-        requires { row < height self.now.mates.pattern }
-        ensures found { (result ≡ least) ⊎ IsNearer self.now.mates row x from least result }
-        ensures none { (y : ℕ) → IsNearer self.now.mates row x from result y → ⊥ }
-    {
-        match self.mates.mate_of_row(row) {
-            Some(y) if y != x && from <= y && y < least => y,
-            _ => least,
-        }
-    }
-
-    // The least other column from `from` on and below `end` to which x leads by its Q row.
+    // The least other column from `from` on and below `end` to which x leads by its Q row. It goes over the rows where P
+    // has an entry in x.
     fn next_in_q(&self, x: usize, from: usize, end: usize) -> Option<usize>
         requires x { x < (T.state self.now.tableau).columns }
         requires end { end ≤ (T.state self.now.tableau).columns }
         ensures none { IfNone result (HasNone (q_arc F.modulus (T.state self.now.tableau) x) from end) }
         ensures least { IfSome result (IsLeast (q_arc F.modulus (T.state self.now.tableau) x) from end) }
     {
-        // no row, no base column
-        if self.tableau.rows() == 0 {
-            return None;
+        // there are at most 8,192 rows, so that the sum below fits
+        let _rows = self.tableau.rows();
+        let mut least = end;
+        let mut start = 0;
+        while let Some(row) = self.tableau.next_entry(x, start) {
+            least = nearer(self.tableau.base_of(row), x, from, least);
+            start = row + 1;
         }
-        for y in from..end {
-            if x != y && self.leads_in_q(x, y) {
-                return Some(y);
-            }
-        }
-        None
+        if least < end { Some(least) } else { None }
     }
 
     // The row that column x has.
@@ -175,13 +163,11 @@ impl<F: Field, T: Tableau<F>> Pair<F, T> {
         }
     }
 
-    // A T row that touches x and is not matched.
-    fn free_t_row(&self, x: usize) -> Option<usize>
+    // A T row that touches x and that no column has.
+    pub fn free_t_row(&self, x: usize) -> Option<usize>
         requires { x < self.now.mates.pattern.width }
-        ensures some { IfSome result (λ row. row < height self.now.mates.pattern) }
-        ensures touches { IfSome result (λ row. touches self.now.mates.pattern row x ≡ true) }
-        ensures free { IfSome result (λ row. IsRowFree self.now.mates row) }
-        ensures none { IfNone result ((row : ℕ) → row < height self.now.mates.pattern → touches self.now.mates.pattern row x ≡ true → HasNoMate self.now.mates row → ⊥) }
+        ensures some { IfSome result (IsFreeTRow self.now.mates x) }
+        ensures none { IfNone result ((row : ℕ) → IsFreeTRow self.now.mates x row → ⊥) }
     {
         for row in self.mates.pattern().rows_of(x) {
             let row = *row as usize;
@@ -192,60 +178,53 @@ impl<F: Field, T: Tableau<F>> Pair<F, T> {
         None
     }
 
-    // Whether the Q row has no base column and P has an entry there in x.
-    fn is_free_q_row(&self, row: usize, x: usize) -> bool
+    // Whether it is a Q row that no column has and where P has an entry in x.
+    pub fn is_free_q_row(&self, row: usize, x: usize) -> bool
         requires { x < (T.state self.now.tableau).columns }
-        ensures below { IsTrue result → row < (T.state self.now.tableau).rows }
-        ensures entry { IsTrue result → (T.state self.now.tableau).p row x % F.modulus ≢ 0 }
-        ensures bare { IsTrue result → IsBare (T.state self.now.tableau) row }
-        ensures none { IsFalse result → row < (T.state self.now.tableau).rows → (T.state self.now.tableau).p row x % F.modulus ≢ 0 → IsBare (T.state self.now.tableau) row → ⊥ }
+        ensures yes { IsTrue result → IsFreeQRow F.modulus (T.state self.now.tableau) x row }
+        ensures no { IsFalse result → IsFreeQRow F.modulus (T.state self.now.tableau) x row → ⊥ }
     {
         row < self.tableau.rows() && self.tableau.base_of(row).is_none() && self.has_entry(row, x)
     }
 
-    // A Q row without base column where P has an entry in x; none where no row is guessed. The guess is tried first, and
-    // need not be right.
-    fn free_q_row(&self, x: usize, guess: Option<usize>) -> Option<usize>
+    // The first Q row from `from` on that no column has and where P has an entry in x.
+    fn free_q_row_from(&self, x: usize, from: usize) -> Option<usize>
         requires x { x < (T.state self.now.tableau).columns }
-        requires quiet { IfNone guess (IsQuiet F.modulus (T.state self.now.tableau) x) }
-        ensures some { IfSome result (λ row. row < (T.state self.now.tableau).rows) }
-        ensures entry { IfSome result (λ row. (T.state self.now.tableau).p row x % F.modulus ≢ 0) }
-        ensures bare { IfSome result (IsBare (T.state self.now.tableau)) }
-        ensures none { IfNone result (IsQuiet F.modulus (T.state self.now.tableau) x) }
+        ensures some { IfSome result (IsFreeQRow F.modulus (T.state self.now.tableau) x) }
+        ensures none { IfNone result ((row : ℕ) → from ≤ row → IsFreeQRow F.modulus (T.state self.now.tableau) x row → ⊥) }
     {
-        let guess = guess?;
-        let rows = self.tableau.rows();
-        // a base column is 0 at all rows but its own
-        if self.tableau.row_of(x).is_some() {
-            return None;
-        }
-        if self.is_free_q_row(guess, x) {
-            return Some(guess);
-        }
-        for row in 0..rows {
-            if self.is_free_q_row(row, x) {
+        // there are at most 8,192 rows, so that the sum below fits
+        let _rows = self.tableau.rows();
+        let mut start = from;
+        while let Some(row) = self.tableau.next_entry(x, start) {
+            if self.tableau.base_of(row).is_none() {
                 return Some(row);
             }
+            start = row + 1;
         }
         None
     }
 
-    // A row that x may take and that no column has; one of T comes first, since it needs no pivot. The guess is a Q row
-    // that is tried first, or none where no Q row will do.
-    pub fn free_row(&self, x: usize, guess: Option<usize>) -> Option<Row>
-        requires width { self.now.mates.pattern.width ≡ (T.state self.now.tableau).columns }
+    // A Q row that no column has and where P has an entry in x. Those from `from` on are looked at first.
+    pub fn free_q_row(&self, x: usize, from: usize) -> Option<usize>
         requires x { x < (T.state self.now.tableau).columns }
-        requires quiet { IfNone guess (IsQuiet F.modulus (T.state self.now.tableau) x) }
-        ensures free { IfSome result (λ row. IsFreeRow F.modulus (layers_of (T.state self.now.tableau) self.now.mates) (tableau_of (T.state self.now.tableau) self.now.mates) x (in_q row) (number row)) }
-        ensures end { is_some result ≡ is_end F.modulus (layers_of (T.state self.now.tableau) self.now.mates) (tableau_of (T.state self.now.tableau) self.now.mates) x }
-        ensures quiet { IfNone result (IsQuiet F.modulus (T.state self.now.tableau) x) }
+        ensures some { IfSome result (IsFreeQRow F.modulus (T.state self.now.tableau) x) }
+        ensures none { IfNone result ((row : ℕ) → IsFreeQRow F.modulus (T.state self.now.tableau) x row → ⊥) }
     {
-        match self.free_t_row(x) {
-            Some(row) => Some(Row::T(row)),
-            None => match self.free_q_row(x, guess) {
-                Some(row) => Some(Row::Q(row)),
-                None => None,
-            },
+        match self.free_q_row_from(x, from) {
+            Some(row) => Some(row),
+            None => self.free_q_row_from(x, 0),
         }
+    }
+}
+
+// The column of a row where it is another one than x, from `from` on and below `least`; else `least`.
+fn nearer(column: Option<usize>, x: usize, from: usize, least: usize) -> usize
+    ensures found { (result ≡ least) ⊎ IsNearer (λ y. column ≡ Some y) x from least result }
+    ensures none { (y : ℕ) → IsNearer (λ z. column ≡ Some z) x from result y → ⊥ }
+{
+    match column {
+        Some(y) if y != x && from <= y && y < least => y,
+        _ => least,
     }
 }

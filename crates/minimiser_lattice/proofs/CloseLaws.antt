@@ -5,10 +5,10 @@ use Rattle.residue_theory.proofs.SetLaws.{differ, lt_cases, zero_cases, either_c
 use Rattle.closed_sets.specs.Walks.{Walk, Reaches}
 use Rattle.closed_sets.proofs.SetLaws.{test_cases, size_on-bound}
 use Rattle.closed_sets.proofs.WalkLaws.{reaches-arc, reaches-join}
-use Rattle.minimiser_lattice.specs.Bits.{IsBitSet, IsJoined}
+use Rattle.bit_table.specs.Bits.{IsBitSet, IsJoined}
 use Rattle.minimiser_lattice.specs.Paths.{State, Closes, IsToldOf, IsClosing, IsFinished, IsHandled, IsGoing, IsNumbered, IsNumberedTo, IsQuotient}
 use Rattle.minimiser_lattice.specs.Components.{IsLed}
-use Rattle.exchange_graph.specs.Ranges.{HasNone, IsLeast}
+use Rattle.number_ranges.specs.Ranges.{HasNone, IsLeast}
 use Rattle.minimiser_lattice.proofs.PathLaws.{path_top, base_top, last_below}
 
 -- the last place of the path is finished, and its group begins with it: the group is a component

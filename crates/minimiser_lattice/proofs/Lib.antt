@@ -1,4 +1,3 @@
-pub mod BitLaws
 pub mod PathLaws
 pub mod CloseLaws
 pub mod ListingLaws

@@ -10,7 +10,7 @@ use Rattle.closed_sets.proofs.TableLaws.{started-same, table-next, table-done}
 use Rattle.minimiser_lattice.specs.Paths.{IsNumbering}
 use Rattle.minimiser_lattice.specs.Components.{leads_in}
 use Rattle.minimiser_lattice.specs.Listings.{HasPlaces, IsBetweenFrom, IsMarked, IsReadyAt, IsWatched, table_of}
-use Rattle.minimiser_lattice.specs.Bits.{IsJoined}
+use Rattle.bit_table.specs.Bits.{IsJoined}
 use Rattle.minimiser_lattice.proofs.PathLaws.{size_misses}
 
 pub leads-same : (strict : ℕ → ℕ → Bool) (k l : ℕ) → k ≡ l → leads_in strict k l ≡ true

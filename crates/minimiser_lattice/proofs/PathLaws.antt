@@ -8,7 +8,7 @@ use Rattle.closed_sets.specs.Walks.{Reaches}
 use Rattle.closed_sets.proofs.SetLaws.{test_cases, size_on-bound, size_on-less}
 use Rattle.closed_sets.proofs.WalkLaws.{reaches-self, reaches-arc, reaches-join}
 use Rattle.minimiser_lattice.specs.Paths.{State, IsHandled, IsGoing, IsEntered, IsFinished, IsMerged, last_of}
-use Rattle.exchange_graph.specs.Ranges.{IsLeast}
+use Rattle.number_ranges.specs.Ranges.{IsLeast}
 
 -- numbers that rise are no less than their places
 pub rising_le : (f : ℕ → ℕ) (k : ℕ) → ((i j : ℕ) → i < j → j < k → f i < f j) → (i : ℕ) → i < k → i ≤ f i

@@ -1,7 +1,7 @@
 -- What the arrays of the components mean.
 use Rattle.std.specs.Prelude.{ℕ, ◌≡◌, ◌≢◌, ◌⊎◌, ◌||◌, nat_eq, Bool, true, vec_len, slice_index}
 use Rattle.exchange_graph.specs.Marks.{members_of}
-use Rattle.minimiser_lattice.specs.Bits.{IsSized, IsBitSet, IsJoined, bit_in}
+use Rattle.bit_table.specs.Bits.{IsBitSet, IsJoined, bit_in}
 use Rattle.minimiser_lattice.specs.Paths.{State}
 use Rattle.minimiser_lattice.specs.declared.components.Components.{Components}
 
@@ -39,7 +39,7 @@ pub record IsStored (c : Components) : Type 0 where
   pub stack : vec_len c.stack ≡ places c
   pub base : vec_len c.base ≡ places c
   pub path : vec_len c.path ≡ places c
-  pub strict : IsSized c.strict
+  pub rows : c.strict.rows ≡ places c
   pub size : c.strict.size ≡ places c
 
 -- whether component k is l, or leads to it

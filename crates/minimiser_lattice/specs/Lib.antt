@@ -1,4 +1,3 @@
-pub mod Bits
 pub mod Paths
 pub mod Components
 pub mod Listings

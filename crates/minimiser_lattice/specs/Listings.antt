@@ -1,7 +1,6 @@
 -- What the arrays of a listing mean.
 use Rattle.std.specs.Prelude.{ℕ, ◌<◌, ◌≤◌, ◌≡◌, Bool, true, false, ◌&&◌, not, vec_len, slice_index}
 use Rattle.residue_theory.specs.Sums.{size_on}
-use Rattle.minimiser_lattice.specs.Bits.{IsSized}
 use Rattle.minimiser_lattice.specs.Components.{leads_in}
 use Rattle.minimiser_lattice.specs.declared.listing.Listing.{Listing}
 
@@ -14,7 +13,7 @@ pub record IsOpened (l : Listing) (n : ℕ) : Type 0 where
   pub watch : vec_len l.watch ≡ n
   pub rank : vec_len l.rank ≡ n
   pub listed : vec_len l.listed ≡ n
-  pub between : IsSized l.between
+  pub rows : l.between.rows ≡ n
   pub size : l.between.size ≡ n
 
 -- the components that a start leads to, those that lead to an end, and the others

@@ -1,7 +1,7 @@
 -- The parts that components and their listing tell.
 use Rattle.std.specs.Prelude.{ℕ, ◌<◌, ◌≤◌, Bool, List, ◌&&◌, not, nat_lt, slice_index}
 use Rattle.exchange_graph.specs.Marks.{members_of}
-use Rattle.minimiser_lattice.specs.Bits.{bit_of}
+use Rattle.bit_table.specs.Bits.{Bits, bit_in}
 use Rattle.minimiser_lattice.specs.Components.{IsStored, number_of, places}
 use Rattle.minimiser_lattice.specs.Listings.{IsOpened}
 use Rattle.minimiser_lattice.specs.Parts.{Parts}
@@ -20,8 +20,8 @@ parts_from n number first last rank listed blocks strict between = record {
 }
 
 -- what a lattice keeps: how many places there are, the number of each place's component; of each component whether it is
--- of the first part or the last, and its block; the component of each block and how many blocks there are; and the words
--- of two squares of bits, with how many make a row: which component leads to which, and between which a third one stands
+-- of the first part or the last, and its block; the component of each block and how many blocks there are; and two tables
+-- of bits: which component leads to which, and between which a third one stands
 pub record Kept : Type 0 where
   pub places : ℕ
   pub number : List ℕ
@@ -30,10 +30,8 @@ pub record Kept : Type 0 where
   pub rank : List ℕ
   pub listed : List ℕ
   pub blocks : ℕ
-  pub strict : List ℕ
-  pub strict_width : ℕ
-  pub between : List ℕ
-  pub between_width : ℕ
+  pub strict : Bits
+  pub between : Bits
 
 abbrev pub kept_of : Components → Listing → Kept
 kept_of c l = record {
@@ -44,15 +42,13 @@ kept_of c l = record {
   rank = l.rank.items;
   listed = l.listed.items;
   blocks = l.blocks;
-  strict = c.strict.words.items;
-  strict_width = c.strict.width;
-  between = l.between.words.items;
-  between_width = l.between.width;
+  strict = c.strict;
+  between = l.between;
 }
 
 -- the parts that these tell
 abbrev pub parts_in : Kept → Parts
-parts_in v = parts_from v.places (λ x. slice_index v.number x) (members_of v.first) (members_of v.last) (λ k. slice_index v.rank k) (λ j. slice_index v.listed j) v.blocks (bit_of v.strict v.strict_width) (bit_of v.between v.between_width)
+parts_in v = parts_from v.places (λ x. slice_index v.number x) (members_of v.first) (members_of v.last) (λ k. slice_index v.rank k) (λ j. slice_index v.listed j) v.blocks (bit_in v.strict) (bit_in v.between)
 
 -- all that is read stands in the arrays
 pub record IsKept (c : Components) (l : Listing) : Type 0 where

@@ -1,10 +1,10 @@
 ghost use Rattle.std.specs.Prelude.{◌≡◌, ◌≢◌, ℕ, ◌+◌, ◌-◌, ◌<◌, ◌≤◌, Bool, true, false, IfOk, IfSome, IfNone, slice_index};
 ghost use Rattle.exchange_graph.specs.Marks.{members_of};
-ghost use Rattle.minimiser_lattice.specs.Bits.{bit_in};
+ghost use Rattle.bit_table.specs.Bits.{bit_in};
 ghost use Rattle.minimiser_lattice.specs.Paths.{Closes, IsEntered, IsFinished, IsGoing, IsMerged, IsNumbered, IsQuotient, IsToldOf, last_of};
 ghost use Rattle.minimiser_lattice.specs.Components.{IsStored, IsLed, leads_in, places, state_of, number_of};
 
-use crate::bits::BitTable;
+use bit_table::BitTable;
 use exchange_graph::{Arcs, NoMemory};
 use std::alloc::Global;
 
@@ -46,7 +46,7 @@ impl Components {
             stack: vec![in alloc; 0; n]?,
             base: vec![in alloc; 0; n]?,
             path: vec![in alloc; 0; n]?,
-            strict: BitTable::open(alloc, n)?,
+            strict: BitTable::open(alloc, n, n).map_err(|_| NoMemory)?,
             height: 0,
             groups: 0,
             depth: 0,

@@ -2,7 +2,6 @@
 //! minimisers).
 #![tactic(auto)]
 
-mod bits;
 mod components;
 mod lattice;
 mod listing;

@@ -2,13 +2,13 @@ ghost use Rattle.std.specs.Prelude.{◌≡◌, ◌≢◌, ℕ, ◌+◌, ◌<◌,
 ghost use Rattle.exchange_graph.specs.Marks.{members_of};
 ghost use Rattle.closed_sets.specs.Tables.{Tells};
 ghost use Rattle.closed_sets.specs.Blocks.{IsListing};
-ghost use Rattle.minimiser_lattice.specs.Bits.{bit_in};
+ghost use Rattle.bit_table.specs.Bits.{bit_in};
 ghost use Rattle.minimiser_lattice.specs.Paths.{IsNumbering};
 ghost use Rattle.minimiser_lattice.specs.Components.{IsStored, leads_in, number_of, places};
 ghost use Rattle.minimiser_lattice.specs.Listings.{HasPlaces, IsBetween, IsBetweenFrom, IsMarked, IsOpened, IsReadyAt, IsWatched, table_of, watch_of};
 
-use crate::bits::BitTable;
 use crate::components::Components;
+use bit_table::BitTable;
 use exchange_graph::NoMemory;
 use std::alloc::Global;
 
@@ -82,7 +82,7 @@ impl Listing {
             watch: vec![in alloc; 0; n]?,
             rank: vec![in alloc; 0; n]?,
             listed: vec![in alloc; 0; n]?,
-            between: BitTable::open(alloc, n)?,
+            between: BitTable::open(alloc, n, n).map_err(|_| NoMemory)?,
             blocks: 0,
         })
     }

@@ -9,11 +9,11 @@ use Rattle.linear_algebra.specs.Columns.{IsCombination}
 use Rattle.linear_algebra.specs.Products.{identity, IsInverse}
 use Rattle.linear_algebra.specs.RowOperations.{IsPivoted}
 use Rattle.dense_q.specs.Tables.{Table, height, entry, HasSameSize, IsTableOf}
-use Rattle.row_transform.specs.Bases.{BaseLists, is_base, row_of, IsBaseTaken}
+use Rattle.row_transform.specs.Bases.{BaseLists, is_base, row_of, IsBaseTaken, IsBaseDropped}
 use Rattle.row_transform.specs.Dense.{Dense, IsDense, state_of, led_back}
 use Rattle.row_transform.specs.Tableaus.{State, IsTableau, IsBare, IsPivot, IsOpened}
 use Rattle.row_transform.specs.Transforms.{IsSized, LeadsFrom, LeadsFromTheSame}
-use Rattle.row_transform.proofs.TableauLaws.{leads_from-led_back, led_back-unique, led_back-same, span-zero, zero-span, base-taken, no_column}
+use Rattle.row_transform.proofs.TableauLaws.{leads_from-led_back, led_back-unique, led_back-same, span-zero, zero-span, base-taken, base-dropped, no_column}
 
 pub dense-tableau : (p : ℕ) (d : Dense) → IsDense p d → IsTableau p (state_of p d)
 dense-tableau p d dense = record {
@@ -110,6 +110,18 @@ module _ (p : ℕ) (prime : IsPrime p) (d e : Dense) (r v : ℕ) (dense : IsDens
     pivoted = pivoted;
     taken = taken_at;
   }
+
+-- ---- a column leaves the base
+pub dropped-dense : (p : ℕ) (d : Dense) (now : BaseLists) (v : ℕ) → IsDense p d → length now.columns ≡ length d.base.columns → length now.rows ≡ length d.base.rows →
+    IsBaseDropped (length d.base.rows) (is_base d.base) (row_of d.base) (is_base now) (row_of now) v → IsDense p (record d { base = now })
+dropped-dense p d now v dense rows columns dropped = record {
+  sized = dense.sized;
+  base_rows = rows ∙ dense.base_rows;
+  base_columns = columns ∙ dense.base_columns;
+  inverse = dense.inverse;
+  unit_columns = base-dropped p (entry d.p) (height d.p) d.p.width (is_base d.base) (is_base now) (row_of d.base) (row_of now) v
+      (subst (λ n. IsBaseDropped n (is_base d.base) (row_of d.base) (is_base now) (row_of now) v) dense.base_columns dropped) dense.unit_columns;
+}
 
 -- ---- a row, as its base column tells
 pub bare_from : (o : Option ℕ) (P : Type 0) → is_some o ≡ false → IfNone o P → P

@@ -1,4 +1,5 @@
 pub mod BaseLaws
 pub mod TransformLaws
+pub mod EntryLaws
 pub mod TableauLaws
 pub mod DenseLaws

@@ -1,17 +1,18 @@
 -- Row operations on P and S, with the opposite ones on V.
-use Rattle.std.proofs.Common.{◌≡◌, ℕ, ◌+◌, ◌*◌, ◌%◌, ◌<◌, ◌≢◌, inl, inr, sym, subst, ap, ◌∙◌, arith}
+use Rattle.std.proofs.Common.{◌≡◌, ℕ, ◌+◌, ◌*◌, ◌%◌, ◌<◌, ◌≢◌, inl, inr, refl, sym, subst, ap, ◌∙◌, arith}
+use Rattle.std.proofs.Math.Nat.{zero-mod}
 use Rattle.std.proofs.lemmas.Bool.Decides.{nat_tests}
 use Rattle.residue_theory.specs.Residues.{IsPrime}
 use Rattle.residue_theory.specs.Sets.{everything}
 use Rattle.residue_theory.proofs.SumLaws.{nat_cases, sum_on-ext}
-use Rattle.residue_theory.proofs.ResidueLaws.{vanishes-mul}
+use Rattle.residue_theory.proofs.ResidueLaws.{vanishes-mul, agree-add}
 use Rattle.linear_algebra.specs.Products.{product, identity}
 use Rattle.linear_algebra.specs.RowOperations.{IsRowAdded, IsRowScaled}
 use Rattle.linear_algebra_laws.proofs.Products.{sum-identity}
 use Rattle.linear_algebra_laws.proofs.InverseOperations.{product-row_added, product-row_scaled, agree-row_added, agree-row_scaled, inverse-row_added, inverse-row_scaled}
 use Rattle.linear_algebra_laws.proofs.Pivots.{IsPivotedBelow, pivot-start, pivot-add}
 use Rattle.dense_q.specs.Tables.{Table, height, entry, HasSameSize}
-use Rattle.row_transform.specs.Transforms.{IsSized, LeadsFrom, LeadsFromTheSame}
+use Rattle.row_transform.specs.Transforms.{IsSized, LeadsFrom, LeadsFromTheSame, ZeroRowsStay}
 
 pub scaled_at : (p m n : ℕ) (a b : Table) (t k : ℕ) → height a ≡ m → a.width ≡ n → IsRowScaled p (height a) a.width (entry a) (entry b) t k → IsRowScaled p m n (entry a) (entry b) t k
 scaled_at p m n a b t k h w scaled = subst (λ x. IsRowScaled p x n (entry a) (entry b) t k) h (subst (λ y. IsRowScaled p (height a) y (entry a) (entry b) t k) w scaled)
@@ -97,3 +98,27 @@ pub pivot-next : (p : ℕ) (first old now : Table) (r v i x k : ℕ) → HasSame
 pivot-next p first old now r v i x k size below apart il rl vl e cancels added =
     pivot-add p (height first) first.width (entry first) (entry old) r v i below (entry now) k apart il rl vl (added_at p (height first) first.width old now i r k size.height_same size.width_same added)
     (ap (λ y. (k + y) % p) (sym e) ∙ ap (λ y. y % p) (omega arith) ∙ cancels)
+
+-- ---- the rows that a pivot leaves as they are
+pub stay-first : (p : ℕ) (old now : Table) (r v w : ℕ) → IsRowScaled p (height old) old.width (entry old) (entry now) r w → ZeroRowsStay p (height old) old.width (entry old) (entry now) r v
+stay-first p old now r v w scaled i j il jl ne z = scaled.others i j il jl ne
+
+-- a row that was zero in the column gets a multiple k of row r that vanishes
+pub stay-next : (p : ℕ) (first old now : Table) (r v i x k : ℕ) → HasSameSize old first → ZeroRowsStay p (height first) first.width (entry first) (entry old) r v →
+    v < first.width → x ≡ entry old i v → (x + k) % p ≡ 0 → IsRowAdded p (height old) old.width (entry old) (entry now) i r k → ZeroRowsStay p (height first) first.width (entry first) (entry now) r v
+stay-next p first old now r v i x k size so_far vl e cancels added t j tl jl ne z = elim (nat_cases t i) [
+  | inl q ↦ at_target q
+  | inr other ↦ added_here.others t j tl jl other ∙ so_far t j tl jl ne z
+]
+  where
+    added_here : IsRowAdded p (height first) first.width (entry old) (entry now) i r k
+    added_here = added_at p (height first) first.width old now i r k size.height_same size.width_same added
+
+    at_target : t ≡ i → entry now t j % p ≡ entry first t j % p
+    at_target q =
+        let zero : x % p ≡ 0 = ap (λ y. y % p) (e ∙ ap (λ a. entry old a v) (sym q)) ∙ so_far t v tl vl ne z ∙ z in
+        let vanishes : k % p ≡ 0 = ap (λ y. y % p) (omega arith) ∙ sym (agree-add p x 0 k k (zero ∙ sym (zero-mod p)) refl) ∙ cancels in
+        ap (λ a. entry now a j % p) q ∙ added_here.changed j jl
+        ∙ agree-add p (entry old i j) (entry first t j) (k * entry old r j) 0 (ap (λ a. entry old a j % p) (sym q) ∙ so_far t j tl jl ne z)
+        (ap (λ y. y % p) (omega arith) ∙ vanishes-mul p (entry old r j) k vanishes ∙ sym (zero-mod p))
+        ∙ ap (λ y. y % p) (omega arith)

@@ -1,4 +1,5 @@
 pub mod Bases
 pub mod Transforms
 pub mod Tableaus
+pub mod Entries
 pub mod Dense

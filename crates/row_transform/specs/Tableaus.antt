@@ -1,5 +1,5 @@
 -- A tableau of a matrix Q: P = S * Q for an invertible S, with some columns of P as a base of unit columns.
-use Rattle.std.specs.Prelude.{ℕ, ◌<◌, ◌≡◌, Bool, true, false}
+use Rattle.std.specs.Prelude.{ℕ, ◌%◌, ◌<◌, ◌≡◌, Bool, true, false, eqb, not}
 use Rattle.linear_algebra.specs.Bases.{IsBase, HasNoBase}
 use Rattle.linear_algebra.specs.Products.{product, identity, Agree, IsInverse}
 use Rattle.linear_algebra.specs.RowOperations.{IsPivoted}
@@ -22,6 +22,10 @@ pub record IsTableau (modulus : ℕ) (t : State) : Type 0 where
   pub product_is : Agree modulus t.rows t.columns t.p (product t.rows t.s t.q)
   pub inverse : IsInverse modulus t.rows t.s t.u
   pub unit_columns : IsBase modulus t.p t.rows t.columns t.base t.row
+
+-- P has an entry in row r and column y that is not zero
+abbrev pub has_entry : ℕ → State → ℕ → ℕ → Bool
+has_entry modulus t r y = not (eqb (t.p r y % modulus) 0)
 
 -- column y is the base column of row r
 pub record IsBaseColumn (t : State) (r y : ℕ) : Type 0 where

@@ -4,6 +4,7 @@ ghost use Rattle.row_transform.specs.Tableaus.{IsOpened};
 ghost use Rattle.row_transform.specs.Dense.{state_of};
 
 use crate::base::Base;
+use crate::entries::Entries;
 use crate::tableau::{Tableau, TableauParts};
 use crate::transform::Transform;
 use dense_q::{Mat, NoMemory};
@@ -11,21 +12,24 @@ use residue_field::Field;
 use std::alloc::Global;
 use std::marker::Model;
 
-/// A tableau that keeps all entries of its matrices.
+/// A tableau that keeps all entries of its matrices, and for each column the rows where P may have one that is not zero:
+/// a search of the exchange graph asks for the entries of a column at each of its looks, and most are zero.
 #[derive(Drop)]
 pub struct DenseTableau<F: Field> {
     transform: Transform<F>,
+    entries: Entries,
     base: Base,
 }
 
 impl<F: Field> Model for DenseTableau<F> {
     ghost use Rattle.row_transform.specs.Dense.{Dense, IsDense};
+    ghost use Rattle.row_transform.specs.Entries.{IsListed};
 
     ghost Value = { Dense };
 
     ghost view = { λ t. record { p = t.transform.p; s = t.transform.s; v = t.transform.v; base = t.base } };
 
-    ghost invariant = { λ t. IsDense F.modulus (record { p = t.transform.p; s = t.transform.s; v = t.transform.v; base = t.base }) };
+    ghost invariant = { λ t. IsDense F.modulus (record { p = t.transform.p; s = t.transform.s; v = t.transform.v; base = t.base }) × IsListed F.modulus t.transform.p t.entries.bits };
 }
 
 impl<F: Field> DenseTableau<F> {
@@ -35,6 +39,7 @@ impl<F: Field> DenseTableau<F> {
     {
         Ok(DenseTableau {
             transform: Transform::open(alloc, q)?,
+            entries: Entries::of(alloc, q)?,
             base: Base::empty(alloc, q.rows(), q.cols())?,
         })
     }
@@ -57,6 +62,18 @@ impl<F: Field> Tableau<F> for DenseTableau<F> {
         entry
     }
 
+    fn next_entry(&self, col: usize, from: usize) -> Option<usize> {
+        let rows = self.rows();
+        let mut at = from;
+        while let Some(row) = self.entries.next(col, at, rows) {
+            if !self.entry(row, col).is_zero() {
+                return Some(row);
+            }
+            at = row + 1;
+        }
+        None
+    }
+
     fn base_of(&self, row: usize) -> Option<usize> {
         self.base.column_of(row)
     }
@@ -66,15 +83,20 @@ impl<F: Field> Tableau<F> for DenseTableau<F> {
     }
 
     fn in_span(&self, col: usize) -> bool {
-        for row in 0..self.rows() {
-            if self.base_of(row).is_none() && !self.entry(row, col).is_zero() {
+        // there are at most 8,192 rows, so that the sum below fits
+        let _rows = self.rows();
+        let mut at = 0;
+        while let Some(row) = self.next_entry(col, at) {
+            if self.base_of(row).is_none() {
                 return false;
             }
+            at = row + 1;
         }
         true
     }
 
     fn pivot(&mut self, row: usize, col: usize) {
+        self.entries.pivot(&self.transform.p, row, col);
         self.transform.pivot(row, col);
         self.base.take(row, col);
     }

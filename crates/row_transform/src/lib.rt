@@ -4,6 +4,7 @@
 
 mod base;
 mod dense;
+mod entries;
 mod tableau;
 mod transform;
 

@@ -1,5 +1,6 @@
 ghost use Rattle.std.specs.Prelude.{◌≡◌, ◌≢◌, ℕ, ◌<◌, ◌≤◌, ◌%◌, Bool, true, false, IfSome, IfNone, IfOk, IsTrue, ◌↔◌};
-ghost use Rattle.row_transform.specs.Tableaus.{State, IsTableau, IsBare, IsBaseColumn, IsPivot, IsDrop, AreParts};
+ghost use Rattle.number_ranges.specs.Ranges.{HasNone, IsLeast};
+ghost use Rattle.row_transform.specs.Tableaus.{State, IsTableau, IsBare, IsBaseColumn, IsPivot, IsDrop, AreParts, has_entry};
 ghost use Rattle.linear_algebra.specs.Columns.{IsCombination};
 
 use dense_q::{Mat, NoMemory};
@@ -35,6 +36,12 @@ pub trait Tableau<F: Field>: Drop {
         requires row { row < (state self.now).rows }
         requires col { col < (state self.now).columns }
         ensures { F.number result ≡ (state self.now).p row col % F.modulus };
+
+    /// The first row from `from` on where P has an entry in the column that is not zero.
+    fn next_entry(&self, col: usize, from: usize) -> Option<usize>
+        requires { col < (state self.now).columns }
+        ensures none { IfNone result (HasNone (λ row. has_entry F.modulus (state self.now) row col) from (state self.now).rows) }
+        ensures least { IfSome result (IsLeast (λ row. has_entry F.modulus (state self.now) row col) from (state self.now).rows) };
 
     /// The base column of a row.
     fn base_of(&self, row: usize) -> Option<usize>

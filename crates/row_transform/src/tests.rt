@@ -57,6 +57,33 @@ fn assert_base(rt: &impl Abort, t: &DenseTableau<Res>, want: &[Option<usize>], a
     }
 }
 
+// For each column the rows of its entries that are not zero.
+fn assert_columns(rt: &impl Abort, t: &DenseTableau<Res>, want: &[&[usize]], at: &str) {
+    assert_eq!(rt; t.columns(), want.len(), "{at}");
+    for (column, rows) in want.iter().enumerate() {
+        assert_column(rt, t, column, rows, at);
+    }
+}
+
+fn assert_column(rt: &impl Abort, t: &DenseTableau<Res>, column: usize, want: &[usize], at: &str) {
+    assert!(rt; column < t.columns());
+    let mut from = 0;
+    for row in want {
+        assert_eq!(rt;
+            t.next_entry(column, from),
+            Some(*row),
+            "{at}, column {column} from {from}"
+        );
+        assert!(rt; *row < t.rows());
+        from = *row + 1;
+    }
+    assert_eq!(rt;
+        t.next_entry(column, from),
+        None,
+        "{at}, column {column} from {from}"
+    );
+}
+
 // A pivot through the bound, at an entry that is not zero.
 fn pivot_at<F: Field, T: Tableau<F>>(rt: &impl Abort, t: &mut T, row: usize, col: usize)
     requires row { row < (T.state t.old).rows }
@@ -87,6 +114,25 @@ fn pivots_on_ones(rt: HostRuntime) -> Result<(), Fail> {
     Ok(())
 }
 
+// That S * U = 1 and U * P = Q, in two rows.
+fn assert_products(
+    rt: &impl Abort,
+    alloc: Global,
+    parts: &TableauParts<Res>,
+    q: &[&[u32]],
+) -> Result<(), Fail> {
+    let (s, u, p) = (&parts.s, &parts.u, &parts.p);
+    assert!(rt; s.cols() == u.rows() && u.cols() == p.rows());
+    assert_entries(
+        rt,
+        &Mat::product(alloc, s, u)?,
+        &[&[1, 0], &[0, 1]],
+        "S * U",
+    );
+    assert_entries(rt, &Mat::product(alloc, u, p)?, q, "U * P");
+    Ok(())
+}
+
 #[test]
 fn pivots_twice(rt: HostRuntime) -> Result<(), Fail> {
     let q = matrix(rt.alloc(), &[[2, 1, 3], [4, 5, 6]])?;
@@ -95,29 +141,7 @@ fn pivots_twice(rt: HostRuntime) -> Result<(), Fail> {
     pivot_at(&rt, &mut t, 1, 1);
     pivot_at(&rt, &mut t, 0, 0);
     assert_base(&rt, &t, &[Some(0), Some(1)], "two pivots");
-    let parts = t.parts()?;
-    assert_eq!(rt;
-        (
-            parts.s.rows(),
-            parts.s.cols(),
-            parts.u.rows(),
-            parts.p.cols()
-        ),
-        (2, 2, 2, 3)
-    );
-    assert_entries(
-        &rt,
-        &Mat::product(rt.alloc(), &parts.s, &parts.u)?,
-        &[&[1, 0], &[0, 1]],
-        "S * U",
-    );
-    assert_entries(
-        &rt,
-        &Mat::product(rt.alloc(), &parts.u, &parts.p)?,
-        &[&[2, 1, 3], &[4, 5, 6]],
-        "U * P",
-    );
-    Ok(())
+    assert_products(&rt, rt.alloc(), &t.parts()?, &[&[2, 1, 3], &[4, 5, 6]])
 }
 
 #[test]
@@ -128,5 +152,17 @@ fn takes_another_column(rt: HostRuntime) -> Result<(), Fail> {
     pivot_at(&rt, &mut t, 0, 0);
     pivot_at(&rt, &mut t, 0, 2);
     assert_base(&rt, &t, &[Some(2), None], "row 0 has column 2 now");
+    Ok(())
+}
+
+// The pivot gives column 1 an entry in row 1, and takes that of column 2 away.
+#[test]
+fn finds_the_entries(rt: HostRuntime) -> Result<(), Fail> {
+    let q = matrix(rt.alloc(), &[[1, 1, 2], [1, 0, 2], [0, 3, 0]])?;
+    let mut t = DenseTableau::open(rt.alloc(), &q)?;
+    assert_columns(&rt, &t, &[&[0, 1], &[0, 2], &[0, 1]], "before");
+    assert!(rt; t.rows() == 3 && t.columns() == 3);
+    pivot_at(&rt, &mut t, 0, 0);
+    assert_columns(&rt, &t, &[&[0], &[0, 1, 2], &[0]], "after");
     Ok(())
 }

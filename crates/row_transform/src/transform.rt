@@ -2,7 +2,7 @@ ghost use Rattle.std.specs.Prelude.{◌≡◌, ◌≢◌, ℕ, ◌+◌, ◌*◌,
 ghost use Rattle.linear_algebra.specs.Products.{identity};
 ghost use Rattle.linear_algebra.specs.RowOperations.{IsRowAdded, IsRowScaled, IsPivoted};
 ghost use Rattle.dense_q.specs.Tables.{Table, height, entry, HasSameSize, IsTableOf};
-ghost use Rattle.row_transform.specs.Transforms.{IsSized, LeadsFrom, LeadsFromTheSame};
+ghost use Rattle.row_transform.specs.Transforms.{IsSized, LeadsFrom, LeadsFromTheSame, ZeroRowsStay};
 
 use dense_q::{Mat, NoMemory};
 use residue_field::Field;
@@ -96,6 +96,7 @@ impl<F: Field> Transform<F> {
         ensures size { HasSameSize self.new.p self.old.p }
         ensures sized { IsSized self.new.p self.new.s self.new.v }
         ensures pivoted { IsPivoted F.modulus (height self.old.p) self.old.p.width (entry self.old.p) (entry self.new.p) row column }
+        ensures rest { ZeroRowsStay F.modulus (height self.old.p) self.old.p.width (entry self.old.p) (entry self.new.p) row column }
         ensures leads { LeadsFromTheSame F.modulus (height self.old.p) self.old.p.width (entry self.old.p) (entry self.old.s) (entry self.old.v) (entry self.new.p) (entry self.new.s) (entry self.new.v) }
     {
         let entry = self.entry(row, column);

@@ -364,16 +364,17 @@ module _ (arc : ℕ → ℕ → Bool) (n : ℕ) where
       least = λ s₀ e₀ m sl el sh eh w. omega (arith, search-least more s₀ e₀ m sl el sh eh w);
     }
 
--- at the start no place is reached, and each stands at its own number
-pub search-start : (arc : ℕ → ℕ → Bool) (n : ℕ) (s : State) → ((j : ℕ) → j < n → s.order j ≡ j) → ((j : ℕ) → j < n → s.reached j ≡ false) → IsSearch arc n s 0 0
-search-start arc n s same none = record {
+-- at the start no place is reached, and each stands at a position of its own
+pub search-start : (arc : ℕ → ℕ → Bool) (n : ℕ) (s : State) (position : ℕ → ℕ) → ((i : ℕ) → i < n → s.order i < n) → ((y : ℕ) → y < n → position y < n) →
+    ((i : ℕ) → i < n → position (s.order i) ≡ i) → ((y : ℕ) → y < n → s.order (position y) ≡ y) → ((y : ℕ) → y < n → s.reached y ≡ false) → IsSearch arc n s 0 0
+search-start arc n s position order_below position_below position_order order_position none = record {
   head_le = omega arith;
   filled_le = omega arith;
-  below = λ i l. omega (arith, same i l);
-  distinct = λ i j il jl e. omega (arith, same i il, same j jl);
-  each = λ y l. (y, l, same y l);
+  below = order_below;
+  distinct = λ i j il jl e. sym (position_order i il) ∙ (ap position e ∙ position_order j jl);
+  each = λ y l. (position y, position_below y l, order_position y l);
   done = λ i l. absurd (omega arith);
-  waiting = λ i _ l. ap s.reached (same i l) ∙ none i l;
+  waiting = λ i _ l. none (s.order i) (order_below i l);
   count = size-zero s.reached n none;
   shallow = λ i l. absurd (omega arith);
   rising = λ i j _ l. absurd (omega arith);

@@ -1,6 +1,6 @@
 use Rattle.std.proofs.Common.{◌≡◌, ℕ, ◌<◌, true, false}
 use Rattle.exchange_graph.specs.Marks.{members_of}
-use Rattle.minimiser_lattice.specs.Bits.{bit_in}
+use Rattle.bit_table.specs.Bits.{bit_in}
 use Rattle.minimiser_lattice.specs.Components.{leads_in, number_of}
 use Rattle.minimiser_lattice.proofs.listing.start_leads.Given as goal
 

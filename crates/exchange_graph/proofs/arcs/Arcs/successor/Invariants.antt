@@ -1,4 +1,4 @@
-use Rattle.exchange_graph.specs.Ranges.{HasNone}
+use Rattle.number_ranges.specs.Ranges.{HasNone}
 use Rattle.exchange_graph.proofs.arcs.Arcs.successor.Given as goal
 
 abbrev pub invariant-loop-y : goal.invariant-loop-y

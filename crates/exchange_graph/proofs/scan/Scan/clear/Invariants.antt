@@ -1,14 +1,13 @@
-use Rattle.std.proofs.Common.{◌≡◌, ℕ, ◌<◌, false, slice_index}
+use Rattle.std.proofs.Common.{◌≡◌, ◌⊎◌, ℕ, ◌<◌, ◌≤◌, false, vec_len}
 use Rattle.exchange_graph.specs.Marks.{members_of}
-use Rattle.exchange_graph.specs.Scans.{IsSized, places}
+use Rattle.exchange_graph.specs.Scans.{places, position_of}
+use Rattle.exchange_graph.specs.Waitings.{Waits}
 use Rattle.exchange_graph.proofs.scan.Scan.clear.Given as goal
 
-abbrev pub invariant-loop-place : goal.invariant-loop-place
-invariant-loop-place l = record {
-  sized : IsSized l.self;
-  same_places : places l.self ≡ places l.fn.self;
-  same_before : l.self.before ≡ l.fn.self.before;
-  order : (i : ℕ) → i < l.place → slice_index l.self.order.items i ≡ i;
-  position : (i : ℕ) → i < l.place → slice_index l.self.position.items i ≡ i;
-  reached : (i : ℕ) → i < l.place → members_of l.self.reached.items i ≡ false;
+abbrev pub invariant-loop-at : goal.invariant-loop-at
+invariant-loop-at l = record {
+  kept : l.self ≡ record l.fn.self { reached = l.self.reached; waiting = l.self.waiting };
+  marks : vec_len l.self.reached ≡ places l.fn.self;
+  ahead : vec_len l.self.waiting.ahead ≡ places l.fn.self;
+  back : (y : ℕ) → y < places l.fn.self → (position_of l.fn.self y < l.at) ⊎ (l.fn.self.filled ≤ position_of l.fn.self y) → (members_of l.self.reached.items y ≡ false) × Waits l.self.waiting.ahead.items y;
 }

@@ -14,6 +14,7 @@ loop-next-init g c =
     record {
       stored = c.first_waiting-from.ensures.stored;
       same_places = c.first_waiting-from.ensures.places;
+      same_looks = c.first_waiting-from.ensures.looks;
       within = c.first_waiting-from.ensures.within;
       looking = looking-first (g.A.Arcs.leads c.args.arcs.now) (places c.args.self.now) (state_of c.args.self.now) (state_of c.first_waiting-from.new.self) c.args.head c.args.self.now.filled c.first_waiting-from.new.self.filled c.first_waiting-from.result c.index-place.result.now c.index.result.now
           S c.requires.head at (item_read c.args.self.now.depth.items c.index-place.result.now c.index.result.now (omega (arith, at, below, c.requires.stored.sized.depth)) c.index.ensures)
@@ -48,6 +49,7 @@ loop-next-preserved g c =
           record {
             stored = F.stored;
             same_places = same;
+            same_looks = F.looks ∙ (ap (λ (s : Scan). s.looks) w.self-is ∙ (w.put.ensures.looks ∙ I.same_looks));
             within = omega (arith, F.within, F.places, same);
             looking = looking-put (g.A.Arcs.leads c.args.arcs.now) (places c.args.self.now) (state_of c.args.self.now) (state_of c.loop-next.self) (state_of w.put.new.self) (state_of c.if-not-index.self) (state_of c.first_waiting-from-in-Some.new.self)
                 c.args.self.now.filled c.args.head c.loop-next.self.filled c.first_waiting-from-in-Some.new.self.filled (position_of c.loop-next.self next) c.loop-next.from c.len-places.result next c.first_waiting-from-in-Some.result c.index-place.result.now (c.index.result.now + 1)
@@ -59,6 +61,7 @@ loop-next-preserved g c =
           record {
             stored = F.stored;
             same_places = same;
+            same_looks = F.looks ∙ (ap (λ (s : Scan). s.looks) w.self-is ∙ I.same_looks);
             within = omega (arith, F.within, F.places, same);
             looking = looking-skip (g.A.Arcs.leads c.args.arcs.now) (places c.args.self.now) (state_of c.args.self.now) (state_of c.loop-next.self) (state_of c.if-not-index.self) (state_of c.first_waiting-from-in-Some.new.self)
                 c.args.self.now.filled c.args.head c.loop-next.self.filled c.first_waiting-from-in-Some.new.self.filled c.loop-next.from c.len-places.result next c.first_waiting-from-in-Some.result c.index-place.result.now (c.index.result.now + 1)

@@ -7,6 +7,7 @@ abbrev pub invariant-loop-next : goal.invariant-loop-next
 invariant-loop-next g l = record {
   stored : IsStored l.self;
   same_places : places l.self ≡ places l.fn.self;
+  same_looks : l.self.looks ≡ l.fn.self.looks;
   within : l.from ≤ places l.fn.self;
   looking : IsLookingFrom (g.A.Arcs.leads l.arcs) (places l.fn.self) (state_of l.fn.self) (state_of l.self) l.fn.self.filled l.head l.self.filled l.from l.place l.depth;
 }

@@ -11,6 +11,7 @@ pub loop-head-init : goal.loop-head-init
 loop-head-init g c = record {
   stored = c.start.ensures.stored;
   same_places = c.start.ensures.places;
+  same_looks = c.start.ensures.looks;
   search = c.start.ensures.search (g.A.Arcs.leads c.args.arcs.now);
   starts = c.start.ensures.starts;
 }
@@ -21,6 +22,7 @@ loop-head-preserved g c =
     record {
       stored = c.look.ensures.stored;
       same_places = c.look.ensures.places ∙ I.same_places;
+      same_looks = c.look.ensures.looks ∙ I.same_looks;
       search = subst (λ (n : ℕ). IsSearch (g.A.Arcs.leads c.args.arcs.now) n (state_of c.look.new.self) (c.loop-head.head + 1) c.look.new.self.filled) I.same_places c.look.ensures.search;
       starts = looked-starts (places c.args.self.now) (members_of c.args.starts.now) (state_of c.loop-head.self) (state_of c.look.new.self) c.loop-head.self.filled
           (subst (λ (n : ℕ). IsGrown n (state_of c.loop-head.self) (state_of c.look.new.self) c.loop-head.self.filled) I.same_places c.look.ensures.grown) I.starts;

@@ -8,6 +8,7 @@ abbrev pub invariant-loop-head : goal.invariant-loop-head
 invariant-loop-head g l = record {
   stored : IsStored l.self;
   same_places : places l.self ≡ places l.fn.self;
+  same_looks : l.self.looks ≡ l.fn.self.looks;
   search : IsSearch (g.A.Arcs.leads l.arcs) (places l.fn.self) (state_of l.self) l.head l.self.filled;
   starts : HasStarts (places l.fn.self) (members_of l.starts) (state_of l.self);
 }

@@ -1,4 +1,4 @@
-use Rattle.std.proofs.Common.{ℕ, ◌+◌, ◌∙◌, subst, arith}
+use Rattle.std.proofs.Common.{ℕ, ◌+◌, ◌∙◌, subst, sym, arith}
 use Rattle.search_laws.specs.Searches.{IsSearch, IsGrown}
 use Rattle.search_laws.proofs.SearchLaws.{search-closed, search-reached_set}
 use Rattle.exchange_graph.specs.Marks.{members_of}
@@ -16,6 +16,9 @@ loop-head-init g c = record {
   none = λ j l. absurd (omega arith);
   ticked = omega arith;
 }
+
+pub look-requires-clause-search : goal.look-requires-clause-search
+look-requires-clause-search g c = subst (λ (n : ℕ). IsSearch (g.A.Arcs.leads c.args.arcs.now) n (state_of c.loop-head.self) c.loop-head.head c.loop-head.self.filled) (sym c.loop-head.invariant.same_places) c.loop-head.invariant.search
 
 pub loop-head-preserved : goal.loop-head-preserved
 loop-head-preserved g c =

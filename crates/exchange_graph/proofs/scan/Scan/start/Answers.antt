@@ -1,4 +1,6 @@
-use Rattle.std.proofs.Common.{◌∙◌, ◌<◌, false, arith}
+use Rattle.std.proofs.Common.{ℕ, ◌∙◌, ◌<◌, subst, false, arith}
+use Rattle.search_laws.specs.Searches.{IsSearch}
+use Rattle.search_laws.proofs.SearchLaws.{search-start}
 use Rattle.exchange_graph.specs.Marks.{members_of}
 use Rattle.exchange_graph.specs.Scans.{places, state_of, position_of}
 use Rattle.exchange_graph.proofs.LookLaws.{waits-late, starting-first, starting-put, starting-skip, starting-done}
@@ -6,11 +8,17 @@ use Rattle.exchange_graph.proofs.scan.Scan.start.Goals as goal
 use Rattle.exchange_graph.proofs.scan.Scan.start.Goals.{then-is_start, else-is_start}
 
 pub loop-place-init : goal.loop-place-init
-loop-place-init c = record {
-  stored = c.clear.ensures.stored;
-  same_places = c.clear.ensures.places;
-  starting = λ arc. starting-first arc (places c.args.self.now) (members_of c.args.starts.now) (state_of c.clear.new.self) c.clear.new.self.filled c.clear.ensures.filled c.clear.ensures.order c.clear.ensures.reached;
-}
+loop-place-init c =
+    let N = c.clear.new.self in
+    let E = c.clear.ensures in
+    record {
+      stored = E.stored;
+      same_places = E.places;
+      same_looks = E.looks;
+      starting = λ arc. starting-first arc (places c.args.self.now) (members_of c.args.starts.now) (state_of N) N.filled E.filled
+          (subst (λ (n : ℕ). IsSearch arc n (state_of N) 0 0) E.places
+          (search-start arc (places N) (state_of N) (position_of N) E.stored.order_below E.stored.position_below E.stored.position_order E.stored.order_position (λ y l. E.reached y (omega (arith, l, E.places))))) E.reached;
+    }
 
 pub put-requires-clause-waits : goal.put-requires-clause-waits
 put-requires-clause-waits c = (c.loop-place.invariant.starting (λ _ _. false)).waiting c.loop-place.place (omega arith) (omega (arith, c.requires.starts))
@@ -31,12 +39,14 @@ loop-place-preserved c =
       | then-is_start w ↦ rw w.self-is (record {
         stored = w.put.ensures.stored;
         same_places = w.put.ensures.places ∙ I.same_places;
+        same_looks = w.put.ensures.looks ∙ I.same_looks;
         starting = λ arc. starting-put arc (places c.args.self.now) (members_of c.args.starts.now) (state_of c.loop-place.self) (state_of w.put.new.self) c.loop-place.self.filled w.put.new.self.filled (position_of c.loop-place.self here) here here (I.starting arc)
             (omega (arith, I.same_places)) (omega (arith, I.same_places, I.stored.position_below here below)) (I.stored.order_position here below) w.if-is_start.true w.put.ensures.put w.put.ensures.filled;
       })
       | else-is_start w ↦ rw w.self-is (record {
         stored = I.stored;
         same_places = I.same_places;
+        same_looks = I.same_looks;
         starting = λ arc. starting-skip arc (places c.args.self.now) (members_of c.args.starts.now) (state_of c.loop-place.self) c.loop-place.self.filled here (I.starting arc) w.if-is_start.false;
       })
     ]

@@ -8,5 +8,6 @@ abbrev pub invariant-loop-place : goal.invariant-loop-place
 invariant-loop-place l = record {
   stored : IsStored l.self;
   same_places : places l.self ≡ places l.fn.self;
+  same_looks : l.self.looks ≡ l.fn.self.looks;
   starting : (arc : ℕ → ℕ → Bool) → IsStartingFrom arc (places l.fn.self) (members_of l.starts) (state_of l.self) l.self.filled l.place;
 }

@@ -1,9 +1,11 @@
-use Rattle.std.proofs.Common.{◌≡◌, ◌+◌, ◌-◌, ◌<◌, ◌≤◌, ◌∙◌, ap, sym, subst, refl, arith}
+use Rattle.std.proofs.Common.{◌≡◌, ◌+◌, ◌-◌, ◌<◌, ◌≤◌, ◌∙◌, true, ap, sym, subst, refl, arith}
 use Rattle.residue_theory.specs.Sums.{size_on}
 use Rattle.exchange_graph.specs.Results.{step_of}
 use Rattle.mixed_augmentation.specs.Moves.{route}
-use Rattle.independent_matching.specs.Sides.{CanTake, IsMoving, Takes, in_q, layers_of, number, row_had, size_of, tableau_of}
-use Rattle.independent_matching.proofs.MoveLaws.{can-take, moving-count, moving-next, moving-none, moving-pivots, moving-positive, moving-size, moving-start, moving-tableau}
+use Rattle.mixed_matrices.specs.LayeredMatrices.{Layered}
+use Rattle.independent_matching.specs.Sides.{AreRowsMoving, CanTake, IsMoving, Takes, in_q, is_matched, layers_of, number, row_had, size_of, tableau_of}
+use Rattle.independent_matching.proofs.LeftLaws.{move-rows, moved-rows, moving-rows}
+use Rattle.independent_matching.proofs.MoveLaws.{can-take, moving-apart, moving-below, moving-count, moving-next, moving-none, moving-pivots, moving-positive, moving-size, moving-start, moving-tableau, moving-taken}
 use Rattle.independent_matching.proofs.RunLaws.{base-bound, pivots-bound, pivots-more, size-bound}
 use Rattle.independent_matching.proofs.improver.Improver.augment.Goals as goal
 
@@ -14,12 +16,14 @@ loop-next-init g c =
     let at = step_of c.args.self.now.search in
     record {
       moving = moving-start g.F.Field.modulus S M c.requires.pair at c.args.last c.args.end c.requires.route;
-      guesses = c.requires.guesses;
+      rows = moving-rows M c.args.end;
+      marks = c.requires.marks;
       count = refl;
       pivots = refl;
       search = refl;
       free = refl;
-      ends = refl;
+      by_t = refl;
+      looks = refl;
       size = refl;
     }
 
@@ -58,12 +62,18 @@ loop-next-preserved g c =
       moving = subst (λ next. IsMoving p S₀ M₀ (route (tableau_of S₀ M₀) at c.args.last (in_q c.args.end) (number c.args.end)) S' M' next i) (sym (c.row_of-next.ensures ∙ ap (row_had (tableau_of S M)) x_is))
           (moving-next p S₀ M₀ c.requires.pair at c.args.last c.args.end c.requires.route S M c.loop-next.next c.in-Some.row c.loop-next.left I.moving c.in-Some.is i here S' M' c.take.ensures.layers c.take.ensures.pattern
           (subst (λ x. Takes p (layers_of S M) (tableau_of S M) (tableau_of S' M') c.in-Some.row x) x_is c.take.ensures.takes));
-      guesses = c.take.ensures.guesses;
+      rows = subst (λ next. AreRowsMoving M₀ c.args.end M' next) (sym c.row_of-next.ensures)
+          (move-rows p S S' M M' (omega (arith, I.moving.width, c.requires.width, ap (λ (L : Layered). L.columns) I.moving.layers)) (ap (λ m. m.width) c.take.ensures.pattern) c.step-x.result
+          (subst (λ n. c.step-x.result < n) (sym (ap (λ (L : Layered). L.columns) I.moving.layers)) (subst (λ x. x < S₀.columns) (sym x_is) (moving-below p S₀ M₀ c.requires.pair at c.args.last c.args.end c.requires.route S M c.loop-next.next c.in-Some.row c.loop-next.left I.moving c.in-Some.is i here)))
+          (subst (λ x. S.base x ≡ true → is_matched M x ≡ true → ⊥) (sym x_is) (moving-apart p S₀ M₀ c.requires.pair at c.args.last c.args.end c.requires.route S M c.loop-next.next c.in-Some.row c.loop-next.left I.moving c.in-Some.is i here))
+          c.in-Some.row c.take.ensures.takes M₀ c.args.end (subst (λ next. AreRowsMoving M₀ c.args.end M next) c.in-Some.is I.rows));
+      marks = c.take.ensures.marks;
       count = omega (arith, c.take.ensures.steps, I.count, moving-count p S₀ M₀ c.requires.pair at c.args.last c.args.end c.requires.route S M c.loop-next.next c.in-Some.row c.loop-next.left I.moving c.in-Some.is i here);
       pivots = omega (arith, c.take.ensures.steps, c.take.ensures.pivots, I.pivots);
       search = c.take.ensures.search ∙ I.search;
       free = c.take.ensures.free ∙ I.free;
-      ends = c.take.ensures.ends ∙ I.ends;
+      by_t = c.take.ensures.by_t ∙ I.by_t;
+      looks = c.take.ensures.looks ∙ I.looks;
       size = c.take.ensures.count ∙ I.size;
     }
 
@@ -123,3 +133,13 @@ returns-clause-few g c =
     (omega (arith, c.loop-next.invariant.count, c.loop-next.invariant.pivots, moving-pivots p S₀ M₀ c.requires.pair at c.args.last c.args.end c.requires.route))
     (omega (arith, base-bound S₀ M₀))
     (moving-size p S₀ M₀ c.requires.pair at c.args.last c.args.end c.requires.route S M c.loop-next.next c.loop-next.left c.loop-next.invariant.moving c.in_default.is)
+
+pub returns-clause-rows : goal.returns-clause-rows
+returns-clause-rows g c = moved-rows c.args.self.now.pair.mates c.loop-next.self.pair.mates c.args.end c.loop-next.next c.in_default.is c.loop-next.invariant.rows
+
+pub returns-clause-taken : goal.returns-clause-taken
+returns-clause-taken g c =
+    let S₀ = g.T.Tableau.state c.args.self.now.pair.tableau in
+    let M₀ = c.args.self.now.pair.mates in
+    let at = step_of c.args.self.now.search in
+    moving-taken g.F.Field.modulus S₀ M₀ c.requires.pair at c.args.last c.args.end c.requires.route (g.T.Tableau.state c.loop-next.self.pair.tableau) c.loop-next.self.pair.mates c.loop-next.next c.loop-next.left c.loop-next.invariant.moving c.in_default.is

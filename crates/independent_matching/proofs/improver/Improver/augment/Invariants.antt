@@ -2,7 +2,8 @@ use Rattle.std.proofs.Common.{◌≡◌, ◌+◌}
 use Rattle.residue_theory.specs.Sums.{size_on}
 use Rattle.exchange_graph.specs.Results.{step_of}
 use Rattle.mixed_augmentation.specs.Moves.{route}
-use Rattle.independent_matching.specs.Sides.{AreGuesses, IsMoving, in_q, number, tableau_of}
+use Rattle.independent_matching.specs.Marks.{AreMarksOfQ}
+use Rattle.independent_matching.specs.Sides.{AreRowsMoving, IsMoving, in_q, number, tableau_of}
 use Rattle.independent_matching.proofs.improver.Improver.augment.Given as goal
 
 abbrev pub invariant-loop-next : goal.invariant-loop-next
@@ -12,12 +13,14 @@ invariant-loop-next g l =
     let R = route (tableau_of S M) (step_of l.fn.self.search) l.last (in_q l.fn.end) (number l.fn.end) in
     record {
       moving : IsMoving g.F.Field.modulus S M R (g.T.Tableau.state l.self.pair.tableau) l.self.pair.mates l.next l.left;
-      guesses : AreGuesses g.F.Field.modulus (g.T.Tableau.state l.self.pair.tableau) l.self.guesses.items;
+      rows : AreRowsMoving M l.fn.end l.self.pair.mates l.next;
+      marks : AreMarksOfQ g.F.Field.modulus (g.T.Tableau.state l.self.pair.tableau) l.self.marks;
       count : l.steps + size_on R.in_q l.left ≡ l.fn.steps + size_on R.in_q (l.last + 1);
       pivots : l.steps + l.fn.self.pivots ≡ l.fn.steps + l.self.pivots;
       search : l.self.search ≡ l.fn.self.search;
-      free : l.self.free ≡ l.fn.self.free;
-      ends : l.self.ends ≡ l.fn.self.ends;
+      free : l.self.marks.free ≡ l.fn.self.marks.free;
+      by_t : l.self.marks.by_t ≡ l.fn.self.marks.by_t;
+      looks : l.self.looks ≡ l.fn.self.looks;
       size : l.self.size ≡ l.fn.self.size;
     }
 

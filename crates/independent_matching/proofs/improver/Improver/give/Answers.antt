@@ -1,7 +1,7 @@
 use Rattle.std.proofs.Common.{◌≤◌, arith}
 use Rattle.independent_matching.specs.Sides.{size_of}
 use Rattle.independent_matching.proofs.RunLaws.{pivots-bound, pivots-more, size-bound}
-use Rattle.independent_matching.proofs.StepLaws.{one-size, one-step, one-tableau, one-take}
+use Rattle.independent_matching.proofs.StepLaws.{one-rows, one-size, one-step, one-tableau, one-take, one-taken}
 use Rattle.independent_matching.proofs.improver.Improver.give.Goals as goal
 
 pub take-requires-clause-can : goal.take-requires-clause-can
@@ -30,3 +30,11 @@ returns-clause-few g c =
     (omega (arith, c.take.ensures.pivots, c.take.ensures.steps, one-step c.args.row)) (omega arith)
     (one-size g.F.Field.modulus S M c.requires.pair c.args.x c.requires.x c.args.row c.requires.free c.requires.row
     (g.T.Tableau.state c.take.new.self.pair.tableau) c.take.new.self.pair.mates c.take.ensures.layers c.take.ensures.pattern c.take.ensures.takes)
+
+pub returns-clause-rows : goal.returns-clause-rows
+returns-clause-rows g c = one-rows g.F.Field.modulus (g.T.Tableau.state c.args.self.now.pair.tableau) c.args.self.now.pair.mates c.requires.pair c.args.x c.requires.x c.args.row c.requires.free c.requires.row
+    (g.T.Tableau.state c.take.new.self.pair.tableau) c.take.new.self.pair.mates c.take.ensures.layers c.take.ensures.pattern c.take.ensures.takes c.requires.width
+
+pub returns-clause-taken : goal.returns-clause-taken
+returns-clause-taken g c = one-taken g.F.Field.modulus (g.T.Tableau.state c.args.self.now.pair.tableau) c.args.self.now.pair.mates c.requires.pair c.args.x c.requires.x c.args.row c.requires.free c.requires.row
+    (g.T.Tableau.state c.take.new.self.pair.tableau) c.take.new.self.pair.mates c.take.ensures.layers c.take.ensures.pattern c.take.ensures.takes

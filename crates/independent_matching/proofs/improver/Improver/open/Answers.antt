@@ -1,19 +1,19 @@
-use Rattle.std.proofs.Common.{sym, subst, arith, ◌∙◌}
-use Rattle.independent_matching.specs.Sides.{IsReady}
-use Rattle.independent_matching.proofs.OpenLaws.{open-size, open-tableau}
+use Rattle.std.proofs.Common.{arith, ◌∙◌}
+use Rattle.independent_matching.proofs.OpenLaws.{all-free, open-size, open-tableau}
 use Rattle.independent_matching.proofs.improver.Improver.open.Goals as goal
+
+pub open-requires-clause-free : goal.open-requires-clause-free
+open-requires-clause-free g c = all-free g.F.Field.modulus (g.T.Tableau.state c.args.tableau) c.args.mates c.requires.no_base c.requires.unmatched
 
 pub returns-clause-ready : goal.returns-clause-ready
 returns-clause-ready g c =
-    let p = g.F.Field.modulus in
     let S = g.T.Tableau.state c.args.tableau in
-    let M = c.args.mates in
-    let e = c.mark.new.self in
-    subst (λ q. IsReady p (g.T.Tableau.state q.tableau) q.mates e.search.places e.free.items e.ends.items e.guesses.items e.size e.pivots) (sym c.mark.ensures.pair) (record {
-      pair = open-tableau p S M c.requires.no_base c.requires.unmatched c.requires.kernel;
-      sized = c.mark.ensures.sized;
-      marks = c.mark.ensures.marks;
-      guessed = c.mark.ensures.guesses;
-      few = omega (arith, c.mark.ensures.pivots);
-      count = c.mark.ensures.count ∙ open-size p S M c.requires.no_base c.requires.unmatched;
-    })
+    record {
+      pair = open-tableau g.F.Field.modulus S c.args.mates c.requires.no_base c.requires.unmatched c.requires.kernel;
+      width = c.requires.width;
+      search = c.in_ok-open.ensures.places ∙ c.columns-columns.ensures.columns;
+      marks = c.in_ok-marks.ensures;
+      count = open-size g.F.Field.modulus S c.args.mates c.requires.no_base c.requires.unmatched;
+      few = omega arith;
+      few_looks = omega arith;
+    }

@@ -1,8 +1,9 @@
-use Rattle.std.proofs.Common.{◌+◌, ◌*◌, ◌-◌, ◌<◌, ◌∙◌, ap, sym, subst, cond, arith}
+use Rattle.std.proofs.Common.{◌≡◌, ◌+◌, ◌*◌, ◌-◌, ◌<◌, ◌∙◌, ap, sym, subst, cond, arith}
 use Rattle.residue_theory.specs.Sums.{size_on}
+use Rattle.exchange_graph.specs.Results.{reached_of}
 use Rattle.mixed_matrices.specs.LayeredMatrices.{Layered}
 use Rattle.independent_matching.specs.Sides.{size_of}
-use Rattle.independent_matching.proofs.RunLaws.{base-bound, run-count, run-going, run-smaller, size-bound, told-going, told-last}
+use Rattle.independent_matching.proofs.RunLaws.{base-bound, run-count, run-going, run-smaller, size-bound}
 use Rattle.independent_matching.proofs.improver.Improver.run.Goals as goal
 
 pub loop-grown-smaller : goal.loop-grown-smaller
@@ -36,14 +37,13 @@ loop-grown-preserved g c =
       layers = E.layers ∙ I.layers;
       going = λ t. run-going N (size_of S M) (size_of S' M') (size_on S.base S.columns) (s * N + s * s) c.args.steps.now c.loop-grown.steps c.improve-grown.new.steps
           (I.going c.loop-grown-test.true) (omega (arith, E.pivots t, ap (λ (L : Layered). L.columns) I.layers)) (base-bound S M) (E.size t);
-      telling = λ t. told-going N s (size_of S M) (size_of S' M') c.args.steps.now c.loop-grown.steps c.improve-grown.new.steps c.args.self.now.pivots c.loop-grown.self.pivots c.improve-grown.new.self.pivots
-          (I.telling c.loop-grown-test.true) (omega (arith, E.counted, ap (λ (L : Layered). L.columns) I.layers)) (E.size t);
-      told = λ f. told-last N s (size_of S M) (size_of S' M') c.args.steps.now c.loop-grown.steps c.improve-grown.new.steps c.args.self.now.pivots c.loop-grown.self.pivots c.improve-grown.new.self.pivots
-          (I.telling c.loop-grown-test.true) (omega (arith, E.counted, ap (λ (L : Layered). L.columns) I.layers)) (ap (λ q. size_of (g.T.Tableau.state q.tableau) q.mates) (E.pair f));
+      told = λ t. omega (arith, E.told t, I.told c.loop-grown-test.true);
+      last = λ f. subst (λ n. c.improve-grown.new.steps + (c.args.self.now.pivots + c.args.self.now.looks) ≡ c.args.steps.now + (c.improve-grown.new.self.pivots + c.improve-grown.new.self.looks) + size_on (reached_of c.improve-grown.new.self.search) n)
+          (ap (λ (L : Layered). L.columns) I.layers) (omega (arith, E.looks f, (E.none_told f).0, (E.none_told f).1, I.told c.loop-grown-test.true));
       no_walk = E.no_walk;
       reached = E.reached;
       asked = λ t. omega (arith, E.searches, I.asked c.loop-grown-test.true, E.size t);
       searched = λ f. omega (arith, E.searches, I.asked c.loop-grown-test.true, ap (λ q. size_of (g.T.Tableau.state q.tableau) q.mates) (E.pair f));
       count = λ f. run-count N s (size_of S M) (size_of S' M') c.args.steps.now c.loop-grown.steps c.improve-grown.new.steps
-          (I.going c.loop-grown-test.true) (omega (arith, E.looks f, ap (λ (L : Layered). L.columns) I.layers)) (ap (λ q. size_of (g.T.Tableau.state q.tableau) q.mates) (E.pair f));
+          (I.going c.loop-grown-test.true) (omega (arith, E.few f, ap (λ (L : Layered). L.columns) I.layers)) (ap (λ q. size_of (g.T.Tableau.state q.tableau) q.mates) (E.pair f));
     }

@@ -1,8 +1,10 @@
 use Rattle.std.proofs.Common.{◌≡◌, ◌-◌, ◌+◌, ◌*◌, ◌≤◌, IsTrue, IsFalse, cond}
+use Rattle.residue_theory.specs.Sums.{size_on}
 use Rattle.exchange_graph.specs.Results.{reached_of}
 use Rattle.mixed_matrices.specs.Arcs.{HasNoWalk, IsReachedFromFree}
-use Rattle.independent_matching.specs.Engines.{AreFewSteps, AreTold}
-use Rattle.independent_matching.specs.Sides.{IsReady, layers_of, size_of, tableau_of}
+use Rattle.independent_matching.specs.Engines.{AreFewSteps}
+use Rattle.independent_matching.specs.Marks.{IsReady}
+use Rattle.independent_matching.specs.Sides.{layers_of, size_of, tableau_of}
 use Rattle.independent_matching.proofs.improver.Improver.run.Given as goal
 
 abbrev pub invariant-loop-grown : goal.invariant-loop-grown
@@ -13,11 +15,11 @@ invariant-loop-grown g l =
     let S = g.T.Tableau.state l.self.pair.tableau in
     let M = l.self.pair.mates in
     record {
-      ready : IsReady p S M l.self.search.places l.self.free.items l.self.ends.items l.self.guesses.items l.self.size l.self.pivots;
+      ready : IsReady p S M l.self.search.places l.self.marks l.self.size l.self.pivots l.self.looks;
       layers : layers_of S M ≡ layers_of S₀ M₀;
       going : IsTrue l.grown → l.steps + (size_of S₀ M₀ * S₀.columns + size_of S₀ M₀ * size_of S₀ M₀) ≤ l.fn.steps + size_of S M * S₀.columns + size_of S M * size_of S M;
-      telling : IsTrue l.grown → l.steps + l.fn.self.pivots + size_of S₀ M₀ * S₀.columns ≤ l.fn.steps + l.self.pivots + size_of S M * S₀.columns;
-      told : IsFalse l.grown → AreTold S₀.columns (size_of S₀ M₀) (size_of S M) l.fn.steps l.steps l.fn.self.pivots l.self.pivots;
+      told : IsTrue l.grown → l.steps + (l.fn.self.pivots + l.fn.self.looks) ≡ l.fn.steps + (l.self.pivots + l.self.looks);
+      last : IsFalse l.grown → l.steps + (l.fn.self.pivots + l.fn.self.looks) ≡ l.fn.steps + (l.self.pivots + l.self.looks) + size_on (reached_of l.self.search) S₀.columns;
       no_walk : IsFalse l.grown → HasNoWalk p (layers_of S M) (tableau_of S M);
       reached : IsFalse l.grown → IsReachedFromFree p (layers_of S M) (tableau_of S M) (reached_of l.self.search);
       asked : IsTrue l.grown → l.searches + size_of S₀ M₀ ≡ l.fn.searches + size_of S M;

@@ -1,11 +1,11 @@
 use Rattle.std.proofs.Common.{◌≡◌, ◌+◌, ◌<◌, ℕ, true, length, ap, sym, subst, ◌∙◌, arith}
-use Rattle.minimiser_lattice.specs.Bits.{bit_in}
+use Rattle.bit_table.specs.Bits.{bit_in}
 use Rattle.minimiser_lattice.specs.Components.{IsLed, places, state_of, number_of}
 use Rattle.minimiser_lattice.specs.Paths.{State}
 use Rattle.minimiser_lattice.specs.declared.components.Components.{Components}
-use Rattle.minimiser_lattice.proofs.BitLaws.{item_is}
+use Rattle.bit_table.proofs.BitLaws.{item_is}
 use Rattle.minimiser_lattice.proofs.CloseLaws.{IsAbsorbing, other_small, absorbing-next, absorbing-done}
-use Rattle.exchange_graph.specs.Ranges.{IsLeast}
+use Rattle.number_ranges.specs.Ranges.{IsLeast}
 use Rattle.minimiser_lattice.proofs.components.Components.absorb.Goals as goal
 
 pub loop-to-init : goal.loop-to-init

@@ -1,5 +1,5 @@
 use Rattle.std.proofs.Common.{◌≡◌, ◌-◌, ℕ, ◌<◌, true}
-use Rattle.minimiser_lattice.specs.Bits.{bit_in}
+use Rattle.bit_table.specs.Bits.{bit_in}
 use Rattle.minimiser_lattice.specs.Components.{IsStored, places, state_of}
 use Rattle.minimiser_lattice.proofs.CloseLaws.{IsAbsorbing}
 use Rattle.minimiser_lattice.proofs.components.Components.absorb.Given as goal

@@ -1,11 +1,11 @@
 use Rattle.std.proofs.Common.{◌≡◌, ◌≢◌, ◌+◌, ◌-◌, ◌<◌, ◌≤◌, ℕ, true, false, length, set, get_or, ap, sym, subst, ◌∙◌, arith}
 use Rattle.std.proofs.lemmas.List.{get_or-set_same, get_or-set_other}
 use Rattle.exchange_graph.proofs.ItemLaws.{mark_read}
-use Rattle.exchange_graph.specs.Ranges.{IsLeast}
+use Rattle.number_ranges.specs.Ranges.{IsLeast}
 use Rattle.minimiser_lattice.specs.Components.{places, state_of}
 use Rattle.minimiser_lattice.specs.Paths.{IsMerged, State}
 use Rattle.minimiser_lattice.specs.declared.components.Components.{Components}
-use Rattle.minimiser_lattice.proofs.BitLaws.{item_is}
+use Rattle.bit_table.proofs.BitLaws.{item_is}
 use Rattle.minimiser_lattice.proofs.PathLaws.{IsAdvancing, going_fits, last_below, advancing-first, advancing-done, advancing-merge, advancing-stop}
 use Rattle.minimiser_lattice.proofs.components.Components.advance.Goals as goal
 use Rattle.minimiser_lattice.proofs.components.Components.advance.Goals.{then-not-index-2, else-not-index-2}

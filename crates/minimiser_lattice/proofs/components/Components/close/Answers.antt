@@ -1,11 +1,11 @@
 use Rattle.std.proofs.Common.{◌≡◌, ◌-◌, ◌<◌, ◌≤◌, ◌⊎◌, inl, inr, ℕ, true, get_or, ap, sym, subst, ◌∙◌, arith}
 use Rattle.residue_theory.proofs.SumLaws.{nat_cases}
 use Rattle.exchange_graph.specs.Marks.{members_of}
-use Rattle.minimiser_lattice.specs.Bits.{bit_in}
+use Rattle.bit_table.specs.Bits.{bit_in}
 use Rattle.minimiser_lattice.specs.Components.{places, state_of, number_of}
 use Rattle.minimiser_lattice.specs.Paths.{Closes, IsNumbered, IsClosing, IsToldOf}
 use Rattle.minimiser_lattice.specs.declared.components.Components.{Components}
-use Rattle.minimiser_lattice.proofs.BitLaws.{item_is}
+use Rattle.bit_table.proofs.BitLaws.{item_is}
 use Rattle.minimiser_lattice.proofs.PathLaws.{going_fits, last_below}
 use Rattle.minimiser_lattice.proofs.CloseLaws.{closes-start, closes-end}
 use Rattle.minimiser_lattice.proofs.components.Components.close.Goals as goal

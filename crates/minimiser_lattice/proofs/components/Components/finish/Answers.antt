@@ -1,6 +1,6 @@
 use Rattle.std.proofs.Common.{◌-◌, arith}
 use Rattle.minimiser_lattice.specs.Components.{places, state_of}
-use Rattle.minimiser_lattice.proofs.BitLaws.{item_is}
+use Rattle.bit_table.proofs.BitLaws.{item_is}
 use Rattle.minimiser_lattice.proofs.PathLaws.{going_fits, last_below, left-by}
 use Rattle.minimiser_lattice.proofs.components.Components.finish.Goals as goal
 

@@ -4,7 +4,7 @@ use Rattle.std.proofs.lemmas.List.{get_or-set_same, get_or-set_other}
 use Rattle.minimiser_lattice.specs.Components.{places, state_of, number_of}
 use Rattle.exchange_graph.specs.Marks.{members_of}
 use Rattle.minimiser_lattice.specs.declared.components.Components.{Components}
-use Rattle.minimiser_lattice.proofs.BitLaws.{item_is}
+use Rattle.bit_table.proofs.BitLaws.{item_is}
 use Rattle.minimiser_lattice.proofs.CloseLaws.{numbered-next}
 use Rattle.minimiser_lattice.proofs.components.Components.number_group.Goals as goal
 use Rattle.std.proofs.Common.{false, subst}
@@ -23,7 +23,7 @@ loop-position-preserved c =
     let is = item_is s.stack.items c.loop-position.position place fits c.index-place.ensures in
     let below : place < places c.args.self.now = omega (arith, read, is, height, c.requires.below c.loop-position.position (omega (arith, height))) in
     record {
-      stored = record { done = I.stored.done; number = I.stored.number; position = I.stored.position; next = I.stored.next; stack = I.stored.stack; base = I.stored.base; path = I.stored.path; strict = I.stored.strict; size = I.stored.size };
+      stored = record { done = I.stored.done; number = I.stored.number; position = I.stored.position; next = I.stored.next; stack = I.stored.stack; base = I.stored.base; path = I.stored.path; rows = I.stored.rows; size = I.stored.size };
       kept = ap (λ (v : Components). record v { done = with_item s.done place true; number = with_item s.number place s.count }) I.kept;
       numbered = numbered-next (state_of c.args.self.now) (members_of s.done.items) (members_of (set s.done.items place true)) (number_of s) (λ y. Rattle.std.proofs.Common.get_or (set s.number.items place s.count) y 0)
           c.args.from c.loop-position.position place I.numbered (omega arith) (Rattle.std.proofs.Common.sym read ∙ is)

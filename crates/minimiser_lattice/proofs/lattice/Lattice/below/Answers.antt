@@ -1,7 +1,7 @@
 use Rattle.std.proofs.Common.{◌≡◌, ◌<◌, get_or, ap, sym, subst, ◌∙◌, arith}
-use Rattle.minimiser_lattice.specs.Bits.{bit_in, bit_of}
+use Rattle.bit_table.specs.Bits.{bit_in}
 use Rattle.minimiser_lattice.specs.Views.{Kept}
-use Rattle.minimiser_lattice.proofs.BitLaws.{item_is}
+use Rattle.bit_table.proofs.BitLaws.{item_is}
 use Rattle.minimiser_lattice.proofs.lattice.Lattice.below.Goals as goal
 
 pub index-requires : goal.index-requires
@@ -14,7 +14,7 @@ pub get-requires-clause-x : goal.get-requires-clause-x
 get-requires-clause-x c =
     let l = c.self.inside.listing in
     let less : c.args.l < l.blocks = omega (arith, c.requires.l, ap (λ (v : Kept). v.blocks) c.self.view_is) in
-    omega (arith, c.self.invariant.listed c.args.l less, item_is l.listed.items c.args.l c.index-2.result.now (omega (arith, less, c.self.invariant.fits, c.self.invariant.opened.listed)) c.index-2.ensures, c.self.invariant.stored.size)
+    omega (arith, c.self.invariant.listed c.args.l less, item_is l.listed.items c.args.l c.index-2.result.now (omega (arith, less, c.self.invariant.fits, c.self.invariant.opened.listed)) c.index-2.ensures, c.self.invariant.stored.rows)
 
 pub get-requires-clause-y : goal.get-requires-clause-y
 get-requires-clause-y c =
@@ -30,5 +30,5 @@ returns c =
     let lb : c.args.l < l.blocks = omega (arith, c.requires.l, ap (λ (v : Kept). v.blocks) c.self.view_is) in
     let low = item_is l.listed.items c.args.k c.index.result.now (omega (arith, kb, c.self.invariant.fits, c.self.invariant.opened.listed)) c.index.ensures in
     let high = item_is l.listed.items c.args.l c.index-2.result.now (omega (arith, lb, c.self.invariant.fits, c.self.invariant.opened.listed)) c.index-2.ensures in
-    subst (λ (v : Kept). c.get.result ≡ bit_of v.strict v.strict_width (get_or v.listed c.args.l 0) (get_or v.listed c.args.k 0)) c.self.view_is
+    subst (λ (v : Kept). c.get.result ≡ bit_in v.strict (get_or v.listed c.args.l 0) (get_or v.listed c.args.k 0)) c.self.view_is
     (c.get.ensures ∙ (ap (λ m. strict m c.index.result.now) (sym high) ∙ ap (strict (get_or l.listed.items c.args.l 0)) (sym low)))

@@ -1,5 +1,5 @@
 use Rattle.std.proofs.Common.{◌≡◌, ℕ, ◌<◌, ◌≤◌, false}
-use Rattle.minimiser_lattice.specs.Bits.{bit_in}
+use Rattle.bit_table.specs.Bits.{bit_in}
 use Rattle.minimiser_lattice.specs.Components.{places}
 use Rattle.minimiser_lattice.specs.Listings.{IsBetweenFrom, IsOpened}
 use Rattle.minimiser_lattice.proofs.listing.Listing.cover.Given as goal

@@ -1,5 +1,5 @@
 use Rattle.std.proofs.Common.{◌≡◌, ◌+◌, ◌-◌, ℕ, ap, sym, subst, ◌∙◌, arith}
-use Rattle.minimiser_lattice.specs.Bits.{bit_in}
+use Rattle.bit_table.specs.Bits.{bit_in, IsJoined}
 use Rattle.minimiser_lattice.specs.Components.{number_of, places}
 use Rattle.minimiser_lattice.specs.Listings.{IsBetweenFrom}
 use Rattle.minimiser_lattice.specs.declared.listing.Listing.{Listing}
@@ -13,11 +13,11 @@ loop-m-preserved-then-not-get c =
     let I = c.loop-m.invariant in
     let n = places cs in
     let same : c.loop-m.self.between.size ≡ n = I.opened.size in
-    let J = subst (λ (v : ℕ). Rattle.minimiser_lattice.specs.Bits.IsJoined (bit_in c.loop-m.self.between) (bit_in c.join_other.new.self) (bit_in cs.strict (c.loop-m.m - 1)) v c.args.l) same c.join_other.ensures.joined in
+    let J = subst (λ (v : ℕ). IsJoined (bit_in c.loop-m.self.between) (bit_in c.join_other.new.self) (bit_in cs.strict (c.loop-m.m - 1)) v c.args.l) same c.join_other.ensures.joined in
     let R : IsBetweenFrom n (bit_in cs.strict) (bit_in c.loop-m.self.between) c.args.l (c.loop-m.m - 1 + 1) =
     subst (λ (v : ℕ). IsBetweenFrom n (bit_in cs.strict) (bit_in c.loop-m.self.between) c.args.l v) (omega (arith, c.loop-m-test.true)) I.row in
     record {
-      opened = record { first = I.opened.first; last = I.opened.last; middle = I.opened.middle; placed = I.opened.placed; watch = I.opened.watch; rank = I.opened.rank; listed = I.opened.listed; between = c.join_other.ensures.sized; size = c.join_other.ensures.size ∙ I.opened.size };
+      opened = record { first = I.opened.first; last = I.opened.last; middle = I.opened.middle; placed = I.opened.placed; watch = I.opened.watch; rank = I.opened.rank; listed = I.opened.listed; rows = c.join_other.ensures.rows ∙ I.opened.rows; size = c.join_other.ensures.size ∙ I.opened.size };
       kept = ap (λ (v : Listing). record v { between = c.join_other.new.self }) I.kept;
       within = omega (arith, I.within);
       row = between-join n (number_of cs) cs.count (bit_in cs.strict) (bit_in c.loop-m.self.between) c.args.l (c.loop-m.m - 1) c.requires.numbering c.requires.l (omega (arith, c.loop-m-test.true, I.within)) R (bit_in c.join_other.new.self)

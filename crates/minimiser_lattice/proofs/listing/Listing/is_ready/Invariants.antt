@@ -1,6 +1,6 @@
 use Rattle.std.proofs.Common.{◌≡◌, ◌-◌, ℕ, ◌<◌, true}
 use Rattle.exchange_graph.specs.Marks.{members_of}
-use Rattle.minimiser_lattice.specs.Bits.{bit_in}
+use Rattle.bit_table.specs.Bits.{bit_in}
 use Rattle.minimiser_lattice.proofs.listing.Listing.is_ready.Given as goal
 
 abbrev pub invariant-loop-at : goal.invariant-loop-at

@@ -1,11 +1,11 @@
 use Rattle.std.proofs.Common.{ℕ, inl, inr, refl, ap, sym, subst, ◌∙◌, arith}
 use Rattle.residue_theory.proofs.SumLaws.{nat_cases}
 use Rattle.exchange_graph.specs.Marks.{members_of}
-use Rattle.minimiser_lattice.specs.Bits.{bit_in}
+use Rattle.bit_table.specs.Bits.{bit_in}
 use Rattle.minimiser_lattice.specs.Components.{number_of}
 use Rattle.minimiser_lattice.specs.Listings.{IsReadyAt, IsWatched, watch_of}
 use Rattle.minimiser_lattice.specs.declared.listing.Listing.{Listing}
-use Rattle.minimiser_lattice.proofs.BitLaws.{item_is}
+use Rattle.bit_table.proofs.BitLaws.{item_is}
 use Rattle.minimiser_lattice.proofs.listing.Listing.least_ready.Goals as goal
 
 pub loop-place-preserved : goal.loop-place-preserved

@@ -1,11 +1,11 @@
 use Rattle.std.proofs.Common.{◌≡◌, ◌≢◌, ◌+◌, ◌-◌, ◌<◌, ℕ, true, false, get_or, ap, sym, subst, ◌∙◌, arith}
 use Rattle.exchange_graph.specs.Marks.{members_of}
 use Rattle.closed_sets.proofs.SetLaws.{size_on-bound}
-use Rattle.minimiser_lattice.specs.Bits.{bit_in}
+use Rattle.bit_table.specs.Bits.{bit_in}
 use Rattle.minimiser_lattice.specs.Components.{number_of, places}
 use Rattle.minimiser_lattice.specs.Listings.{HasPlaces, IsOpened, IsReadyAt, IsWatched, watch_of}
 use Rattle.minimiser_lattice.specs.declared.listing.Listing.{Listing}
-use Rattle.minimiser_lattice.proofs.BitLaws.{item_is}
+use Rattle.bit_table.proofs.BitLaws.{item_is}
 use Rattle.minimiser_lattice.proofs.ListingLaws.{list-first, list-next, list-done, places-first, places-next, places-fit, watched-next}
 use Rattle.minimiser_lattice.proofs.listing.Listing.list.Goals as goal
 
@@ -98,7 +98,7 @@ loop-place-preserved c =
     let still = watched-next (places cs) (number_of cs) cs.count (bit_in cs.strict) N (members_of old.middle.items) (members_of s.placed.items) (members_of t.placed.items) (λ l. get_or s.rank.items l 0) (λ l. get_or t.rank.items l 0) place s.blocks
     c.in-Some.ensures.below ready.0.1 put put_others here others (watch_of u) watched in
     record {
-      opened = subst (λ (v : Listing). IsOpened v (places cs)) (sym P.kept) (record { first = O.first; last = O.last; middle = O.middle; placed = P.lengths.0 ∙ O.placed; watch = O.watch; rank = P.lengths.1 ∙ O.rank; listed = P.lengths.2 ∙ O.listed; between = O.between; size = O.size });
+      opened = subst (λ (v : Listing). IsOpened v (places cs)) (sym P.kept) (record { first = O.first; last = O.last; middle = O.middle; placed = P.lengths.0 ∙ O.placed; watch = O.watch; rank = P.lengths.1 ∙ O.rank; listed = P.lengths.2 ∙ O.listed; rows = O.rows; size = O.size });
       kept = P.kept ∙ (ap (λ (v : Listing). record v { placed = t.placed; rank = t.rank; listed = t.listed; blocks = u.blocks + 1 }) c.least_ready.ensures.kept
           ∙ (ap (λ (v : Listing). record v { placed = t.placed; watch = u.watch; rank = t.rank; listed = t.listed; blocks = u.blocks + 1 }) I.kept
           ∙ (ap (λ w. record old { placed = t.placed; watch = w; rank = t.rank; listed = t.listed; blocks = u.blocks + 1 }) (sym (ap (λ (v : Listing). v.watch) P.kept))

@@ -2,7 +2,7 @@ use Rattle.std.proofs.Common.{◌≡◌, ◌-◌, ℕ, Bool, slice_index}
 use Rattle.exchange_graph.specs.Marks.{members_of}
 use Rattle.closed_sets.specs.Tables.{Tells}
 use Rattle.closed_sets.proofs.Listings.{Started}
-use Rattle.minimiser_lattice.specs.Bits.{bit_in}
+use Rattle.bit_table.specs.Bits.{bit_in}
 use Rattle.minimiser_lattice.specs.Components.{number_of, places}
 use Rattle.minimiser_lattice.specs.Listings.{HasPlaces, IsOpened, IsWatched, table_of, watch_of}
 use Rattle.minimiser_lattice.proofs.listing.Listing.list.Given as goal

@@ -1,7 +1,7 @@
 use Rattle.std.proofs.Common.{◌≡◌, ◌≢◌, ◌+◌, ◌<◌, ℕ, inl, inr, ap, sym, ◌∙◌, arith}
 use Rattle.residue_theory.proofs.SumLaws.{nat_cases}
 use Rattle.exchange_graph.specs.Marks.{members_of}
-use Rattle.minimiser_lattice.specs.Bits.{bit_in}
+use Rattle.bit_table.specs.Bits.{bit_in}
 use Rattle.minimiser_lattice.specs.Components.{number_of, places}
 use Rattle.minimiser_lattice.proofs.ListingLaws.{marked-next}
 use Rattle.minimiser_lattice.proofs.listing.Listing.mark.Goals as goal

@@ -1,6 +1,6 @@
 use Rattle.std.proofs.Common.{◌≡◌, ℕ, ◌<◌, false, slice_index}
 use Rattle.exchange_graph.specs.Marks.{members_of}
-use Rattle.minimiser_lattice.specs.Bits.{bit_in}
+use Rattle.bit_table.specs.Bits.{bit_in}
 use Rattle.minimiser_lattice.specs.Components.{number_of, places}
 use Rattle.minimiser_lattice.specs.Listings.{IsMarked, IsOpened}
 use Rattle.minimiser_lattice.proofs.listing.Listing.mark.Given as goal

@@ -2,4 +2,4 @@ use Rattle.row_transform.proofs.DenseLaws.{dense-tableau}
 use Rattle.row_transform.proofs.dense.DenseTableauTableau.columns.Goals as goal
 
 pub returns-clause-tableau : goal.returns-clause-tableau
-returns-clause-tableau g c = rw (← c.self.view_is) (dense-tableau g.F.Field.modulus _ c.self.invariant)
+returns-clause-tableau g c = rw (← c.self.view_is) (dense-tableau g.F.Field.modulus _ c.self.invariant.0)

@@ -2,7 +2,7 @@ use Rattle.std.proofs.Common.{◌≡◌, ◌*◌, ◌%◌, arith, ap, sym, ◌�
 use Rattle.std.proofs.Math.Nat.{zero-mod}
 use Rattle.dense_q.specs.Tables.{height, entry}
 use Rattle.linear_algebra_laws.proofs.Pivots.{pivot-skip}
-use Rattle.row_transform.proofs.TransformLaws.{pivot-first, pivot-next, pivot-zero, leads-next, size-trans}
+use Rattle.row_transform.proofs.TransformLaws.{pivot-first, pivot-next, pivot-zero, stay-first, stay-next, leads-next, size-trans}
 use Rattle.row_transform.proofs.transform.Transform.pivot.Goals as goal
 use Rattle.row_transform.proofs.transform.Transform.pivot.Goals.{then-i-row+then-not-is_zero, else-i-row, else-i-row-via-then-i-row+else-not-is_zero, else-i-row-via-else-i-row}
 
@@ -13,6 +13,7 @@ loop-i-init g c =
       size = c.scale.ensures.size;
       sized = c.scale.ensures.sized;
       below = pivot-first g.F.Field.modulus g.met.F.Field.prime c.args.self.now.p c.scale.new.self.p c.args.row c.args.column _ _ c.requires.row c.requires.column c.entry-entry.ensures one c.scale.ensures.scaled;
+      rest = stay-first g.F.Field.modulus c.args.self.now.p c.scale.new.self.p c.args.row c.args.column _ c.scale.ensures.scaled;
       leads = c.scale.ensures.leads;
     }
 
@@ -23,12 +24,15 @@ loop-i-preserved g c = elim c.if-i-row.branch [
     sized = w.add.ensures.sized;
     below = pivot-next g.F.Field.modulus c.args.self.now.p c.loop-i.self.p w.add.new.self.p c.args.row c.args.column c.loop-i.i _ _ c.loop-i.invariant.size c.loop-i.invariant.below
         w.if-i-row.true (omega (arith, c.scale.ensures.size.height_same, c.rows-i-end.ensures.rows)) c.requires.row c.requires.column c.entry-entry-in-loop-i.ensures w.neg.ensures.negative w.add.ensures.added;
+    rest = stay-next g.F.Field.modulus c.args.self.now.p c.loop-i.self.p w.add.new.self.p c.args.row c.args.column c.loop-i.i _ _ c.loop-i.invariant.size c.loop-i.invariant.rest
+        c.requires.column c.entry-entry-in-loop-i.ensures w.neg.ensures.negative w.add.ensures.added;
     leads = leads-next g.F.Field.modulus c.args.self.now.p c.loop-i.self.p w.add.new.self.p (entry c.args.self.now.s) (entry c.args.self.now.v) (entry c.loop-i.self.s) (entry c.loop-i.self.v) (entry w.add.new.self.s) (entry w.add.new.self.v)
         c.loop-i.invariant.size c.loop-i.invariant.leads w.add.ensures.leads;
   })
   | else-i-row w ↦ rw w.self-is (record {
     size = c.loop-i.invariant.size;
     sized = c.loop-i.invariant.sized;
+    rest = c.loop-i.invariant.rest;
     leads = c.loop-i.invariant.leads;
     below = elim w.else-i-row.branch [
       | else-i-row-via-then-i-row+else-not-is_zero w' ↦ pivot-zero g.F.Field.modulus (height c.args.self.now.p) c.args.self.now.p.width (entry c.args.self.now.p) (entry c.loop-i.self.p) c.args.row c.args.column c.loop-i.i c.loop-i.invariant.below

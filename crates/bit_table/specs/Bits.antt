@@ -1,0 +1,39 @@
+-- Rows of bits, each in words of 64.
+use Rattle.std.specs.Prelude.{ℕ, ◌+◌, ◌*◌, ◌/◌, ◌%◌, ◌<◌, ◌≡◌, ◌≢◌, ◌==◌, ◌||◌, Bool, true, false, List, slice_index}
+use Rattle.std.specs.Int.{bit_at}
+
+-- how many rows there are, how many bits a row has, and the words that keep them, so many for each row
+pub record Bits : Type 0 where
+  pub rows : ℕ
+  pub size : ℕ
+  pub width : ℕ
+  pub words : List ℕ
+
+-- bit y of row x, where a row has `width` words
+abbrev pub bit_of : List ℕ → ℕ → ℕ → ℕ → Bool
+bit_of words width x y = bit_at (slice_index words (x * width + y / 64)) (y % 64) == 1
+
+-- whether bit y of row x is set
+abbrev pub bit_in : Bits → ℕ → ℕ → Bool
+bit_in t = bit_of t.words t.width
+
+-- there are so many rows of so many bits, kept in words
+pub record IsKept (rows size width words : ℕ) : Type 0 where
+  pub words_are : words ≡ rows * width
+  pub width_is : width ≡ size / 64 + 1
+
+-- the bit at x and y is set, and no other bit of the n of each row changes
+pub record IsBitSet (before now : ℕ → ℕ → Bool) (n x y : ℕ) : Type 0 where
+  pub here : now x y ≡ true
+  pub row : (j : ℕ) → j < n → j ≢ y → now x j ≡ before x j
+  pub others : (i j : ℕ) → j < n → i ≢ x → now i j ≡ before i j
+
+-- row x gets the bits of a further row, and no other row changes
+pub record IsJoined (before now : ℕ → ℕ → Bool) (row : ℕ → Bool) (n x : ℕ) : Type 0 where
+  pub here : (j : ℕ) → j < n → now x j ≡ (before x j || row j)
+  pub others : (i j : ℕ) → j < n → i ≢ x → now i j ≡ before i j
+
+-- row x has no bit set, and no other row changes
+pub record IsRowCleared (before now : ℕ → ℕ → Bool) (n x : ℕ) : Type 0 where
+  pub here : (j : ℕ) → j < n → now x j ≡ false
+  pub others : (i j : ℕ) → j < n → i ≢ x → now i j ≡ before i j

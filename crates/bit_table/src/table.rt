@@ -1,0 +1,141 @@
+ghost use Rattle.std.specs.Prelude.{◌≡◌, ℕ, ◌<◌, ◌≤◌, Bool, true, false, IfOk, IfSome, IfNone};
+ghost use Rattle.number_ranges.specs.Ranges.{HasNone, IsLeast};
+ghost use Rattle.bit_table.specs.Bits.{bit_in, IsBitSet, IsJoined, IsRowCleared};
+
+use crate::memory::NoMemory;
+use std::alloc::Global;
+use std::marker::Model;
+
+/// Rows of bits, each in words of 64. Rows, and the bits of a row, are counted from 0.
+#[derive(Drop)]
+pub struct BitTable {
+    rows: usize,
+    size: usize,
+    width: usize,
+    words: Vec<u64>,
+}
+
+impl Model for BitTable {
+    ghost use Rattle.std.specs.Prelude.{vec_len};
+    ghost use Rattle.bit_table.specs.Bits.{Bits, IsKept};
+
+    ghost Value = { Bits };
+
+    ghost view = { λ t. record { rows = t.rows; size = t.size; width = t.width; words = t.words.items } };
+
+    ghost invariant = { λ t. IsKept t.rows t.size t.width (vec_len t.words) };
+}
+
+impl BitTable {
+    /// So many rows of so many bits, none of them set.
+    pub fn open(alloc: Global, rows: usize, size: usize) -> Result<Self, NoMemory>
+        ensures rows { IfOk result (λ t. t.rows ≡ rows) }
+        ensures size { IfOk result (λ t. t.size ≡ size) }
+        ensures empty { IfOk result (λ t. (x y : ℕ) → bit_in t x y ≡ false) }
+    {
+        let width = size / 64 + 1;
+        let Some(length) = rows.checked_mul(width) else {
+            return Err(NoMemory);
+        };
+        let words = vec![in alloc; 0u64; length]?;
+        Ok(BitTable {
+            rows,
+            size,
+            width,
+            words,
+        })
+    }
+
+    /// Takes all bits back.
+    pub fn clear(&mut self)
+        ensures empty { (x y : ℕ) → bit_in self.new x y ≡ false }
+        ensures rows { self.new.rows ≡ self.old.rows }
+        ensures size { self.new.size ≡ self.old.size }
+    {
+        for word in self.words.iter_mut() {
+            *word = 0;
+        }
+    }
+
+    /// Takes all bits of a row back.
+    pub fn clear_row(&mut self, x: usize)
+        requires { x < self.old.rows }
+        ensures cleared { IsRowCleared (bit_in self.old) (bit_in self.new) self.old.size x }
+        ensures rows { self.new.rows ≡ self.old.rows }
+        ensures size { self.new.size ≡ self.old.size }
+    {
+        let first = x * self.width;
+        for i in 0..self.width {
+            self.words[first + i] = 0;
+        }
+    }
+
+    /// Whether the bit is set.
+    pub fn get(&self, x: usize, y: usize) -> bool
+        requires x { x < self.now.rows }
+        requires y { y < self.now.size }
+        ensures { result ≡ bit_in self.now x y }
+    {
+        (self.words[x * self.width + y / 64] >> (y % 64)) & 1 == 1
+    }
+
+    /// The least bit of row x from `from` on and below `end` that is set.
+    pub fn next(&self, x: usize, from: usize, end: usize) -> Option<usize>
+        requires x { x < self.now.rows }
+        requires end { end ≤ self.now.size }
+        ensures none { IfNone result (HasNone (bit_in self.now x) from end) }
+        ensures least { IfSome result (IsLeast (bit_in self.now x) from end) }
+    {
+        let mut at = from;
+        while at < end {
+            let word = self.words[x * self.width + at / 64] >> (at % 64);
+            if word != 0 {
+                let next = at + word.trailing_zeros() as usize;
+                return if next < end { Some(next) } else { None };
+            }
+            at = at.saturating_add(64 - at % 64);
+        }
+        None
+    }
+
+    /// Sets a bit.
+    pub fn set(&mut self, x: usize, y: usize)
+        requires x { x < self.old.rows }
+        requires y { y < self.old.size }
+        ensures set { IsBitSet (bit_in self.old) (bit_in self.new) self.old.size x y }
+        ensures rows { self.new.rows ≡ self.old.rows }
+        ensures size { self.new.size ≡ self.old.size }
+    {
+        self.words[x * self.width + y / 64] |= 1 << (y % 64);
+    }
+
+    /// Sets in row x all bits that are set in row y.
+    pub fn join(&mut self, x: usize, y: usize)
+        requires x { x < self.old.rows }
+        requires y { y < self.old.rows }
+        ensures joined { IsJoined (bit_in self.old) (bit_in self.new) (bit_in self.old y) self.old.size x }
+        ensures rows { self.new.rows ≡ self.old.rows }
+        ensures size { self.new.size ≡ self.old.size }
+    {
+        let (into, from) = (x * self.width, y * self.width);
+        for i in 0..self.width {
+            let word = self.words[from + i];
+            self.words[into + i] |= word;
+        }
+    }
+
+    /// Sets in row x all bits that are set in row y of another table with rows of the same size.
+    pub fn join_other(&mut self, x: usize, other: &BitTable, y: usize)
+        requires x { x < self.old.rows }
+        requires y { y < other.now.rows }
+        requires same_size { other.now.size ≡ self.old.size }
+        ensures joined { IsJoined (bit_in self.old) (bit_in self.new) (bit_in other.now y) self.old.size x }
+        ensures rows { self.new.rows ≡ self.old.rows }
+        ensures size { self.new.size ≡ self.old.size }
+    {
+        let (into, from) = (x * self.width, y * other.width);
+        for i in 0..self.width {
+            self.words[into + i] |= other.words[from + i];
+        }
+    }
+}

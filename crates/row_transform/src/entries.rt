@@ -1,0 +1,74 @@
+ghost use Rattle.std.specs.Prelude.{◌≡◌, ◌≢◌, ℕ, ◌%◌, ◌<◌, ◌≤◌, true, IfOk, IfSome, IfNone};
+ghost use Rattle.number_ranges.specs.Ranges.{HasNone, IsLeast};
+ghost use Rattle.dense_q.specs.Tables.{height, entry};
+ghost use Rattle.bit_table.specs.Bits.{bit_in};
+ghost use Rattle.row_transform.specs.Entries.{HasSizeOf, IsListed, IsFilled};
+
+use bit_table::BitTable;
+use dense_q::{Mat, NoMemory};
+use residue_field::Field;
+use std::alloc::Global;
+
+// For each column of a matrix a list of rows: each row where the column has an entry that is not zero, and perhaps rows
+// where it had one until a pivot cancelled it, since to look for these would cost more than to ask P later.
+#[derive(Drop)]
+pub(crate) struct Entries {
+    bits: BitTable,
+}
+
+impl Entries {
+    // The entries of a matrix.
+    pub(crate) fn of<F: Field>(alloc: Global, q: &Mat<F>) -> Result<Entries, NoMemory>
+        ensures { IfOk result (λ e. IsListed F.modulus q.now e.bits) }
+    {
+        let bits = BitTable::open(alloc, q.cols(), q.rows()).map_err(|_| NoMemory)?;
+        let mut entries = Entries { bits };
+        for row in 0..q.rows() {
+            entries.list_row(q, row);
+        }
+        Ok(entries)
+    }
+
+    // Lists the entries of a row.
+    fn list_row<F: Field>(&mut self, q: &Mat<F>, row: usize)
+        requires row { row < height q.now }
+        requires size { HasSizeOf q.now self.old.bits }
+        ensures size { HasSizeOf q.now self.new.bits }
+        ensures listed { (j : ℕ) → j < q.now.width → entry q.now row j % F.modulus ≢ 0 → bit_in self.new.bits j row ≡ true }
+        ensures kept { (i j : ℕ) → i < height q.now → bit_in self.old.bits j i ≡ true → bit_in self.new.bits j i ≡ true }
+    {
+        for col in 0..q.cols() {
+            if !q.get(row, col).is_zero() {
+                self.bits.set(col, row);
+            }
+        }
+    }
+
+    // The first row from `from` on and below `rows` that is listed for a column.
+    pub(crate) fn next(&self, col: usize, from: usize, rows: usize) -> Option<usize>
+        requires col { col < self.now.bits.rows }
+        requires rows { rows ≤ self.now.bits.size }
+        ensures none { IfNone result (HasNone (bit_in self.now.bits col) from rows) }
+        ensures least { IfSome result (IsLeast (bit_in self.now.bits col) from rows) }
+    {
+        self.bits.next(col, from, rows)
+    }
+
+    // Lists what a pivot of P at a row and a column is about to make of the entries: it adds multiples of the row to all
+    // rows with an entry in the column, and takes these entries away.
+    pub(crate) fn pivot<F: Field>(&mut self, p: &Mat<F>, row: usize, col: usize)
+        requires row { row < height p.now }
+        requires col { col < p.now.width }
+        requires size { HasSizeOf p.now self.old.bits }
+        ensures size { HasSizeOf p.now self.new.bits }
+        ensures filled { IsFilled (height p.now) p.now.width (entry p.now) (bit_in self.old.bits) (bit_in self.new.bits) row col }
+    {
+        for other in 0..p.cols() {
+            if other != col && !p.get(row, other).is_zero() {
+                self.bits.join(other, col);
+            }
+        }
+        self.bits.clear_row(col);
+        self.bits.set(col, row);
+    }
+}
