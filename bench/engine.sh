@@ -1,7 +1,7 @@
 #!/bin/sh
 # Times the engine: builds crates/bench_engine, and runs it with each family at each number of equations.
-# Usage: bench/engine.sh [EQUATIONS ..]; without numbers 250, 500, 1000 and 2000. A line of each run tells the searches, the
-# columns that they reached and the pivots, and the next one the processor's seconds and the greatest memory in KiB.
+# Usage: bench/engine.sh [EQUATIONS ..]; without numbers 250, 500, 1000 and 2000. A line of each run tells the searches and the
+# steps, and the next one the processor's seconds and the greatest memory in KiB.
 set -e
 cd "$(dirname "$0")/../crates/bench_engine"
 rt run -- mixed 60 >/dev/null
