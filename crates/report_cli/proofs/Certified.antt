@@ -1,5 +1,5 @@
 -- The certificate of a model that a text gives.
-use Rattle.std.proofs.Common.{◌≡◌, ℕ, List, refl}
+use Rattle.std.proofs.Common.{◌≡◌, ℕ, ◌≤◌, List, length, refl, sym, subst}
 use Rattle.residue_field.specs.Modulus.{res_modulus}
 use Rattle.mixed_model.specs.Models.{MixedModel}
 use Rattle.mixed_model.specs.Layers.{Layers, layered_matrix_of}
@@ -7,21 +7,25 @@ use Rattle.mixed_layering.specs.Layers.{AreLayersOf, origins_of}
 use Rattle.matrix_reader.specs.Models.{GivesModel}
 use Rattle.ccf_builder.specs.Promises.{OfEachModel}
 use Rattle.cert_text.specs.Contents.{Contents}
+use Rattle.cert_text.specs.Ranges.{IsCcf}
 use Rattle.cert_text.specs.Right.{HasShape, HasTransform, HasPairAndRank, HasForm, HasIdeals, HasCanonicalListing}
 use Rattle.cert_text.specs.declared.kind.Kind.TheVariants.{Matrix}
+use Rattle.report_cli.specs.Limits.{model_limit}
 use Rattle.report_cli.specs.RightFor.{IsRightFor}
 
 -- a form that is right for the layers makes a certificate that is right for the text
-pub right_for : (text : List ℕ) (model : MixedModel) (layers : Layers) (echo : List ℕ) (ccf : Contents) → GivesModel text model → AreLayersOf model layers → echo ≡ text →
+pub right_for : (text : List ℕ) (model : MixedModel) (layers : Layers) (echo : List ℕ) (ccf : Contents) → GivesModel text model → AreLayersOf model layers → echo ≡ text → length text ≤ model_limit → IsCcf ccf →
     OfEachModel layers (λ M O. HasShape M (layered_matrix_of layers) ccf) → HasTransform res_modulus (layered_matrix_of layers) ccf →
     OfEachModel layers (λ M O. HasPairAndRank res_modulus M (layered_matrix_of layers) O ccf) → HasForm res_modulus (layered_matrix_of layers) ccf →
     HasIdeals res_modulus (layered_matrix_of layers) ccf → HasCanonicalListing res_modulus (layered_matrix_of layers) ccf →
     IsRightFor text (record { kind = Matrix; echo = echo; ccf = ccf })
-right_for text model layers echo ccf gives are same shape transform pair form ideals canonical = record {
+right_for text model layers echo ccf gives are same short form shape transform pair triangular ideals canonical = record {
   model = model;
   gives = gives;
   kind = refl;
   echo = same;
+  short = subst (λ t. length t ≤ model_limit) (sym same) short;
+  form = form;
   layered = layered_matrix_of layers;
   origins = origins_of layers are.split;
   layers = are.layered;
@@ -29,7 +33,7 @@ right_for text model layers echo ccf gives are same shape transform pair form id
     shape = shape model gives.given.is_model are;
     transform = transform;
     pair_and_rank = pair model gives.given.is_model are;
-    block_triangular_form = form;
+    block_triangular_form = triangular;
     ideals = ideals;
     canonical_listing = canonical;
   };

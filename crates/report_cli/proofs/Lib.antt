@@ -4,4 +4,6 @@ pub mod Runs
 pub mod Certified
 pub mod LayerPieces
 pub mod LayerFacts
+pub mod LayerLengths
+pub mod TextRooms
 pub mod Reported

@@ -1,5 +1,5 @@
 -- Reports of an input.
-use Rattle.std.proofs.Common.{ℕ, ◌≤◌, List, length, subst, sym}
+use Rattle.std.proofs.Common.{ℕ, List}
 use Rattle.mixed_model.specs.Models.{MixedModel}
 use Rattle.matrix_reader.specs.Models.{GivesModel}
 use Rattle.report_cli.specs.declared.command.Command.{Command}
@@ -8,12 +8,12 @@ use Rattle.report_cli.specs.declared.report.Report.{Report}
 use Rattle.report_cli.specs.declared.report.Report.TheVariants.{Certificate, Layers}
 use Rattle.report_cli.specs.Reports.{IsReportFor, IsWritable}
 
--- a report on an input that is short enough is written
-pub writable : (command : Command) (input : List ℕ) (report : Report) → IsReportFor command input report → length input ≤ 8388608 → IsWritable report
-writable Analyse input (Certificate certificate) right short = subst (λ text. length text ≤ 8388608) (sym right.echo) short
-writable Analyse input (Layers model layers) right short = absurd right
-writable Layer input (Certificate certificate) right short = absurd right
-writable Layer input (Layers model layers) right short = right.1
+-- a report on an input can be written
+pub writable : (command : Command) (input : List ℕ) (report : Report) → IsReportFor command input report → IsWritable report
+writable Analyse input (Certificate certificate) right = right.short
+writable Analyse input (Layers model layers) right = absurd right
+writable Layer input (Certificate certificate) right = absurd right
+writable Layer input (Layers model layers) right = right.1
 
 -- an input that has a report gives a model
 pub gives_model : (command : Command) (input : List ℕ) (report : Report) → IsReportFor command input report → (model : MixedModel) × GivesModel input model

@@ -10,7 +10,8 @@ use Rattle.report_cli.specs.declared.status.Status.TheVariants.{Done, Usage, Ref
 use Rattle.report_cli.specs.Words.{AsksForNothing}
 use Rattle.report_cli.specs.RightFor.{IsRefused}
 use Rattle.report_cli.proofs.Refusals.{given-unrefused, refused-alone}
-use Rattle.report_cli.specs.Answer.{IsAnswer, IsReported, AsksForCommand, Answered, OnlyAnswer, Tells, model_limit}
+use Rattle.report_cli.specs.Answer.{IsAnswer, IsReported, AsksForCommand, Answered, OnlyAnswer, Tells}
+use Rattle.report_cli.specs.Limits.{model_limit}
 use Rattle.report_cli.proofs.Reported.{gives_model}
 
 -- what was taken of a known input is no longer than it

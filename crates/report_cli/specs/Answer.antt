@@ -1,6 +1,7 @@
 -- What a run answers.
 use Rattle.std.specs.Prelude.{◌≡◌, ℕ, ◌≤◌, ◌<◌, ◌⊎◌, List, [], length, Option, Some}
 use Rattle.port_io.specs.Bytes.{Took, Appended, Ended}
+use Rattle.report_cli.specs.Limits.{model_limit}
 use Rattle.report_cli.specs.Reports.{IsReportFor, report_text}
 use Rattle.report_cli.specs.RightFor.{IsRefused}
 use Rattle.report_cli.specs.Words.{AsksFor, AsksForNothing}
@@ -9,10 +10,6 @@ use Rattle.report_cli.specs.declared.command.Command.{Command}
 use Rattle.report_cli.specs.declared.report.Report.{Report}
 use Rattle.report_cli.specs.declared.status.Status.{Status}
 use Rattle.report_cli.specs.declared.status.Status.TheVariants.{Done, Usage, Refused, TooLong, ReadFault, WriteFault, Memory}
-
--- the most bytes of a model's text
-abbrev pub model_limit : ℕ
-model_limit = 8388608
 
 -- the words ask for a command
 abbrev pub AsksForCommand : List (List ℕ) → Type 0
@@ -77,10 +74,6 @@ pub record CutShort (words : List (List ℕ)) (left left' written written' : Opt
 abbrev pub OnlyAnswer : List (List ℕ) → Option (List ℕ) → Status → Type 0
 OnlyAnswer words left status =
     (input : List ℕ) (answer : Status) (text : List ℕ) → left ≡ Some input → IsAnswer words input answer text → (status ≡ answer) ⊎ (status ≡ Memory)
-
--- a sink takes each text that a run may write for this input
-abbrev pub TakesAnyText : List (List ℕ) → List ℕ → (ℕ → Type 0) → Type 0
-TakesAnyText words input takes = (text : List ℕ) → IsAnswer words input Done text → takes (length text)
 
 -- a text was written whole, or the sink failed
 abbrev pub IsDelivered : Status → Type 0 → Type 0 → Type 0

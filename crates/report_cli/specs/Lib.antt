@@ -1,3 +1,4 @@
+pub mod Limits
 pub mod Numbers
 pub mod Words
 pub mod Writing
@@ -5,5 +6,7 @@ pub mod Notes
 pub mod RightFor
 pub mod LayerTexts
 pub mod Columns
+pub mod WholeLayers
+pub mod Rooms
 pub mod Reports
 pub mod Answer

@@ -1,18 +1,21 @@
 //! What a command writes of an input.
 
 ghost use Rattle.std.specs.Prelude.{◌≡◌, ◌≤◌, length, IfErr, IfOk, IsOk, OnOk};
+ghost use Rattle.cert_text.specs.Ranges.{IsCcf};
 ghost use Rattle.cert_text.specs.Writing.{IsCut};
 ghost use Rattle.matrix_reader.specs.Models.{IsRefusal};
 ghost use Rattle.mixed_layering.specs.Layers.{AreLayersOf};
 ghost use Rattle.port_io.specs.Bytes.{Appended};
 ghost use Rattle.port_io.specs.Causes.{HasCause};
 ghost use Rattle.report_cli.specs.LayerTexts.{layer_text};
+ghost use Rattle.report_cli.specs.Limits.{model_limit};
 ghost use Rattle.report_cli.specs.Reports.{IsReportFor, IsWritable, report_text};
+ghost use Rattle.report_cli.specs.WholeLayers.{AreWholeLayers};
 
 use crate::command::Command;
 use crate::layer_lines::put_layers;
 use ccf_builder::build;
-use cert_text::{Certificate, Items, Kind};
+use cert_text::{Ccf, Certificate, Items, Kind};
 use mixed_layering::layer;
 use mixed_model::{Layered, Mixed};
 use port_io::{PieceBuffer, Sink, WriteFault};
@@ -31,7 +34,7 @@ pub enum Report {
 impl Report {
     /// What the command writes of an equation list of at most 8,388,608 bytes, or why the list is refused.
     pub fn of(alloc: Global, command: Command, input: Vec<u8>) -> Result<Report, ReadModel>
-        requires { length input.items ≤ 8388608 }
+        requires { length input.items ≤ model_limit }
         ensures right { IfOk result (IsReportFor command input.items) }
         ensures refused { IfErr result (IsRefusal input.items) }
     {
@@ -40,11 +43,15 @@ impl Report {
             return Err(ReadModel::NoMemory);
         };
         match command {
-            Command::Layer => Ok(Report::Layers(model, layered)),
+            Command::Layer => {
+                is_whole(&layered);
+                Ok(Report::Layers(model, layered))
+            }
             Command::Analyse => {
                 let Ok(ccf) = build(alloc, &layered) else {
                     return Err(ReadModel::NoMemory);
                 };
+                is_in_form(&ccf);
                 Ok(Report::Certificate(Certificate {
                     kind: Kind::Matrix,
                     echo: Items::from_vec(input),
@@ -68,6 +75,20 @@ impl Report {
             Report::Layers(model, layered) => write_layers(out, model, layered),
         }
     }
+}
+
+/// Tells a proof what the type of a layered matrix keeps.
+fn is_whole(layered: &Layered)
+    ensures { AreWholeLayers layered.now }
+{
+    let _ = (layered.split(), layered.q.rows(), layered.t.rows());
+}
+
+/// Tells a proof what the type of a printed form keeps.
+fn is_in_form(ccf: &Ccf)
+    ensures { IsCcf ccf.now }
+{
+    let _ = ccf.rank();
 }
 
 /// Appends the text of the layered matrix of a model to the sink.

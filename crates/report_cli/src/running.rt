@@ -4,8 +4,9 @@ ghost use Rattle.std.specs.Prelude.{◌≡◌, ℕ, ◌+◌, ◌≤◌, ◌<◌,
 ghost use Rattle.std.specs.String.{string_bytes};
 ghost use Rattle.port_io.specs.Causes.{Rose};
 ghost use Rattle.port_io.specs.Bytes.{Appended, TookAtMost};
-ghost use Rattle.report_cli.specs.Answer.{Answered, CutShort, OnlyAnswer, Tells, WritesNothing, TakesAnyText, IsDelivered};
+ghost use Rattle.report_cli.specs.Answer.{Answered, CutShort, OnlyAnswer, Tells, WritesNothing, IsDelivered};
 ghost use Rattle.report_cli.specs.Reports.{IsWritable, report_text};
+ghost use Rattle.report_cli.specs.Rooms.{text_room};
 ghost use Rattle.report_cli.specs.Writing.{PartWritten};
 ghost use Rattle.report_cli.specs.Notes.{Noted, note_of};
 
@@ -51,7 +52,7 @@ pub fn run<S: Source, K: Sink, N: Sink>(
     ensures counts_out { K.faults out.old ≤ K.faults out.new }
     ensures counts_notes { N.faults notes.old ≤ N.faults notes.new }
     ensures calm_source { S.never_fails source.old → S.faults source.new ≡ S.faults source.old }
-    ensures calm_out { (input : List ℕ) → S.left source.old ≡ Some input → TakesAnyText (map string_bytes words.now) input (K.takes out.old) → K.faults out.new ≡ K.faults out.old }
+    ensures calm_out { (input : List ℕ) → S.left source.old ≡ Some input → K.takes out.old (text_room (length input)) → K.faults out.new ≡ K.faults out.old }
 {
     let status = work(alloc, words, source, out);
     tell(notes, status);
@@ -70,7 +71,7 @@ fn work<S: Source, K: Sink>(alloc: Global, words: &[String], source: &mut S, out
     ensures counts_source { S.faults source.old ≤ S.faults source.new }
     ensures counts_out { K.faults out.old ≤ K.faults out.new }
     ensures calm_source { S.never_fails source.old → S.faults source.new ≡ S.faults source.old }
-    ensures calm_out { (input : List ℕ) → S.left source.old ≡ Some input → TakesAnyText (map string_bytes words.now) input (K.takes out.old) → K.faults out.new ≡ K.faults out.old }
+    ensures calm_out { (input : List ℕ) → S.left source.old ≡ Some input → K.takes out.old (text_room (length input)) → K.faults out.new ≡ K.faults out.old }
 {
     let Some(command) = Command::of(words) else {
         return Status::Usage;

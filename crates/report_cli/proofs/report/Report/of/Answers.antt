@@ -10,6 +10,6 @@ pub returns-in-Ok-build-clause-right : goal.returns-in-Ok-build-clause-right
 returns-in-Ok-build-clause-right c =
     let of_input = subst (λ text. GivesModel text c.in_ok-model.model) c.deref.ensures.value c.in_ok-model.ensures.model in
     let promise = c.in-Ok-build.ensures in
-    let right = right_for c.args.input.items c.in_ok-model.model c.in-Ok.layered c.from_vec.result c.in-Ok-build.ccf of_input c.in-Ok.ensures c.from_vec.ensures
+    let right = right_for c.args.input.items c.in_ok-model.model c.in-Ok.layered c.from_vec.result c.in-Ok-build.ccf of_input c.in-Ok.ensures c.from_vec.ensures c.requires c.is_in_form.ensures
     promise.shape promise.transform promise.pair_and_rank promise.block_triangular_form promise.ideals promise.canonical_listing in
     subst (λ command. IsReportFor command c.args.input.items (Certificate (record { kind = Matrix; echo = c.from_vec.result; ccf = c.in-Ok-build.ccf }))) (sym c.in-Analyse.is) right

@@ -1,0 +1,83 @@
+-- Each text that may be written for an input fits in the room that its length gives.
+use Rattle.std.proofs.Common.{◌≡◌, ℕ, ◌+◌, ◌*◌, ◌<◌, ◌≤◌, Bool, true, List, length, min, refl, ap, arith}
+use Rattle.residue_field.specs.Modulus.{res_modulus}
+use Rattle.residue_theory.specs.Sets.{everything}
+use Rattle.residue_theory.specs.Sums.{size_on}
+use Rattle.residue_theory.proofs.CountLaws.{size-everything}
+use Rattle.residue_theory.proofs.SumLaws.{size_on-within}
+use Rattle.mixed_matrices.specs.LayeredMatrices.{Layered}
+use Rattle.mixed_matrices.specs.Layerings.{AreMembers, Origins, IsLayeredMatrixOf}
+use Rattle.mixed_matrices.specs.Models.{Mixed}
+use Rattle.mixed_model.specs.Models.{MixedModel, IsModel, mixed_matrix_of}
+use Rattle.mixed_model.specs.Layers.{Layers, layered_matrix_of}
+use Rattle.mixed_layering.specs.Layers.{AreLayersOf, origins_of}
+use Rattle.matrix_reader.specs.Models.{GivesModel}
+use Rattle.cert_text.specs.declared.certificate.Certificate.{Certificate}
+use Rattle.text_lengths.specs.Rooms.{certificate_room, IsShapeWithin}
+use Rattle.text_lengths.proofs.InputCounts.{few-names}
+use Rattle.text_lengths.proofs.TextLengths.{certificate-short}
+use Rattle.report_cli.specs.Limits.{model_limit}
+use Rattle.report_cli.specs.RightFor.{IsRightFor}
+use Rattle.report_cli.specs.Reports.{IsReportFor, report_text}
+use Rattle.report_cli.specs.Rooms.{columns_within, text_room}
+use Rattle.report_cli.specs.WholeLayers.{AreWholeLayers}
+use Rattle.report_cli.specs.declared.command.Command.{Command}
+use Rattle.report_cli.specs.declared.command.Command.TheVariants.{Analyse, Layer}
+use Rattle.report_cli.specs.declared.report.Report.{Report}
+use Rattle.report_cli.specs.declared.report.Report.TheVariants.{Certificate as Certified, Layers as Layering}
+use Rattle.report_cli.proofs.LayerLengths.{layer-text-short}
+
+-- members of a set below n are at most n
+members-few : (A : ℕ → Bool) (n : ℕ) (at : ℕ → ℕ) (m : ℕ) → AreMembers A n at m → m ≤ n
+members-few A n at m are = omega (arith, are.count, size-everything n, size_on-within everything A n (λ j jl h. refl))
+
+-- the layered matrix of a model that a text gives has no more rows and columns than the text has room for
+pub record IsNarrow (n : ℕ) (L : Layered) : Type 0 where
+  pub q_rows : L.q_rows ≤ columns_within n
+  pub t_rows : L.t_rows ≤ columns_within n
+  pub columns : L.columns ≤ columns_within n
+
+narrow : (text : List ℕ) (model : MixedModel) (L : Layered) (O : Origins) → GivesModel text model → IsLayeredMatrixOf (mixed_matrix_of model) L O → IsNarrow (length text) L
+narrow text model L O gives are =
+    let few = few-names text model gives in
+    let is : IsModel model = (gives.given).is_model in
+    let e : length model.equations ≤ 4096 = (is.equations).few in
+    let u : length model.unknowns ≤ 4096 = (is.unknowns).few in
+    let q : L.q_rows ≤ length model.equations = members-few _ _ _ _ are.q_rows in
+    let t : L.t_rows ≤ length model.equations = members-few _ _ _ _ are.t_rows in
+    let s : O.split ≤ length model.equations = members-few _ _ _ _ are.auxiliary in
+    let n : L.columns ≡ length model.unknowns + O.split = are.columns in
+    record {
+      q_rows = omega (arith, few.0, e, q);
+      t_rows = omega (arith, few.0, e, t);
+      columns = omega (arith, few.0, few.1, e, u, s, n);
+    }
+
+few_columns : (n : ℕ) → columns_within n ≤ 8192
+few_columns n = omega arith
+
+certificate-fits : (input : List ℕ) (c : Certificate) → IsRightFor input c → length input ≤ model_limit → length (report_text (Certified c)) ≤ text_room (length input)
+certificate-fits input c right short =
+    let low = narrow input right.model right.layered right.origins right.gives right.layers in
+    let shape = (right.right).shape in
+    let within : IsShapeWithin (columns_within (length input)) c.ccf.shape = record {
+      q_rows = omega (arith, shape.q_rows, low.q_rows);
+      t_rows = omega (arith, shape.t_rows, low.t_rows);
+      columns = omega (arith, shape.columns, low.columns);
+    } in
+    let echo : length c.echo ≡ length input = ap length right.echo in
+    omega (arith, certificate-short res_modulus (mixed_matrix_of right.model) right.layered right.origins c (length input) (columns_within (length input))
+        (omega (arith, echo)) short (few_columns (length input)) right.form right.right within)
+
+layers-fit : (input : List ℕ) (model : MixedModel) (layers : Layers) → GivesModel input model → AreLayersOf model layers → AreWholeLayers layers →
+    length (report_text (Layering model layers)) ≤ text_room (length input)
+layers-fit input model layers gives are whole =
+    let low = narrow input model (layered_matrix_of layers) (origins_of layers are.split) gives are.layered in
+    omega (arith, layer-text-short model (gives.given).is_model layers are whole (columns_within (length input)) (few_columns (length input)) low.q_rows low.t_rows low.columns)
+
+pub report_fits : (command : Command) (input : List ℕ) (report : Report) → IsReportFor command input report → length input ≤ model_limit →
+    length (report_text report) ≤ text_room (length input)
+report_fits Analyse input (Certified c) right short = certificate-fits input c right short
+report_fits Analyse input (Layering model layers) right short = absurd right
+report_fits Layer input (Certified c) right short = absurd right
+report_fits Layer input (Layering model layers) right short = layers-fit input model layers right.0 right.1 right.2

@@ -1,0 +1,125 @@
+-- Each equation and each unknown of a text has bytes of its own.
+use Rattle.std.proofs.Common.{◌≡◌, ℕ, suc, ◌+◌, ◌-◌, ◌<◌, ◌≤◌, Bool, true, false, cond, List, [], ◌∷◌, ◌++◌, length, map, fold, filter, drop, take, codes, refl, sym, ap, ◌∙◌, subst, arith, length-drop, length-take, if◌then◌else◌, ◌==◌, slice_index}
+use Rattle.std.specs.List.{flat_map, onto_first, before_first, position_or_len}
+use Rattle.std.specs.Str.{bytes_eq}
+use Rattle.std.specs.Str.Lines.{strip_carriage_return}
+use Rattle.std.proofs.lemmas.List.{length-append, length-map}
+use Rattle.line_lexer.specs.Lines.{is_line_feed, cut_at_feeds, lines_of}
+use Rattle.line_lexer.specs.Tokens.{is_blank, is_comment_sign, onto_first_part, parts_from, has_bytes, tokens_of, words_of, uncommented}
+use Rattle.mixed_model.specs.Models.{MixedModel}
+use Rattle.mixed_model.specs.Names.{see, has_name}
+use Rattle.matrix_reader.specs.EquationLists.{Equation, equation_of, equations_in, names_in, unknowns_in}
+use Rattle.matrix_reader.specs.Items.{unknown_of}
+use Rattle.matrix_reader.specs.Models.{GivesModel}
+
+-- the bytes of some lines
+abbrev pub bytes_of : List (List ℕ) → ℕ
+bytes_of [] = 0
+bytes_of (line ∷ lines) = length line + bytes_of lines
+
+-- the lines of a text
+first-count : (byte : ℕ) (lines : List (List ℕ)) → length (onto_first byte lines) ≤ length lines + 1
+first-count byte [] = omega arith
+first-count byte (line ∷ lines) = omega arith
+
+first-bytes : (byte : ℕ) (lines : List (List ℕ)) → bytes_of (onto_first byte lines) ≡ bytes_of lines + 1
+first-bytes byte [] = refl
+first-bytes byte (line ∷ lines) = omega arith
+
+cut-count : (text : List ℕ) → length (cut_at_feeds text) ≤ length text
+cut-count [] = omega arith
+cut-count (byte ∷ bytes) = go (cut-count bytes) (is_line_feed byte)
+  where
+    go : length (cut_at_feeds bytes) ≤ length bytes → (b : Bool) → length (if b then [] ∷ cut_at_feeds bytes else onto_first byte (cut_at_feeds bytes)) ≤ length (byte ∷ bytes)
+    go rest true = omega (arith, rest)
+    go rest false = omega (arith, rest, first-count byte (cut_at_feeds bytes))
+
+cut-bytes : (text : List ℕ) → bytes_of (cut_at_feeds text) ≤ length text
+cut-bytes [] = omega arith
+cut-bytes (byte ∷ bytes) = go (cut-bytes bytes) (is_line_feed byte)
+  where
+    go : bytes_of (cut_at_feeds bytes) ≤ length bytes → (b : Bool) → bytes_of (if b then [] ∷ cut_at_feeds bytes else onto_first byte (cut_at_feeds bytes)) ≤ length (byte ∷ bytes)
+    go rest true = omega (arith, rest)
+    go rest false = omega (arith, rest, first-bytes byte (cut_at_feeds bytes))
+
+stripped-bytes : (line : List ℕ) → length (strip_carriage_return line) ≤ length line
+stripped-bytes line = go (slice_index line (length line - 1) == 13)
+  where
+    go : (b : Bool) → length (if b then take (length line - 1) line else line) ≤ length line
+    go true = omega (arith, length-take (length line - 1) line)
+    go false = omega arith
+
+lines-bytes : (lines : List (List ℕ)) → bytes_of (map strip_carriage_return lines) ≤ bytes_of lines
+lines-bytes [] = omega arith
+lines-bytes (line ∷ lines) = omega (arith, stripped-bytes line, lines-bytes lines)
+
+-- the tokens of a line
+part-count : (i byte : ℕ) (parts : List (ℕ × List ℕ)) → length (filter has_bytes (onto_first_part i byte parts)) ≤ length (filter has_bytes parts) + 1
+part-count i byte [] = omega arith
+part-count i byte (part ∷ parts) = go (has_bytes (i, byte ∷ part.1)) (has_bytes part)
+  where
+    go : (b d : Bool) → length (cond b ((i, byte ∷ part.1) ∷ filter has_bytes parts) (filter has_bytes parts)) ≤ length (cond d (part ∷ filter has_bytes parts) (filter has_bytes parts)) + 1
+    go true true = omega arith
+    go true false = omega arith
+    go false true = omega arith
+    go false false = omega arith
+
+tokens-few : (i : ℕ) (text : List ℕ) → length (filter has_bytes (parts_from i text)) ≤ length text
+tokens-few i [] = omega arith
+tokens-few i (byte ∷ bytes) = go (tokens-few (i + 1) bytes) (is_blank byte)
+  where
+    go : length (filter has_bytes (parts_from (i + 1) bytes)) ≤ length bytes → (b : Bool) → length (filter has_bytes (if b then (i, []) ∷ parts_from (i + 1) bytes else onto_first_part i byte (parts_from (i + 1) bytes))) ≤ length (byte ∷ bytes)
+    go rest true = omega (arith, rest)
+    go rest false = omega (arith, rest, part-count i byte (parts_from (i + 1) bytes))
+
+words-few : (line : List ℕ) → length (words_of line) ≤ length line
+words-few line = omega (arith, length-map (tokens_of line) (λ (token : ℕ × List ℕ). token.1), tokens-few 0 (uncommented line),
+    length-take (position_or_len is_comment_sign line) line)
+
+-- the names of a line
+names-few : (words : List (List ℕ)) → length (names_in words) ≤ length words
+names-few [] = omega arith
+names-few (word ∷ words) = go (bytes_eq word (codes "eq")) (bytes_eq word (codes "unknown"))
+  where
+    go : (b d : Bool) → length (if b then map unknown_of (drop 1 words) else (if d then words else [])) ≤ suc (length words)
+    go true d = omega (arith, length-map (drop 1 words) unknown_of, length-drop 1 words)
+    go false true = omega arith
+    go false false = omega arith
+
+all-names-few : (lines : List (List ℕ)) → length (flat_map names_in (map words_of lines)) ≤ bytes_of lines
+all-names-few [] = omega arith
+all-names-few (line ∷ lines) = omega (arith, length-append (names_in (words_of line)) (flat_map names_in (map words_of lines)), names-few (words_of line), words-few line, all-names-few lines)
+
+see-few : (names : List (List ℕ)) (name : List ℕ) → length (see names name) ≤ length names + 1
+see-few names name = go (has_name names name)
+  where
+    go : (b : Bool) → length (if b then names else names ++ name ∷ []) ≤ length names + 1
+    go true = omega arith
+    go false = omega (arith, length-append names (name ∷ []))
+
+seen-few : (names more : List (List ℕ)) → length (fold see names more) ≤ length names + length more
+seen-few names [] = omega arith
+seen-few names (name ∷ more) = omega (arith, seen-few (see names name) more, see-few names name)
+
+-- the equations
+equation-few : (words : List (List ℕ)) → length (equation_of words) ≤ 1
+equation-few [] = omega arith
+equation-few (word ∷ []) = omega arith
+equation-few (word ∷ name ∷ items) = go (bytes_eq word (codes "eq"))
+  where
+    go : (b : Bool) → length {A = Equation} (if b then record { name = name; items = items } ∷ [] else []) ≤ 1
+    go true = omega arith
+    go false = omega arith
+
+equations-few : (lines : List (List (List ℕ))) → length (equations_in lines) ≤ length lines
+equations-few [] = omega arith
+equations-few (line ∷ lines) = omega (arith, length-append (equation_of line) (equations_in lines), equation-few line, equations-few lines)
+
+pub few-names : (text : List ℕ) (model : MixedModel) → GivesModel text model → (length model.equations ≤ length text) × (length model.unknowns ≤ length text)
+few-names text model gives =
+    let lines : List (List (List ℕ)) = map words_of (lines_of text) in
+    let equations : length model.equations ≡ length (equations_in lines) = ap length (gives.given).equations_are ∙ length-map (equations_in lines) (λ (equation : Equation). equation.name) in
+    let unknowns : length model.unknowns ≡ length (unknowns_in lines) = ap length (gives.given).unknowns_are in
+    let count : length lines ≤ length text = omega (arith, length-map (lines_of text) words_of, length-map (cut_at_feeds text) strip_carriage_return, cut-count text) in
+    let bytes : bytes_of (lines_of text) ≤ length text = omega (arith, lines-bytes (cut_at_feeds text), cut-bytes text) in
+    (omega (arith, equations, equations-few lines, count), omega (arith, unknowns, seen-few [] (flat_map names_in lines), all-names-few (lines_of text), bytes))

@@ -1,0 +1,4 @@
+pub mod Lengths
+pub mod LineLengths
+pub mod TextLengths
+pub mod InputCounts

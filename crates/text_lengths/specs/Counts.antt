@@ -1,0 +1,10 @@
+-- How many names a text has at most.
+use Rattle.std.specs.Prelude.{ℕ, ◌≤◌, List, length}
+use Rattle.mixed_model.specs.Models.{MixedModel}
+use Rattle.matrix_reader.specs.Models.{GivesModel}
+
+-- a model that a text gives has no more equations than the text has bytes, and no more unknowns
+abbrev pub TextsHaveFewNames : Type 0
+TextsHaveFewNames =
+    (text : List ℕ) (model : MixedModel) → GivesModel text model →
+    (length model.equations ≤ length text) × (length model.unknowns ≤ length text)

@@ -1,0 +1,14 @@
+//! Bounds of a certificate's text, and of the names of a text that is read.
+ghost use Rattle.text_lengths.specs.Counts.{TextsHaveFewNames};
+ghost use Rattle.text_lengths.specs.Rooms.{CertificateTextsAreShort};
+
+/// The text of a right certificate whose rows and columns number at most k, and whose input has at most n bytes, has
+/// at most `certificate_room n k` bytes.
+pub fn certificate_texts_are_short()
+    ensures { CertificateTextsAreShort }
+{}
+
+/// An equation list has no more equations than bytes, and no more unknowns.
+pub fn texts_have_few_names()
+    ensures { TextsHaveFewNames }
+{}

@@ -1,0 +1,6 @@
+//! How long the texts of right certificates are.
+#![tactic(auto)]
+
+mod laws;
+
+pub use laws::{certificate_texts_are_short, texts_have_few_names};
