@@ -4,7 +4,7 @@ ghost use Rattle.std.specs.Prelude.{◌≡◌};
 ghost use Rattle.port_io.specs.Asking.{asked_for, gave, nothing_asked};
 
 /// How much a source was asked for so far. The counts of 64 bits stay at their last value.
-#[derive(Clone, Copy, Debug, PartialEq, Eq, Drop)]
+#[derive(Clone, Copy)]
 pub struct Asked {
     /// The bytes that it gave.
     pub taken: u64,

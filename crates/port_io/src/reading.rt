@@ -26,9 +26,10 @@ pub enum ReadError {
 /// The most bytes of one call.
 const PIECE: usize = 65_536;
 
-/// All bytes to the end, where there are no more than `limit`. It asks for pieces of at most 65,536
-/// bytes, and never for more than `limit + 1` bytes in all. After an error the bytes that were taken
-/// stay taken: `limit + 1` at `TooLong`, and else at most `limit`.
+/// All bytes to the end, where there are no more than `limit`. It asks for at most 65,536 bytes at
+/// once, and never for one beyond the next `limit + 1`. No read is tried again: the answer is a fault
+/// exactly where one failed. After an error the bytes that were taken stay taken: `limit + 1` at
+/// `TooLong`, and else at most `limit`.
 pub fn read_all<S: Source>(alloc: Global, source: &mut S, limit: u64) -> Result<Vec<u8>, ReadError>
     requires { limit ≤ 2147483648 }
     ensures within { IfOk result (λ bytes. length bytes.items ≤ limit) }

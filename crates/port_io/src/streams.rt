@@ -204,6 +204,62 @@ mod tests {
         Ok(())
     }
 
+    /// Takes all that is written, and fails at its first flushes.
+    #[derive(Drop)]
+    struct Stuck {
+        failures: u64,
+        flushes: u64,
+    }
+
+    impl Write for Stuck {
+        fn write(&mut self, piece: &[u8]) -> io::Result<usize> {
+            Ok(piece.len())
+        }
+
+        fn flush(&mut self) -> io::Result<()> {
+            self.flushes = self.flushes.saturating_add(1);
+            if self.flushes <= self.failures {
+                return Err(io::Error::from(ErrorKind::Other));
+            }
+            Ok(())
+        }
+    }
+
+    #[test]
+    fn a_sink_is_flushed_where_its_stream_is(rt: HostRuntime) -> Result<(), Fail> {
+        for (failures, faults) in [(0, 0), (1, 1), (9, 3)] {
+            let mut sink = StdSink::new(Stuck {
+                failures,
+                flushes: 0,
+            });
+            for call in 1..4 {
+                assert_eq!(rt; sink.write(b"abc").ok(), Some(3));
+                assert_eq!(rt; sink.flush().is_ok(), call > failures, "at {failures}");
+                assert_eq!(rt; sink.flushed, call > failures, "at {failures}");
+                assert_eq!(rt; sink.stream.flushes, call, "at {failures}");
+            }
+            assert_eq!(rt; sink.flushes, 3);
+            assert_eq!(rt; sink.faults, faults, "at {failures}");
+        }
+        Ok(())
+    }
+
+    #[test]
+    fn bytes_go_through(rt: HostRuntime) -> Result<(), Fail> {
+        let mut source = StdSource::new(b"abcde".as_slice());
+        let mut buffer = [0; 3];
+        assert_eq!(rt; source.read(&mut buffer).ok(), Some(3));
+        assert_eq!(rt; buffer, *b"abc");
+        assert_eq!(rt; source.read(&mut buffer).ok(), Some(2));
+        assert_eq!(rt; source.asked.taken, 5);
+        assert_eq!(rt; source.asked.longest, 3);
+        assert_eq!(rt; source.asked.furthest, 6);
+        let mut sink = StdSink::new(Vec::new(rt.alloc()));
+        assert_eq!(rt; sink.write(b"abc").ok(), Some(3));
+        assert_eq!(rt; sink.stream.as_slice(), b"abc".as_slice());
+        Ok(())
+    }
+
     #[test]
     fn the_real_streams_fit(rt: HostRuntime) -> Result<(), Fail> {
         let mut source = StdSource::new(rt.stdin());

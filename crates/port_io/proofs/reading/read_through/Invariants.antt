@@ -10,7 +10,7 @@ invariant-loop-bytes g l = record {
   so_far : Took (g.S.Source.left l.initial.source) (g.S.Source.left l.source) l.bytes.items;
   no_fault : g.S.Source.faults l.source ≡ g.S.Source.faults l.initial.source;
   steady : g.S.Source.never_fails l.initial.source → g.S.Source.never_fails l.source;
-  asked : AsksWithin (length l.buffer) (l.limit + 1) (g.S.Source.asked l.initial.source) (g.S.Source.asked l.source);
+  asked : AsksWithin (length l.initial.buffer) (l.limit + 1) (g.S.Source.asked l.initial.source) (g.S.Source.asked l.source);
   taken : (g.S.Source.asked l.source).taken ≤ (g.S.Source.asked l.initial.source).taken + length l.bytes.items;
 }
 
