@@ -20,39 +20,39 @@ cut_at {w} {w1} {b} {b1} {text} {fault} new part tells = go (subst (λ z. Gather
       counted = omega (arith, tells.same, tells.fits, cut.gathered.counted);
     }
 
-handed_all : {w w1 w2 : Option (List ℕ)} {b b1 b2 : Gathering} {f f1 : ℕ} {t t1 : ℕ → Type 0} {text : List ℕ} {u : Unit {0}} →
-    IsPut w b f t w1 b1 f1 t1 text (Ok u) → Gathered w1 b1 w2 b2 [] → Gathered w b w2 b2 text
-handed_all {w} {w1} {w2} {b} {b1} {b2} {f} {f1} {t} {t1} {text} put handed = gathered_is w w2 b b2 (text ++ []) text (append-nil text) (gathered_more w w1 w2 b b1 b2 text [] put.whole handed)
+module _ {S : Type 0} {w : S → Option (List ℕ)} {f q : S → ℕ} {t : S → ℕ → Type 0} {s s1 : S} {b b1 : Gathering} {text : List ℕ} where
+  handed_all : {w2 : Option (List ℕ)} {b2 : Gathering} {u : Unit {0}} →
+      IsPut w f q t s b s1 b1 text (Ok u) → Gathered (w s1) b1 w2 b2 [] → Gathered (w s) b w2 b2 text
+  handed_all {w2} {b2} {u} put handed = gathered_is (w s) w2 b b2 (text ++ []) text (append-nil text) (gathered_more (w s) (w s1) w2 b b1 b2 text [] put.whole handed)
 
-pub text_written : {w w1 w2 : Option (List ℕ)} {b b1 b2 : Gathering} {f f1 : ℕ} {t t1 : ℕ → Type 0} {text : List ℕ} {u : Unit {0}} →
-    (s : Result (Unit {0}) WriteFault) → b ≡ nothing_gathered → IsPut w b f t w1 b1 f1 t1 text (Ok u) → Gathered w1 b1 w2 b2 [] → OnOk s (b2.held ≡ []) → OnOk s (Appended w w2 text)
-text_written {w} {w1} {w2} {b} {b1} {b2} {f} {f1} {t} {t1} {text} {u} s new put handed empty = go s empty
-  where
-    go : (s : Result (Unit {0}) WriteFault) → OnOk s (b2.held ≡ []) → OnOk s (Appended w w2 text)
-    go (Ok v) empty = appended_whole w w2 b2 text (subst (λ z. Gathered w z w2 b2 text) new (handed_all put handed)) empty
-    go (Err d) empty = tt
+  pub text_written : {w2 : Option (List ℕ)} {b2 : Gathering} {u : Unit {0}} →
+      (r : Result (Unit {0}) WriteFault) → b ≡ nothing_gathered → IsPut w f q t s b s1 b1 text (Ok u) → Gathered (w s1) b1 w2 b2 [] → OnOk r (b2.held ≡ []) → OnOk r (Appended (w s) w2 text)
+  text_written {w2} {b2} {u} r new put handed empty = go r empty
+    where
+      go : (r : Result (Unit {0}) WriteFault) → OnOk r (b2.held ≡ []) → OnOk r (Appended (w s) w2 text)
+      go (Ok v) empty = appended_whole (w s) w2 b2 text (subst (λ z. Gathered (w s) z w2 b2 text) new (handed_all put handed)) empty
+      go (Err d) empty = tt
 
-pub text_cut : {w w1 w2 : Option (List ℕ)} {b b1 b2 : Gathering} {f f1 : ℕ} {t t1 : ℕ → Type 0} {text : List ℕ} {u : Unit {0}} →
-    (s : Result (Unit {0}) WriteFault) → b ≡ nothing_gathered → IsPut w b f t w1 b1 f1 t1 text (Ok u) → Gathered w1 b1 w2 b2 [] →
-    IfErr s (λ fault. fault.written ≡ b2.handed) → IfErr s (λ fault. fault.written < 2 ^ 64) → IfErr s (IsCut w w2 text)
-text_cut {w} {w1} {w2} {b} {b1} {b2} {f} {f1} {t} {t1} {text} {u} s new put handed = go s
-  where
-    go : (s : Result (Unit {0}) WriteFault) → IfErr s (λ fault. fault.written ≡ b2.handed) → IfErr s (λ fault. fault.written < 2 ^ 64) → IfErr s (IsCut w w2 text)
-    go (Ok v) same fits = tt
-    go (Err d) same fits = cut_at new (gathered_front w w2 b b2 text [] text (sym (append-nil text)) (handed_all put handed)) (record { same = same; fits = fits })
+  pub text_cut : {w2 : Option (List ℕ)} {b2 : Gathering} {u : Unit {0}} →
+      (r : Result (Unit {0}) WriteFault) → b ≡ nothing_gathered → IsPut w f q t s b s1 b1 text (Ok u) → Gathered (w s1) b1 w2 b2 [] →
+      IfErr r (λ fault. fault.written ≡ b2.handed) → IfErr r (λ fault. fault.written < 2 ^ 64) → IfErr r (IsCut (w s) w2 text)
+  text_cut {w2} {b2} {u} r new put handed = go r
+    where
+      go : (r : Result (Unit {0}) WriteFault) → IfErr r (λ fault. fault.written ≡ b2.handed) → IfErr r (λ fault. fault.written < 2 ^ 64) → IfErr r (IsCut (w s) w2 text)
+      go (Ok v) same fits = tt
+      go (Err d) same fits = cut_at new (gathered_front (w s) w2 b b2 text [] text (sym (append-nil text)) (handed_all put handed)) (record { same = same; fits = fits })
 
-pub text_calm : {w w1 : Option (List ℕ)} {b b1 : Gathering} {f f1 f2 : ℕ} {t t1 t2 : ℕ → Type 0} {text : List ℕ} {u : Unit {0}} →
-    (s : Result (Unit {0}) WriteFault) → b ≡ nothing_gathered → IsPut w b f t w1 b1 f1 t1 text (Ok u) →
-    ((more : ℕ) → t1 (length b1.held + more) → (f2 ≡ f1) × IsOk s × t2 more) → t (length text) → (f2 ≡ f) × IsOk s × t2 0
-text_calm {w} {w1} {b} {b1} {f} {f1} {f2} {t} {t1} {t2} {text} {u} s new put steady takes =
-    let empty : length b.held ≡ 0 = ap (λ (z : Gathering). length z.held) new in
-    let one : (f1 ≡ f) × IsOk {T = Unit {0}} {E = WriteFault} (Ok u) × t1 (length b1.held + 0) = put.calm 0 (subst t (omega (arith, empty)) takes) in
-    let two : (f2 ≡ f1) × IsOk s × t2 0 = steady 0 one.2 in
-    (two.0 ∙ one.0, two.1, two.2)
+  pub text_calm : {f2 : ℕ} {t2 : ℕ → Type 0} {u : Unit {0}} →
+      (r : Result (Unit {0}) WriteFault) → b ≡ nothing_gathered → IsPut w f q t s b s1 b1 text (Ok u) →
+      ((more : ℕ) → t s1 (length b1.held + more) → (f2 ≡ f s1) × IsOk r × t2 more) → (more : ℕ) → t s (length text + more) → (f2 ≡ f s) × IsOk r × t2 more
+  text_calm {f2} {t2} {u} r new put steady more takes =
+      let empty : length b.held ≡ 0 = ap (λ (z : Gathering). length z.held) new in
+      let one : (f s1 ≡ f s) × IsOk {T = Unit {0}} {E = WriteFault} (Ok u) × t s1 (length b1.held + more) = put.calm more (subst (t s) (omega (arith, empty)) takes) in
+      let two : (f2 ≡ f s1) × IsOk r × t2 more = steady more one.2 in
+      (two.0 ∙ one.0, two.1, two.2)
 
--- the sink did not take the text
-pub never_calm : {w w1 : Option (List ℕ)} {b b1 : Gathering} {f f1 : ℕ} {t t1 : ℕ → Type 0} {text : List ℕ} {e : WriteFault} →
-    b ≡ nothing_gathered → IsPut w b f t w1 b1 f1 t1 text (Err e) → t (length text) → ⊥
-never_calm {w} {w1} {b} {b1} {f} {f1} {t} {t1} {text} {e} new put takes =
-    let empty : length b.held ≡ 0 = ap (λ (z : Gathering). length z.held) new in
-    never_ok (put.calm 0 (subst t (omega (arith, empty)) takes)).1
+  -- the sink did not take the text
+  pub never_calm : {e : WriteFault} → b ≡ nothing_gathered → IsPut w f q t s b s1 b1 text (Err e) → (more : ℕ) → t s (length text + more) → ⊥
+  never_calm {e} new put more takes =
+      let empty : length b.held ≡ 0 = ap (λ (z : Gathering). length z.held) new in
+      never_ok (put.calm more (subst (t s) (omega (arith, empty)) takes)).1

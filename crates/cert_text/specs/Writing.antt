@@ -1,5 +1,5 @@
--- Putting a text into a buffer and a sink. Of each: what was written, what the buffer holds,
--- the count of faults, and how many more bytes the sink is known to take.
+-- Putting a text into a buffer and a sink. Of a sink are seen what was written, its count of faults,
+-- how often it was flushed, and how many more bytes it is known to take.
 use Rattle.std.specs.Prelude.{◌≡◌, ℕ, ◌+◌, ◌<◌, ◌^◌, List, ◌++◌, length, Option, Result, Ok, IsOk, OnOk, OnErr, IfErr}
 use Rattle.port_io.specs.Bytes.{Appended}
 use Rattle.port_io.specs.Causes.{HasCause, shown}
@@ -11,22 +11,25 @@ pub record TellsHanded (buffer : Gathering) (fault : WriteFault) : Type 0 where
   pub same : fault.written ≡ buffer.handed
   pub fits : fault.written < 2 ^ 64
 
--- the whole text was put, or a part of it and the count of faults rose; a sink that takes it all meets no fault
-pub record IsPut (written : Option (List ℕ)) (buffer : Gathering) (faults : ℕ) (takes : ℕ → Type 0)
-    (written' : Option (List ℕ)) (buffer' : Gathering) (faults' : ℕ) (takes' : ℕ → Type 0)
+-- the whole text was put and no call failed, or a part of it and the count of faults rose; nothing was flushed, and
+-- a sink that takes it all meets no fault
+pub record IsPut {S : Type 0} (written : S → Option (List ℕ)) (faults flushes : S → ℕ) (takes : S → ℕ → Type 0)
+    (sink : S) (buffer : Gathering) (sink' : S) (buffer' : Gathering)
     (text : List ℕ) (result : Result (Unit {0}) WriteFault) : Type 0 where
-  pub whole : OnOk result (Gathered written buffer written' buffer' text)
-  pub part : OnErr result (GatheredPart written buffer written' buffer' text)
+  pub whole : OnOk result (Gathered (written sink) buffer (written sink') buffer' text)
+  pub part : OnErr result (GatheredPart (written sink) buffer (written sink') buffer' text)
   pub counted : IfErr result (TellsHanded buffer')
-  pub cause : HasCause faults faults' result
-  pub calm : (more : ℕ) → takes (length buffer.held + length text + more) → (faults' ≡ faults) × IsOk result × takes' (length buffer'.held + more)
+  pub cause : HasCause (faults sink) (faults sink') result
+  pub no_flush : flushes sink' ≡ flushes sink
+  pub calm : (more : ℕ) → takes sink (length buffer.held + length text + more) →
+      (faults sink' ≡ faults sink) × IsOk result × takes sink' (length buffer'.held + more)
 
 -- a first part of the text is put, and this is what is left of it
-pub record IsPutUpTo (written : Option (List ℕ)) (buffer : Gathering) (faults : ℕ) (takes : ℕ → Type 0)
-    (written' : Option (List ℕ)) (buffer' : Gathering) (faults' : ℕ) (takes' : ℕ → Type 0)
+pub record IsPutUpTo {S : Type 0} (written : S → Option (List ℕ)) (faults flushes : S → ℕ) (takes : S → ℕ → Type 0)
+    (sink : S) (buffer : Gathering) (sink' : S) (buffer' : Gathering)
     (text left : List ℕ) : Type 0 where
   pub done : List ℕ
-  pub put : IsPut written buffer faults takes written' buffer' faults' takes' done (Ok tt)
+  pub put : IsPut written faults flushes takes sink buffer sink' buffer' done (Ok tt)
   pub split : text ≡ done ++ left
 
 -- a first part of a text, perhaps all, was written, and the fault counts its bytes

@@ -177,7 +177,8 @@ impl Ccf {
         buffer: &mut PieceBuffer,
         out: &mut K,
     ) -> Result<(), WriteFault>
-        ensures { IsPut (K.written out.old) buffer.old (K.faults out.old) (K.takes out.old) (K.written out.new) buffer.new (K.faults out.new) (K.takes out.new) (contents_text self.now) result }
+        ensures { IsPut K.written K.faults K.flushes K.takes out.old buffer.old out.new buffer.new
+            (contents_text self.now) result }
     {
         put_shape(buffer, out, self.shape)?;
         put_pair(
@@ -202,7 +203,8 @@ impl Ccf {
 
 /// Puts the line of the shape.
 fn put_shape<K: Sink>(buffer: &mut PieceBuffer, out: &mut K, shape: Shape) -> Result<(), WriteFault>
-    ensures { IsPut (K.written out.old) buffer.old (K.faults out.old) (K.takes out.old) (K.written out.new) buffer.new (K.faults out.new) (K.takes out.new) (shape_text shape) result }
+    ensures { IsPut K.written K.faults K.flushes K.takes out.old buffer.old out.new buffer.new
+        (shape_text shape) result }
 {
     put_piece(buffer, out, b"shape")?;
     put_number(buffer, out, b' ', shape.equations as u64)?;
@@ -223,7 +225,8 @@ fn put_pair<K: Sink>(
 ) -> Result<(), WriteFault>
     requires base { AreSmallPairs base.now }
     requires mates { AreSmallPairs mates.now }
-    ensures { IsPut (K.written out.old) buffer.old (K.faults out.old) (K.takes out.old) (K.written out.new) buffer.new (K.faults out.new) (K.takes out.new) (pair_text rank base.now mates.now) result }
+    ensures { IsPut K.written K.faults K.flushes K.takes out.old buffer.old out.new buffer.new
+        (pair_text rank base.now mates.now) result }
 {
     put_piece(buffer, out, b"rank")?;
     put_number(buffer, out, b' ', rank as u64)?;
@@ -247,7 +250,8 @@ fn put_matrices<K: Sink>(
     requires u { All HasSmallKeys u.now }
     requires p { All HasSmallKeys p.now }
     requires t { All AreSmall t.now }
-    ensures { IsPut (K.written out.old) buffer.old (K.faults out.old) (K.takes out.old) (K.written out.new) buffer.new (K.faults out.new) (K.takes out.new) (matrices_text s.now u.now p.now t.now) result }
+    ensures { IsPut K.written K.faults K.flushes K.takes out.old buffer.old out.new buffer.new
+        (matrices_text s.now u.now p.now t.now) result }
 {
     put_matrix(buffer, out, b"S", s)?;
     put_matrix(buffer, out, b"U", u)?;
@@ -266,7 +270,8 @@ fn put_parts<K: Sink>(
     requires first { IsSmallPart first.now }
     requires blocks { AreSmallBlocks blocks.now }
     requires last { IsSmallPart last.now }
-    ensures { IsPut (K.written out.old) buffer.old (K.faults out.old) (K.takes out.old) (K.written out.new) buffer.new (K.faults out.new) (K.takes out.new) (parts_text first.now blocks.now last.now) result }
+    ensures { IsPut K.written K.faults K.flushes K.takes out.old buffer.old out.new buffer.new
+        (parts_text first.now blocks.now last.now) result }
 {
     put_tail(buffer, out, b"first", first)?;
     put_blocks(buffer, out, blocks)?;

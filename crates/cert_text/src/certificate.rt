@@ -26,7 +26,9 @@ pub fn write<K: Sink>(cert: &Certificate, out: &mut K) -> Result<(), WriteFault>
     ensures whole { OnOk result (Appended (K.written out.old) (K.written out.new) (certificate_text cert.now)) }
     ensures part { IfErr result (IsCut (K.written out.old) (K.written out.new) (certificate_text cert.now)) }
     ensures cause { HasCause (K.faults out.old) (K.faults out.new) result }
-    ensures calm { K.takes out.old (length (certificate_text cert.now)) → (K.faults out.new ≡ K.faults out.old) × IsOk result × K.takes out.new 0 }
+    ensures no_flush { K.flushes out.new ≡ K.flushes out.old }
+    ensures calm { (more : ℕ) → K.takes out.old (length (certificate_text cert.now) + more) →
+        (K.faults out.new ≡ K.faults out.old) × IsOk result × K.takes out.new more }
 {
     let mut buffer = PieceBuffer::new();
     put_certificate(&mut buffer, out, cert)?;
@@ -39,7 +41,8 @@ fn put_certificate<K: Sink>(
     out: &mut K,
     cert: &Certificate,
 ) -> Result<(), WriteFault>
-    ensures { IsPut (K.written out.old) buffer.old (K.faults out.old) (K.takes out.old) (K.written out.new) buffer.new (K.faults out.new) (K.takes out.new) (certificate_text cert.now) result }
+    ensures { IsPut K.written K.faults K.flushes K.takes out.old buffer.old out.new buffer.new
+        (certificate_text cert.now) result }
 {
     put_echo(buffer, out, cert.kind, cert.echo.as_slice())?;
     cert.ccf.put(buffer, out)
@@ -52,7 +55,8 @@ fn put_echo<K: Sink>(
     kind: Kind,
     echo: &[u8],
 ) -> Result<(), WriteFault>
-    ensures { IsPut (K.written out.old) buffer.old (K.faults out.old) (K.takes out.old) (K.written out.new) buffer.new (K.faults out.new) (K.takes out.new) (echo_text kind echo.now) result }
+    ensures { IsPut K.written K.faults K.flushes K.takes out.old buffer.old out.new buffer.new
+        (echo_text kind echo.now) result }
 {
     put_piece(buffer, out, b"mixed-certificate 1\nkind ")?;
     put_piece(buffer, out, word_of(kind))?;

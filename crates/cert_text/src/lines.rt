@@ -20,7 +20,8 @@ fn put_head<K: Sink>(
     word: &[u8],
     number: u64,
 ) -> Result<(), WriteFault>
-    ensures { IsPut (K.written out.old) buffer.old (K.faults out.old) (K.takes out.old) (K.written out.new) buffer.new (K.faults out.new) (K.takes out.new) (head_text word.now number) result }
+    ensures { IsPut K.written K.faults K.flushes K.takes out.old buffer.old out.new buffer.new
+        (head_text word.now number) result }
 {
     put_piece(buffer, out, word)?;
     put_number(buffer, out, b' ', number)?;
@@ -36,7 +37,8 @@ fn put_entries_line<K: Sink>(
     entries: &[(usize, Res)],
 ) -> Result<(), WriteFault>
     requires { HasSmallKeys entries.now }
-    ensures { IsPut (K.written out.old) buffer.old (K.faults out.old) (K.takes out.old) (K.written out.new) buffer.new (K.faults out.new) (K.takes out.new) (entries_line word.now number entries.now) result }
+    ensures { IsPut K.written K.faults K.flushes K.takes out.old buffer.old out.new buffer.new
+        (entries_line word.now number entries.now) result }
 {
     put_head(buffer, out, word, number)?;
     put_entries(buffer, out, entries)?;
@@ -52,7 +54,8 @@ fn put_columns_line<K: Sink>(
     columns: &[usize],
 ) -> Result<(), WriteFault>
     requires { AreSmall columns.now }
-    ensures { IsPut (K.written out.old) buffer.old (K.faults out.old) (K.takes out.old) (K.written out.new) buffer.new (K.faults out.new) (K.takes out.new) (columns_line word.now number columns.now) result }
+    ensures { IsPut K.written K.faults K.flushes K.takes out.old buffer.old out.new buffer.new
+        (columns_line word.now number columns.now) result }
 {
     put_head(buffer, out, word, number)?;
     put_numbers(buffer, out, columns)?;
@@ -67,7 +70,8 @@ pub fn put_matrix<K: Sink>(
     rows: &[Items<(usize, Res)>],
 ) -> Result<(), WriteFault>
     requires { All HasSmallKeys rows.now }
-    ensures { IsPut (K.written out.old) buffer.old (K.faults out.old) (K.takes out.old) (K.written out.new) buffer.new (K.faults out.new) (K.takes out.new) (matrix_text word.now 1 rows.now) result }
+    ensures { IsPut K.written K.faults K.flushes K.takes out.old buffer.old out.new buffer.new
+        (matrix_text word.now 1 rows.now) result }
 {
     for (row, entries) in rows.iter().enumerate() {
         put_entries_line(buffer, out, word, row as u64 + 1, entries.as_slice())?;
@@ -83,7 +87,8 @@ pub fn put_pattern<K: Sink>(
     rows: &[Items<usize>],
 ) -> Result<(), WriteFault>
     requires { All AreSmall rows.now }
-    ensures { IsPut (K.written out.old) buffer.old (K.faults out.old) (K.takes out.old) (K.written out.new) buffer.new (K.faults out.new) (K.takes out.new) (pattern_text word.now 1 rows.now) result }
+    ensures { IsPut K.written K.faults K.flushes K.takes out.old buffer.old out.new buffer.new
+        (pattern_text word.now 1 rows.now) result }
 {
     for (row, columns) in rows.iter().enumerate() {
         put_columns_line(buffer, out, word, row as u64 + 1, columns.as_slice())?;
@@ -98,7 +103,8 @@ fn put_part<K: Sink>(
     part: &CcfPart,
 ) -> Result<(), WriteFault>
     requires { IsSmallPart part.now }
-    ensures { IsPut (K.written out.old) buffer.old (K.faults out.old) (K.takes out.old) (K.written out.new) buffer.new (K.faults out.new) (K.takes out.new) (part_text part.now) result }
+    ensures { IsPut K.written K.faults K.flushes K.takes out.old buffer.old out.new buffer.new
+        (part_text part.now) result }
 {
     put_numbers(buffer, out, part.columns.as_slice())?;
     put_piece(buffer, out, b" |")?;
@@ -114,7 +120,8 @@ pub fn put_tail<K: Sink>(
     part: &CcfPart,
 ) -> Result<(), WriteFault>
     requires { IsSmallPart part.now }
-    ensures { IsPut (K.written out.old) buffer.old (K.faults out.old) (K.takes out.old) (K.written out.new) buffer.new (K.faults out.new) (K.takes out.new) (tail_line word.now part.now) result }
+    ensures { IsPut K.written K.faults K.flushes K.takes out.old buffer.old out.new buffer.new
+        (tail_line word.now part.now) result }
 {
     put_piece(buffer, out, word)?;
     put_part(buffer, out, part)?;
@@ -129,7 +136,8 @@ fn put_block<K: Sink>(
     block: &CcfBlock,
 ) -> Result<(), WriteFault>
     requires { IsSmallBlock block.now }
-    ensures { IsPut (K.written out.old) buffer.old (K.faults out.old) (K.takes out.old) (K.written out.new) buffer.new (K.faults out.new) (K.takes out.new) (block_line number block.now) result }
+    ensures { IsPut K.written K.faults K.flushes K.takes out.old buffer.old out.new buffer.new
+        (block_line number block.now) result }
 {
     put_head(buffer, out, b"block", number)?;
     put_part(buffer, out, &block.part)?;
@@ -145,7 +153,8 @@ pub fn put_blocks<K: Sink>(
     blocks: &[CcfBlock],
 ) -> Result<(), WriteFault>
     requires { AreSmallBlocks blocks.now }
-    ensures { IsPut (K.written out.old) buffer.old (K.faults out.old) (K.takes out.old) (K.written out.new) buffer.new (K.faults out.new) (K.takes out.new) (blocks_text 1 blocks.now) result }
+    ensures { IsPut K.written K.faults K.flushes K.takes out.old buffer.old out.new buffer.new
+        (blocks_text 1 blocks.now) result }
 {
     for (place, block) in blocks.iter().enumerate() {
         put_block(buffer, out, place as u64 + 1, block)?;

@@ -17,7 +17,8 @@ pub fn put_pairs<K: Sink>(
     pairs: &[(usize, usize)],
 ) -> Result<(), WriteFault>
     requires { AreSmallPairs pairs.now }
-    ensures { IsPut (K.written out.old) buffer.old (K.faults out.old) (K.takes out.old) (K.written out.new) buffer.new (K.faults out.new) (K.takes out.new) (pairs_text pairs.now) result }
+    ensures { IsPut K.written K.faults K.flushes K.takes out.old buffer.old out.new buffer.new
+        (pairs_text pairs.now) result }
 {
     for pair in pairs {
         put_item(buffer, out, pair.0 + 1, pair.1 as u64 + 1)?;
@@ -32,7 +33,8 @@ fn put_entry<K: Sink>(
     column: usize,
     entry: Res,
 ) -> Result<(), WriteFault>
-    ensures { IsPut (K.written out.old) buffer.old (K.faults out.old) (K.takes out.old) (K.written out.new) buffer.new (K.faults out.new) (K.takes out.new) (item column entry) result }
+    ensures { IsPut K.written K.faults K.flushes K.takes out.old buffer.old out.new buffer.new
+        (item column entry) result }
 {
     put_item(buffer, out, column, u64::from(entry.value()))
 }
@@ -44,7 +46,8 @@ pub fn put_entries<K: Sink>(
     entries: &[(usize, Res)],
 ) -> Result<(), WriteFault>
     requires { HasSmallKeys entries.now }
-    ensures { IsPut (K.written out.old) buffer.old (K.faults out.old) (K.takes out.old) (K.written out.new) buffer.new (K.faults out.new) (K.takes out.new) (entries_text entries.now) result }
+    ensures { IsPut K.written K.faults K.flushes K.takes out.old buffer.old out.new buffer.new
+        (entries_text entries.now) result }
 {
     for entry in entries {
         put_entry(buffer, out, entry.0 + 1, entry.1)?;
@@ -59,7 +62,8 @@ pub fn put_numbers<K: Sink>(
     numbers: &[usize],
 ) -> Result<(), WriteFault>
     requires { AreSmall numbers.now }
-    ensures { IsPut (K.written out.old) buffer.old (K.faults out.old) (K.takes out.old) (K.written out.new) buffer.new (K.faults out.new) (K.takes out.new) (numbers_text numbers.now) result }
+    ensures { IsPut K.written K.faults K.flushes K.takes out.old buffer.old out.new buffer.new
+        (numbers_text numbers.now) result }
 {
     for number in numbers {
         put_number(buffer, out, b' ', *number as u64 + 1)?;
@@ -74,7 +78,8 @@ fn put_lettered<K: Sink>(
     letter: u8,
     row: u64,
 ) -> Result<(), WriteFault>
-    ensures { IsPut (K.written out.old) buffer.old (K.faults out.old) (K.takes out.old) (K.written out.new) buffer.new (K.faults out.new) (K.takes out.new) (lettered letter row) result }
+    ensures { IsPut K.written K.faults K.flushes K.takes out.old buffer.old out.new buffer.new
+        (lettered letter row) result }
 {
     put_piece(buffer, out, b" ")?;
     put_number(buffer, out, letter, row)
@@ -88,7 +93,8 @@ pub fn put_letters<K: Sink>(
     rows: &[usize],
 ) -> Result<(), WriteFault>
     requires { AreSmall rows.now }
-    ensures { IsPut (K.written out.old) buffer.old (K.faults out.old) (K.takes out.old) (K.written out.new) buffer.new (K.faults out.new) (K.takes out.new) (letters_text letter rows.now) result }
+    ensures { IsPut K.written K.faults K.flushes K.takes out.old buffer.old out.new buffer.new
+        (letters_text letter rows.now) result }
 {
     for row in rows {
         put_lettered(buffer, out, letter, *row as u64 + 1)?;

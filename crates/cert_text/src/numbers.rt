@@ -13,7 +13,7 @@ pub fn put_piece<K: Sink>(
     out: &mut K,
     piece: &[u8],
 ) -> Result<(), WriteFault>
-    ensures { IsPut (K.written out.old) buffer.old (K.faults out.old) (K.takes out.old) (K.written out.new) buffer.new (K.faults out.new) (K.takes out.new) piece.now result }
+    ensures { IsPut K.written K.faults K.flushes K.takes out.old buffer.old out.new buffer.new piece.now result }
 {
     buffer.put(out, piece)
 }
@@ -25,7 +25,8 @@ pub fn put_number<K: Sink>(
     mark: u8,
     number: u64,
 ) -> Result<(), WriteFault>
-    ensures { IsPut (K.written out.old) buffer.old (K.faults out.old) (K.takes out.old) (K.written out.new) buffer.new (K.faults out.new) (K.takes out.new) (marked mark number) result }
+    ensures { IsPut K.written K.faults K.flushes K.takes out.old buffer.old out.new buffer.new
+        (marked mark number) result }
 {
     let mut place = [0u8; LONGEST];
     let start = put_digits(mark, number, &mut place);
@@ -39,7 +40,7 @@ pub fn put_item<K: Sink>(
     key: usize,
     value: u64,
 ) -> Result<(), WriteFault>
-    ensures { IsPut (K.written out.old) buffer.old (K.faults out.old) (K.takes out.old) (K.written out.new) buffer.new (K.faults out.new) (K.takes out.new) (item key value) result }
+    ensures { IsPut K.written K.faults K.flushes K.takes out.old buffer.old out.new buffer.new (item key value) result }
 {
     put_number(buffer, out, b' ', key as u64)?;
     put_number(buffer, out, b'=', value)

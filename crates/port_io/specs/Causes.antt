@@ -1,5 +1,5 @@
 -- Why a call may fail: a count of faults that code over a source or a sink cannot raise by itself.
-use Rattle.std.specs.Prelude.{ℕ, ◌+◌, ◌-◌, ◌^◌, ◌≤◌, min, OnErr, Result}
+use Rattle.std.specs.Prelude.{◌≡◌, ℕ, ◌+◌, ◌-◌, ◌^◌, ◌≤◌, min, OnOk, OnErr, Result}
 
 -- what a count of 64 bits shows: it stays at its last value
 abbrev pub shown : ℕ → ℕ
@@ -13,7 +13,8 @@ one_more count = shown (count + 1)
 abbrev pub Rose : ℕ → ℕ → Type 0
 Rose before now = one_more before ≤ now
 
--- the count never falls, and rose where the call failed
+-- each fault is told: the count never falls, is as before where the call is fine, and rose where it failed
 pub record HasCause {T E : Type 0} (before now : ℕ) (result : Result T E) : Type 0 where
   pub later : before ≤ now
+  pub fine : OnOk result (now ≡ before)
   pub failed : OnErr result (Rose before now)

@@ -2,10 +2,13 @@
 -- Calls are counted from 1, a flush among them; `fails` lists the numbers of the calls that fail.
 use Rattle.std.specs.Prelude.{◌≡◌, ◌⊎◌, ℕ, ◌+◌, ◌-◌, ◌≤◌, ◌<◌, List, [], ◌++◌, length, take, drop, Bool, true, false, cond, ◌==◌, min, Contains, Result, Ok, Err}
 use Rattle.port_io.specs.Causes.{one_more}
+use Rattle.port_io.specs.Asking.{asked_for, gave}
+use Rattle.port_io.specs.declared.asking.Asked.{Asked}
 
 pub record MemorySource : Type 0 where
   pub left : List ℕ
   pub most : ℕ
+  pub asked : Asked
   pub calls : ℕ
   pub fails : List ℕ
   pub faults : ℕ
@@ -15,6 +18,7 @@ pub record MemorySink : Type 0 where
   pub most : ℕ
   pub room : ℕ
   pub flushed : Bool
+  pub flushes : ℕ
   pub calls : ℕ
   pub fails : List ℕ
   pub faults : ℕ
@@ -23,11 +27,11 @@ pub record MemorySink : Type 0 where
 abbrev pub ReadsMemory : {E : Type 0} → MemorySource → ℕ → Result ℕ E → MemorySource → Type 0
 ReadsMemory before space (Err e) after =
     Contains before.fails (one_more before.calls)
-    × (after ≡ record before { calls = one_more before.calls; faults = one_more before.faults })
+    × (after ≡ record before { asked = asked_for before.asked space; calls = one_more before.calls; faults = one_more before.faults })
 ReadsMemory before space (Ok n) after =
     ¬ Contains before.fails (one_more before.calls)
     × (n ≡ min space (min before.most (length before.left)))
-    × (after ≡ record before { left = drop n before.left; calls = one_more before.calls })
+    × (after ≡ record before { left = drop n before.left; asked = gave (asked_for before.asked space) n; calls = one_more before.calls })
 
 -- no room is left
 abbrev pub IsFull : MemorySink → Type 0
@@ -48,10 +52,10 @@ WritesMemory before piece (Ok n) after =
 abbrev pub FlushesMemory : {T E : Type 0} → MemorySink → Result T E → MemorySink → Type 0
 FlushesMemory before (Err e) after =
     Contains before.fails (one_more before.calls)
-    × (after ≡ record before { calls = one_more before.calls; faults = one_more before.faults })
+    × (after ≡ record before { flushes = one_more before.flushes; calls = one_more before.calls; faults = one_more before.faults })
 FlushesMemory before (Ok v) after =
     ¬ Contains before.fails (one_more before.calls)
-    × (after ≡ record before { flushed = true; calls = one_more before.calls })
+    × (after ≡ record before { flushed = true; flushes = one_more before.flushes; calls = one_more before.calls })
 
 -- no call is to fail, and there is room for so many bytes more
 pub record TakesMore (sink : MemorySink) (more : ℕ) : Type 0 where

@@ -54,6 +54,7 @@ impl PieceBuffer {
         ensures counted { IfErr result (λ fault. fault.written ≡ self.new.handed) }
         ensures fits { IfErr result (λ fault. fault.written < 2 ^ 64) }
         ensures cause { HasCause (K.faults sink.old) (K.faults sink.new) result }
+        ensures no_flush { K.flushes sink.new ≡ K.flushes sink.old }
         ensures steady { (more : ℕ) → K.takes sink.old (length self.old.held + length piece.now + more) → (K.faults sink.new ≡ K.faults sink.old) × IsOk result × K.takes sink.new (length self.new.held + more) }
     {
         if self.hold(piece) {
@@ -75,6 +76,7 @@ impl PieceBuffer {
         ensures counted { IfErr result (λ fault. fault.written ≡ self.new.handed) }
         ensures fits { IfErr result (λ fault. fault.written < 2 ^ 64) }
         ensures cause { HasCause (K.faults sink.old) (K.faults sink.new) result }
+        ensures no_flush { K.flushes sink.new ≡ K.flushes sink.old }
         ensures steady { (more : ℕ) → K.takes sink.old (length self.old.held + more) → (K.faults sink.new ≡ K.faults sink.old) × IsOk result × K.takes sink.new more }
     {
         if let Err(fault) = write_all(sink, &self.bytes[self.start..self.end]) {
@@ -112,6 +114,7 @@ impl PieceBuffer {
         ensures counted { IfErr result (λ fault. fault.written ≡ self.new.handed) }
         ensures fits { IfErr result (λ fault. fault.written < 2 ^ 64) }
         ensures cause { HasCause (K.faults sink.old) (K.faults sink.new) result }
+        ensures no_flush { K.flushes sink.new ≡ K.flushes sink.old }
         ensures steady { (more : ℕ) → K.takes sink.old (length piece.now + more) → (K.faults sink.new ≡ K.faults sink.old) × IsOk result × K.takes sink.new more }
     {
         if let Err(fault) = write_all(sink, piece) {

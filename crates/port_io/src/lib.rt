@@ -4,6 +4,7 @@
 //! may answer a fault only where the outside gave one.
 #![tactic(auto)]
 
+mod asking;
 mod gathering;
 mod memory;
 mod ports;
@@ -13,6 +14,7 @@ mod streams;
 mod tests;
 mod writing;
 
+pub use asking::Asked;
 pub use gathering::PieceBuffer;
 pub use memory::{MemSink, MemSource};
 pub use ports::{Failed, Sink, Source};

@@ -2,8 +2,10 @@
 
 ghost use Rattle.std.specs.Prelude.{◌≡◌, ℕ, ◌≤◌, [], length, false, Some, IfOk, OnOk, OnErr, Contains};
 ghost use Rattle.port_io.specs.Causes.{one_more};
+ghost use Rattle.port_io.specs.Asking.{nothing_asked};
 ghost use Rattle.port_io.specs.Memory.{ReadsMemory, WritesMemory, FlushesMemory, TakesMore};
 
+use crate::asking::Asked;
 use crate::ports::{Failed, Sink, Source};
 use std::alloc::{AllocError, Global};
 use std::marker::Model;
@@ -60,6 +62,7 @@ pub struct MemSource {
     bytes: Vec<u8>,
     taken: usize,
     most: usize,
+    asked: Asked,
     calls: Calls,
 }
 
@@ -69,7 +72,7 @@ impl Model for MemSource {
 
     ghost Value = { MemorySource };
 
-    ghost view = { λ s. record { left = drop s.taken s.bytes.items; most = s.most; calls = s.calls.made; fails = s.calls.failing.items; faults = s.calls.faults } };
+    ghost view = { λ s. record { left = drop s.taken s.bytes.items; most = s.most; asked = s.asked; calls = s.calls.made; fails = s.calls.failing.items; faults = s.calls.faults } };
 
     ghost invariant = { λ s. (s.taken ≤ length s.bytes.items) × (1 ≤ s.most) };
 }
@@ -84,7 +87,7 @@ impl MemSource {
         fails: &[u64],
     ) -> Result<MemSource, AllocError>
         requires { 1 ≤ most }
-        ensures made { IfOk result (λ source. source ≡ record { left = bytes.now; most = most; calls = 0; fails = fails.now; faults = 0 }) }
+        ensures made { IfOk result (λ source. source ≡ record { left = bytes.now; most = most; asked = nothing_asked; calls = 0; fails = fails.now; faults = 0 }) }
         ensures zero { IfOk result (λ source. ⟦<MemSource as Source>⟧.faults source ≡ 0) }
         ensures left { IfOk result (λ source. ⟦<MemSource as Source>⟧.left source ≡ Some bytes.now) }
         ensures steady { IfOk result (λ source. fails.now ≡ [] → ⟦<MemSource as Source>⟧.never_fails source) }
@@ -93,6 +96,7 @@ impl MemSource {
             bytes: bytes.to_vec(alloc)?,
             taken: 0,
             most,
+            asked: Asked::nothing(),
             calls: Calls::new(alloc, fails)?,
         })
     }
@@ -103,16 +107,20 @@ impl Source for MemSource {
 
     ghost faults = { λ source. source.faults };
 
+    ghost asked = { λ source. source.asked };
+
     ghost never_fails = { λ source. source.fails ≡ [] };
 
     ghost read_gives = { λ before space result after. ReadsMemory before space result after };
 
     fn read(&mut self, buffer: &mut [u8]) -> Result<usize, Failed> {
+        self.asked.ask(buffer.len());
         self.calls.count()?;
         let rest = &self.bytes[self.taken..];
         let count = buffer.len().min(self.most).min(rest.len());
         buffer[..count].copy_from_slice(&rest[..count]);
         self.taken += count;
+        self.asked.give(count);
         Ok(count)
     }
 }
@@ -124,6 +132,7 @@ pub struct MemSink {
     most: usize,
     room: usize,
     flushed: bool,
+    flushes: u64,
     calls: Calls,
 }
 
@@ -133,7 +142,7 @@ impl Model for MemSink {
 
     ghost Value = { MemorySink };
 
-    ghost view = { λ s. record { written = s.bytes.items; most = s.most; room = s.room; flushed = s.flushed; calls = s.calls.made; fails = s.calls.failing.items; faults = s.calls.faults } };
+    ghost view = { λ s. record { written = s.bytes.items; most = s.most; room = s.room; flushed = s.flushed; flushes = s.flushes; calls = s.calls.made; fails = s.calls.failing.items; faults = s.calls.faults } };
 
     ghost invariant = { λ s. (length s.bytes.items ≤ s.room) × (s.room ≤ vec_capacity s.bytes) × (1 ≤ s.most) };
 }
@@ -148,7 +157,7 @@ impl MemSink {
         fails: &[u64],
     ) -> Result<MemSink, AllocError>
         requires { 1 ≤ most }
-        ensures made { IfOk result (λ sink. sink ≡ record { written = []; most = most; room = room; flushed = false; calls = 0; fails = fails.now; faults = 0 }) }
+        ensures made { IfOk result (λ sink. sink ≡ record { written = []; most = most; room = room; flushed = false; flushes = 0; calls = 0; fails = fails.now; faults = 0 }) }
         ensures zero { IfOk result (λ sink. ⟦<MemSink as Sink>⟧.faults sink ≡ 0) }
         ensures written { IfOk result (λ sink. ⟦<MemSink as Sink>⟧.written sink ≡ Some []) }
         ensures unflushed { IfOk result (λ sink. ⟦<MemSink as Sink>⟧.flushed sink ≡ false) }
@@ -159,6 +168,7 @@ impl MemSink {
             most,
             room,
             flushed: false,
+            flushes: 0,
             calls: Calls::new(alloc, fails)?,
         })
     }
@@ -176,6 +186,8 @@ impl Sink for MemSink {
     ghost written = { λ sink. Some sink.written };
 
     ghost flushed = { λ sink. sink.flushed };
+
+    ghost flushes = { λ sink. sink.flushes };
 
     ghost faults = { λ sink. sink.faults };
 
@@ -199,6 +211,7 @@ impl Sink for MemSink {
     }
 
     fn flush(&mut self) -> Result<(), Failed> {
+        self.flushes = self.flushes.saturating_add(1);
         self.calls.count()?;
         self.flushed = true;
         Ok(())

@@ -1,9 +1,12 @@
 //! The two traits.
 
 ghost use Rattle.std.specs.Prelude.{◌≡◌, ℕ, ◌+◌, ◌≤◌, ◌<◌, List, Bool, false, length, take, Option, Result, IfOk, IsOk, OnOk, OnErr, IsTrue};
-ghost use Rattle.port_io.specs.Causes.{HasCause};
+ghost use Rattle.std.specs.Io.KnownBytes.{Keeps};
+ghost use Rattle.port_io.specs.Causes.{HasCause, one_more};
+ghost use Rattle.port_io.specs.Asking.{asked_for, given};
 ghost use Rattle.port_io.specs.Bytes.{Took, Appended, Ended};
 ghost use Rattle.port_io.specs.declared.ports.Failed.{Failed};
+ghost use Rattle.port_io.specs.declared.asking.Asked.{Asked};
 
 use thiserror::Error;
 
@@ -20,6 +23,9 @@ pub trait Source {
     /// How often it has failed: a count of 64 bits that stays at its last value.
     ghost faults: { Self → ℕ };
 
+    /// How much it was asked for so far.
+    ghost asked: { Self → Asked };
+
     /// Its calls are known never to fail.
     ghost never_fails: { Self → Type 0 };
 
@@ -33,7 +39,8 @@ pub trait Source {
         ensures within { IfOk result (λ n. n ≤ length buffer.old) }
         ensures taken { IfOk result (λ n. Took (left self.old) (left self.new) (take n buffer.new)) }
         ensures end { IfOk result (λ n. n ≡ 0 → 0 < length buffer.old → Ended (left self.new)) }
-        ensures none { OnErr result (left self.new ≡ left self.old) }
+        ensures none { OnErr result (Keeps (left self.old) (left self.new)) }
+        ensures asked { asked self.new ≡ given (asked_for (asked self.old) (length buffer.old)) result }
         ensures cause { HasCause (faults self.old) (faults self.new) result }
         ensures steady { never_fails self.old → never_fails self.new × (faults self.new ≡ faults self.old) × IsOk result }
         ensures gives { read_gives self.old (length buffer.old) result self.new };
@@ -46,6 +53,9 @@ pub trait Sink {
 
     /// What was written is flushed.
     ghost flushed: { Self → Bool };
+
+    /// How often it was flushed: a count of 64 bits that stays at its last value.
+    ghost flushes: { Self → ℕ };
 
     /// How often it has failed: a count of 64 bits that stays at its last value.
     ghost faults: { Self → ℕ };
@@ -66,14 +76,16 @@ pub trait Sink {
         ensures some { IfOk result (λ n. 0 < length piece.now → 0 < n) }
         ensures appended { IfOk result (λ n. Appended (written self.old) (written self.new) (take n piece.now)) }
         ensures unflushed { IfOk result (λ n. 0 < n → flushed self.new ≡ false) }
-        ensures none { OnErr result (written self.new ≡ written self.old) }
+        ensures none { OnErr result (Keeps (written self.old) (written self.new)) }
+        ensures no_flush { flushes self.new ≡ flushes self.old }
         ensures cause { HasCause (faults self.old) (faults self.new) result }
         ensures steady { (more : ℕ) → takes self.old (length piece.now + more) → (faults self.new ≡ faults self.old) × IsOk result × IfOk result (λ n. (rest : ℕ) → n + rest ≡ length piece.now → takes self.new (rest + more)) }
         ensures gives { write_gives self.old piece.now result self.new };
 
     /// Hands on what was written.
     fn flush(&mut self) -> Result<(), Failed>
-        ensures same { written self.new ≡ written self.old }
+        ensures same { Keeps (written self.old) (written self.new) }
+        ensures one_flush { flushes self.new ≡ one_more (flushes self.old) }
         ensures flushed { OnOk result (IsTrue (flushed self.new)) }
         ensures cause { HasCause (faults self.old) (faults self.new) result }
         ensures steady { (more : ℕ) → takes self.old more → takes self.new more × (faults self.new ≡ faults self.old) × IsOk result }

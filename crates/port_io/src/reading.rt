@@ -2,6 +2,7 @@
 
 ghost use Rattle.std.specs.Prelude.{◌≡◌, ◌≢◌, ◌+◌, ◌≤◌, ◌<◌, length, IfOk};
 ghost use Rattle.port_io.specs.Causes.{Rose};
+ghost use Rattle.port_io.specs.Asking.{AsksWithin};
 ghost use Rattle.port_io.specs.Bytes.{Took, Ended, TookExactly, TookAtMost};
 
 use crate::ports::Source;
@@ -25,9 +26,10 @@ pub enum ReadError {
 /// The most bytes of one call.
 const PIECE: usize = 65_536;
 
-/// All bytes to the end, where there are no more than `limit`. It asks for pieces of at most 65,536
-/// bytes, and never for more than `limit + 1` bytes in all. After an error the bytes that were taken
-/// stay taken: `limit + 1` at `TooLong`, and else at most `limit`.
+/// All bytes to the end, where there are no more than `limit`. It asks for at most 65,536 bytes at
+/// once, and never for one beyond the next `limit + 1`. No read is tried again: the answer is a fault
+/// exactly where one failed. After an error the bytes that were taken stay taken: `limit + 1` at
+/// `TooLong`, and else at most `limit`.
 pub fn read_all<S: Source>(alloc: Global, source: &mut S, limit: u64) -> Result<Vec<u8>, ReadError>
     requires { limit ≤ 2147483648 }
     ensures within { IfOk result (λ bytes. length bytes.items ≤ limit) }
@@ -36,7 +38,9 @@ pub fn read_all<S: Source>(alloc: Global, source: &mut S, limit: u64) -> Result<
     ensures fault_taken { result ≡ Err ReadError.ReadFault → TookAtMost limit (S.left source.old) (S.left source.new) }
     ensures memory_taken { result ≡ Err ReadError.NoMemory → TookAtMost limit (S.left source.old) (S.left source.new) }
     ensures fault { result ≡ Err ReadError.ReadFault → Rose (S.faults source.old) (S.faults source.new) }
+    ensures no_fault { result ≢ Err ReadError.ReadFault → S.faults source.new ≡ S.faults source.old }
     ensures later { S.faults source.old ≤ S.faults source.new }
+    ensures asked { AsksWithin 65536 (limit + 1) (S.asked source.old) (S.asked source.new) }
     ensures steady { S.never_fails source.old → S.never_fails source.new × (S.faults source.new ≡ S.faults source.old) × (result ≢ Err ReadError.ReadFault) }
 {
     let Ok(mut buffer) = buffer_of(alloc, PIECE) else {
@@ -67,7 +71,9 @@ fn read_through<S: Source>(
     ensures fault_taken { result ≡ Err ReadError.ReadFault → TookAtMost limit (S.left source.old) (S.left source.new) }
     ensures memory_taken { result ≡ Err ReadError.NoMemory → TookAtMost limit (S.left source.old) (S.left source.new) }
     ensures fault { result ≡ Err ReadError.ReadFault → Rose (S.faults source.old) (S.faults source.new) }
+    ensures no_fault { result ≢ Err ReadError.ReadFault → S.faults source.new ≡ S.faults source.old }
     ensures later { S.faults source.old ≤ S.faults source.new }
+    ensures asked { AsksWithin (length buffer.old) (limit + 1) (S.asked source.old) (S.asked source.new) }
     ensures steady { S.never_fails source.old → S.never_fails source.new × (S.faults source.new ≡ S.faults source.old) × (result ≢ Err ReadError.ReadFault) }
 {
     let most = limit as usize + 1;

@@ -23,7 +23,8 @@ pub fn put_layers<K: Sink>(
     layered: &Layered,
 ) -> Result<(), WriteFault>
     requires { AreLayersOf model.now layered.now }
-    ensures { IsPut (K.written out.old) buffer.old (K.faults out.old) (K.takes out.old) (K.written out.new) buffer.new (K.faults out.new) (K.takes out.new) (layer_text model.now layered.now) result }
+    ensures { IsPut K.written K.faults K.flushes K.takes out.old buffer.old out.new buffer.new
+        (layer_text model.now layered.now) result }
 {
     put_columns(buffer, out, model, layered)?;
     put_q_lines(buffer, out, model, layered)?;
@@ -38,7 +39,8 @@ fn put_columns<K: Sink>(
     layered: &Layered,
 ) -> Result<(), WriteFault>
     requires { AreLayersOf model.now layered.now }
-    ensures { IsPut (K.written out.old) buffer.old (K.faults out.old) (K.takes out.old) (K.written out.new) buffer.new (K.faults out.new) (K.takes out.new) (columns_text model.now layered.now) result }
+    ensures { IsPut K.written K.faults K.flushes K.takes out.old buffer.old out.new buffer.new
+        (columns_text model.now layered.now) result }
 {
     put_piece(buffer, out, b"columns")?;
     put_number(buffer, out, b' ', layered.q.cols() as u64)?;
@@ -54,7 +56,8 @@ fn put_column_lines<K: Sink>(
     layered: &Layered,
 ) -> Result<(), WriteFault>
     requires { AreLayersOf model.now layered.now }
-    ensures { IsPut (K.written out.old) buffer.old (K.faults out.old) (K.takes out.old) (K.written out.new) buffer.new (K.faults out.new) (K.takes out.new) (column_lines model.now 1 layered.now.column_origins) result }
+    ensures { IsPut K.written K.faults K.flushes K.takes out.old buffer.old out.new buffer.new
+        (column_lines model.now 1 layered.now.column_origins) result }
 {
     for column in 0..layered.q.cols() {
         let origin = layered.column_origin(column);
@@ -72,7 +75,8 @@ fn put_column_line<K: Sink>(
     origin: Origin,
 ) -> Result<(), WriteFault>
     requires { IsOriginIn model.now origin }
-    ensures { IsPut (K.written out.old) buffer.old (K.faults out.old) (K.takes out.old) (K.written out.new) buffer.new (K.faults out.new) (K.takes out.new) (column_line model.now number origin) result }
+    ensures { IsPut K.written K.faults K.flushes K.takes out.old buffer.old out.new buffer.new
+        (column_line model.now number origin) result }
 {
     put_head(buffer, out, b'c', number)?;
     put_column_name(buffer, out, model, origin)?;
@@ -86,7 +90,8 @@ fn put_head<K: Sink>(
     letter: u8,
     number: u64,
 ) -> Result<(), WriteFault>
-    ensures { IsPut (K.written out.old) buffer.old (K.faults out.old) (K.takes out.old) (K.written out.new) buffer.new (K.faults out.new) (K.takes out.new) (head_text letter number) result }
+    ensures { IsPut K.written K.faults K.flushes K.takes out.old buffer.old out.new buffer.new
+        (head_text letter number) result }
 {
     put_number(buffer, out, letter, number)?;
     put_piece(buffer, out, b" ")
@@ -100,7 +105,8 @@ fn put_column_name<K: Sink>(
     origin: Origin,
 ) -> Result<(), WriteFault>
     requires { IsOriginIn model.now origin }
-    ensures { IsPut (K.written out.old) buffer.old (K.faults out.old) (K.takes out.old) (K.written out.new) buffer.new (K.faults out.new) (K.takes out.new) (column_name model.now origin) result }
+    ensures { IsPut K.written K.faults K.flushes K.takes out.old buffer.old out.new buffer.new
+        (column_name model.now origin) result }
 {
     match origin {
         Origin::Unknown(unknown) => put_unknown_name(buffer, out, model, unknown),
@@ -116,7 +122,8 @@ fn put_unknown_name<K: Sink>(
     unknown: usize,
 ) -> Result<(), WriteFault>
     requires { unknown < length model.now.unknowns }
-    ensures { IsPut (K.written out.old) buffer.old (K.faults out.old) (K.takes out.old) (K.written out.new) buffer.new (K.faults out.new) (K.takes out.new) (name_at model.now.unknowns unknown) result }
+    ensures { IsPut K.written K.faults K.flushes K.takes out.old buffer.old out.new buffer.new
+        (name_at model.now.unknowns unknown) result }
 {
     put_piece(buffer, out, model.unknown_name(unknown).as_bytes())
 }
@@ -129,7 +136,8 @@ fn put_equation_name<K: Sink>(
     equation: usize,
 ) -> Result<(), WriteFault>
     requires { equation < length model.now.equations }
-    ensures { IsPut (K.written out.old) buffer.old (K.faults out.old) (K.takes out.old) (K.written out.new) buffer.new (K.faults out.new) (K.takes out.new) (name_at model.now.equations equation) result }
+    ensures { IsPut K.written K.faults K.flushes K.takes out.old buffer.old out.new buffer.new
+        (name_at model.now.equations equation) result }
 {
     put_piece(buffer, out, model.equation_name(equation).as_bytes())
 }
@@ -142,7 +150,8 @@ fn put_auxiliary_name<K: Sink>(
     equation: usize,
 ) -> Result<(), WriteFault>
     requires { equation < length model.now.equations }
-    ensures { IsPut (K.written out.old) buffer.old (K.faults out.old) (K.takes out.old) (K.written out.new) buffer.new (K.faults out.new) (K.takes out.new) (codes "*" ++ name_at model.now.equations equation) result }
+    ensures { IsPut K.written K.faults K.flushes K.takes out.old buffer.old out.new buffer.new
+        (codes "*" ++ name_at model.now.equations equation) result }
 {
     put_piece(buffer, out, b"*")?;
     put_equation_name(buffer, out, model, equation)
@@ -156,7 +165,8 @@ fn put_q_lines<K: Sink>(
     layered: &Layered,
 ) -> Result<(), WriteFault>
     requires { AreLayersOf model.now layered.now }
-    ensures { IsPut (K.written out.old) buffer.old (K.faults out.old) (K.takes out.old) (K.written out.new) buffer.new (K.faults out.new) (K.takes out.new) (row_lines q_line model.now.equations layered.now.q_origins 0 layered.now.q.rows) result }
+    ensures { IsPut K.written K.faults K.flushes K.takes out.old buffer.old out.new buffer.new
+        (row_lines q_line model.now.equations layered.now.q_origins 0 layered.now.q.rows) result }
 {
     for row in 0..layered.q.rows() {
         put_q_line(buffer, out, model, layered, row)?;
@@ -175,7 +185,8 @@ fn put_q_line<K: Sink>(
     requires layers { AreLayersOf model.now layered.now }
     requires row { row < height layered.now.q }
     requires few { row < 8192 }
-    ensures { IsPut (K.written out.old) buffer.old (K.faults out.old) (K.takes out.old) (K.written out.new) buffer.new (K.faults out.new) (K.takes out.new) (q_line (row + 1) (name_at model.now.equations (slice_index layered.now.q_origins row)) (row_at layered.now.q row)) result }
+    ensures { IsPut K.written K.faults K.flushes K.takes out.old buffer.old out.new buffer.new
+        (q_line (row + 1) (name_at model.now.equations (slice_index layered.now.q_origins row)) (row_at layered.now.q row)) result }
 {
     put_head(buffer, out, b'q', row as u64 + 1)?;
     put_equation_name(buffer, out, model, layered.q_origin(row))?;
@@ -191,7 +202,8 @@ fn put_entries<K: Sink>(
     row: usize,
 ) -> Result<(), WriteFault>
     requires { row < height matrix.now }
-    ensures { IsPut (K.written out.old) buffer.old (K.faults out.old) (K.takes out.old) (K.written out.new) buffer.new (K.faults out.new) (K.takes out.new) (entries_text 1 (row_at matrix.now row)) result }
+    ensures { IsPut K.written K.faults K.flushes K.takes out.old buffer.old out.new buffer.new
+        (entries_text 1 (row_at matrix.now row)) result }
 {
     for column in 0..matrix.cols() {
         put_entry(buffer, out, column + 1, matrix.get(row, column))?;
@@ -206,7 +218,8 @@ fn put_entry<K: Sink>(
     column: usize,
     entry: Res,
 ) -> Result<(), WriteFault>
-    ensures { IsPut (K.written out.old) buffer.old (K.faults out.old) (K.takes out.old) (K.written out.new) buffer.new (K.faults out.new) (K.takes out.new) (entry_text column entry) result }
+    ensures { IsPut K.written K.faults K.flushes K.takes out.old buffer.old out.new buffer.new
+        (entry_text column entry) result }
 {
     match entry.value() {
         0 => Ok(()),
@@ -222,7 +235,8 @@ fn put_t_lines<K: Sink>(
     layered: &Layered,
 ) -> Result<(), WriteFault>
     requires { AreLayersOf model.now layered.now }
-    ensures { IsPut (K.written out.old) buffer.old (K.faults out.old) (K.takes out.old) (K.written out.new) buffer.new (K.faults out.new) (K.takes out.new) (row_lines t_line model.now.equations layered.now.t_origins 0 layered.now.t.rows) result }
+    ensures { IsPut K.written K.faults K.flushes K.takes out.old buffer.old out.new buffer.new
+        (row_lines t_line model.now.equations layered.now.t_origins 0 layered.now.t.rows) result }
 {
     for row in 0..layered.t.rows() {
         put_t_line(buffer, out, model, layered, row)?;
@@ -241,7 +255,8 @@ fn put_t_line<K: Sink>(
     requires layers { AreLayersOf model.now layered.now }
     requires row { row < length layered.now.t.rows }
     requires few { row < 8192 }
-    ensures { IsPut (K.written out.old) buffer.old (K.faults out.old) (K.takes out.old) (K.written out.new) buffer.new (K.faults out.new) (K.takes out.new) (t_line (row + 1) (name_at model.now.equations (slice_index layered.now.t_origins row)) (columns_at layered.now.t row)) result }
+    ensures { IsPut K.written K.faults K.flushes K.takes out.old buffer.old out.new buffer.new
+        (t_line (row + 1) (name_at model.now.equations (slice_index layered.now.t_origins row)) (columns_at layered.now.t row)) result }
 {
     put_head(buffer, out, b't', row as u64 + 1)?;
     put_equation_name(buffer, out, model, layered.t_origin(row))?;
@@ -255,7 +270,8 @@ fn put_symbols<K: Sink>(
     out: &mut K,
     columns: &[u32],
 ) -> Result<(), WriteFault>
-    ensures { IsPut (K.written out.old) buffer.old (K.faults out.old) (K.takes out.old) (K.written out.new) buffer.new (K.faults out.new) (K.takes out.new) (numbers_text columns.now) result }
+    ensures { IsPut K.written K.faults K.flushes K.takes out.old buffer.old out.new buffer.new
+        (numbers_text columns.now) result }
 {
     for column in columns {
         put_number(buffer, out, b' ', u64::from(*column) + 1)?;

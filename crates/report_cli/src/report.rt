@@ -1,6 +1,6 @@
 //! What a command writes of an input.
 
-ghost use Rattle.std.specs.Prelude.{◌≡◌, ◌≤◌, length, IfErr, IfOk, IsOk, OnOk};
+ghost use Rattle.std.specs.Prelude.{◌≡◌, ℕ, ◌+◌, ◌≤◌, length, IfErr, IfOk, IsOk, OnOk};
 ghost use Rattle.cert_text.specs.Ranges.{IsCcf};
 ghost use Rattle.cert_text.specs.Writing.{IsCut};
 ghost use Rattle.matrix_reader.specs.Models.{IsRefusal};
@@ -68,7 +68,9 @@ impl Report {
         ensures whole { OnOk result (Appended (K.written out.old) (K.written out.new) (report_text self.now)) }
         ensures part { IfErr result (IsCut (K.written out.old) (K.written out.new) (report_text self.now)) }
         ensures cause { HasCause (K.faults out.old) (K.faults out.new) result }
-        ensures calm { K.takes out.old (length (report_text self.now)) → (K.faults out.new ≡ K.faults out.old) × IsOk result × K.takes out.new 0 }
+        ensures no_flush { K.flushes out.new ≡ K.flushes out.old }
+        ensures calm { (more : ℕ) → K.takes out.old (length (report_text self.now) + more) →
+            (K.faults out.new ≡ K.faults out.old) × IsOk result × K.takes out.new more }
     {
         match self {
             Report::Certificate(certificate) => cert_text::write(certificate, out),
@@ -97,7 +99,9 @@ fn write_layers<K: Sink>(out: &mut K, model: &Mixed, layered: &Layered) -> Resul
     ensures whole { OnOk result (Appended (K.written out.old) (K.written out.new) (layer_text model.now layered.now)) }
     ensures part { IfErr result (IsCut (K.written out.old) (K.written out.new) (layer_text model.now layered.now)) }
     ensures cause { HasCause (K.faults out.old) (K.faults out.new) result }
-    ensures calm { K.takes out.old (length (layer_text model.now layered.now)) → (K.faults out.new ≡ K.faults out.old) × IsOk result × K.takes out.new 0 }
+    ensures no_flush { K.flushes out.new ≡ K.flushes out.old }
+    ensures calm { (more : ℕ) → K.takes out.old (length (layer_text model.now layered.now) + more) →
+        (K.faults out.new ≡ K.faults out.old) × IsOk result × K.takes out.new more }
 {
     let mut buffer = PieceBuffer::new();
     put_layers(&mut buffer, out, model, layered)?;

@@ -1,8 +1,8 @@
 //! The top call.
 
-ghost use Rattle.std.specs.Prelude.{◌≡◌, ℕ, ◌+◌, ◌≤◌, ◌<◌, List, [], IsTrue, map, length, Some};
+ghost use Rattle.std.specs.Prelude.{◌≡◌, ◌≢◌, ℕ, ◌+◌, ◌≤◌, ◌<◌, List, [], IsTrue, map, length, Some};
 ghost use Rattle.std.specs.String.{string_bytes};
-ghost use Rattle.port_io.specs.Causes.{Rose};
+ghost use Rattle.port_io.specs.Causes.{Rose, one_more};
 ghost use Rattle.port_io.specs.Bytes.{Appended, TookAtMost};
 ghost use Rattle.report_cli.specs.Answer.{Answered, CutShort, OnlyAnswer, Tells, WritesNothing, IsDelivered};
 ghost use Rattle.report_cli.specs.Reports.{IsWritable, report_text};
@@ -33,6 +33,7 @@ pub fn run<S: Source, K: Sink, N: Sink>(
     // a status that is no fault is the answer to what was read
     ensures answered { Tells result (Answered (map string_bytes words.now) (S.left source.old) (S.left source.new) (K.written out.old) (K.written out.new) result) }
     ensures finished { result ≡ Status.Done → IsTrue (K.flushed out.new) }
+    ensures one_flush { result ≡ Status.Done → K.flushes out.new ≡ one_more (K.flushes out.old) }
 
     // where nothing fails, no other status comes
     ensures only_answer { (Rose (S.faults source.old) (S.faults source.new) → ⊥) → (Rose (K.faults out.old) (K.faults out.new) → ⊥) → OnlyAnswer (map string_bytes words.now) (S.left source.old) result }
@@ -40,6 +41,10 @@ pub fn run<S: Source, K: Sink, N: Sink>(
     // faults have their cause
     ensures read_fault { result ≡ Status.ReadFault → Rose (S.faults source.old) (S.faults source.new) }
     ensures write_fault { result ≡ Status.WriteFault → Rose (K.faults out.old) (K.faults out.new) × CutShort (map string_bytes words.now) (S.left source.old) (S.left source.new) (K.written out.old) (K.written out.new) }
+
+    // and each fault is told: a call that failed is not tried again
+    ensures read_told { result ≢ Status.ReadFault → S.faults source.new ≡ S.faults source.old }
+    ensures write_told { result ≢ Status.WriteFault → K.faults out.new ≡ K.faults out.old }
 
     // what is written, noted and taken
     ensures nothing_written { WritesNothing result (K.written out.new ≡ K.written out.old) }
@@ -63,6 +68,9 @@ pub fn run<S: Source, K: Sink, N: Sink>(
 fn work<S: Source, K: Sink>(alloc: Global, words: &[String], source: &mut S, out: &mut K) -> Status
     ensures answered { Tells result (Answered (map string_bytes words.now) (S.left source.old) (S.left source.new) (K.written out.old) (K.written out.new) result) }
     ensures finished { result ≡ Status.Done → IsTrue (K.flushed out.new) }
+    ensures one_flush { result ≡ Status.Done → K.flushes out.new ≡ one_more (K.flushes out.old) }
+    ensures read_told { result ≢ Status.ReadFault → S.faults source.new ≡ S.faults source.old }
+    ensures write_told { result ≢ Status.WriteFault → K.faults out.new ≡ K.faults out.old }
     ensures read_fault { result ≡ Status.ReadFault → Rose (S.faults source.old) (S.faults source.new) }
     ensures write_fault { result ≡ Status.WriteFault → Rose (K.faults out.old) (K.faults out.new) × CutShort (map string_bytes words.now) (S.left source.old) (S.left source.new) (K.written out.old) (K.written out.new) }
     ensures nothing_written { WritesNothing result (K.written out.new ≡ K.written out.old) }
@@ -94,7 +102,10 @@ fn deliver<K: Sink>(out: &mut K, report: &Report) -> Status
     requires { IsWritable report.now }
     ensures ends { IsDelivered result (Appended (K.written out.old) (K.written out.new) (report_text report.now) × IsTrue (K.flushed out.new)) (Rose (K.faults out.old) (K.faults out.new) × PartWritten (K.written out.old) (K.written out.new) (report_text report.now)) }
     ensures counts { K.faults out.old ≤ K.faults out.new }
-    ensures calm { K.takes out.old (length (report_text report.now)) → K.faults out.new ≡ K.faults out.old }
+    ensures told { result ≢ Status.WriteFault → K.faults out.new ≡ K.faults out.old }
+    ensures one_flush { result ≡ Status.Done → K.flushes out.new ≡ one_more (K.flushes out.old) }
+    ensures calm { (more : ℕ) → K.takes out.old (length (report_text report.now) + more) →
+        (K.faults out.new ≡ K.faults out.old) × (result ≡ Status.Done) × K.takes out.new more }
 {
     match report.write(out) {
         Err(_) => Status::WriteFault,

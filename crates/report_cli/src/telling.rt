@@ -27,7 +27,8 @@ fn put_note<N: Sink>(
     notes: &mut N,
     status: Status,
 ) -> Result<(), WriteFault>
-    ensures { IsPut (N.written notes.old) buffer.old (N.faults notes.old) (N.takes notes.old) (N.written notes.new) buffer.new (N.faults notes.new) (N.takes notes.new) (note_of status) result }
+    ensures { IsPut N.written N.faults N.flushes N.takes notes.old buffer.old notes.new buffer.new
+        (note_of status) result }
 {
     match status {
         Status::Done => Ok(()),
@@ -41,7 +42,8 @@ fn put_line<N: Sink>(
     notes: &mut N,
     status: Status,
 ) -> Result<(), WriteFault>
-    ensures { IsPut (N.written notes.old) buffer.old (N.faults notes.old) (N.takes notes.old) (N.written notes.new) buffer.new (N.faults notes.new) (N.takes notes.new) (line_of status) result }
+    ensures { IsPut N.written N.faults N.flushes N.takes notes.old buffer.old notes.new buffer.new
+        (line_of status) result }
 {
     put_piece(buffer, notes, b"mixed: ")?;
     put_words(buffer, notes, status)?;
@@ -54,7 +56,8 @@ fn put_words<N: Sink>(
     notes: &mut N,
     status: Status,
 ) -> Result<(), WriteFault>
-    ensures { IsPut (N.written notes.old) buffer.old (N.faults notes.old) (N.takes notes.old) (N.written notes.new) buffer.new (N.faults notes.new) (N.takes notes.new) (words_of status) result }
+    ensures { IsPut N.written N.faults N.flushes N.takes notes.old buffer.old notes.new buffer.new
+        (words_of status) result }
 {
     match status {
         Status::Done => Ok(()),
@@ -69,7 +72,8 @@ fn put_words<N: Sink>(
 
 /// Puts the words for an input that is too long.
 fn put_limit<N: Sink>(buffer: &mut PieceBuffer, notes: &mut N, limit: u64) -> Result<(), WriteFault>
-    ensures { IsPut (N.written notes.old) buffer.old (N.faults notes.old) (N.takes notes.old) (N.written notes.new) buffer.new (N.faults notes.new) (N.takes notes.new) (limit_text limit) result }
+    ensures { IsPut N.written N.faults N.flushes N.takes notes.old buffer.old notes.new buffer.new
+        (limit_text limit) result }
 {
     put_piece(buffer, notes, b"input longer than")?;
     put_number(buffer, notes, b' ', limit)?;
@@ -82,7 +86,8 @@ fn put_refusal<N: Sink>(
     notes: &mut N,
     refused: Refused,
 ) -> Result<(), WriteFault>
-    ensures { IsPut (N.written notes.old) buffer.old (N.faults notes.old) (N.takes notes.old) (N.written notes.new) buffer.new (N.faults notes.new) (N.takes notes.new) (refusal_text refused) result }
+    ensures { IsPut N.written N.faults N.flushes N.takes notes.old buffer.old notes.new buffer.new
+        (refusal_text refused) result }
 {
     put_place(buffer, notes, refused.place)?;
     put_piece(buffer, notes, b": ")?;
@@ -95,7 +100,8 @@ fn put_place<N: Sink>(
     notes: &mut N,
     place: Place,
 ) -> Result<(), WriteFault>
-    ensures { IsPut (N.written notes.old) buffer.old (N.faults notes.old) (N.takes notes.old) (N.written notes.new) buffer.new (N.faults notes.new) (N.takes notes.new) (place_text place) result }
+    ensures { IsPut N.written N.faults N.flushes N.takes notes.old buffer.old notes.new buffer.new
+        (place_text place) result }
 {
     put_place_word(buffer, notes, place)?;
     put_place_number(buffer, notes, place)
@@ -107,7 +113,8 @@ fn put_place_word<N: Sink>(
     notes: &mut N,
     place: Place,
 ) -> Result<(), WriteFault>
-    ensures { IsPut (N.written notes.old) buffer.old (N.faults notes.old) (N.takes notes.old) (N.written notes.new) buffer.new (N.faults notes.new) (N.takes notes.new) (place_word place) result }
+    ensures { IsPut N.written N.faults N.flushes N.takes notes.old buffer.old notes.new buffer.new
+        (place_word place) result }
 {
     put_piece(buffer, notes, place.word().as_bytes())
 }
@@ -118,7 +125,8 @@ fn put_place_number<N: Sink>(
     notes: &mut N,
     place: Place,
 ) -> Result<(), WriteFault>
-    ensures { IsPut (N.written notes.old) buffer.old (N.faults notes.old) (N.takes notes.old) (N.written notes.new) buffer.new (N.faults notes.new) (N.takes notes.new) (number_text (place_number place)) result }
+    ensures { IsPut N.written N.faults N.flushes N.takes notes.old buffer.old notes.new buffer.new
+        (number_text (place_number place)) result }
 {
     match place.number() {
         None => Ok(()),
@@ -128,7 +136,8 @@ fn put_place_number<N: Sink>(
 
 /// Puts the words for a reason.
 fn put_why<N: Sink>(buffer: &mut PieceBuffer, notes: &mut N, why: Why) -> Result<(), WriteFault>
-    ensures { IsPut (N.written notes.old) buffer.old (N.faults notes.old) (N.takes notes.old) (N.written notes.new) buffer.new (N.faults notes.new) (N.takes notes.new) (why_text why) result }
+    ensures { IsPut N.written N.faults N.flushes N.takes notes.old buffer.old notes.new buffer.new
+        (why_text why) result }
 {
     put_piece(buffer, notes, why.text().as_bytes())
 }

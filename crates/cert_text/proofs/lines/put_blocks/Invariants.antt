@@ -6,4 +6,4 @@ use Rattle.cert_text.proofs.lines.put_blocks.Given as goal
 abbrev pub invariant-loop-place : goal.invariant-loop-place
 invariant-loop-place g l =
     let K = g.K.Sink in
-    IsPutUpTo (K.written l.initial.out) l.initial.buffer (K.faults l.initial.out) (K.takes l.initial.out) (K.written l.out) l.buffer (K.faults l.out) (K.takes l.out) (blocks_text 1 l.blocks) (blocks_text (l.place + 1) (drop l.place l.blocks))
+    IsPutUpTo K.written K.faults K.flushes K.takes l.initial.out l.initial.buffer l.out l.buffer (blocks_text 1 l.blocks) (blocks_text (l.place + 1) (drop l.place l.blocks))

@@ -6,4 +6,4 @@ use Rattle.cert_text.proofs.lines.put_pattern.Given as goal
 abbrev pub invariant-loop-row : goal.invariant-loop-row
 invariant-loop-row g l =
     let K = g.K.Sink in
-    IsPutUpTo (K.written l.initial.out) l.initial.buffer (K.faults l.initial.out) (K.takes l.initial.out) (K.written l.out) l.buffer (K.faults l.out) (K.takes l.out) (pattern_text l.word 1 l.rows) (pattern_text l.word (l.row + 1) (drop l.row l.rows))
+    IsPutUpTo K.written K.faults K.flushes K.takes l.initial.out l.initial.buffer l.out l.buffer (pattern_text l.word 1 l.rows) (pattern_text l.word (l.row + 1) (drop l.row l.rows))

@@ -6,4 +6,4 @@ use Rattle.cert_text.proofs.lists.put_letters.Given as goal
 abbrev pub invariant-loop-row : goal.invariant-loop-row
 invariant-loop-row g l =
     let K = g.K.Sink in
-    IsPutUpTo (K.written l.initial.out) l.initial.buffer (K.faults l.initial.out) (K.takes l.initial.out) (K.written l.out) l.buffer (K.faults l.out) (K.takes l.out) (letters_text l.letter l.rows) (letters_text l.letter (drop l.row-index l.rows))
+    IsPutUpTo K.written K.faults K.flushes K.takes l.initial.out l.initial.buffer l.out l.buffer (letters_text l.letter l.rows) (letters_text l.letter (drop l.row-index l.rows))

@@ -6,4 +6,4 @@ use Rattle.cert_text.proofs.lists.put_pairs.Given as goal
 abbrev pub invariant-loop-pair : goal.invariant-loop-pair
 invariant-loop-pair g l =
     let K = g.K.Sink in
-    IsPutUpTo (K.written l.initial.out) l.initial.buffer (K.faults l.initial.out) (K.takes l.initial.out) (K.written l.out) l.buffer (K.faults l.out) (K.takes l.out) (pairs_text l.pairs) (pairs_text (drop l.pair-index l.pairs))
+    IsPutUpTo K.written K.faults K.flushes K.takes l.initial.out l.initial.buffer l.out l.buffer (pairs_text l.pairs) (pairs_text (drop l.pair-index l.pairs))

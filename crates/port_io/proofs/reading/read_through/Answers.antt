@@ -2,32 +2,34 @@ use Rattle.std.proofs.Common.{◌≡◌, ◌+◌, ◌≤◌, ◌<◌, [], ◌++�
 use Rattle.std.specs.Result.{is_ok}
 use Rattle.std.proofs.lemmas.Grind.{common_steps}
 use Rattle.std.proofs.lemmas.List.{length-take-le, take-append-le}
+use Rattle.port_io.proofs.Askings.{none_asked, asks_on, took_on}
 use Rattle.port_io.proofs.Chains.{took_nothing, took_more, took_is}
 use Rattle.port_io.proofs.reading.read_through.Goals as goal
 
 pub returns-in_default-clause-steady : goal.returns-in_default-clause-steady
-returns-in_default-clause-steady g c = λ h. let s = c.loop-bytes.invariant.steady h in let t = c.in_default.ensures.steady s.0 in let no : ⊥ = cc t.2 in absurd no
+returns-in_default-clause-steady g c = λ h. let s = c.loop-bytes.invariant.steady h in let t = c.in_default.ensures.steady s in let no : ⊥ = cc t.2 in absurd no
 
 pub returns-then-count-eq0-clause-steady : goal.returns-then-count-eq0-clause-steady
-returns-then-count-eq0-clause-steady g c = λ h. let s = c.loop-bytes.invariant.steady h in let t = c.read.ensures.steady s.0 in (t.0, t.1 ∙ s.1, λ e. let no : ⊥ = cc in no)
+returns-then-count-eq0-clause-steady g c = λ h. let s = c.loop-bytes.invariant.steady h in let t = c.read.ensures.steady s in (t.0, t.1 ∙ c.loop-bytes.invariant.no_fault, λ e. let no : ⊥ = cc in no)
 
 pub returns-then-len-count-clause-steady : goal.returns-then-len-count-clause-steady
-returns-then-len-count-clause-steady g c = λ h. let s = c.loop-bytes.invariant.steady h in let t = c.read.ensures.steady s.0 in (t.0, t.1 ∙ s.1, λ e. let no : ⊥ = cc in no)
+returns-then-len-count-clause-steady g c = λ h. let s = c.loop-bytes.invariant.steady h in let t = c.read.ensures.steady s in (t.0, t.1 ∙ c.loop-bytes.invariant.no_fault, λ e. let no : ⊥ = cc in no)
 
 pub returns-then-is_err-clause-steady : goal.returns-then-is_err-clause-steady
-returns-then-is_err-clause-steady g c = λ h. let s = c.loop-bytes.invariant.steady h in let t = c.read.ensures.steady s.0 in (t.0, t.1 ∙ s.1, λ e. let no : ⊥ = cc in no)
+returns-then-is_err-clause-steady g c = λ h. let s = c.loop-bytes.invariant.steady h in let t = c.read.ensures.steady s in (t.0, t.1 ∙ c.loop-bytes.invariant.no_fault, λ e. let no : ⊥ = cc in no)
 
 pub loop-bytes-init : goal.loop-bytes-init
 loop-bytes-init g c =
     let e : c.new-bytes.result.items ≡ [] = c.new-bytes.ensures.items in
     let room : length c.new-bytes.result.items < c.args.limit + 1 = rw e (omega arith) in
-    let later : g.S.Source.faults c.args.source.now ≤ g.S.Source.faults c.args.source.now = omega arith in
     record {
       most = refl;
       room = room;
       so_far = took_is _ _ _ _ (sym e) (took_nothing (g.S.Source.left c.args.source.now));
-      later = later;
-      steady = λ h. (h, refl);
+      no_fault = refl;
+      steady = λ h. h;
+      asked = none_asked _ _ _;
+      taken = omega arith;
     }
 
 pub returns-then-count-eq0-clause-all : goal.returns-then-count-eq0-clause-all
@@ -87,11 +89,15 @@ loop-bytes-preserved g c =
     let raw = c.extend_from_slice.ensures.items in
     let now : c.extend_from_slice.new.self.items ≡ c.loop-bytes.bytes.items ++ take n c.read.new.buffer = grind (arith, common_steps, raw, ok, front) in
     let room : length c.extend_from_slice.new.self.items < c.args.limit + 1 = rw now (rw both (grind (arith, common_steps))) in
-    let later : g.S.Source.faults c.args.source.now ≤ g.S.Source.faults c.read.new.self = omega (arith, c.loop-bytes.invariant.later, c.in-Ok.ensures.cause.later) in
+    let so_far = length c.loop-bytes.bytes.items in
+    let once : length (take w c.loop-bytes.buffer) ≤ length c.args.buffer.now = omega (arith, long, c.min-want.ensures, c.loop-bytes.auto.buffer) in
+    let all : so_far + length (take w c.loop-bytes.buffer) ≤ c.args.limit + 1 = omega (arith, long, c.min-want.ensures, c.loop-bytes.invariant.room) in
     record {
       most = refl;
       room = room;
       so_far = took_is _ _ _ _ (sym now) (took_more (g.S.Source.left c.args.source.now) (g.S.Source.left c.loop-bytes.source) (g.S.Source.left c.read.new.self) c.loop-bytes.bytes.items (take n c.read.new.buffer) c.loop-bytes.invariant.so_far c.in-Ok.ensures.taken);
-      later = later;
-      steady = λ h. let s = c.loop-bytes.invariant.steady h in let t = c.in-Ok.ensures.steady s.0 in (t.0, t.1 ∙ s.1);
+      no_fault = c.in-Ok.ensures.cause.fine ∙ c.loop-bytes.invariant.no_fault;
+      steady = λ h. (c.in-Ok.ensures.steady (c.loop-bytes.invariant.steady h)).0;
+      asked = asks_on _ _ so_far (length (take w c.loop-bytes.buffer)) n _ (g.S.Source.asked c.loop-bytes.source) (g.S.Source.asked c.read.new.self) c.loop-bytes.invariant.asked c.loop-bytes.invariant.taken once all c.in-Ok.ensures.asked;
+      taken = omega (arith, ap length now ∙ both, took_on so_far (length (take w c.loop-bytes.buffer)) n (g.S.Source.asked c.args.source.now) (g.S.Source.asked c.loop-bytes.source) (g.S.Source.asked c.read.new.self) c.loop-bytes.invariant.taken c.in-Ok.ensures.asked);
     }

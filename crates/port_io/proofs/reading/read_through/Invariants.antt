@@ -1,5 +1,6 @@
 use Rattle.std.proofs.Common.{length, ◌-◌, ◌≡◌, ◌+◌, ◌≤◌, ◌<◌}
 use Rattle.port_io.specs.Bytes.{Took}
+use Rattle.port_io.specs.Asking.{AsksWithin}
 use Rattle.port_io.proofs.reading.read_through.Given as goal
 
 abbrev pub invariant-loop-bytes : goal.invariant-loop-bytes
@@ -7,8 +8,10 @@ invariant-loop-bytes g l = record {
   most : l.most ≡ l.limit + 1;
   room : length l.bytes.items < l.most;
   so_far : Took (g.S.Source.left l.initial.source) (g.S.Source.left l.source) l.bytes.items;
-  later : g.S.Source.faults l.initial.source ≤ g.S.Source.faults l.source;
-  steady : g.S.Source.never_fails l.initial.source → g.S.Source.never_fails l.source × (g.S.Source.faults l.source ≡ g.S.Source.faults l.initial.source);
+  no_fault : g.S.Source.faults l.source ≡ g.S.Source.faults l.initial.source;
+  steady : g.S.Source.never_fails l.initial.source → g.S.Source.never_fails l.source;
+  asked : AsksWithin (length l.initial.buffer) (l.limit + 1) (g.S.Source.asked l.initial.source) (g.S.Source.asked l.source);
+  taken : (g.S.Source.asked l.source).taken ≤ (g.S.Source.asked l.initial.source).taken + length l.bytes.items;
 }
 
 abbrev pub decreases-loop-bytes : goal.decreases-loop-bytes

@@ -6,4 +6,4 @@ use Rattle.report_cli.proofs.layer_lines.put_column_lines.Given as goal
 abbrev pub invariant-loop-column : goal.invariant-loop-column
 invariant-loop-column g l =
     let K = g.K.Sink in
-    IsPutUpTo (K.written l.initial.out) l.initial.buffer (K.faults l.initial.out) (K.takes l.initial.out) (K.written l.out) l.buffer (K.faults l.out) (K.takes l.out) (column_lines l.model 1 l.layered.column_origins) (column_lines l.model (l.column + 1) (drop l.column l.layered.column_origins))
+    IsPutUpTo K.written K.faults K.flushes K.takes l.initial.out l.initial.buffer l.out l.buffer (column_lines l.model 1 l.layered.column_origins) (column_lines l.model (l.column + 1) (drop l.column l.layered.column_origins))

@@ -8,4 +8,4 @@ abbrev pub invariant-loop-column : goal.invariant-loop-column
 invariant-loop-column g l =
     let K = g.K.Sink in
     let row = row_at l.matrix l.row in
-    IsPutUpTo (K.written l.initial.out) l.initial.buffer (K.faults l.initial.out) (K.takes l.initial.out) (K.written l.out) l.buffer (K.faults l.out) (K.takes l.out) (entries_text 1 row) (entries_text (l.column + 1) (drop l.column row))
+    IsPutUpTo K.written K.faults K.flushes K.takes l.initial.out l.initial.buffer l.out l.buffer (entries_text 1 row) (entries_text (l.column + 1) (drop l.column row))

@@ -6,4 +6,4 @@ use Rattle.report_cli.proofs.layer_lines.put_q_lines.Given as goal
 abbrev pub invariant-loop-row : goal.invariant-loop-row
 invariant-loop-row g l =
     let K = g.K.Sink in
-    IsPutUpTo (K.written l.initial.out) l.initial.buffer (K.faults l.initial.out) (K.takes l.initial.out) (K.written l.out) l.buffer (K.faults l.out) (K.takes l.out) (row_lines q_line l.model.equations l.layered.q_origins 0 l.layered.q.rows) (row_lines q_line l.model.equations l.layered.q_origins l.row (drop l.row l.layered.q.rows))
+    IsPutUpTo K.written K.faults K.flushes K.takes l.initial.out l.initial.buffer l.out l.buffer (row_lines q_line l.model.equations l.layered.q_origins 0 l.layered.q.rows) (row_lines q_line l.model.equations l.layered.q_origins l.row (drop l.row l.layered.q.rows))

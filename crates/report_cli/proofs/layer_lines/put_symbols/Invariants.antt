@@ -6,4 +6,4 @@ use Rattle.report_cli.proofs.layer_lines.put_symbols.Given as goal
 abbrev pub invariant-loop-column : goal.invariant-loop-column
 invariant-loop-column g l =
     let K = g.K.Sink in
-    IsPutUpTo (K.written l.initial.out) l.initial.buffer (K.faults l.initial.out) (K.takes l.initial.out) (K.written l.out) l.buffer (K.faults l.out) (K.takes l.out) (numbers_text l.columns) (numbers_text (drop l.column-index l.columns))
+    IsPutUpTo K.written K.faults K.flushes K.takes l.initial.out l.initial.buffer l.out l.buffer (numbers_text l.columns) (numbers_text (drop l.column-index l.columns))

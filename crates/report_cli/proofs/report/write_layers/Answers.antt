@@ -2,7 +2,7 @@ use Rattle.cert_text.proofs.Written.{text_written, text_cut, text_calm, never_ca
 use Rattle.report_cli.proofs.report.write_layers.Goals as goal
 
 pub returns-in_err-put_layers-clause-calm : goal.returns-in_err-put_layers-clause-calm
-returns-in_err-put_layers-clause-calm g c = λ takes. absurd (never_calm c.new-buffer.ensures c.in_err-put_layers.ensures takes)
+returns-in_err-put_layers-clause-calm g c = λ more takes. absurd (never_calm c.new-buffer.ensures c.in_err-put_layers.ensures more takes)
 
 pub returns-clause-whole : goal.returns-clause-whole
 returns-clause-whole g c = text_written c.hand_on.result c.new-buffer.ensures c.in_ok-put_layers.ensures c.hand_on.ensures.order c.hand_on.ensures.empty
