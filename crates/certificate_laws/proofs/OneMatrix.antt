@@ -15,6 +15,18 @@ one-listing A n at to m l first second k kl =
 one-size : (A : ℕ → Bool) (n : ℕ) (at to : ℕ → ℕ) (m l : ℕ) → AreMembers A n at m → AreMembers A n to l → m ≡ l
 one-size A n at to m l first second = sym first.count ∙ second.count
 
+-- the same numbers of rows and columns, from the same rows of the model, with the same entries
+pub record AreOneMatrix (L K : Layered) (O N : Origins) : Type 0 where
+  pub q_rows : L.q_rows ≡ K.q_rows
+  pub t_rows : L.t_rows ≡ K.t_rows
+  pub columns : L.columns ≡ K.columns
+  pub split : O.split ≡ N.split
+  pub of_q : (i : ℕ) → i < L.q_rows → O.of_q i ≡ N.of_q i
+  pub of_t : (i : ℕ) → i < L.t_rows → O.of_t i ≡ N.of_t i
+  pub of_z : (k : ℕ) → k < O.split → O.of_z k ≡ N.of_z k
+  pub q : (i j : ℕ) → i < L.q_rows → j < L.columns → L.q i j ≡ K.q i j
+  pub t : (i j : ℕ) → i < L.t_rows → j < L.columns → L.t i j ≡ K.t i j
+
 module _ (M : Mixed) (A D : ℕ → Bool) (L K : Layered) (O N : Origins) (lay : IsLayering M A D L O) (other : IsLayering M A D K N) where
   q_rows-same : L.q_rows ≡ K.q_rows
   q_rows-same = one-size A M.rows O.of_q N.of_q L.q_rows K.q_rows lay.q_rows other.q_rows
@@ -66,3 +78,16 @@ module _ (M : Mixed) (A D : ℕ → Bool) (L K : Layered) (O N : Origins) (lay :
 
   pub one-matrix : (p : ℕ) → AreSameLayers p L K
   one-matrix p = record { q_rows = q_rows-same; t_rows = t_rows-same; columns = columns-same; q = λ i j il jl. ap (λ x. x % p) (q-same i j il jl); t = t-same }
+
+  pub are-one : AreOneMatrix L K O N
+  are-one = record {
+    q_rows = q_rows-same;
+    t_rows = t_rows-same;
+    columns = columns-same;
+    split = split-same;
+    of_q = q_row-same;
+    of_t = t_row-same;
+    of_z = auxiliary-same;
+    q = q-same;
+    t = t-same;
+  }

@@ -10,7 +10,7 @@ use Rattle.report_cli.specs.declared.status.Status.TheVariants.{Done, Usage, Ref
 use Rattle.report_cli.specs.Words.{AsksForNothing}
 use Rattle.report_cli.specs.RightFor.{IsRefused}
 use Rattle.report_cli.proofs.Refusals.{given-unrefused, refused-alone}
-use Rattle.report_cli.specs.Answer.{IsAnswer, IsReported, AsksForCommand, Answered, OnlyAnswer, Tells}
+use Rattle.report_cli.specs.Answer.{IsAnswer, IsReported, IsComplete, AsksForCommand, Answered, OnlyAnswer, Tells}
 use Rattle.report_cli.specs.Limits.{model_limit}
 use Rattle.report_cli.proofs.Reported.{gives_model}
 
@@ -100,3 +100,20 @@ only words left after written written' Done a no_read no_write = λ input answer
 only words left after written written' ReadFault a no_read no_write = absurd (no_read refl)
 only words left after written written' WriteFault a no_read no_write = absurd (no_write refl)
 only words left after written written' Memory a no_read no_write = λ input answer text is given. inr refl
+
+-- where no fault came, an input that keeps each rule is answered
+pub done_where_given : (words : List (List ℕ)) (left after written written' : Option (List ℕ)) (status : Status) → Tells status (Answered words left after written written' status) →
+    (status ≡ ReadFault → ⊥) → (status ≡ WriteFault → ⊥) → IsComplete words left status
+done_where_given words left after written written' Usage a no_read no_write = λ input model is asks short gives. absurd (a.answer.0 asks.0 asks.1)
+done_where_given words left after written written' (TooLong limit) a no_read no_write = λ input model is asks short gives.
+    let part : length a.read ≤ length input = took_prefix input after a.read (at_input left after input a.read is a.took) in
+    let long : model_limit < length a.read = a.answer.2 in
+    too_long input (omega (arith, part, long)) short
+done_where_given words left after written written' (Refused refused) a no_read no_write = λ input model is asks short gives.
+    let same : a.read ≡ input = read_is left after input a.read is a.took a.ended in
+    let own : IsAnswer words input (Refused refused) a.text = subst (λ r. IsAnswer words r (Refused refused) a.text) same a.answer in
+    given-unrefused input refused model gives own.2
+done_where_given words left after written written' Done a no_read no_write = λ input model is asks short gives. inl refl
+done_where_given words left after written written' ReadFault a no_read no_write = absurd (no_read refl)
+done_where_given words left after written written' WriteFault a no_read no_write = absurd (no_write refl)
+done_where_given words left after written written' Memory a no_read no_write = λ input model is asks short gives. inr refl

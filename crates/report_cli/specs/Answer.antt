@@ -1,6 +1,8 @@
 -- What a run answers.
 use Rattle.std.specs.Prelude.{◌≡◌, ℕ, ◌≤◌, ◌<◌, ◌⊎◌, List, [], length, Option, Some}
 use Rattle.port_io.specs.Bytes.{Took, Appended, Ended}
+use Rattle.mixed_model.specs.Models.{MixedModel}
+use Rattle.matrix_reader.specs.Models.{GivesModel}
 use Rattle.report_cli.specs.Limits.{model_limit}
 use Rattle.report_cli.specs.Reports.{IsReportFor, report_text}
 use Rattle.report_cli.specs.RightFor.{IsRefused}
@@ -74,6 +76,12 @@ pub record CutShort (words : List (List ℕ)) (left left' written written' : Opt
 abbrev pub OnlyAnswer : List (List ℕ) → Option (List ℕ) → Status → Type 0
 OnlyAnswer words left status =
     (input : List ℕ) (answer : Status) (text : List ℕ) → left ≡ Some input → IsAnswer words input answer text → (status ≡ answer) ⊎ (status ≡ Memory)
+
+-- where the words ask for a command and the whole input keeps each rule, the run is done, but for want of memory
+abbrev pub IsComplete : List (List ℕ) → Option (List ℕ) → Status → Type 0
+IsComplete words left status =
+    (input : List ℕ) (model : MixedModel) → left ≡ Some input → AsksForCommand words → length input ≤ model_limit → GivesModel input model →
+    (status ≡ Done) ⊎ (status ≡ Memory)
 
 -- a text was written whole, or the sink failed
 abbrev pub IsDelivered : Status → Type 0 → Type 0 → Type 0

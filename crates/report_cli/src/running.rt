@@ -3,8 +3,10 @@
 ghost use Rattle.std.specs.Prelude.{◌≡◌, ◌≢◌, ℕ, ◌+◌, ◌≤◌, ◌<◌, List, [], IsTrue, map, length, Some};
 ghost use Rattle.std.specs.String.{string_bytes};
 ghost use Rattle.port_io.specs.Causes.{Rose, one_more};
+ghost use Rattle.port_io.specs.Asking.{AsksWithin};
 ghost use Rattle.port_io.specs.Bytes.{Appended, TookAtMost};
-ghost use Rattle.report_cli.specs.Answer.{Answered, CutShort, OnlyAnswer, Tells, WritesNothing, IsDelivered};
+ghost use Rattle.report_cli.specs.Answer.{Answered, CutShort, IsComplete, OnlyAnswer, Tells, WritesNothing, IsDelivered};
+ghost use Rattle.report_cli.specs.Limits.{model_limit};
 ghost use Rattle.report_cli.specs.Reports.{IsWritable, report_text};
 ghost use Rattle.report_cli.specs.Rooms.{text_room};
 ghost use Rattle.report_cli.specs.Writing.{PartWritten};
@@ -35,8 +37,11 @@ pub fn run<S: Source, K: Sink, N: Sink>(
     ensures finished { result ≡ Status.Done → IsTrue (K.flushed out.new) }
     ensures one_flush { result ≡ Status.Done → K.flushes out.new ≡ one_more (K.flushes out.old) }
 
-    // where nothing fails, no other status comes
-    ensures only_answer { (Rose (S.faults source.old) (S.faults source.new) → ⊥) → (Rose (K.faults out.old) (K.faults out.new) → ⊥) → OnlyAnswer (map string_bytes words.now) (S.left source.old) result }
+    // where nothing fails, no other status comes, and an input that keeps each rule is answered
+    ensures only_answer { (Rose (S.faults source.old) (S.faults source.new) → ⊥) →
+        (Rose (K.faults out.old) (K.faults out.new) → ⊥) → OnlyAnswer (map string_bytes words.now) (S.left source.old) result }
+    ensures complete { (Rose (S.faults source.old) (S.faults source.new) → ⊥) →
+        (Rose (K.faults out.old) (K.faults out.new) → ⊥) → IsComplete (map string_bytes words.now) (S.left source.old) result }
 
     // faults have their cause
     ensures read_fault { result ≡ Status.ReadFault → Rose (S.faults source.old) (S.faults source.new) }
@@ -49,8 +54,10 @@ pub fn run<S: Source, K: Sink, N: Sink>(
     // what is written, noted and taken
     ensures nothing_written { WritesNothing result (K.written out.new ≡ K.written out.old) }
     ensures noted { Noted (N.written notes.old) (N.written notes.new) (N.faults notes.old) (N.faults notes.new) (note_of result) }
-    ensures taken { TookAtMost 8388609 (S.left source.old) (S.left source.new) }
+    ensures taken { TookAtMost (model_limit + 1) (S.left source.old) (S.left source.new) }
     ensures taken_usage { result ≡ Status.Usage → S.left source.new ≡ S.left source.old }
+    ensures asked { AsksWithin 65536 (model_limit + 1) (S.asked source.old) (S.asked source.new) }
+    ensures asked_usage { result ≡ Status.Usage → S.asked source.new ≡ S.asked source.old }
 
     // counts of faults: none falls, and none rises over what is known not to fail
     ensures counts_source { S.faults source.old ≤ S.faults source.new }
@@ -74,8 +81,10 @@ fn work<S: Source, K: Sink>(alloc: Global, words: &[String], source: &mut S, out
     ensures read_fault { result ≡ Status.ReadFault → Rose (S.faults source.old) (S.faults source.new) }
     ensures write_fault { result ≡ Status.WriteFault → Rose (K.faults out.old) (K.faults out.new) × CutShort (map string_bytes words.now) (S.left source.old) (S.left source.new) (K.written out.old) (K.written out.new) }
     ensures nothing_written { WritesNothing result (K.written out.new ≡ K.written out.old) }
-    ensures taken { TookAtMost 8388609 (S.left source.old) (S.left source.new) }
+    ensures taken { TookAtMost (model_limit + 1) (S.left source.old) (S.left source.new) }
     ensures taken_usage { result ≡ Status.Usage → S.left source.new ≡ S.left source.old }
+    ensures asked { AsksWithin 65536 (model_limit + 1) (S.asked source.old) (S.asked source.new) }
+    ensures asked_usage { result ≡ Status.Usage → S.asked source.new ≡ S.asked source.old }
     ensures counts_source { S.faults source.old ≤ S.faults source.new }
     ensures counts_out { K.faults out.old ≤ K.faults out.new }
     ensures calm_source { S.never_fails source.old → S.faults source.new ≡ S.faults source.old }

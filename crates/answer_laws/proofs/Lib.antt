@@ -1,0 +1,2 @@
+pub mod OneLayerText
+pub mod Answers

@@ -1,0 +1,30 @@
+-- What any two answers to one input share.
+use Rattle.std.specs.Prelude.{◌≡◌, ℕ, List}
+use Rattle.cert_text.specs.Texts.{certificate_text}
+use Rattle.cert_text.specs.declared.certificate.Certificate.{Certificate}
+use Rattle.certificate_laws.specs.Agreement.{Agree}
+use Rattle.report_cli.specs.Answer.{IsAnswer}
+use Rattle.report_cli.specs.RightFor.{IsRightFor}
+use Rattle.report_cli.specs.Words.{AsksFor}
+use Rattle.report_cli.specs.declared.command.Command.TheVariants.{Analyse, Layer}
+use Rattle.report_cli.specs.declared.status.Status.TheVariants.{Done}
+
+-- the texts are those of two certificates, both right for the input, that agree
+pub record AreAgreed (input text other : List ℕ) : Type 0 where
+  pub first : Certificate
+  pub second : Certificate
+  pub first_text : text ≡ certificate_text first
+  pub second_text : other ≡ certificate_text second
+  pub first_right : IsRightFor input first
+  pub second_right : IsRightFor input second
+  pub agree : Agree first.ccf second.ccf
+
+abbrev pub AnswersOfAnalyseAgree : Type 0
+AnswersOfAnalyseAgree =
+    (words : List (List ℕ)) (input text other : List ℕ) → AsksFor words Analyse →
+    IsAnswer words input Done text → IsAnswer words input Done other → AreAgreed input text other
+
+abbrev pub AnswersOfLayerAreOne : Type 0
+AnswersOfLayerAreOne =
+    (words : List (List ℕ)) (input text other : List ℕ) → AsksFor words Layer →
+    IsAnswer words input Done text → IsAnswer words input Done other → text ≡ other

@@ -1,0 +1,27 @@
+-- Runs over memory.
+use Rattle.std.specs.Prelude.{◌≡◌, ◌⊎◌, ℕ, ◌+◌, ◌-◌, ◌^◌, ◌≤◌, ◌<◌, List, [], ◌++◌, length}
+use Rattle.port_io.specs.Memory.{MemorySink, MemorySource}
+use Rattle.report_cli.specs.Answer.{IsAnswer}
+use Rattle.report_cli.specs.Rooms.{text_room}
+use Rattle.report_cli.specs.declared.status.Status.{Status}
+use Rattle.report_cli.specs.declared.status.Status.TheVariants.{Memory}
+
+-- no call is to fail, no count of faults stands at its last value, and the sink has room for each text that may answer the input
+pub record IsCalm (source : MemorySource) (out : MemorySink) : Type 0 where
+  pub source_fails : source.fails ≡ []
+  pub out_fails : out.fails ≡ []
+  pub source_count : source.faults < 2 ^ 64 - 1
+  pub out_count : out.faults < 2 ^ 64 - 1
+  pub room : length out.written + text_room (length source.left) ≤ out.room
+
+-- a run took the bytes `read` from the source, and this status and the appended text answer them
+pub record IsAnswered (words : List (List ℕ)) (source source' : MemorySource) (out out' : MemorySink) (status : Status) : Type 0 where
+  pub read : List ℕ
+  pub text : List ℕ
+  pub took : source.left ≡ read ++ source'.left
+  pub appended : out'.written ≡ out.written ++ text
+  pub answer : IsAnswer words read status text
+
+-- the run is answered, or memory ran out
+abbrev pub Answers : List (List ℕ) → MemorySource → MemorySource → MemorySink → MemorySink → Status → Type 0
+Answers words source source' out out' status = IsAnswered words source source' out out' status ⊎ (status ≡ Memory)

@@ -1,0 +1,4 @@
+pub mod OneLayerText
+pub mod Agreement
+pub mod Rooms
+pub mod InMemory

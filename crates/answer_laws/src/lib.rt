@@ -1,0 +1,8 @@
+//! Laws of the answers of a run, and a run over memory.
+#![tactic(auto)]
+
+mod in_memory;
+mod laws;
+
+pub use in_memory::run_in_memory;
+pub use laws::{a_model_has_one_layer_text, answers_fit_in_their_room, answers_of_analyse_agree, answers_of_layer_are_one};
