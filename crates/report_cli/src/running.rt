@@ -32,6 +32,8 @@ pub fn run<S: Source, K: Sink, N: Sink>(
     out: &mut K,
     notes: &mut N,
 ) -> Status
+    // what follows holds whatever `notes` does: no clause on the status, the source or `out` has a premise on it
+
     // a status that is no fault is the answer to what was read
     ensures answered { Tells result (Answered (map string_bytes words.now) (S.left source.old) (S.left source.new) (K.written out.old) (K.written out.new) result) }
     ensures finished { result ≡ Status.Done → IsTrue (K.flushed out.new) }
