@@ -1,5 +1,5 @@
 -- What any two answers to one input share.
-use Rattle.std.proofs.Common.{◌≡◌, ◌≢◌, ℕ, ◌≤◌, ◌<◌, List, [], ◌∷◌, length, codes, refl, ap, sym, subst, ◌∙◌, lit<}
+use Rattle.std.proofs.Common.{◌≡◌, ℕ, ◌≤◌, List, [], ◌∷◌, length, codes, refl, ap, sym, subst, ◌∙◌, lit<}
 use Rattle.residue_field.specs.Modulus.{res_modulus}
 use Rattle.residue_theory.proofs.Primes.{prime_65521}
 use Rattle.mixed_model.specs.Models.{MixedModel, mixed_matrix_of}
@@ -92,7 +92,7 @@ agreeing words input text other asks first second =
     let same : b.model ≡ a.model = text_gives_one input b.model a.model b.gives a.gives in
     let layers : IsLayeredMatrixOf (mixed_matrix_of a.model) b.layered b.origins = subst (λ m. IsLayeredMatrixOf (mixed_matrix_of m) b.layered b.origins) same b.layers in
     let right : IsRightCcf res_modulus (mixed_matrix_of a.model) b.layered b.origins (two.certificate).ccf =
-        subst (λ m. IsRightCcf res_modulus (mixed_matrix_of m) b.layered b.origins (two.certificate).ccf) same b.right in
+    subst (λ m. IsRightCcf res_modulus (mixed_matrix_of m) b.layered b.origins (two.certificate).ccf) same b.right in
     record {
       first = one.certificate;
       second = two.certificate;

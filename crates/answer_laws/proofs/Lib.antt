@@ -1,2 +1,4 @@
 pub mod OneLayerText
 pub mod Answers
+pub mod EmptyInput
+pub mod OneEquation

@@ -3,6 +3,14 @@
 
 mod in_memory;
 mod laws;
+mod no_answers;
 
 pub use in_memory::run_in_memory;
-pub use laws::{a_model_has_one_layer_text, answers_fit_in_their_room, answers_of_analyse_agree, answers_of_layer_are_one};
+pub use laws::{
+    a_model_has_one_layer_text, answers_fit_in_their_room, answers_of_analyse_agree,
+    answers_of_layer_are_one,
+};
+pub use no_answers::{
+    no_block_is_empty, no_column_is_made_up, no_column_line_is_made_up, no_list_leaves_its_range,
+    the_empty_input_has_one_answer,
+};

@@ -47,8 +47,13 @@ columns-short model is number [] few = omega arith
 columns-short model is number (origin ∷ origins) few =
     let head : List ℕ = head_text 99 number in
     let name : List ℕ = column_name model origin in
-    let line : length (column_line model number origin) ≤ 105 = omega (arith, head-short 99 number (omega (arith, few)), column-name-short model is origin,
-        length-append head name, length-append (head ++ name) (codes "\n")) in
+    let line : length (column_line model number origin) ≤ 105 = omega (
+      arith,
+      head-short 99 number (omega (arith, few)),
+      column-name-short model is origin,
+      length-append head name,
+      length-append (head ++ name) (codes "\n"),
+    ) in
     rw (suc-mul (length origins) 105) (omega (arith, line, columns-short model is (number + 1) origins (omega (arith, few)), length-append (column_line model number origin) (column_lines model (number + 1) origins)))
 
 -- the lines of rows, each of at most w bytes
@@ -83,11 +88,11 @@ filled-small (Some c) residue = residue c refl
 
 constants-small : (first : ℕ) (row : List Entry) → RisesFrom first row → (j : ℕ) → unwrap_or (constant_in row j) 0 < 65521
 constants-small first [] rises j = omega arith
-constants-small first (entry ∷ row) rises j = go (nat_eq entry.column j)
+constants-small first (item ∷ row) rises j = go (constants-small (item.column + 1) row rises.2 j) (nat_eq item.column j)
   where
-    go : (b : Bool) → unwrap_or (constant_at_place (if b then Some entry else entry_in row j)) 0 < 65521
-    go true = filled-small entry.constant (rises.1).residue
-    go false = constants-small (entry.column + 1) row rises.2 j
+    go : unwrap_or (constant_in row j) 0 < 65521 → (b : Bool) → unwrap_or (constant_at_place (if b then Some item else entry_in row j)) 0 < 65521
+    go rest true = filled-small item.constant (rises.1).residue
+    go rest false = rest
 
 constant-small : (model : MixedModel) → IsModel model → (i j : ℕ) → i < length model.equations → constant_at model i j < 65521
 constant-small model is i j within = constants-small 0 (get_or model.rows i []) (is.rows i [] (omega (arith, within, is.one_row_each))).0 j
@@ -97,15 +102,15 @@ module _ (model : MixedModel) (is : IsModel model) (layers : Layers) (are : AreL
   entry-small : (i j : ℕ) → i < height layers.q → j < layers.q.width → entry layers.q i j < 65521
   entry-small i j il jl = ⊎_elim
       (λ unknown. let e : entry layers.q i j ≡ constant_at model (slice_index layers.q_origins i) j = (are.layered).q i j il unknown in
-          let origin : slice_index layers.q_origins i < length model.equations = ((are.layered).q_rows).below i il in
-          omega (arith, e, constant-small model is (slice_index layers.q_origins i) j origin))
+      let origin : slice_index layers.q_origins i < length model.equations = ((are.layered).q_rows).below i il in
+      omega (arith, e, constant-small model is (slice_index layers.q_origins i) j origin))
       (λ auxiliary.
-          let n : ℕ = j - length model.unknowns in
-          let within : n < length are.split = omega (arith, (are.layered).columns, auxiliary, jl) in
-          let place : length model.unknowns + n ≡ j = omega (arith, auxiliary) in
-          let e : entry layers.q i (length model.unknowns + n) ≡ cond (eqb (slice_index layers.q_origins i) (slice_index are.split n)) 1 0 = (are.layered).q_auxiliary i n il within in
-          let unit : cond (eqb (slice_index layers.q_origins i) (slice_index are.split n)) 1 0 ≤ 1 = one (eqb (slice_index layers.q_origins i) (slice_index are.split n)) in
-          subst (λ c. entry layers.q i c < 65521) place (omega (arith, e, unit)))
+      let n : ℕ = j - length model.unknowns in
+      let within : n < length are.split = omega (arith, (are.layered).columns, auxiliary, jl) in
+      let place : length model.unknowns + n ≡ j = omega (arith, auxiliary) in
+      let e : entry layers.q i (length model.unknowns + n) ≡ cond (eqb (slice_index layers.q_origins i) (slice_index are.split n)) 1 0 = (are.layered).q_auxiliary i n il within in
+      let unit : cond (eqb (slice_index layers.q_origins i) (slice_index are.split n)) 1 0 ≤ 1 = one (eqb (slice_index layers.q_origins i) (slice_index are.split n)) in
+      subst (λ c. entry layers.q i c < 65521) place (omega (arith, e, unit)))
       (cases_lt j (length model.unknowns))
     where
       one : (b : Bool) → cond b 1 0 ≤ 1
@@ -117,38 +122,66 @@ module _ (model : MixedModel) (is : IsModel model) (layers : Layers) (are : AreL
       let same : get_or layers.q.rows i d ≡ row_at layers.q i = get_or_default layers.q.rows i d [] il in
       let long : length (row_at layers.q i) ≡ layers.q.width = row_long layers.q i il whole.q in
       let small : All (λ number. number < 65521) (row_at layers.q i) = λ j e jl. subst (λ number. number < 65521) (get_or_default (row_at layers.q i) j 0 e jl)
-          (entry-small i j il (omega (arith, jl, long))) in
+      (entry-small i j il (omega (arith, jl, long))) in
       subst (λ row. All (λ number. number < 65521) row × (length row ≤ k)) (sym same) (small, omega (arith, long, low))
 
   q-line-short : (number : ℕ) (name row : List ℕ) → number < 100000 → length name ≤ 96 → All (λ number. number < 65521) row × (length row ≤ k) → length (q_line number name row) ≤ 104 + 12 * k
   q-line-short number name row small short row_is =
       let head : List ℕ = head_text 113 number in
-      omega (arith, head-short 113 number small, short, row_is.1, entries-short 1 row (omega (arith, row_is.1, few)) row_is.0, length-append head name,
-          length-append (head ++ name) (entries_text 1 row), length-append (head ++ name ++ entries_text 1 row) (codes "\n"))
+      omega (
+        arith,
+        head-short 113 number small,
+        short,
+        row_is.1,
+        entries-short 1 row (omega (arith, row_is.1, few)) row_is.0,
+        length-append head name,
+        length-append (head ++ name) (entries_text 1 row),
+        length-append (head ++ name ++ entries_text 1 row) (codes "\n"),
+      )
 
   t-line-short : (number : ℕ) (name row : List ℕ) → number < 100000 → length name ≤ 96 → All (λ column. column < 8192) row × (length row ≤ k) → length (t_line number name row) ≤ 104 + 6 * k
   t-line-short number name row small short row_is =
       let head : List ℕ = head_text 116 number in
-      omega (arith, head-short 116 number small, short, row_is.1, numbers-short row row_is.0, length-append head name,
-          length-append (head ++ name) (numbers_text row), length-append (head ++ name ++ numbers_text row) (codes "\n"))
+      omega (
+        arith,
+        head-short 116 number small,
+        short,
+        row_is.1,
+        numbers-short row row_is.0,
+        length-append head name,
+        length-append (head ++ name) (numbers_text row),
+        length-append (head ++ name ++ numbers_text row) (codes "\n"),
+      )
 
   columns-text-short : length (columns_text model layers) ≤ 14 + 105 * k
   columns-text-short =
-      let count : length layers.column_origins ≡ layers.q.width = (whole.layers).column_origins in
+      let count : length layers.column_origins ≡ layers.q.width = (whole.origins).column_origins in
       let lines = columns-short model is 1 layers.column_origins (omega (arith, count, low, few)) in
       let one : List ℕ = codes "columns" ++ spaced layers.q.width in
-      omega (arith, count, low, few, lines, marked-short 32 layers.q.width (omega (arith, low, few)), length-append (codes "columns") (spaced layers.q.width),
-          length-append one (codes "\n"), length-append (one ++ codes "\n") (column_lines model 1 layers.column_origins))
+      omega (
+        arith,
+        count,
+        low,
+        few,
+        lines,
+        marked-short 32 layers.q.width (omega (arith, low, few)),
+        length-append (codes "columns") (spaced layers.q.width),
+        length-append one (codes "\n"),
+        length-append (one ++ codes "\n") (column_lines model 1 layers.column_origins),
+      )
 
   q-lines-short : length (row_lines q_line model.equations layers.q_origins 0 layers.q.rows) ≤ 104 * k + 12 * (k * k)
-  q-lines-short = omega (arith, at_most (height layers.q) k 104 12 low_q,
-      rows-short q_line model.equations layers.q_origins (104 + 12 * k) (λ row. All (λ number. number < 65521) row × (length row ≤ k)) q-line-short is.equations 0 layers.q.rows
-          (omega (arith, low_q, few)) (λ i d il. row-small i d il))
+  q-lines-short = omega (
+    arith,
+    at_most (height layers.q) k 104 12 low_q,
+    rows-short q_line model.equations layers.q_origins (104 + 12 * k) (λ row. All (λ number. number < 65521) row × (length row ≤ k)) q-line-short is.equations 0 layers.q.rows
+        (omega (arith, low_q, few)) (λ i d il. row-small i d il),
+  )
 
   t-row-small : (i : ℕ) (d : List ℕ) → i < length layers.t.rows → All (λ column. column < 8192) (get_or layers.t.rows i d) × (length (get_or layers.t.rows i d) ≤ k)
   t-row-small i d il =
       let same : get_or layers.t.rows i d ≡ get_or layers.t.rows i [] = get_or_default layers.t.rows i d [] il in
-      let width : layers.t.width ≤ k = omega (arith, (whole.layers).same_columns, low) in
+      let width : layers.t.width ≤ k = omega (arith, (whole.origins).same_columns, low) in
       let row : List ℕ = get_or layers.t.rows i [] in
       let below : All (λ column. column < layers.t.width) row = λ j e jl. subst (λ column. column < layers.t.width) (get_or_default row j 0 e jl) ((whole.t).below i il j jl) in
       let small : All (λ column. column < 8192) row = λ j e jl. let b : get_or row j e < layers.t.width = below j e jl in omega (arith, b, width, few) in
@@ -156,9 +189,12 @@ module _ (model : MixedModel) (is : IsModel model) (layers : Layers) (are : AreL
       subst (λ r. All (λ column. column < 8192) r × (length r ≤ k)) (sym same) (small, omega (arith, count, width))
 
   t-lines-short : length (row_lines t_line model.equations layers.t_origins 0 layers.t.rows) ≤ 104 * k + 6 * (k * k)
-  t-lines-short = omega (arith, at_most (length layers.t.rows) k 104 6 low_t,
-      rows-short t_line model.equations layers.t_origins (104 + 6 * k) (λ row. All (λ column. column < 8192) row × (length row ≤ k)) t-line-short is.equations 0 layers.t.rows
-          (omega (arith, low_t, few)) (λ i d il. t-row-small i d il))
+  t-lines-short = omega (
+    arith,
+    at_most (length layers.t.rows) k 104 6 low_t,
+    rows-short t_line model.equations layers.t_origins (104 + 6 * k) (λ row. All (λ column. column < 8192) row × (length row ≤ k)) t-line-short is.equations 0 layers.t.rows
+        (omega (arith, low_t, few)) (λ i d il. t-row-small i d il),
+  )
 
   pub layer-text-short : length (layer_text model layers) ≤ layer_room k
   layer-text-short =

@@ -28,7 +28,7 @@ use Rattle.report_cli.specs.declared.report.Report.TheVariants.{Certificate as C
 use Rattle.report_cli.proofs.LayerLengths.{layer-text-short}
 
 -- members of a set below n are at most n
-members-few : (A : ℕ → Bool) (n : ℕ) (at : ℕ → ℕ) (m : ℕ) → AreMembers A n at m → m ≤ n
+pub members-few : (A : ℕ → Bool) (n : ℕ) (at : ℕ → ℕ) (m : ℕ) → AreMembers A n at m → m ≤ n
 members-few A n at m are = omega (arith, are.count, size-everything n, size_on-within everything A n (λ j jl h. refl))
 
 -- the layered matrix of a model that a text gives has no more rows and columns than the text has room for
@@ -66,8 +66,11 @@ certificate-fits input c right short =
       columns = omega (arith, shape.columns, low.columns);
     } in
     let echo : length c.echo ≡ length input = ap length right.echo in
-    omega (arith, certificate-short res_modulus (mixed_matrix_of right.model) right.layered right.origins c (length input) (columns_within (length input))
-        (omega (arith, echo)) short (few_columns (length input)) right.form right.right within)
+    omega (
+      arith,
+      certificate-short res_modulus (mixed_matrix_of right.model) right.layered right.origins c (length input) (columns_within (length input))
+          (omega (arith, echo)) short (few_columns (length input)) right.form right.right within,
+    )
 
 layers-fit : (input : List ℕ) (model : MixedModel) (layers : Layers) → GivesModel input model → AreLayersOf model layers → AreWholeLayers layers →
     length (report_text (Layering model layers)) ≤ text_room (length input)

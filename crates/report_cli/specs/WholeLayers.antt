@@ -5,6 +5,6 @@ use Rattle.sparse_t.specs.Incidences.{IsIncidence}
 
 -- each row and each column has its origin, each row of constants has a number for each column, and the columns of symbols rise
 pub record AreWholeLayers (layers : Layers) : Type 0 where
-  pub layers : AreLayers layers
+  pub origins : AreLayers layers
   pub q : IsMatrix layers.q
   pub t : IsIncidence layers.t

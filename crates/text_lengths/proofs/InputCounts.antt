@@ -1,6 +1,6 @@
 -- Each equation and each unknown of a text has bytes of its own.
-use Rattle.std.proofs.Common.{◌≡◌, ℕ, suc, ◌+◌, ◌-◌, ◌<◌, ◌≤◌, Bool, true, false, cond, List, [], ◌∷◌, ◌++◌, length, map, fold, filter, drop, take, codes, refl, sym, ap, ◌∙◌, subst, arith, length-drop, length-take, if◌then◌else◌, ◌==◌, slice_index}
-use Rattle.std.specs.List.{flat_map, onto_first, before_first, position_or_len}
+use Rattle.std.proofs.Common.{◌≡◌, ℕ, suc, ◌+◌, ◌-◌, ◌≤◌, Bool, true, false, cond, List, [], ◌∷◌, ◌++◌, length, map, fold, filter, drop, take, codes, refl, ap, ◌∙◌, arith, length-drop, length-take, if◌then◌else◌, ◌==◌, slice_index}
+use Rattle.std.specs.List.{flat_map, onto_first, position_or_len}
 use Rattle.std.specs.Str.{bytes_eq}
 use Rattle.std.specs.Str.Lines.{strip_carriage_return}
 use Rattle.std.proofs.lemmas.List.{length-append, length-map}
@@ -73,8 +73,12 @@ tokens-few i (byte ∷ bytes) = go (tokens-few (i + 1) bytes) (is_blank byte)
     go rest false = omega (arith, rest, part-count i byte (parts_from (i + 1) bytes))
 
 words-few : (line : List ℕ) → length (words_of line) ≤ length line
-words-few line = omega (arith, length-map (tokens_of line) (λ (token : ℕ × List ℕ). token.1), tokens-few 0 (uncommented line),
-    length-take (position_or_len is_comment_sign line) line)
+words-few line = omega (
+  arith,
+  length-map (tokens_of line) (λ (token : ℕ × List ℕ). token.1),
+  tokens-few 0 (uncommented line),
+  length-take (position_or_len is_comment_sign line) line,
+)
 
 -- the names of a line
 names-few : (words : List (List ℕ)) → length (names_in words) ≤ length words

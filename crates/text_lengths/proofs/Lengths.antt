@@ -1,5 +1,5 @@
 -- The lengths of a certificate's lines, where rows and columns number at most k.
-use Rattle.std.proofs.Common.{◌≡◌, ℕ, suc, ◌+◌, ◌*◌, ◌<◌, ◌≤◌, true, List, [], ◌∷◌, ◌++◌, length, get_or, decimal, codes, inl, inr, refl, arith}
+use Rattle.std.proofs.Common.{◌≡◌, ℕ, ◌+◌, ◌*◌, ◌<◌, ◌≤◌, true, List, [], ◌∷◌, length, get_or, decimal, inl, inr, refl, arith}
 use Rattle.std.specs.List.{All}
 use Rattle.std.specs.List.Sorted.{IsStrictlyIncreasing}
 use Rattle.std.proofs.lemmas.Fmt.{length-decimal-le}
@@ -26,8 +26,12 @@ lettered-short letter row few = omega (arith, marked-short letter row few)
 
 -- rising numbers below n are at most n
 pub rising-few : (n : ℕ) (numbers : List ℕ) → IsStrictlyIncreasing numbers → All (λ number. number < n) numbers → length numbers ≤ n
-rising-few n numbers rising below = omega (arith, size-everything (length numbers), size-everything n,
-    size-injection everything (length numbers) (λ k. get_or numbers k 0) n everything (λ k kl _. below k 0 kl) (λ k kl _. refl) one)
+rising-few n numbers rising below = omega (
+  arith,
+  size-everything (length numbers),
+  size-everything n,
+  size-injection everything (length numbers) (λ k. get_or numbers k 0) n everything (λ k kl _. below k 0 kl) (λ k kl _. refl) one,
+)
   where
     apart : (k l : ℕ) → k < l → l < length numbers → get_or numbers k 0 < get_or numbers l 0
     apart k l less ll = AllPairs-from_increasing numbers rising k l 0 less ll

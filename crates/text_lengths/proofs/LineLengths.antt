@@ -1,10 +1,10 @@
 -- The lengths of a certificate's lines, where rows and columns number at most k, and k is at most 8,192.
-use Rattle.std.proofs.Common.{◌≡◌, ℕ, suc, ◌+◌, ◌*◌, ◌<◌, ◌≤◌, true, List, [], ◌∷◌, ◌++◌, length, map, get_or, codes, refl, sym, subst, arith, suc-mul}
+use Rattle.std.proofs.Common.{◌≡◌, ℕ, ◌+◌, ◌*◌, ◌<◌, ◌≤◌, List, [], ◌∷◌, ◌++◌, length, map, get_or, codes, sym, subst, arith, suc-mul}
 use Rattle.std.specs.List.{All}
 use Rattle.std.proofs.lemmas.List.{length-append, length-map, get_or-map}
 use Rattle.std.proofs.lemmas.List.Elements.{All-head, All-tail}
-use Rattle.cert_text.specs.Ranges.{AreRising, ArePairs, AreEntries, IsPart, IsBlock}
-use Rattle.cert_text.specs.Texts.{marked, spaced, pairs_text, entries_text, numbers_text, letters_text, head_text, entries_line, columns_line, matrix_text, pattern_text, part_text, tail_line, block_line, blocks_text}
+use Rattle.cert_text.specs.Ranges.{AreRising, ArePairs, AreEntries, IsPart}
+use Rattle.cert_text.specs.Texts.{spaced, pairs_text, entries_text, numbers_text, letters_text, head_text, entries_line, columns_line, matrix_text, pattern_text, part_text, tail_line, block_line, blocks_text}
 use Rattle.cert_text.specs.declared.shape.Shape.{Shape}
 use Rattle.cert_text.specs.declared.part.CcfPart.{CcfPart}
 use Rattle.cert_text.specs.declared.part.CcfBlock.{CcfBlock}
@@ -20,12 +20,20 @@ keys-below n items below i d il =
 module _ (k : ℕ) (few : k ≤ 8192) where
   -- lists of a line
   pub numbers-within : (n : ℕ) (numbers : List ℕ) → n ≤ k → AreRising n numbers → length (numbers_text numbers) ≤ 6 * k
-  numbers-within n numbers less are = omega (arith, less, rising-few n numbers are.rising are.below,
-      numbers-short numbers (λ i d il. let b : get_or numbers i d < n = are.below i d il in omega (arith, b, less, few)))
+  numbers-within n numbers less are = omega (
+    arith,
+    less,
+    rising-few n numbers are.rising are.below,
+    numbers-short numbers (λ i d il. let b : get_or numbers i d < n = are.below i d il in omega (arith, b, less, few)),
+  )
 
   pub letters-within : (letter n : ℕ) (rows : List ℕ) → n ≤ k → AreRising n rows → length (letters_text letter rows) ≤ 7 * k
-  letters-within letter n rows less are = omega (arith, less, rising-few n rows are.rising are.below,
-      letters-short letter rows (λ i d il. let b : get_or rows i d < n = are.below i d il in omega (arith, b, less, few)))
+  letters-within letter n rows less are = omega (
+    arith,
+    less,
+    rising-few n rows are.rising are.below,
+    letters-short letter rows (λ i d il. let b : get_or rows i d < n = are.below i d il in omega (arith, b, less, few)),
+  )
 
   pub entries-within : (n : ℕ) (entries : List (ℕ × ℕ)) → n ≤ k → AreEntries n entries → length (entries_text entries) ≤ 12 * k
   entries-within n entries less are =
@@ -49,9 +57,14 @@ module _ (k : ℕ) (few : k ≤ 8192) where
       let here : AreEntries n row = All-head (AreEntries n) row rows are in
       let rest = matrix-short letter (number + 1) n rows less (omega (arith, small)) (All-tail (AreEntries n) row rows are) in
       let head = marked-short 32 number (omega (arith, small)) in
-      let line : length (entries_line (letter ∷ []) number row) ≤ 9 + 12 * k = omega (arith, head, entries-within n row less here,
-          length-append (head_text (letter ∷ []) number) (entries_text row), length-append (head_text (letter ∷ []) number ++ entries_text row) (codes "\n"),
-          length-append (spaced number) (codes ":")) in
+      let line : length (entries_line (letter ∷ []) number row) ≤ 9 + 12 * k = omega (
+        arith,
+        head,
+        entries-within n row less here,
+        length-append (head_text (letter ∷ []) number) (entries_text row),
+        length-append (head_text (letter ∷ []) number ++ entries_text row) (codes "\n"),
+        length-append (spaced number) (codes ":"),
+      ) in
       rw (suc-mul (length rows) (9 + 12 * k)) (omega (arith, line, rest, length-append (entries_line (letter ∷ []) number row) (matrix_text (letter ∷ []) (number + 1) rows)))
 
   pub pattern-short : (letter number n : ℕ) (rows : List (List ℕ)) → n ≤ k → number + length rows ≤ 8193 → All (AreRising n) rows →
@@ -61,9 +74,14 @@ module _ (k : ℕ) (few : k ≤ 8192) where
       let here : AreRising n row = All-head (AreRising n) row rows are in
       let rest = pattern-short letter (number + 1) n rows less (omega (arith, small)) (All-tail (AreRising n) row rows are) in
       let head = marked-short 32 number (omega (arith, small)) in
-      let line : length (columns_line (letter ∷ []) number row) ≤ 9 + 6 * k = omega (arith, head, numbers-within n row less here,
-          length-append (head_text (letter ∷ []) number) (numbers_text row), length-append (head_text (letter ∷ []) number ++ numbers_text row) (codes "\n"),
-          length-append (spaced number) (codes ":")) in
+      let line : length (columns_line (letter ∷ []) number row) ≤ 9 + 6 * k = omega (
+        arith,
+        head,
+        numbers-within n row less here,
+        length-append (head_text (letter ∷ []) number) (numbers_text row),
+        length-append (head_text (letter ∷ []) number ++ numbers_text row) (codes "\n"),
+        length-append (spaced number) (codes ":"),
+      ) in
       rw (suc-mul (length rows) (9 + 6 * k)) (omega (arith, line, rest, length-append (columns_line (letter ∷ []) number row) (pattern_text (letter ∷ []) (number + 1) rows)))
 
   -- a part, a tail and a block
@@ -72,9 +90,15 @@ module _ (k : ℕ) (few : k ≤ 8192) where
       let columns = numbers-within shape.columns part.columns low.columns is.columns in
       let q_rows = letters-within 113 shape.q_rows part.q_rows low.q_rows is.q_rows in
       let t_rows = letters-within 116 shape.t_rows part.t_rows low.t_rows is.t_rows in
-      omega (arith, columns, q_rows, t_rows, length-append (numbers_text part.columns) (codes " |"),
-          length-append (numbers_text part.columns ++ codes " |") (letters_text 113 part.q_rows),
-          length-append (numbers_text part.columns ++ codes " |" ++ letters_text 113 part.q_rows) (letters_text 116 part.t_rows))
+      omega (
+        arith,
+        columns,
+        q_rows,
+        t_rows,
+        length-append (numbers_text part.columns) (codes " |"),
+        length-append (numbers_text part.columns ++ codes " |") (letters_text 113 part.q_rows),
+        length-append (numbers_text part.columns ++ codes " |" ++ letters_text 113 part.q_rows) (letters_text 116 part.t_rows),
+      )
 
   pub tail-short : (word : List ℕ) (shape : Shape) (part : CcfPart) → length word ≤ 5 → IsShapeWithin k shape → IsPart shape part → length (tail_line word part) ≤ 20 * k + 8
   tail-short word shape part small low is =
@@ -86,9 +110,17 @@ module _ (k : ℕ) (few : k ≤ 8192) where
       let head : List ℕ = head_text (codes "block") number in
       let part : List ℕ = part_text block.part in
       let lowers : List ℕ = numbers_text block.lower in
-      omega (arith, part-short shape block.part low is, numbers-within b block.lower less lower, marked-short 32 number small,
-          length-append (spaced number) (codes ":"), length-append head part, length-append (head ++ part) (codes " |"),
-          length-append (head ++ part ++ codes " |") lowers, length-append (head ++ part ++ codes " |" ++ lowers) (codes "\n"))
+      omega (
+        arith,
+        part-short shape block.part low is,
+        numbers-within b block.lower less lower,
+        marked-short 32 number small,
+        length-append (spaced number) (codes ":"),
+        length-append head part,
+        length-append (head ++ part) (codes " |"),
+        length-append (head ++ part ++ codes " |") lowers,
+        length-append (head ++ part ++ codes " |" ++ lowers) (codes "\n"),
+      )
 
   pub blocks-short : (number : ℕ) (shape : Shape) (blocks : List CcfBlock) → number + length blocks ≤ 8193 → IsShapeWithin k shape →
       All (λ block. IsPart shape block.part × ((b : ℕ) × (b ≤ k) × AreRising b block.lower)) blocks → length (blocks_text number blocks) ≤ length blocks * (17 + 26 * k)

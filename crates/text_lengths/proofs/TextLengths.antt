@@ -1,5 +1,5 @@
 -- The length of a right certificate's text.
-use Rattle.std.proofs.Common.{◌≡◌, ℕ, suc, ◌+◌, ◌-◌, ◌*◌, ◌<◌, ◌≤◌, true, List, [], ◌∷◌, ◌++◌, length, map, codes, refl, sym, ap, ◌∙◌, subst, arith, mul-add, mul_comm, mul_left_comm, mul-le-mul_right}
+use Rattle.std.proofs.Common.{◌≡◌, ℕ, ◌+◌, ◌-◌, ◌*◌, ◌≤◌, List, ◌++◌, length, codes, refl, ap, ◌∙◌, subst, arith, mul-add, mul_comm, mul_left_comm, mul-le-mul_right}
 use Rattle.std.specs.List.{All}
 use Rattle.std.proofs.lemmas.Fmt.{length-decimal-le}
 use Rattle.std.proofs.lemmas.List.{length-append}
@@ -11,23 +11,25 @@ use Rattle.mixed_matrices.specs.LayeredMatrices.{Layered}
 use Rattle.mixed_matrices.specs.Layerings.{Origins}
 use Rattle.mixed_matrices.specs.Models.{Mixed}
 use Rattle.cert_text.specs.Contents.{Contents}
-use Rattle.cert_text.specs.Ranges.{IsCcf, IsPart, IsBlock, AreRising, AreEntries, IsShape}
+use Rattle.cert_text.specs.Ranges.{IsCcf, IsPart, AreRising}
 use Rattle.cert_text.specs.Right.{IsRightCcf}
 use Rattle.cert_text.specs.Texts.{spaced, pairs_text, matrix_text, pattern_text, tail_line, blocks_text, kind_text, echo_text, shape_text, pair_text, matrices_text, parts_text, contents_text, certificate_text}
 use Rattle.cert_text.specs.declared.certificate.Certificate.{Certificate}
 use Rattle.cert_text.specs.declared.kind.Kind.{Kind}
 use Rattle.cert_text.specs.declared.kind.Kind.TheVariants.{Matrix, Netlist, Flowsheet}
-use Rattle.cert_text.specs.declared.shape.Shape.{Shape}
-use Rattle.cert_text.specs.declared.part.CcfBlock.{CcfBlock}
 use Rattle.text_lengths.specs.Rooms.{IsShapeWithin, contents_room, certificate_room}
 use Rattle.text_lengths.proofs.Lengths.{marked-short}
 use Rattle.text_lengths.proofs.LineLengths.{pairs-within, matrix-short, pattern-short, tail-short, blocks-short}
 
 -- canonical parts have no more blocks than columns
 blocks-few : (p : ℕ) (L : Layered) (G : Parts) → AreCanonical p L G → G.blocks ≤ L.columns
-blocks-few p L G are = omega (arith, size-everything G.blocks, size-everything L.columns,
-    size-surjection everything L.columns (λ x. G.column x - 1) G.blocks everything
-        (λ i il _. let held = are.held i il in (held.0, held.1.0, refl, omega (arith, held.1.2))))
+blocks-few p L G are = omega (
+  arith,
+  size-everything G.blocks,
+  size-everything L.columns,
+  size-surjection everything L.columns (λ x. G.column x - 1) G.blocks everything
+      (λ i il _. let held = are.held i il in (held.0, held.1.0, refl, omega (arith, held.1.2))),
+)
 
 expand : (k a b : ℕ) → k * (a + b * k) ≡ a * k + b * (k * k)
 expand k a b = mul-add k a (b * k) ∙ ap (λ x. x + k * (b * k)) (mul_comm k a) ∙ ap (λ y. a * k + y) (mul_left_comm k b k)
@@ -49,8 +51,20 @@ module _ (k : ℕ) (few : k ≤ 8192) (c : Contents) (is : IsCcf c) (low : IsSha
       let three : List ℕ = two ++ spaced c.shape.q_rows in
       let four : List ℕ = three ++ spaced c.shape.t_rows in
       let five : List ℕ = four ++ spaced c.shape.columns in
-      omega (arith, e, u, q, t, n, length-append (codes "shape") (spaced c.shape.equations), length-append one (spaced c.shape.unknowns),
-          length-append two (spaced c.shape.q_rows), length-append three (spaced c.shape.t_rows), length-append four (spaced c.shape.columns), length-append five (codes "\n"))
+      omega (
+        arith,
+        e,
+        u,
+        q,
+        t,
+        n,
+        length-append (codes "shape") (spaced c.shape.equations),
+        length-append one (spaced c.shape.unknowns),
+        length-append two (spaced c.shape.q_rows),
+        length-append three (spaced c.shape.t_rows),
+        length-append four (spaced c.shape.columns),
+        length-append five (codes "\n"),
+      )
 
   pair-short : length (pair_text c.rank c.base c.mates) ≤ 22 + 24 * k
   pair-short =
@@ -62,8 +76,18 @@ module _ (k : ℕ) (few : k ≤ 8192) (c : Contents) (is : IsCcf c) (low : IsSha
       let three : List ℕ = two ++ pairs_text c.base in
       let four : List ℕ = three ++ codes "\nmatch" in
       let five : List ℕ = four ++ pairs_text c.mates in
-      omega (arith, r, base, mates, length-append (codes "rank") (spaced c.rank), length-append one (codes "\nbase"), length-append two (pairs_text c.base),
-          length-append three (codes "\nmatch"), length-append four (pairs_text c.mates), length-append five (codes "\n"))
+      omega (
+        arith,
+        r,
+        base,
+        mates,
+        length-append (codes "rank") (spaced c.rank),
+        length-append one (codes "\nbase"),
+        length-append two (pairs_text c.base),
+        length-append three (codes "\nmatch"),
+        length-append four (pairs_text c.mates),
+        length-append five (codes "\n"),
+      )
 
   matrices-short : length (matrices_text c.s c.u c.p c.t) ≤ 36 * k + 42 * (k * k)
   matrices-short =
@@ -80,15 +104,27 @@ module _ (k : ℕ) (few : k ≤ 8192) (c : Contents) (is : IsCcf c) (low : IsSha
       let one : List ℕ = matrix_text (codes "S") 1 c.s in
       let two : List ℕ = one ++ matrix_text (codes "U") 1 c.u in
       let three : List ℕ = two ++ matrix_text (codes "P") 1 c.p in
-      omega (arith, s, u, p, t, sk, uk, pk, tk, length-append one (matrix_text (codes "U") 1 c.u), length-append two (matrix_text (codes "P") 1 c.p),
-          length-append three (pattern_text (codes "T") 1 c.t))
+      omega (
+        arith,
+        s,
+        u,
+        p,
+        t,
+        sk,
+        uk,
+        pk,
+        tk,
+        length-append one (matrix_text (codes "U") 1 c.u),
+        length-append two (matrix_text (codes "P") 1 c.p),
+        length-append three (pattern_text (codes "T") 1 c.t),
+      )
 
   parts-short : length c.blocks ≤ k → length (parts_text c.first c.blocks c.last) ≤ 16 + 57 * k + 26 * (k * k)
   parts-short less =
       let first = tail-short k few (codes "first") c.shape c.first (omega arith) low is.first in
       let last = tail-short k few (codes "last") c.shape c.last (omega arith) low is.last in
       let each : All (λ block. IsPart c.shape block.part × ((b : ℕ) × (b ≤ k) × AreRising b block.lower)) c.blocks =
-          λ i d il. let b = is.blocks i d il in (b.part, (i, omega (arith, il, less), b.lower)) in
+      λ i d il. let b = is.blocks i d il in (b.part, (i, omega (arith, il, less), b.lower)) in
       let blocks = blocks-short k few 1 c.shape c.blocks (omega (arith, less, few)) low each in
       let all = at_most (length c.blocks) k 17 26 less in
       let one : List ℕ = tail_line (codes "first") c.first in
@@ -100,8 +136,17 @@ module _ (k : ℕ) (few : k ≤ 8192) (c : Contents) (is : IsCcf c) (low : IsSha
       let two : List ℕ = one ++ pair_text c.rank c.base c.mates in
       let three : List ℕ = two ++ matrices_text c.s c.u c.p c.t in
       let four : List ℕ = three ++ parts_text c.first c.blocks c.last in
-      omega (arith, shape-short, pair-short, matrices-short, parts-short less, length-append one (pair_text c.rank c.base c.mates),
-          length-append two (matrices_text c.s c.u c.p c.t), length-append three (parts_text c.first c.blocks c.last), length-append four (codes "end\n"))
+      omega (
+        arith,
+        shape-short,
+        pair-short,
+        matrices-short,
+        parts-short less,
+        length-append one (pair_text c.rank c.base c.mates),
+        length-append two (matrices_text c.s c.u c.p c.t),
+        length-append three (parts_text c.first c.blocks c.last),
+        length-append four (codes "end\n"),
+      )
 
 kind-short : (kind : Kind) → length (kind_text kind) ≤ 9
 kind-short Matrix = omega arith
@@ -116,8 +161,17 @@ echo-short kind echo few =
     let three : List ℕ = two ++ spaced (length echo) in
     let four : List ℕ = three ++ codes "\n" in
     let five : List ℕ = four ++ echo in
-    omega (arith, kind-short kind, number, length-append (codes "mixed-certificate 1\nkind ") (kind_text kind), length-append one (codes "\nlength"),
-        length-append two (spaced (length echo)), length-append three (codes "\n"), length-append four echo, length-append five (codes "\n"))
+    omega (
+      arith,
+      kind-short kind,
+      number,
+      length-append (codes "mixed-certificate 1\nkind ") (kind_text kind),
+      length-append one (codes "\nlength"),
+      length-append two (spaced (length echo)),
+      length-append three (codes "\n"),
+      length-append four echo,
+      length-append five (codes "\n"),
+    )
 
 pub certificate-short : (p : ℕ) (M : Mixed) (L : Layered) (O : Origins) (c : Certificate) (n k : ℕ) →
     length c.echo ≤ n → n ≤ 8388608 → k ≤ 8192 → IsCcf c.ccf → IsRightCcf p M L O c.ccf → IsShapeWithin k c.ccf.shape →
@@ -125,5 +179,10 @@ pub certificate-short : (p : ℕ) (M : Mixed) (L : Layered) (O : Origins) (c : C
 certificate-short p M L O c n k within limit few is right low =
     let columns : L.columns ≤ k = omega (arith, low.columns, (right.shape).columns) in
     let blocks = blocks-few p L _ (right.canonical_listing).parts in
-    omega (arith, within, echo-short c.kind c.echo (omega (arith, within, limit)), contents-short k few c.ccf is low (omega (arith, blocks, columns)),
-        length-append (echo_text c.kind c.echo) (contents_text c.ccf))
+    omega (
+      arith,
+      within,
+      echo-short c.kind c.echo (omega (arith, within, limit)),
+      contents-short k few c.ccf is low (omega (arith, blocks, columns)),
+      length-append (echo_text c.kind c.echo) (contents_text c.ccf),
+    )

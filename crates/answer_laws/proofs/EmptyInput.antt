@@ -1,0 +1,122 @@
+-- The certificate of the empty input.
+use Rattle.std.proofs.Common.{◌≡◌, ℕ, ◌<◌, List, [], ◌∷◌, ◌++◌, length, get_or, codes, refl, ap, ◌∙◌, arith}
+use Rattle.std.specs.Fmt.{digits}
+use Rattle.std.proofs.lemmas.List.Elements.{All-head}
+use Rattle.cert_text.specs.Contents.{Contents}
+use Rattle.cert_text.specs.Ranges.{IsCcf, IsPart, IsBlock, AreRising, ArePairs}
+use Rattle.cert_text.specs.Texts.{shape_text, pair_text, matrices_text, parts_text, echo_text, certificate_text}
+use Rattle.cert_text.specs.declared.certificate.Certificate.{Certificate}
+use Rattle.cert_text.specs.declared.kind.Kind.{Kind}
+use Rattle.cert_text.specs.declared.kind.Kind.TheVariants.{Matrix}
+use Rattle.cert_text.specs.declared.part.CcfBlock.{CcfBlock}
+use Rattle.cert_text.specs.declared.part.CcfPart.{CcfPart}
+use Rattle.cert_text.specs.declared.shape.Shape.{Shape}
+use Rattle.report_cli.specs.Answer.{IsAnswer}
+use Rattle.report_cli.specs.RightFor.{IsRightFor}
+use Rattle.report_cli.specs.Words.{AsksFor}
+use Rattle.report_cli.specs.declared.command.Command.TheVariants.{Analyse}
+use Rattle.report_cli.specs.declared.status.Status.TheVariants.{Done}
+use Rattle.report_cli.proofs.TextRooms.{members-few}
+use Rattle.answer_laws.specs.NoAnswers.{empty_text}
+use Rattle.answer_laws.proofs.Answers.{analysed}
+
+-- lists in an empty range
+empty-list : {A : Type 0} (xs : List A) → length xs ≡ 0 → xs ≡ []
+empty-list [] none = refl
+empty-list (x ∷ xs) none = absurd (omega (arith, none))
+
+empty-rising : (n : ℕ) (xs : List ℕ) → n ≡ 0 → AreRising n xs → xs ≡ []
+empty-rising n [] none are = refl
+empty-rising n (x ∷ xs) none are = let below : x < n = All-head (λ x. x < n) x xs are.below in absurd (omega (arith, below, none))
+
+pub empty-pairs : (m n : ℕ) (pairs : List (ℕ × ℕ)) → m ≡ 0 → ArePairs m n pairs → pairs ≡ []
+empty-pairs m n [] none are = refl
+empty-pairs m n (pair ∷ pairs) none are =
+    let within = All-head (λ (pair : ℕ × ℕ). (pair.0 < m) × (pair.1 < n)) pair pairs are.within in absurd (omega (arith, within.0, none))
+
+abbrev part : List ℕ → List ℕ → List ℕ → CcfPart
+part columns q_rows t_rows = record { columns = columns; q_rows = q_rows; t_rows = t_rows }
+
+empty-part : (shape : Shape) (p : CcfPart) → shape.q_rows ≡ 0 → shape.t_rows ≡ 0 → shape.columns ≡ 0 → IsPart shape p → p ≡ record { columns = []; q_rows = []; t_rows = [] }
+empty-part shape p q t n is =
+    ap (λ x. part x p.q_rows p.t_rows) (empty-rising shape.columns p.columns n is.columns)
+    ∙ ap (λ x. part [] x p.t_rows) (empty-rising shape.q_rows p.q_rows q is.q_rows)
+    ∙ ap (λ x. part [] [] x) (empty-rising shape.t_rows p.t_rows t is.t_rows)
+
+empty-blocks : (shape : Shape) (blocks : List CcfBlock) → shape.columns ≡ 0 →
+    ((k : ℕ) (d : CcfBlock) → k < length blocks → IsBlock shape k (get_or blocks k d)) → blocks ≡ []
+empty-blocks shape [] none are = refl
+empty-blocks shape (block ∷ blocks) none are =
+    let here : IsBlock shape 0 block = are 0 block (omega arith) in
+    let nothing : length block.part.columns ≡ 0 = ap length (empty-rising shape.columns block.part.columns none (here.part).columns) in
+    absurd (omega (arith, here.some, nothing))
+
+abbrev made : ℕ → ℕ → ℕ → ℕ → ℕ → Shape
+made e u q t n = record { equations = e; unknowns = u; q_rows = q; t_rows = t; columns = n }
+
+pub one-shape : (shape : Shape) (e u q t n : ℕ) → shape.equations ≡ e → shape.unknowns ≡ u → shape.q_rows ≡ q → shape.t_rows ≡ t → shape.columns ≡ n →
+    shape ≡ record { equations = e; unknowns = u; q_rows = q; t_rows = t; columns = n }
+one-shape shape e u q t n is_e is_u is_q is_t is_n =
+    ap (λ x. made x shape.unknowns shape.q_rows shape.t_rows shape.columns) is_e ∙ ap (λ x. made e x shape.q_rows shape.t_rows shape.columns) is_u
+    ∙ ap (λ x. made e u x shape.t_rows shape.columns) is_q ∙ ap (λ x. made e u q x shape.columns) is_t ∙ ap (λ x. made e u q t x) is_n
+
+-- a certificate's text, by its parts
+abbrev pub text_with : Kind → List ℕ → Shape → ℕ → List (ℕ × ℕ) → List (ℕ × ℕ) → List ℕ → List ℕ → List ℕ
+text_with kind echo shape rank base mates matrices parts =
+    echo_text kind echo ++ (shape_text shape ++ pair_text rank base mates ++ matrices ++ parts ++ codes "end\n")
+
+pub text-with : (c : Certificate) (kind : Kind) (echo : List ℕ) (shape : Shape) (rank : ℕ) (base mates : List (ℕ × ℕ)) →
+    c.kind ≡ kind → c.echo ≡ echo → c.ccf.shape ≡ shape → c.ccf.rank ≡ rank → c.ccf.base ≡ base → c.ccf.mates ≡ mates →
+    certificate_text c ≡ text_with kind echo shape rank base mates (matrices_text c.ccf.s c.ccf.u c.ccf.p c.ccf.t) (parts_text c.ccf.first c.ccf.blocks c.ccf.last)
+text-with c kind echo shape rank base mates is_kind is_echo is_shape is_rank is_base is_mates =
+    let X : List ℕ = matrices_text c.ccf.s c.ccf.u c.ccf.p c.ccf.t in
+    let Y : List ℕ = parts_text c.ccf.first c.ccf.blocks c.ccf.last in
+    ap (λ x. text_with x c.echo c.ccf.shape c.ccf.rank c.ccf.base c.ccf.mates X Y) is_kind
+    ∙ ap (λ x. text_with kind x c.ccf.shape c.ccf.rank c.ccf.base c.ccf.mates X Y) is_echo
+    ∙ ap (λ x. text_with kind echo x c.ccf.rank c.ccf.base c.ccf.mates X Y) is_shape
+    ∙ ap (λ x. text_with kind echo shape x c.ccf.base c.ccf.mates X Y) is_rank
+    ∙ ap (λ x. text_with kind echo shape rank x c.ccf.mates X Y) is_base
+    ∙ ap (λ x. text_with kind echo shape rank base x X Y) is_mates
+
+empty-matrices : (c : Contents) → IsCcf c → c.shape.q_rows ≡ 0 → c.shape.t_rows ≡ 0 → matrices_text c.s c.u c.p c.t ≡ []
+empty-matrices c is q t =
+    ap (λ x. matrices_text x c.u c.p c.t) (empty-list c.s ((is.s).count ∙ q))
+    ∙ ap (λ x. matrices_text [] x c.p c.t) (empty-list c.u ((is.u).count ∙ q))
+    ∙ ap (λ x. matrices_text [] [] x c.t) (empty-list c.p ((is.p).count ∙ q))
+    ∙ ap (λ x. matrices_text [] [] [] x) (empty-list c.t ((is.t).count ∙ t))
+
+abbrev nothing : CcfPart
+nothing = part [] [] []
+
+empty-parts : (c : Contents) → IsCcf c → c.shape.q_rows ≡ 0 → c.shape.t_rows ≡ 0 → c.shape.columns ≡ 0 → parts_text c.first c.blocks c.last ≡ codes "first |\nlast |\n"
+empty-parts c is q t n =
+    ap (λ x. parts_text x c.blocks c.last) (empty-part c.shape c.first q t n is.first)
+    ∙ ap (λ x. parts_text nothing x c.last) (empty-blocks c.shape c.blocks n is.blocks)
+    ∙ ap (λ x. parts_text nothing [] x) (empty-part c.shape c.last q t n is.last)
+
+empty-certificate : (c : Certificate) → IsRightFor [] c → certificate_text c ≡ empty_text
+unfolding digits
+empty-certificate c right =
+    let given = (right.gives).given in
+    let shape = (right.right).shape in
+    let lay = right.layers in
+    let pair = (right.right).pair_and_rank in
+    let is = right.form in
+    let rows : length right.model.equations ≡ 0 = ap length given.equations_are in
+    let columns : length right.model.unknowns ≡ 0 = ap length given.unknowns_are in
+    let q : right.layered.q_rows ≡ 0 = omega (arith, members-few _ _ _ _ lay.q_rows, rows) in
+    let t : right.layered.t_rows ≡ 0 = omega (arith, members-few _ _ _ _ lay.t_rows, rows) in
+    let s : right.origins.split ≡ 0 = omega (arith, members-few _ _ _ _ lay.auxiliary, rows) in
+    let n : right.layered.columns ≡ 0 = omega (arith, lay.columns, columns, s) in
+    let base : c.ccf.base ≡ [] = empty-pairs c.ccf.shape.q_rows c.ccf.shape.columns c.ccf.base (shape.q_rows ∙ q) is.base in
+    let mates : c.ccf.mates ≡ [] = empty-pairs c.ccf.shape.t_rows c.ccf.shape.columns c.ccf.mates (shape.t_rows ∙ t) is.mates in
+    let rank : c.ccf.rank ≡ 0 = omega (arith, pair.size, s, ap length base, ap length mates) in
+    let zero_shape : c.ccf.shape ≡ record { equations = 0; unknowns = 0; q_rows = 0; t_rows = 0; columns = 0 } =
+    one-shape c.ccf.shape 0 0 0 0 0 (shape.equations ∙ rows) (shape.unknowns ∙ columns) (shape.q_rows ∙ q) (shape.t_rows ∙ t) (shape.columns ∙ n) in
+    let S : Shape = record { equations = 0; unknowns = 0; q_rows = 0; t_rows = 0; columns = 0 } in
+    text-with c Matrix [] S 0 [] [] right.kind right.echo zero_shape rank base mates
+    ∙ ap (λ x. text_with Matrix [] S 0 [] [] x (parts_text c.ccf.first c.ccf.blocks c.ccf.last)) (empty-matrices c.ccf is (shape.q_rows ∙ q) (shape.t_rows ∙ t))
+    ∙ ap (λ x. text_with Matrix [] S 0 [] [] [] x) (empty-parts c.ccf is (shape.q_rows ∙ q) (shape.t_rows ∙ t) (shape.columns ∙ n))
+
+pub empty-answer : (words : List (List ℕ)) (text : List ℕ) → AsksFor words Analyse → IsAnswer words [] Done text → text ≡ empty_text
+empty-answer words text asks answer = let one = analysed words [] text asks answer in one.text_is ∙ empty-certificate one.certificate one.right
