@@ -1,6 +1,6 @@
 -- What a run answers.
-use Rattle.std.specs.Prelude.{◌≡◌, ℕ, ◌≤◌, ◌<◌, ◌⊎◌, List, [], length, Option, Some}
-use Rattle.port_io.specs.Bytes.{Took, Appended, Ended}
+use Rattle.std.specs.Prelude.{◌≡◌, ℕ, ◌+◌, ◌≤◌, ◌<◌, ◌⊎◌, List, [], length, Option, Some}
+use Rattle.port_io.specs.Bytes.{Took, TookAtMost, TookExactly, Appended, Ended}
 use Rattle.mixed_model.specs.Models.{MixedModel}
 use Rattle.matrix_reader.specs.Models.{GivesModel}
 use Rattle.report_cli.specs.Limits.{model_limit}
@@ -40,6 +40,11 @@ abbrev pub ReadsAll : Status → Type 0 → Type 0
 ReadsAll Done p = p
 ReadsAll (Refused refusal) p = p
 ReadsAll _ p = Unit {0}
+
+-- what was taken, by the status: one byte past the limit exactly where the input is too long
+abbrev pub TakesBy : Status → Option (List ℕ) → Option (List ℕ) → Type 0
+TakesBy (TooLong limit) left left' = TookExactly (model_limit + 1) left left'
+TakesBy _ left left' = TookAtMost model_limit left left'
 
 -- the status is no fault and no want of memory
 abbrev pub Tells : Status → Type 0 → Type 0

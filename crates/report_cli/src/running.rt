@@ -4,8 +4,8 @@ ghost use Rattle.std.specs.Prelude.{◌≡◌, ◌≢◌, ℕ, ◌+◌, ◌≤�
 ghost use Rattle.std.specs.String.{string_bytes};
 ghost use Rattle.port_io.specs.Causes.{Rose, one_more};
 ghost use Rattle.port_io.specs.Asking.{AsksWithin};
-ghost use Rattle.port_io.specs.Bytes.{Appended, TookAtMost};
-ghost use Rattle.report_cli.specs.Answer.{Answered, CutShort, IsComplete, OnlyAnswer, Tells, WritesNothing, IsDelivered};
+ghost use Rattle.port_io.specs.Bytes.{Appended};
+ghost use Rattle.report_cli.specs.Answer.{Answered, CutShort, IsComplete, OnlyAnswer, TakesBy, Tells, WritesNothing, IsDelivered};
 ghost use Rattle.report_cli.specs.Limits.{model_limit};
 ghost use Rattle.report_cli.specs.Reports.{IsWritable, report_text};
 ghost use Rattle.report_cli.specs.Rooms.{text_room};
@@ -56,7 +56,7 @@ pub fn run<S: Source, K: Sink, N: Sink>(
     // what is written, noted and taken
     ensures nothing_written { WritesNothing result (K.written out.new ≡ K.written out.old) }
     ensures noted { Noted (N.written notes.old) (N.written notes.new) (N.faults notes.old) (N.faults notes.new) (note_of result) }
-    ensures taken { TookAtMost (model_limit + 1) (S.left source.old) (S.left source.new) }
+    ensures taken { TakesBy result (S.left source.old) (S.left source.new) }
     ensures taken_usage { result ≡ Status.Usage → S.left source.new ≡ S.left source.old }
     ensures asked { AsksWithin 65536 (model_limit + 1) (S.asked source.old) (S.asked source.new) }
     ensures asked_usage { result ≡ Status.Usage → S.asked source.new ≡ S.asked source.old }
@@ -83,7 +83,7 @@ fn work<S: Source, K: Sink>(alloc: Global, words: &[String], source: &mut S, out
     ensures read_fault { result ≡ Status.ReadFault → Rose (S.faults source.old) (S.faults source.new) }
     ensures write_fault { result ≡ Status.WriteFault → Rose (K.faults out.old) (K.faults out.new) × CutShort (map string_bytes words.now) (S.left source.old) (S.left source.new) (K.written out.old) (K.written out.new) }
     ensures nothing_written { WritesNothing result (K.written out.new ≡ K.written out.old) }
-    ensures taken { TookAtMost (model_limit + 1) (S.left source.old) (S.left source.new) }
+    ensures taken { TakesBy result (S.left source.old) (S.left source.new) }
     ensures taken_usage { result ≡ Status.Usage → S.left source.new ≡ S.left source.old }
     ensures asked { AsksWithin 65536 (model_limit + 1) (S.asked source.old) (S.asked source.new) }
     ensures asked_usage { result ≡ Status.Usage → S.asked source.new ≡ S.asked source.old }
