@@ -1,6 +1,5 @@
 -- What reads ask for, one after the other.
 use Rattle.std.proofs.Common.{◌≡◌, ℕ, ◌+◌, ◌≤◌, arith, ap}
-use Rattle.std.specs.Prelude.{max}
 use Rattle.port_io.specs.Asking.{AsksWithin, asked_for, gave}
 use Rattle.port_io.specs.declared.asking.Asked.{Asked}
 

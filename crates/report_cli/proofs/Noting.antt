@@ -1,5 +1,5 @@
 -- What is noted, once the line was put and the buffer was handed on.
-use Rattle.std.proofs.Common.{◌≡◌, ℕ, inl, inr, List, [], ◌++◌, Option, Result, Ok, Err, is_ok, OnOk, true, false, append-nil, refl, sym, subst}
+use Rattle.std.proofs.Common.{◌≡◌, ℕ, inl, inr, List, [], ◌++◌, Option, Result, Ok, Err, is_ok, OnOk, true, false, append-nil, refl, sym, subst, ◌∙◌}
 use Rattle.port_io.specs.Causes.{HasCause, Rose}
 use Rattle.port_io.specs.Gathering.{Gathering, Gathered, GatheredPart, nothing_gathered}
 use Rattle.port_io.specs.declared.writing.WriteFault.{WriteFault as Fault}
@@ -24,15 +24,6 @@ note_is Memory other = refl
 fronted : (w w2 : Option (List ℕ)) (b2 : Gathering) (f f2 : ℕ) (line : List ℕ) → Rose f f2 → GatheredPart w nothing_gathered w2 b2 line → Noted w w2 f f2 line
 fronted w w2 b2 f f2 line rose part = let front = appended_front w w2 b2 line part in record { part = front.0; rest = front.1; appended = front.3; prefix = front.2; whole = inr rose }
 
--- the sink failed while the line was put
-noted_part : {S : Type 0} {w : S → Option (List ℕ)} {f q : S → ℕ} {t : S → ℕ → Type 0} {s s1 : S} {b b1 : Gathering} {line : List ℕ} {r : Result (Unit {0}) Fault} →
-    b ≡ nothing_gathered → is_ok r ≡ false → IsPut w f q t s b s1 b1 line r → Noted (w s) (w s1) (f s) (f s1) line
-noted_part {S} {w} {f} {q} {t} {s} {s1} {b} {b1} {line} {r} new broken put = go r broken (subst (λ z. IsPut w f q t s z s1 b1 line r) new put)
-  where
-    go : (r : Result (Unit {0}) Fault) → is_ok r ≡ false → IsPut w f q t s nothing_gathered s1 b1 line r → Noted (w s) (w s1) (f s) (f s1) line
-    go (Ok u) broken put = absurd (never_ok (sym broken))
-    go (Err e) broken put = fronted (w s) (w s1) b1 (f s) (f s1) line put.cause.failed put.part
-
 -- the line was put, and the buffer handed on as far as the sink took it
 pub noted_whole : {S : Type 0} {w : S → Option (List ℕ)} {f q : S → ℕ} {t : S → ℕ → Type 0} {s s1 : S} {b b1 b2 : Gathering} {w2 : Option (List ℕ)} {f2 : ℕ} {line : List ℕ} {r : Result (Unit {0}) Fault} {e : Result (Unit {0}) Fault} →
     b ≡ nothing_gathered → is_ok r ≡ true → IsPut w f q t s b s1 b1 line r → Gathered (w s1) b1 w2 b2 [] → OnOk e (b2.held ≡ []) → HasCause (f s1) f2 e → Noted (w s) w2 (f s) f2 line
@@ -43,5 +34,5 @@ noted_whole {S} {w} {f} {q} {t} {s} {s1} {b} {b1} {b2} {w2} {f2} {line} {r} {e} 
 
     go : (r : Result (Unit {0}) Fault) → is_ok r ≡ true → IsPut w f q t s nothing_gathered s1 b1 line r → (e : Result (Unit {0}) Fault) → OnOk e (b2.held ≡ []) → HasCause (f s1) f2 e → Noted (w s) w2 (f s) f2 line
     go (Err d) ok put e empty cause = absurd (never_ok ok)
-    go (Ok u) ok put (Ok v) empty cause = record { part = line; rest = []; appended = appended_whole (w s) w2 b2 line (all put.whole) empty; prefix = sym (append-nil line); whole = inl refl }
+    go (Ok u) ok put (Ok v) empty cause = record { part = line; rest = []; appended = appended_whole (w s) w2 b2 line (all put.whole) empty; prefix = sym (append-nil line); whole = inl (refl, cause.fine ∙ put.cause.fine) }
     go (Ok u) ok put (Err d) empty cause = fronted (w s) w2 b2 (f s) f2 line (rose_later (f s) (f s1) f2 put.cause.later cause.failed) (gathered_front (w s) w2 nothing_gathered b2 line [] line (sym (append-nil line)) (all put.whole))

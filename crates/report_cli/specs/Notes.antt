@@ -30,10 +30,10 @@ abbrev pub note_of : Status → List ℕ
 note_of Done = []
 note_of status = line_of status
 
--- a line was noted, or a part of it where the count of faults rose
+-- a line was noted and no call failed, or a part of it and the count of faults rose
 pub record Noted (written written' : Option (List ℕ)) (faults faults' : ℕ) (line : List ℕ) : Type 0 where
   pub part : List ℕ
   pub rest : List ℕ
   pub appended : Appended written written' part
   pub prefix : line ≡ part ++ rest
-  pub whole : (rest ≡ []) ⊎ Rose faults faults'
+  pub whole : ((rest ≡ []) × (faults' ≡ faults)) ⊎ Rose faults faults'
