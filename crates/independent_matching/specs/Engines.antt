@@ -48,7 +48,7 @@ pub record IsSolved (p : ℕ) (L : Layered) (F : Tableau) (reached : ℕ → Boo
 abbrev pub AreFewSteps : ℕ → ℕ → ℕ → ℕ → ℕ → Type 0
 AreFewSteps n s m before after = after + (s * n + s * s) ≤ before + (m + 1) * n + m * m
 
--- no search was made, and no look is counted; or one was made, and its looks are counted
+-- nothing was looked at, and no look is counted; or a walk was looked for, and its looks are counted
 abbrev pub AreLooksOfSearch : Found → Found → ℕ → ℕ → Type 0
 AreLooksOfSearch found now before after =
     ((now ≡ found) × (after ≡ before)) ⊎ ((now.all_looks ≡ counted_on found.all_looks now.looks) × (after ≡ before + now.looks))
@@ -57,10 +57,10 @@ AreLooksOfSearch found now before after =
 abbrev pub AreLooksOfSearches : Found → Found → ℕ → ℕ → ℕ → Type 0
 AreLooksOfSearches found now before after last = (k : ℕ) × (after ≡ before + k) × (now.all_looks ≡ counted_on found.all_looks (k + last))
 
--- the pivots while a pair grows from s columns to m: for each column at most as many as the pair had, and one
+-- while a pair grows from s columns to m: the pivots, for each column that it gains at most as many as it had before, and one
 abbrev pub AreFewPivots : ℕ → ℕ → ℕ → ℕ → Type 0
 AreFewPivots s m before after = after + s * s ≤ before + m * m
 
--- the looks that are counted meanwhile, over n columns: for each column of the pair at most n
+-- while a pair grows from s columns to m, over n columns: the looks that are counted, for each column that it gains at most n
 abbrev pub AreFewLooks : ℕ → ℕ → ℕ → ℕ → ℕ → Type 0
 AreFewLooks n s m before after = after + s * n ≤ before + m * n

@@ -66,12 +66,13 @@ impl Engine<Res, DenseTableau<Res>> {
 }
 
 impl<F: Field, T: Tableau<F>> Engine<F, T> {
-    /// Makes the pair larger by a column along a shortest walk from a free column to an end, from its end backwards; where
-    /// there is none, the pair is best and stays. Where a free column is an end it is such a walk, and no search is made.
+    /// Searches once for a shortest walk from a free column to an end. Where there is one, the pair grows by a column along
+    /// it, from its end backwards; else the pair is best and stays. A free column that is an end is such a walk, and then no
+    /// column is looked at.
     ///
     /// A step is a look at a column in the search or a pivot. Where the pair grows there is at most one look for each column,
-    /// and there are at most as many pivots as there were base columns, and one; `looks` rises by the looks of the search
-    /// that was made, or by none, and `pivots` by the rest of the steps.
+    /// and there are at most as many pivots as there were base columns, and one; `looks` rises by the looks of the search,
+    /// and `pivots` by the rest of the steps.
     pub fn improve<L: Ledger, M: Ledger>(
         &mut self,
         searches: &mut Steps<M>,
