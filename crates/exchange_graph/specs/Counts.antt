@@ -7,8 +7,8 @@ use Rattle.closed_sets.specs.Walks.{Walk}
 abbrev pub IsWithinReach : (ℕ → ℕ → Bool) → ℕ → (ℕ → Bool) → ℕ → ℕ → Type 0
 IsWithinReach arc n starts k y = (s : ℕ) × (m : ℕ) × (s < n) × (starts s ≡ true) × (m ≤ k) × Walk arc n s y m
 
--- looks is the size of a set of places: those looked at in a search that finds an end k arcs away. Each is at most k arcs away from a
--- start and is no end, and each place that is fewer than k arcs away is one of them
+-- looks is the size of a set of places, those that were looked at in a search that finds an end k arcs away: each is at
+-- most k arcs away from a start and is no end, and each place that is fewer than k arcs away is one of them
 pub record AreLookedAt (arc : ℕ → ℕ → Bool) (n : ℕ) (starts ends : ℕ → Bool) (k looks : ℕ) : Type 0 where
   pub places : ℕ → Bool
   pub size : size_on places n ≡ looks

@@ -208,7 +208,8 @@ impl Scan {
         ensures reached { IsReachedSet (A.leads arcs.now) (places self.old) (members_of starts.now) (members_of self.new.reached.items) }
         ensures looks { self.new.looks ≡ self.old.looks }
         ensures walk { self.new.walk ≡ self.old.walk }
-        ensures all_looks { self.new.all_looks ≡ counted_on self.old.all_looks (size_on (members_of self.new.reached.items) (places self.old)) }
+        ensures all_looks { self.new.all_looks
+            ≡ counted_on self.old.all_looks (size_on (members_of self.new.reached.items) (places self.old)) }
         ensures stored { IsStored self.new }
         ensures places { places self.new ≡ places self.old }
     {

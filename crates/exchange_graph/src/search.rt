@@ -84,7 +84,8 @@ impl Search {
         ensures reached { IsReachedSet (A.leads arcs.now) self.old.places (members_of starts.now) (reached_of self.new) }
         ensures looks { self.new.looks ≡ self.old.looks }
         ensures walk { self.new.walk ≡ self.old.walk }
-        ensures all_looks { self.new.all_looks ≡ counted_on self.old.all_looks (size_on (reached_of self.new) self.old.places) }
+        ensures all_looks { self.new.all_looks
+            ≡ counted_on self.old.all_looks (size_on (reached_of self.new) self.old.places) }
         ensures places { self.new.places ≡ self.old.places }
     {
         self.scan.reach(arcs, starts);

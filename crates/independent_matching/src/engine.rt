@@ -11,7 +11,8 @@ ghost use Rattle.row_transform.specs.Dense.{state_of};
 ghost use Rattle.mixed_matrices.specs.Tableaus.{HasTableau};
 ghost use Rattle.mixed_model.specs.Layers.{layered_matrix_of};
 ghost use Rattle.exchange_graph.specs.Counts.{counted_on};
-ghost use Rattle.independent_matching.specs.Engines.{Standing, AreEntries, AreFewLooks, AreFewPivots, AreFewSteps, AreLooksOfSearch, AreLooksOfSearches, IsSolved, layers};
+ghost use Rattle.independent_matching.specs.Engines.{Standing, AreEntries, AreFewLooks, AreFewPivots, AreFewSteps};
+ghost use Rattle.independent_matching.specs.Engines.{AreLooksOfSearch, AreLooksOfSearches, IsSolved, layers};
 ghost use Rattle.independent_matching.specs.Sides.{layers_of, size_of, tableau_of};
 
 use crate::improver::Improver;
@@ -81,10 +82,12 @@ impl<F: Field, T: Tableau<F>> Engine<F, T> {
         ensures same { (q : ℕ → ℕ → ℕ) → layers q (T.state self.new.tableau) self.new.matching ≡ layers q (T.state self.old.tableau) self.old.matching }
         ensures entries { (q : ℕ → ℕ → ℕ) → AreEntries F.modulus (T.state self.old.tableau) q → AreEntries F.modulus (T.state self.new.tableau) q }
         ensures grown { IsTrue result → size_of (T.state self.new.tableau) self.new.matching ≡ size_of (T.state self.old.tableau) self.old.matching + 1 }
-        ensures few_pivots { IsTrue result → self.new.pivots ≤ self.old.pivots + size_on (T.state self.old.tableau).base (T.state self.old.tableau).columns + 1 }
+        ensures few_pivots { IsTrue result → self.new.pivots ≤ self.old.pivots
+            + size_on (T.state self.old.tableau).base (T.state self.old.tableau).columns + 1 }
         ensures few_looks { IsTrue result → self.new.looks ≤ self.old.looks + (T.state self.old.tableau).columns }
         ensures searched { IsTrue result → AreLooksOfSearch self.old.found self.new.found self.old.looks self.new.looks }
-        ensures last { IsFalse result → self.new.found.all_looks ≡ counted_on self.old.found.all_looks (size_on (reached_of self.new.found) (T.state self.old.tableau).columns) }
+        ensures last { IsFalse result → self.new.found.all_looks
+            ≡ counted_on self.old.found.all_looks (size_on (reached_of self.new.found) (T.state self.old.tableau).columns) }
         ensures solved { IsFalse result → (q : ℕ → ℕ → ℕ) → AreEntries F.modulus (T.state self.new.tableau) q → IsSolved F.modulus (layers q (T.state self.new.tableau) self.new.matching) (tableau_of (T.state self.new.tableau) self.new.matching) (reached_of self.new.found) }
         ensures kept { IsFalse result → (self.new.tableau ≡ self.old.tableau) × (self.new.matching ≡ self.old.matching) }
         ensures none_told { IsFalse result → (self.new.pivots ≡ self.old.pivots) × (self.new.looks ≡ self.old.looks) }
@@ -108,10 +111,14 @@ impl<F: Field, T: Tableau<F>> Engine<F, T> {
         ensures solved { (q : ℕ → ℕ → ℕ) → AreEntries F.modulus (T.state self.new.tableau) q → IsSolved F.modulus (layers q (T.state self.new.tableau) self.new.matching) (tableau_of (T.state self.new.tableau) self.new.matching) (reached_of self.new.found) }
         ensures steps { AreFewSteps (T.state self.old.tableau).columns (size_of (T.state self.old.tableau) self.old.matching) (size_of (T.state self.new.tableau) self.new.matching) steps.old steps.new }
         ensures told { steps.new + (self.old.pivots + self.old.looks) ≡ steps.old + (self.new.pivots + self.new.looks) + size_on (reached_of self.new.found) (T.state self.old.tableau).columns }
-        ensures few_pivots { AreFewPivots (size_of (T.state self.old.tableau) self.old.matching) (size_of (T.state self.new.tableau) self.new.matching) self.old.pivots self.new.pivots }
-        ensures few_looks { AreFewLooks (T.state self.old.tableau).columns (size_of (T.state self.old.tableau) self.old.matching) (size_of (T.state self.new.tableau) self.new.matching) self.old.looks self.new.looks }
-        ensures looked { AreLooksOfSearches self.old.found self.new.found self.old.looks self.new.looks (size_on (reached_of self.new.found) (T.state self.old.tableau).columns) }
-        ensures searches { self.new.searches + size_of (T.state self.old.tableau) self.old.matching ≡ size_of (T.state self.new.tableau) self.new.matching + 1 }
+        ensures few_pivots { AreFewPivots (size_of (T.state self.old.tableau) self.old.matching)
+            (size_of (T.state self.new.tableau) self.new.matching) self.old.pivots self.new.pivots }
+        ensures few_looks { AreFewLooks (T.state self.old.tableau).columns (size_of (T.state self.old.tableau) self.old.matching)
+            (size_of (T.state self.new.tableau) self.new.matching) self.old.looks self.new.looks }
+        ensures looked { AreLooksOfSearches self.old.found self.new.found self.old.looks self.new.looks
+            (size_on (reached_of self.new.found) (T.state self.old.tableau).columns) }
+        ensures searches { self.new.searches + size_of (T.state self.old.tableau) self.old.matching
+            ≡ size_of (T.state self.new.tableau) self.new.matching + 1 }
     {
         self.run_from::<L, Brand>(Blank::new(1), steps);
     }
@@ -126,10 +133,14 @@ impl<F: Field, T: Tableau<F>> Engine<F, T> {
         ensures solved { (q : ℕ → ℕ → ℕ) → AreEntries F.modulus (T.state self.new.tableau) q → IsSolved F.modulus (layers q (T.state self.new.tableau) self.new.matching) (tableau_of (T.state self.new.tableau) self.new.matching) (reached_of self.new.found) }
         ensures steps { AreFewSteps (T.state self.old.tableau).columns (size_of (T.state self.old.tableau) self.old.matching) (size_of (T.state self.new.tableau) self.new.matching) steps.old steps.new }
         ensures told { steps.new + (self.old.pivots + self.old.looks) ≡ steps.old + (self.new.pivots + self.new.looks) + size_on (reached_of self.new.found) (T.state self.old.tableau).columns }
-        ensures few_pivots { AreFewPivots (size_of (T.state self.old.tableau) self.old.matching) (size_of (T.state self.new.tableau) self.new.matching) self.old.pivots self.new.pivots }
-        ensures few_looks { AreFewLooks (T.state self.old.tableau).columns (size_of (T.state self.old.tableau) self.old.matching) (size_of (T.state self.new.tableau) self.new.matching) self.old.looks self.new.looks }
-        ensures looked { AreLooksOfSearches self.old.found self.new.found self.old.looks self.new.looks (size_on (reached_of self.new.found) (T.state self.old.tableau).columns) }
-        ensures searches { self.new.searches + size_of (T.state self.old.tableau) self.old.matching ≡ size_of (T.state self.new.tableau) self.new.matching + 1 }
+        ensures few_pivots { AreFewPivots (size_of (T.state self.old.tableau) self.old.matching)
+            (size_of (T.state self.new.tableau) self.new.matching) self.old.pivots self.new.pivots }
+        ensures few_looks { AreFewLooks (T.state self.old.tableau).columns (size_of (T.state self.old.tableau) self.old.matching)
+            (size_of (T.state self.new.tableau) self.new.matching) self.old.looks self.new.looks }
+        ensures looked { AreLooksOfSearches self.old.found self.new.found self.old.looks self.new.looks
+            (size_on (reached_of self.new.found) (T.state self.old.tableau).columns) }
+        ensures searches { self.new.searches + size_of (T.state self.old.tableau) self.old.matching
+            ≡ size_of (T.state self.new.tableau) self.new.matching + 1 }
     {
         self.run_counted(&mut Steps::<M>::new(blank), steps);
     }
@@ -145,10 +156,14 @@ impl<F: Field, T: Tableau<F>> Engine<F, T> {
         ensures solved { (q : ℕ → ℕ → ℕ) → AreEntries F.modulus (T.state self.new.tableau) q → IsSolved F.modulus (layers q (T.state self.new.tableau) self.new.matching) (tableau_of (T.state self.new.tableau) self.new.matching) (reached_of self.new.found) }
         ensures steps { AreFewSteps (T.state self.old.tableau).columns (size_of (T.state self.old.tableau) self.old.matching) (size_of (T.state self.new.tableau) self.new.matching) steps.old steps.new }
         ensures told { steps.new + (self.old.pivots + self.old.looks) ≡ steps.old + (self.new.pivots + self.new.looks) + size_on (reached_of self.new.found) (T.state self.old.tableau).columns }
-        ensures few_pivots { AreFewPivots (size_of (T.state self.old.tableau) self.old.matching) (size_of (T.state self.new.tableau) self.new.matching) self.old.pivots self.new.pivots }
-        ensures few_looks { AreFewLooks (T.state self.old.tableau).columns (size_of (T.state self.old.tableau) self.old.matching) (size_of (T.state self.new.tableau) self.new.matching) self.old.looks self.new.looks }
-        ensures looked { AreLooksOfSearches self.old.found self.new.found self.old.looks self.new.looks (size_on (reached_of self.new.found) (T.state self.old.tableau).columns) }
-        ensures searches { self.new.searches + size_of (T.state self.old.tableau) self.old.matching ≡ size_of (T.state self.new.tableau) self.new.matching + 1 }
+        ensures few_pivots { AreFewPivots (size_of (T.state self.old.tableau) self.old.matching)
+            (size_of (T.state self.new.tableau) self.new.matching) self.old.pivots self.new.pivots }
+        ensures few_looks { AreFewLooks (T.state self.old.tableau).columns (size_of (T.state self.old.tableau) self.old.matching)
+            (size_of (T.state self.new.tableau) self.new.matching) self.old.looks self.new.looks }
+        ensures looked { AreLooksOfSearches self.old.found self.new.found self.old.looks self.new.looks
+            (size_on (reached_of self.new.found) (T.state self.old.tableau).columns) }
+        ensures searches { self.new.searches + size_of (T.state self.old.tableau) self.old.matching
+            ≡ size_of (T.state self.new.tableau) self.new.matching + 1 }
         ensures counted { searches.new ≡ searches.old + self.new.searches }
     {
         let made = self.improver.run(searches, steps);

@@ -7,7 +7,8 @@ ghost use Rattle.exchange_graph.specs.Results.{reached_of, step_of};
 ghost use Rattle.mixed_matrices.specs.Arcs.{HasNoWalk, IsReachedFromFree, is_free};
 ghost use Rattle.mixed_matrices.specs.Tableaus.{HasTableau};
 ghost use Rattle.mixed_augmentation.specs.Moves.{IsFreeRow, IsRoute, route};
-ghost use Rattle.independent_matching.specs.Engines.{AreFewLooks, AreFewPivots, AreFewSteps, AreLooksOfSearch, AreLooksOfSearches};
+ghost use Rattle.independent_matching.specs.Engines.{AreFewLooks, AreFewPivots, AreFewSteps};
+ghost use Rattle.independent_matching.specs.Engines.{AreLooksOfSearch, AreLooksOfSearches};
 ghost use Rattle.independent_matching.specs.Marks.{AreMarksOfQ, IsReady};
 ghost use Rattle.independent_matching.specs.Sides.{AreRowsLeft, CanTake, IsFreeTaken, Takes, in_q, is_matched, layers_of, number, size_of, tableau_of};
 
@@ -209,11 +210,13 @@ impl<F: Field, T: Tableau<F>> Improver<F, T> {
         ensures ready { IsReady F.modulus (T.state self.new.pair.tableau) self.new.pair.mates self.new.search.places self.new.marks self.new.size self.new.pivots self.new.looks }
         ensures layers { layers_of (T.state self.new.pair.tableau) self.new.pair.mates ≡ layers_of (T.state self.old.pair.tableau) self.old.pair.mates }
         ensures size { IsTrue result → size_of (T.state self.new.pair.tableau) self.new.pair.mates ≡ size_of (T.state self.old.pair.tableau) self.old.pair.mates + 1 }
-        ensures few_pivots { IsTrue result → self.new.pivots ≤ self.old.pivots + size_on (T.state self.old.pair.tableau).base (T.state self.old.pair.tableau).columns + 1 }
+        ensures few_pivots { IsTrue result → self.new.pivots ≤ self.old.pivots
+            + size_on (T.state self.old.pair.tableau).base (T.state self.old.pair.tableau).columns + 1 }
         ensures few_looks { IsTrue result → self.new.looks ≤ self.old.looks + (T.state self.old.pair.tableau).columns }
         ensures counted { IsTrue result → self.new.looks ≡ self.old.looks + self.new.search.looks }
         ensures looked { self.new.search.all_looks ≡ counted_on self.old.search.all_looks self.new.search.looks }
-        ensures last { IsFalse result → self.new.search.looks ≡ size_on (reached_of self.new.search) (T.state self.old.pair.tableau).columns }
+        ensures last { IsFalse result → self.new.search.looks
+            ≡ size_on (reached_of self.new.search) (T.state self.old.pair.tableau).columns }
         ensures pair { IsFalse result → self.new.pair ≡ self.old.pair }
         ensures none_told { IsFalse result → (self.new.pivots ≡ self.old.pivots) × (self.new.looks ≡ self.old.looks) }
         ensures no_walk { IsFalse result → HasNoWalk F.modulus (layers_of (T.state self.new.pair.tableau) self.new.pair.mates) (tableau_of (T.state self.new.pair.tableau) self.new.pair.mates) }
@@ -249,10 +252,12 @@ impl<F: Field, T: Tableau<F>> Improver<F, T> {
         ensures ready { IsReady F.modulus (T.state self.new.pair.tableau) self.new.pair.mates self.new.search.places self.new.marks self.new.size self.new.pivots self.new.looks }
         ensures layers { layers_of (T.state self.new.pair.tableau) self.new.pair.mates ≡ layers_of (T.state self.old.pair.tableau) self.old.pair.mates }
         ensures size { IsTrue result → size_of (T.state self.new.pair.tableau) self.new.pair.mates ≡ size_of (T.state self.old.pair.tableau) self.old.pair.mates + 1 }
-        ensures few_pivots { IsTrue result → self.new.pivots ≤ self.old.pivots + size_on (T.state self.old.pair.tableau).base (T.state self.old.pair.tableau).columns + 1 }
+        ensures few_pivots { IsTrue result → self.new.pivots ≤ self.old.pivots
+            + size_on (T.state self.old.pair.tableau).base (T.state self.old.pair.tableau).columns + 1 }
         ensures few_looks { IsTrue result → self.new.looks ≤ self.old.looks + (T.state self.old.pair.tableau).columns }
         ensures searched { IsTrue result → AreLooksOfSearch self.old.search self.new.search self.old.looks self.new.looks }
-        ensures last { IsFalse result → self.new.search.all_looks ≡ counted_on self.old.search.all_looks (size_on (reached_of self.new.search) (T.state self.old.pair.tableau).columns) }
+        ensures last { IsFalse result → self.new.search.all_looks ≡ counted_on self.old.search.all_looks
+            (size_on (reached_of self.new.search) (T.state self.old.pair.tableau).columns) }
         ensures pair { IsFalse result → self.new.pair ≡ self.old.pair }
         ensures none_told { IsFalse result → (self.new.pivots ≡ self.old.pivots) × (self.new.looks ≡ self.old.looks) }
         ensures no_walk { IsFalse result → HasNoWalk F.modulus (layers_of (T.state self.new.pair.tableau) self.new.pair.mates) (tableau_of (T.state self.new.pair.tableau) self.new.pair.mates) }
@@ -285,10 +290,15 @@ impl<F: Field, T: Tableau<F>> Improver<F, T> {
         ensures reached { IsReachedFromFree F.modulus (layers_of (T.state self.new.pair.tableau) self.new.pair.mates) (tableau_of (T.state self.new.pair.tableau) self.new.pair.mates) (reached_of self.new.search) }
         ensures steps { AreFewSteps (T.state self.old.pair.tableau).columns (size_of (T.state self.old.pair.tableau) self.old.pair.mates) (size_of (T.state self.new.pair.tableau) self.new.pair.mates) steps.old steps.new }
         ensures told { steps.new + (self.old.pivots + self.old.looks) ≡ steps.old + (self.new.pivots + self.new.looks) + size_on (reached_of self.new.search) (T.state self.old.pair.tableau).columns }
-        ensures few_pivots { AreFewPivots (size_of (T.state self.old.pair.tableau) self.old.pair.mates) (size_of (T.state self.new.pair.tableau) self.new.pair.mates) self.old.pivots self.new.pivots }
-        ensures few_looks { AreFewLooks (T.state self.old.pair.tableau).columns (size_of (T.state self.old.pair.tableau) self.old.pair.mates) (size_of (T.state self.new.pair.tableau) self.new.pair.mates) self.old.looks self.new.looks }
-        ensures looked { AreLooksOfSearches self.old.search self.new.search self.old.looks self.new.looks (size_on (reached_of self.new.search) (T.state self.old.pair.tableau).columns) }
-        ensures made { result + size_of (T.state self.old.pair.tableau) self.old.pair.mates ≡ size_of (T.state self.new.pair.tableau) self.new.pair.mates + 1 }
+        ensures few_pivots { AreFewPivots (size_of (T.state self.old.pair.tableau) self.old.pair.mates)
+            (size_of (T.state self.new.pair.tableau) self.new.pair.mates) self.old.pivots self.new.pivots }
+        ensures few_looks { AreFewLooks (T.state self.old.pair.tableau).columns
+            (size_of (T.state self.old.pair.tableau) self.old.pair.mates) (size_of (T.state self.new.pair.tableau) self.new.pair.mates)
+            self.old.looks self.new.looks }
+        ensures looked { AreLooksOfSearches self.old.search self.new.search self.old.looks self.new.looks
+            (size_on (reached_of self.new.search) (T.state self.old.pair.tableau).columns) }
+        ensures made { result + size_of (T.state self.old.pair.tableau) self.old.pair.mates
+            ≡ size_of (T.state self.new.pair.tableau) self.new.pair.mates + 1 }
         ensures searches { searches.new ≡ searches.old + result }
     {
         // there are at most 8,192 columns, so that the count fits
