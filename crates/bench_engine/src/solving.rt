@@ -46,8 +46,7 @@ pub(crate) fn solve<L: Ledger>(
         pair: engine.size(),
         free: (0..columns).filter(|col| engine.free(*col)).count(),
         least,
-        // the last one alone does not make the pair larger
-        searches: engine.size().saturating_add(1),
+        searches: engine.searches(),
         // the last one looked at each column that it reached
         looks: engine.looks().saturating_add(least),
         pivots: engine.pivots(),

@@ -1,3 +1,4 @@
+pub mod CountLaws
 pub mod ItemLaws
 pub mod LookLaws
 pub mod NoneLaws

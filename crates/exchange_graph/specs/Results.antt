@@ -2,12 +2,14 @@
 use Rattle.std.specs.Prelude.{ℕ, Bool, List, slice_index}
 use Rattle.exchange_graph.specs.Marks.{members_of}
 
--- how many places there are, the marks of the reached ones, the places of the walk, and how many were looked at
+-- how many places there are, the marks of the reached ones, the places of the walk, how many were looked at in the last
+-- search for a shortest walk, and how many looks there have been in all
 pub record Found : Type 0 where
   pub places : ℕ
   pub marks : List Bool
   pub walk : List ℕ
   pub looks : ℕ
+  pub all_looks : ℕ
 
 -- the reached set
 abbrev pub reached_of : Found → ℕ → Bool

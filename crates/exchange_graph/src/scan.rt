@@ -2,6 +2,7 @@ ghost use Rattle.std.specs.Prelude.{◌≡◌, ℕ, ◌+◌, ◌<◌, ◌≤◌,
 ghost use Rattle.residue_theory.specs.Sums.{size_on};
 ghost use Rattle.closed_sets.specs.Closed.{IsClosed, IsReachedSet};
 ghost use Rattle.search_laws.specs.Searches.{IsShortest, IsSearch, IsPut, IsGrown, HasStarts};
+ghost use Rattle.exchange_graph.specs.Counts.{AreLookedAt, counted_on};
 ghost use Rattle.exchange_graph.specs.Marks.{members_of};
 ghost use Rattle.exchange_graph.specs.Scans.{IsStored, places, state_of, walk_of, position_of};
 
@@ -13,7 +14,8 @@ use std::sync::ledger::Ledger;
 
 // `order` lists the places, the `filled` reached ones first and in the order in which they were reached; `position`
 // tells where in it each place stands. `depth` is how many arcs lead to a reached place, and `before` the place that
-// the last of these comes from. `looks` is how many places the last search for a shortest walk looked at.
+// the last of these comes from. `looks` is how many places the last search for a shortest walk looked at, and
+// `all_looks` counts each look from the first one on, whichever call makes it: no look goes without it.
 #[derive(Drop)]
 pub struct Scan {
     pub order: Vec<usize>,
@@ -25,6 +27,7 @@ pub struct Scan {
     pub waiting: Waiting,
     pub filled: usize,
     pub looks: usize,
+    pub all_looks: u64,
 }
 
 impl Scan {
@@ -33,6 +36,7 @@ impl Scan {
         ensures stored { IfOk result (λ s. IsStored s) }
         ensures places { IfOk result (λ s. places s ≡ n) }
         ensures looks { IfOk result (λ s. s.looks ≡ 0) }
+        ensures all_looks { IfOk result (λ s. s.all_looks ≡ 0) }
     {
         let mut order = Vec::with_capacity(alloc, n)?;
         let mut position = Vec::with_capacity(alloc, n)?;
@@ -58,6 +62,7 @@ impl Scan {
             waiting: Waiting::open(alloc, n)?,
             filled: 0,
             looks: 0,
+            all_looks: 0,
         })
     }
 
@@ -71,6 +76,8 @@ impl Scan {
         ensures put { IsPut (state_of self.old) (state_of self.new) (position_of self.old place) self.old.filled from depth }
         ensures filled { self.new.filled ≡ self.old.filled + 1 }
         ensures looks { self.new.looks ≡ self.old.looks }
+        ensures walk { self.new.walk ≡ self.old.walk }
+        ensures all_looks { self.new.all_looks ≡ self.old.all_looks }
         ensures stored { IsStored self.new }
         ensures places { places self.new ≡ places self.old }
     {
@@ -94,6 +101,8 @@ impl Scan {
         ensures reached { (y : ℕ) → y < places self.old → members_of self.new.reached.items y ≡ false }
         ensures filled { self.new.filled ≡ 0 }
         ensures looks { self.new.looks ≡ self.old.looks }
+        ensures walk { self.new.walk ≡ self.old.walk }
+        ensures all_looks { self.new.all_looks ≡ self.old.all_looks }
         ensures stored { IsStored self.new }
         ensures places { places self.new ≡ places self.old }
     {
@@ -112,6 +121,8 @@ impl Scan {
         ensures search { (arc : ℕ → ℕ → Bool) → IsSearch arc (places self.old) (state_of self.new) 0 self.new.filled }
         ensures starts { HasStarts (places self.old) (members_of starts.now) (state_of self.new) }
         ensures looks { self.new.looks ≡ self.old.looks }
+        ensures walk { self.new.walk ≡ self.old.walk }
+        ensures all_looks { self.new.all_looks ≡ self.old.all_looks }
         ensures stored { IsStored self.new }
         ensures places { places self.new ≡ places self.old }
     {
@@ -134,6 +145,8 @@ impl Scan {
         ensures state { state_of self.new ≡ state_of self.old }
         ensures filled { self.new.filled ≡ self.old.filled }
         ensures looks { self.new.looks ≡ self.old.looks }
+        ensures walk { self.new.walk ≡ self.old.walk }
+        ensures all_looks { self.new.all_looks ≡ self.old.all_looks }
         ensures stored { IsStored self.new }
         ensures places { places self.new ≡ places self.old }
     {
@@ -149,12 +162,15 @@ impl Scan {
         ensures search { IsSearch (A.leads arcs.now) (places self.old) (state_of self.new) (head + 1) self.new.filled }
         ensures grown { IsGrown (places self.old) (state_of self.old) (state_of self.new) self.old.filled }
         ensures looks { self.new.looks ≡ self.old.looks }
+        ensures walk { self.new.walk ≡ self.old.walk }
+        ensures all_looks { self.new.all_looks ≡ counted_on self.old.all_looks 1 }
         ensures stored { IsStored self.new }
         ensures places { places self.new ≡ places self.old }
     {
         let place = self.order[head];
         let depth = self.depth[place] + 1;
         let places = self.order.len();
+        self.all_looks = self.all_looks.saturating_add(1);
         let mut from = self.first_waiting(0);
         while let Some(next) = arcs.successor(place, from, places) {
             if !self.reached[next] {
@@ -191,6 +207,9 @@ impl Scan {
         requires starts { length starts.now ≡ places self.old }
         ensures reached { IsReachedSet (A.leads arcs.now) (places self.old) (members_of starts.now) (members_of self.new.reached.items) }
         ensures looks { self.new.looks ≡ self.old.looks }
+        ensures walk { self.new.walk ≡ self.old.walk }
+        ensures all_looks { self.new.all_looks
+            ≡ counted_on self.old.all_looks (size_on (members_of self.new.reached.items) (places self.old)) }
         ensures stored { IsStored self.new }
         ensures places { places self.new ≡ places self.old }
     {
@@ -220,6 +239,10 @@ impl Scan {
         ensures looks { IfNone result (steps.new ≡ steps.old + size_on (members_of self.new.reached.items) (places self.old)) }
         ensures count { steps.new ≤ steps.old + places self.old }
         ensures told { steps.new ≡ steps.old + self.new.looks }
+        ensures looked { IfSome result (λ k. AreLookedAt (A.leads arcs.now) (places self.old) (members_of starts.now)
+            (members_of ends.now) k self.new.looks) }
+        ensures walk { IfNone result (self.new.walk ≡ self.old.walk) }
+        ensures all_looks { self.new.all_looks ≡ counted_on self.old.all_looks self.new.looks }
         ensures few { self.new.looks ≤ places self.old }
         ensures stored { IsStored self.new }
         ensures places { places self.new ≡ places self.old }
@@ -238,7 +261,7 @@ impl Scan {
             self.look(arcs, head);
             head += 1;
         }
-        self.looks = head;
+        self.looks = self.filled;
         None
     }
 }

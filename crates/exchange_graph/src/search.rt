@@ -2,6 +2,7 @@ ghost use Rattle.std.specs.Prelude.{◌≡◌, ℕ, ◌+◌, ◌<◌, ◌≤◌,
 ghost use Rattle.residue_theory.specs.Sums.{size_on};
 ghost use Rattle.closed_sets.specs.Closed.{IsClosed, IsReachedSet, NoEndReached};
 ghost use Rattle.search_laws.specs.Searches.{IsShortest};
+ghost use Rattle.exchange_graph.specs.Counts.{AreLookedAt, counted_on};
 ghost use Rattle.exchange_graph.specs.Marks.{members_of};
 ghost use Rattle.exchange_graph.specs.Results.{Found, reached_of, step_of};
 
@@ -25,7 +26,7 @@ impl Model for Search {
 
     ghost Value = { Found };
 
-    ghost view = { λ s. record { places = places s.scan; marks = s.scan.reached.items; walk = s.scan.walk.items; looks = s.scan.looks } };
+    ghost view = { λ s. record { places = places s.scan; marks = s.scan.reached.items; walk = s.scan.walk.items; looks = s.scan.looks; all_looks = s.scan.all_looks } };
 
     ghost invariant = { λ s. IsStored s.scan };
 }
@@ -35,6 +36,7 @@ impl Search {
     pub fn open(alloc: Global, n: usize) -> Result<Self, NoMemory>
         ensures places { IfOk result (λ s. s.places ≡ n) }
         ensures looks { IfOk result (λ s. s.looks ≡ 0) }
+        ensures all_looks { IfOk result (λ s. s.all_looks ≡ 0) }
     {
         Ok(Search {
             scan: Scan::open(alloc, n)?,
@@ -44,7 +46,9 @@ impl Search {
     /// The least number of arcs of a walk from a start to an end, or `None` where none leads from one to the other.
     /// After `Some`, `step` tells such a walk; after `None`, `reached` tells what is reached from the starts.
     ///
-    /// It looks at each place at most once, and ticks once for each look.
+    /// It looks at each place at most once, ticks once for each look, and tells by `looks` how many there were. Where it
+    /// finds an end k arcs away it has looked at each place that is nearer to a start, at none that is farther than k, and
+    /// at no end; where it finds none, at each place that is reached.
     pub fn shortest<A: Arcs, L: Ledger>(
         &mut self,
         arcs: &A,
@@ -62,24 +66,32 @@ impl Search {
         ensures looks { IfNone result (steps.new ≡ steps.old + size_on (reached_of self.new) self.old.places) }
         ensures count { steps.new ≤ steps.old + self.old.places }
         ensures told { steps.new ≡ steps.old + self.new.looks }
+        ensures looked { IfSome result (λ k. AreLookedAt (A.leads arcs.now) self.old.places (members_of starts.now)
+            (members_of ends.now) k self.new.looks) }
+        ensures walk { IfNone result (self.new.walk ≡ self.old.walk) }
+        ensures all_looks { self.new.all_looks ≡ counted_on self.old.all_looks self.new.looks }
         ensures few { self.new.looks ≤ self.old.places }
         ensures places { self.new.places ≡ self.old.places }
     {
         self.scan.shortest(arcs, starts, ends, steps)
     }
 
-    /// Finds all that is reached from the starts: `reached` tells it.
+    /// Finds all that is reached from the starts: `reached` tells it. The walk of the last search that found one stays.
+    /// Each reached place is looked at once; no tick tells of these looks, but `all_looks` does.
     pub fn reach<A: Arcs>(&mut self, arcs: &A, starts: &[bool])
         requires places { A.places arcs.now ≡ self.old.places }
         requires starts { length starts.now ≡ self.old.places }
         ensures reached { IsReachedSet (A.leads arcs.now) self.old.places (members_of starts.now) (reached_of self.new) }
         ensures looks { self.new.looks ≡ self.old.looks }
+        ensures walk { self.new.walk ≡ self.old.walk }
+        ensures all_looks { self.new.all_looks
+            ≡ counted_on self.old.all_looks (size_on (reached_of self.new) self.old.places) }
         ensures places { self.new.places ≡ self.old.places }
     {
         self.scan.reach(arcs, starts);
     }
 
-    /// The k-th place of the walk that the last search found, from its start, which is place 0, to its end.
+    /// The k-th place of the walk that was found last, from its start, which is place 0, to its end.
     pub fn step(&self, k: usize) -> usize
         requires { k < self.now.places }
         ensures { result ≡ step_of self.now k }
@@ -100,5 +112,12 @@ impl Search {
         ensures { result ≡ self.now.looks }
     {
         self.scan.looks
+    }
+
+    /// How many looks there have been since the search was opened, those of `reach` too. At the greatest `u64` it stays.
+    pub fn all_looks(&self) -> u64
+        ensures { result ≡ self.now.all_looks }
+    {
+        self.scan.all_looks
     }
 }

@@ -251,8 +251,9 @@ fn tells_walks_and_sets(rt: HostRuntime) -> Result<(), Fail> {
     Ok(())
 }
 
-// How many places were looked at before a search along a path of ten places, and in each of four that follow.
-fn looks_in_turn<L: Ledger>(alloc: Global, blank: Blank) -> Result<Vec<usize>, Fail>
+// How many places were looked at before a search along a path of ten places, in each of four that follow, and in all of
+// these and when what is reached from one place was asked for as well.
+fn looks_in_turn<L: Ledger>(alloc: Global, blank: Blank) -> Result<(Vec<usize>, u64), Fail>
     requires name { blank.name ≡ L.name }
     requires parts { blank.parts ≡ L.parts }
     requires some { 0 < blank.parts }
@@ -274,13 +275,16 @@ fn looks_in_turn<L: Ledger>(alloc: Global, blank: Blank) -> Result<Vec<usize>, F
         search.shortest(&path, &starts, &ends, &mut steps);
         looks.push(search.looks())?;
     }
-    Ok(looks)
+    let starts = marks(alloc, 10, &[8])?;
+    search.reach(&path, &starts);
+    Ok((looks, search.all_looks()))
 }
 
 #[test]
 fn tells_the_looks_of_each_search(rt: HostRuntime) -> Result<(), Fail> {
-    let looks = looks_in_turn::<Brand>(rt.alloc(), Blank::new(1))?;
+    let (looks, all_looks) = looks_in_turn::<Brand>(rt.alloc(), Blank::new(1))?;
     assert_eq!(rt; looks.as_slice(), [0, 9, 3, 4, 0].as_slice());
+    assert_eq!(rt; all_looks, 18);
     Ok(())
 }
 

@@ -1,5 +1,5 @@
 -- The loop of searches.
-use Rattle.std.proofs.Common.{◌≡◌, ◌+◌, ◌-◌, ◌*◌, ◌<◌, ◌≤◌, ℕ, Bool, true, false, cond, IsTrue, IsFalse, refl, sym, subst, arith}
+use Rattle.std.proofs.Common.{◌≡◌, ◌+◌, ◌-◌, ◌*◌, ◌<◌, ◌≤◌, ℕ, Bool, true, false, cond, IsTrue, IsFalse, inl, inr, refl, ap, sym, subst, ◌∙◌, arith}
 use Rattle.std.proofs.lemmas.Nat.{mul-le}
 use Rattle.residue_theory.specs.Sets.{either, everything}
 use Rattle.residue_theory.specs.Sums.{size_on}
@@ -8,7 +8,9 @@ use Rattle.residue_theory.proofs.SumLaws.{size_on-within}
 use Rattle.bipartite_matching.specs.Matchings.{Matching}
 use Rattle.row_transform.specs.Tableaus.{State}
 use Rattle.mixed_matrices.specs.Tableaus.{HasTableau}
-use Rattle.independent_matching.specs.Engines.{AreFewSteps}
+use Rattle.exchange_graph.specs.Counts.{counted_on}
+use Rattle.exchange_graph.specs.Results.{Found}
+use Rattle.independent_matching.specs.Engines.{AreFewLooks, AreFewPivots, AreFewSteps, AreLooksOfSearch, AreLooksOfSearches}
 use Rattle.independent_matching.specs.Sides.{is_matched, layers_of, size_of, tableau_of}
 
 pub size-bound : (p : ℕ) (S : State) (M : Matching) → HasTableau p (layers_of S M) (tableau_of S M) → size_of S M ≤ S.columns
@@ -49,3 +51,45 @@ looks-bound size n k h s l = omega (arith, h, mul-le size n 8192 8192 s l)
 -- and stay so when the pair grows
 pub looks-more : (u v n k more after : ℕ) → k ≤ u * n → after ≡ k + more → more ≤ n → v ≡ u + 1 → after ≤ v * n
 looks-more u v n k more after h a m e = subst (λ w. after ≤ w * n) (sym e) (omega (arith, h, a, m))
+
+-- a search that succeeds takes few pivots and few looks
+pub pivots-going : (s u v base start before after : ℕ) → before + s * s ≤ start + u * u → after ≤ before + base + 1 → base ≤ u → v ≡ u + 1 → after + s * s ≤ start + v * v
+pivots-going s u v base start before after h a b e = subst (λ w. after + s * s ≤ start + w * w) (sym e) (omega (arith, h, a, b))
+
+pub looks-going : (n s u v start before after : ℕ) → before + s * n ≤ start + u * n → after ≤ before + n → v ≡ u + 1 → after + s * n ≤ start + v * n
+looks-going n s u v start before after h a e = subst (λ w. after + s * n ≤ start + w * n) (sym e) (omega (arith, h, a))
+
+-- the looks up to now: what is counted on from them is counted on from the first ones
+pub AreLooksSoFar : Found → Found → ℕ → ℕ → Type 0
+AreLooksSoFar found now before after = (k : ℕ) × (after ≡ before + k) × ((more : ℕ) → counted_on now.all_looks more ≡ counted_on found.all_looks (k + more))
+
+pub looks-none : (found : Found) (before : ℕ) → AreLooksSoFar found found before before
+unfolding AreLooksSoFar
+looks-none found before = (0, omega arith, λ more. omega arith)
+
+pub looks-search : (found now next : Found) (before between after : ℕ) → AreLooksSoFar found now before between → AreLooksOfSearch now next between after → AreLooksSoFar found next before after
+unfolding AreLooksSoFar
+looks-search found now next before between after (k, e, h) (inl (same, none)) = (k, omega (arith, none, e), λ more. ap (λ (f : Found). counted_on f.all_looks more) same ∙ h more)
+looks-search found now next before between after (k, e, h) (inr (all, some)) = (k + next.looks, omega (arith, some, e), λ more. omega (arith, all, h (next.looks + more)))
+
+pub looks-last : (found now next : Found) (before after last : ℕ) → AreLooksSoFar found now before after → next.all_looks ≡ counted_on now.all_looks last → AreLooksOfSearches found next before after last
+unfolding AreLooksSoFar
+looks-last found now next before after last (k, e, h) all = (k, e, all ∙ h last)
+
+-- after a search, whether it succeeds or is the last one
+pub made-more : (b : Bool) (s u v made : ℕ) → made + s ≡ u + 0 → (IsTrue b → v ≡ u + 1) → (IsFalse b → v ≡ u) → made + 1 + s ≡ v + cond b 0 1
+made-more true s u v made h t f = omega (arith, h, t refl)
+made-more false s u v made h t f = omega (arith, h, f refl)
+
+pub pivots-next : (b : Bool) (s u v base start before after : ℕ) → AreFewPivots s u start before → (IsTrue b → after ≤ before + base + 1) → base ≤ u → (IsTrue b → v ≡ u + 1) →
+    (IsFalse b → after ≡ before) → (IsFalse b → v ≡ u) → AreFewPivots s v start after
+pivots-next true s u v base start before after h a l t kept f = pivots-going s u v base start before after h (a refl) l (t refl)
+pivots-next false s u v base start before after h a l t kept f = subst (λ w. AreFewPivots s w start after) (sym (f refl)) (subst (λ k. AreFewPivots s u start k) (sym (kept refl)) h)
+
+pub looks-next : (b : Bool) (n s u v start before after : ℕ) → AreFewLooks n s u start before → (IsTrue b → after ≤ before + n) → (IsTrue b → v ≡ u + 1) →
+    (IsFalse b → after ≡ before) → (IsFalse b → v ≡ u) → AreFewLooks n s v start after
+looks-next true n s u v start before after h a t kept f = looks-going n s u v start before after h (a refl) (t refl)
+looks-next false n s u v start before after h a t kept f = subst (λ w. AreFewLooks n s w start after) (sym (f refl)) (subst (λ k. AreFewLooks n s u start k) (sym (kept refl)) h)
+
+pub never : IsFalse true → ⊥
+never e = cc

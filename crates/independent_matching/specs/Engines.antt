@@ -1,8 +1,9 @@
 -- What callers see of an engine.
-use Rattle.std.specs.Prelude.{ℕ, ◌+◌, ◌*◌, ◌≤◌, ◌↔◌, Bool}
+use Rattle.std.specs.Prelude.{ℕ, ◌+◌, ◌*◌, ◌≤◌, ◌≡◌, ◌⊎◌, ◌↔◌, Bool}
 use Rattle.residue_theory.specs.Sets.{IsWithin}
 use Rattle.linear_algebra.specs.Products.{Agree}
 use Rattle.bipartite_matching.specs.Matchings.{Matching}
+use Rattle.exchange_graph.specs.Counts.{counted_on}
 use Rattle.exchange_graph.specs.Results.{Found}
 use Rattle.row_transform.specs.Tableaus.{State}
 use Rattle.mixed_matrices.specs.Arcs.{HasNoWalk, IsClosedIn, IsReachedFromFree}
@@ -13,14 +14,15 @@ use Rattle.mixed_matrices.specs.StructuralRanks.{IsLayeredRank}
 use Rattle.mixed_matrices.specs.Tableaus.{Tableau, HasTableau}
 use Rattle.independent_matching.specs.Sides.{layers_of}
 
--- the tableau of Q, the matching in T, what the last search found, how many pivots there were, and how many looks of the searches
--- that found a walk
+-- the tableau of Q, the matching in T, what the last search found, how many pivots there were, how many looks of the
+-- searches that found a walk, and how many searches the last run made
 pub record Standing (A : Type 0) : Type 0 where
   pub tableau : A
   pub matching : Matching
   pub found : Found
   pub pivots : ℕ
   pub looks : ℕ
+  pub searches : ℕ
 
 -- the layered matrix with the entries q in place of those that the tableau keeps
 abbrev pub layers : (ℕ → ℕ → ℕ) → State → Matching → Layered
@@ -45,3 +47,22 @@ pub record IsSolved (p : ℕ) (L : Layered) (F : Tableau) (reached : ℕ → Boo
 -- last at most as many pivots as there were base columns, and one
 abbrev pub AreFewSteps : ℕ → ℕ → ℕ → ℕ → ℕ → Type 0
 AreFewSteps n s m before after = after + (s * n + s * s) ≤ before + (m + 1) * n + m * m
+
+-- nothing was looked at, and no look is counted; or a walk was looked for, and its looks are counted
+abbrev pub AreLooksOfSearch : Found → Found → ℕ → ℕ → Type 0
+AreLooksOfSearch found now before after =
+    ((now ≡ found) × (after ≡ before))
+    ⊎ ((now.all_looks ≡ counted_on found.all_looks now.looks) × (after ≡ before + now.looks))
+
+-- the looks of the searches that were made are those that were counted, and those of the last search
+abbrev pub AreLooksOfSearches : Found → Found → ℕ → ℕ → ℕ → Type 0
+AreLooksOfSearches found now before after last =
+    (k : ℕ) × (after ≡ before + k) × (now.all_looks ≡ counted_on found.all_looks (k + last))
+
+-- while a pair grows from s columns to m: the pivots, for each column that it gains at most as many as it had, and one
+abbrev pub AreFewPivots : ℕ → ℕ → ℕ → ℕ → Type 0
+AreFewPivots s m before after = after + s * s ≤ before + m * m
+
+-- while a pair grows from s columns to m, over n columns: the looks, for each column that it gains at most n
+abbrev pub AreFewLooks : ℕ → ℕ → ℕ → ℕ → ℕ → Type 0
+AreFewLooks n s m before after = after + s * n ≤ before + m * n

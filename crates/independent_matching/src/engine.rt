@@ -10,7 +10,9 @@ ghost use Rattle.residue_field.specs.Modulus.{res_modulus};
 ghost use Rattle.row_transform.specs.Dense.{state_of};
 ghost use Rattle.mixed_matrices.specs.Tableaus.{HasTableau};
 ghost use Rattle.mixed_model.specs.Layers.{layered_matrix_of};
-ghost use Rattle.independent_matching.specs.Engines.{Standing, AreEntries, AreFewSteps, IsSolved, layers};
+ghost use Rattle.exchange_graph.specs.Counts.{counted_on};
+ghost use Rattle.independent_matching.specs.Engines.{Standing, AreEntries, AreFewLooks, AreFewPivots, AreFewSteps};
+ghost use Rattle.independent_matching.specs.Engines.{AreLooksOfSearch, AreLooksOfSearches, IsSolved, layers};
 ghost use Rattle.independent_matching.specs.Sides.{layers_of, size_of, tableau_of};
 
 use crate::improver::Improver;
@@ -32,6 +34,7 @@ use std::sync::ledger::{Blank, Ledger};
 #[derive(Drop)]
 pub struct Engine<F: Field = Res, T: Tableau<F> = DenseTableau<F>> {
     improver: Improver<F, T>,
+    searches: usize,
 }
 
 impl<F: Field, T: Tableau<F>> Model for Engine<F, T> {
@@ -40,7 +43,7 @@ impl<F: Field, T: Tableau<F>> Model for Engine<F, T> {
 
     ghost Value = { Standing T };
 
-    ghost view = { λ e. record { tableau = e.improver.pair.tableau; matching = e.improver.pair.mates; found = e.improver.search; pivots = e.improver.pivots; looks = e.improver.looks } };
+    ghost view = { λ e. record { tableau = e.improver.pair.tableau; matching = e.improver.pair.mates; found = e.improver.search; pivots = e.improver.pivots; looks = e.improver.looks; searches = e.searches } };
 
     ghost invariant = { λ e. IsReady F.modulus (T.state e.improver.pair.tableau) e.improver.pair.mates e.improver.search.places e.improver.marks e.improver.size e.improver.pivots e.improver.looks };
 }
@@ -51,21 +54,26 @@ impl Engine<Res, DenseTableau<Res>> {
         ensures layers { IfOk result (λ e. layers (entry l.now.q) (state_of res_modulus e.tableau) e.matching ≡ layered_matrix_of l.now) }
         ensures entries { IfOk result (λ e. AreEntries res_modulus (state_of res_modulus e.tableau) (entry l.now.q)) }
         ensures empty { IfOk result (λ e. size_of (state_of res_modulus e.tableau) e.matching ≡ 0) }
+        ensures none_told { IfOk result (λ e. (e.pivots ≡ 0) × (e.looks ≡ 0) × (e.searches ≡ 0)) }
     {
         let _layers = l.split();
         let tableau = DenseTableau::open(alloc, &l.q)?;
         let mates = Match::open(alloc, &l.t)?;
         Ok(Engine {
             improver: Improver::open(alloc, tableau, mates)?,
+            searches: 0,
         })
     }
 }
 
 impl<F: Field, T: Tableau<F>> Engine<F, T> {
-    /// Searches once for a shortest walk from a free column to an end. Where there is one, the pair grows by a column
-    /// along it, from its end backwards; else the pair is best and stays. A step is a look at a column in the search,
-    /// at most one for each column and none where a free column is an end, or a pivot, at most as many as there were base
-    /// columns and one.
+    /// Searches once for a shortest walk from a free column to an end. Where there is one, the pair grows by a column along
+    /// it, from its end backwards; else the pair is best and stays. A free column that is an end is such a walk, and then no
+    /// column is looked at.
+    ///
+    /// A step is a look at a column in the search or a pivot. Where the pair grows there is at most one look for each column,
+    /// and there are at most as many pivots as there were base columns, and one; `looks` rises by the looks of the search,
+    /// and `pivots` by the rest of the steps.
     pub fn improve<L: Ledger, M: Ledger>(
         &mut self,
         searches: &mut Steps<M>,
@@ -74,7 +82,12 @@ impl<F: Field, T: Tableau<F>> Engine<F, T> {
         ensures same { (q : ℕ → ℕ → ℕ) → layers q (T.state self.new.tableau) self.new.matching ≡ layers q (T.state self.old.tableau) self.old.matching }
         ensures entries { (q : ℕ → ℕ → ℕ) → AreEntries F.modulus (T.state self.old.tableau) q → AreEntries F.modulus (T.state self.new.tableau) q }
         ensures grown { IsTrue result → size_of (T.state self.new.tableau) self.new.matching ≡ size_of (T.state self.old.tableau) self.old.matching + 1 }
-        ensures pivots { IsTrue result → steps.new ≤ steps.old + (T.state self.old.tableau).columns + size_on (T.state self.old.tableau).base (T.state self.old.tableau).columns + 1 }
+        ensures few_pivots { IsTrue result → self.new.pivots ≤ self.old.pivots
+            + size_on (T.state self.old.tableau).base (T.state self.old.tableau).columns + 1 }
+        ensures few_looks { IsTrue result → self.new.looks ≤ self.old.looks + (T.state self.old.tableau).columns }
+        ensures searched { IsTrue result → AreLooksOfSearch self.old.found self.new.found self.old.looks self.new.looks }
+        ensures last { IsFalse result → self.new.found.all_looks
+            ≡ counted_on self.old.found.all_looks (size_on (reached_of self.new.found) (T.state self.old.tableau).columns) }
         ensures solved { IsFalse result → (q : ℕ → ℕ → ℕ) → AreEntries F.modulus (T.state self.new.tableau) q → IsSolved F.modulus (layers q (T.state self.new.tableau) self.new.matching) (tableau_of (T.state self.new.tableau) self.new.matching) (reached_of self.new.found) }
         ensures kept { IsFalse result → (self.new.tableau ≡ self.old.tableau) × (self.new.matching ≡ self.old.matching) }
         ensures none_told { IsFalse result → (self.new.pivots ≡ self.old.pivots) × (self.new.looks ≡ self.old.looks) }
@@ -82,20 +95,30 @@ impl<F: Field, T: Tableau<F>> Engine<F, T> {
         ensures told { IsTrue result → steps.new + (self.old.pivots + self.old.looks) ≡ steps.old + (self.new.pivots + self.new.looks) }
         ensures few { IsFalse result → steps.new ≤ steps.old + (T.state self.old.tableau).columns }
         ensures searches { searches.new ≡ searches.old + 1 }
+        ensures same_searches { self.new.searches ≡ self.old.searches }
     {
         self.improver.improve(searches, steps)
     }
 
     /// Ends with a best pair: it improves the pair until a search finds no walk.
     ///
-    /// From a pair of s columns to one of m, over n columns, there are m - s + 1 searches, and at most as many steps as
-    /// `AreFewSteps` says: from the empty pair (m + 1) n + m m.
+    /// From a pair of s columns to one of m, over n columns, `searches` tells m - s + 1 afterwards, and there are at most as
+    /// many steps as `AreFewSteps` says: from the empty pair (m + 1) n + m m. These are the pivots and the looks that `pivots`
+    /// and `looks` rise by, and a look at each column of the least minimiser.
     pub fn run<L: Ledger>(&mut self, steps: &mut Steps<L>)
         ensures same { (q : ℕ → ℕ → ℕ) → layers q (T.state self.new.tableau) self.new.matching ≡ layers q (T.state self.old.tableau) self.old.matching }
         ensures entries { (q : ℕ → ℕ → ℕ) → AreEntries F.modulus (T.state self.old.tableau) q → AreEntries F.modulus (T.state self.new.tableau) q }
         ensures solved { (q : ℕ → ℕ → ℕ) → AreEntries F.modulus (T.state self.new.tableau) q → IsSolved F.modulus (layers q (T.state self.new.tableau) self.new.matching) (tableau_of (T.state self.new.tableau) self.new.matching) (reached_of self.new.found) }
         ensures steps { AreFewSteps (T.state self.old.tableau).columns (size_of (T.state self.old.tableau) self.old.matching) (size_of (T.state self.new.tableau) self.new.matching) steps.old steps.new }
         ensures told { steps.new + (self.old.pivots + self.old.looks) ≡ steps.old + (self.new.pivots + self.new.looks) + size_on (reached_of self.new.found) (T.state self.old.tableau).columns }
+        ensures few_pivots { AreFewPivots (size_of (T.state self.old.tableau) self.old.matching)
+            (size_of (T.state self.new.tableau) self.new.matching) self.old.pivots self.new.pivots }
+        ensures few_looks { AreFewLooks (T.state self.old.tableau).columns (size_of (T.state self.old.tableau) self.old.matching)
+            (size_of (T.state self.new.tableau) self.new.matching) self.old.looks self.new.looks }
+        ensures looked { AreLooksOfSearches self.old.found self.new.found self.old.looks self.new.looks
+            (size_on (reached_of self.new.found) (T.state self.old.tableau).columns) }
+        ensures searches { self.new.searches + size_of (T.state self.old.tableau) self.old.matching
+            ≡ size_of (T.state self.new.tableau) self.new.matching + 1 }
     {
         self.run_from::<L, Brand>(Blank::new(1), steps);
     }
@@ -110,6 +133,14 @@ impl<F: Field, T: Tableau<F>> Engine<F, T> {
         ensures solved { (q : ℕ → ℕ → ℕ) → AreEntries F.modulus (T.state self.new.tableau) q → IsSolved F.modulus (layers q (T.state self.new.tableau) self.new.matching) (tableau_of (T.state self.new.tableau) self.new.matching) (reached_of self.new.found) }
         ensures steps { AreFewSteps (T.state self.old.tableau).columns (size_of (T.state self.old.tableau) self.old.matching) (size_of (T.state self.new.tableau) self.new.matching) steps.old steps.new }
         ensures told { steps.new + (self.old.pivots + self.old.looks) ≡ steps.old + (self.new.pivots + self.new.looks) + size_on (reached_of self.new.found) (T.state self.old.tableau).columns }
+        ensures few_pivots { AreFewPivots (size_of (T.state self.old.tableau) self.old.matching)
+            (size_of (T.state self.new.tableau) self.new.matching) self.old.pivots self.new.pivots }
+        ensures few_looks { AreFewLooks (T.state self.old.tableau).columns (size_of (T.state self.old.tableau) self.old.matching)
+            (size_of (T.state self.new.tableau) self.new.matching) self.old.looks self.new.looks }
+        ensures looked { AreLooksOfSearches self.old.found self.new.found self.old.looks self.new.looks
+            (size_on (reached_of self.new.found) (T.state self.old.tableau).columns) }
+        ensures searches { self.new.searches + size_of (T.state self.old.tableau) self.old.matching
+            ≡ size_of (T.state self.new.tableau) self.new.matching + 1 }
     {
         self.run_counted(&mut Steps::<M>::new(blank), steps);
     }
@@ -125,9 +156,18 @@ impl<F: Field, T: Tableau<F>> Engine<F, T> {
         ensures solved { (q : ℕ → ℕ → ℕ) → AreEntries F.modulus (T.state self.new.tableau) q → IsSolved F.modulus (layers q (T.state self.new.tableau) self.new.matching) (tableau_of (T.state self.new.tableau) self.new.matching) (reached_of self.new.found) }
         ensures steps { AreFewSteps (T.state self.old.tableau).columns (size_of (T.state self.old.tableau) self.old.matching) (size_of (T.state self.new.tableau) self.new.matching) steps.old steps.new }
         ensures told { steps.new + (self.old.pivots + self.old.looks) ≡ steps.old + (self.new.pivots + self.new.looks) + size_on (reached_of self.new.found) (T.state self.old.tableau).columns }
-        ensures searches { searches.new + size_of (T.state self.old.tableau) self.old.matching ≡ searches.old + size_of (T.state self.new.tableau) self.new.matching + 1 }
+        ensures few_pivots { AreFewPivots (size_of (T.state self.old.tableau) self.old.matching)
+            (size_of (T.state self.new.tableau) self.new.matching) self.old.pivots self.new.pivots }
+        ensures few_looks { AreFewLooks (T.state self.old.tableau).columns (size_of (T.state self.old.tableau) self.old.matching)
+            (size_of (T.state self.new.tableau) self.new.matching) self.old.looks self.new.looks }
+        ensures looked { AreLooksOfSearches self.old.found self.new.found self.old.looks self.new.looks
+            (size_on (reached_of self.new.found) (T.state self.old.tableau).columns) }
+        ensures searches { self.new.searches + size_of (T.state self.old.tableau) self.old.matching
+            ≡ size_of (T.state self.new.tableau) self.new.matching + 1 }
+        ensures counted { searches.new ≡ searches.old + self.new.searches }
     {
-        self.improver.run(searches, steps);
+        let made = self.improver.run(searches, steps);
+        self.searches = made;
     }
 
     /// How many columns the pair has.
@@ -138,7 +178,8 @@ impl<F: Field, T: Tableau<F>> Engine<F, T> {
         self.improver.size
     }
 
-    /// How many pivots there have been.
+    /// How many pivots there have been since the engine was opened. A run or an improvement that makes the pair larger adds
+    /// to it the steps that it took but for the looks: those that `looks` tells, and those of a run's last search.
     pub fn pivots(&self) -> usize
         ensures pivots { result ≡ self.now.pivots }
         ensures few { result ≤ size_of (T.state self.now.tableau) self.now.matching * size_of (T.state self.now.tableau) self.now.matching }
@@ -146,13 +187,21 @@ impl<F: Field, T: Tableau<F>> Engine<F, T> {
         self.improver.pivots
     }
 
-    /// How many columns were looked at by the searches that found a walk. The last search, which finds none, looks at
-    /// each column of `least_minimiser` once. With these and the pivots that are all steps.
+    /// How many looks there have been since the engine was opened in the searches that found a walk: for each of these what
+    /// `Search::looks` told of it. A search that finds none, as a run's last one, looks once at each column of
+    /// `least_minimiser`: these looks are not counted here.
     pub fn looks(&self) -> usize
         ensures looks { result ≡ self.now.looks }
         ensures few { result ≤ size_of (T.state self.now.tableau) self.now.matching * (T.state self.now.tableau).columns }
     {
         self.improver.looks
+    }
+
+    /// How many searches the last run made: 0 before the first one.
+    pub fn searches(&self) -> usize
+        ensures { result ≡ self.now.searches }
+    {
+        self.searches
     }
 
     /// Whether the column is one of the pair's independent columns of Q.

@@ -1,12 +1,14 @@
 ghost use Rattle.std.specs.Prelude.{◌≡◌, ℕ, ◌+◌, ◌*◌, ◌<◌, ◌≤◌, Bool, true, false, suc, cond, IfOk, IsTrue, IsFalse};
 ghost use Rattle.linear_algebra.specs.Kernels.{SameKernel};
 ghost use Rattle.residue_theory.specs.Sums.{size_on};
+ghost use Rattle.exchange_graph.specs.Counts.{counted_on};
 ghost use Rattle.exchange_graph.specs.Marks.{members_of};
 ghost use Rattle.exchange_graph.specs.Results.{reached_of, step_of};
 ghost use Rattle.mixed_matrices.specs.Arcs.{HasNoWalk, IsReachedFromFree, is_free};
 ghost use Rattle.mixed_matrices.specs.Tableaus.{HasTableau};
 ghost use Rattle.mixed_augmentation.specs.Moves.{IsFreeRow, IsRoute, route};
-ghost use Rattle.independent_matching.specs.Engines.{AreFewSteps};
+ghost use Rattle.independent_matching.specs.Engines.{AreFewLooks, AreFewPivots, AreFewSteps};
+ghost use Rattle.independent_matching.specs.Engines.{AreLooksOfSearch, AreLooksOfSearches};
 ghost use Rattle.independent_matching.specs.Marks.{AreMarksOfQ, IsReady};
 ghost use Rattle.independent_matching.specs.Sides.{AreRowsLeft, CanTake, IsFreeTaken, Takes, in_q, is_matched, layers_of, number, size_of, tableau_of};
 
@@ -44,6 +46,7 @@ impl<F: Field, T: Tableau<F>> Improver<F, T> {
         ensures ready { IfOk result (λ e. IsReady F.modulus (T.state e.pair.tableau) e.pair.mates e.search.places e.marks e.size e.pivots e.looks) }
         ensures tableau { IfOk result (λ e. e.pair.tableau ≡ tableau) }
         ensures mates { IfOk result (λ e. e.pair.mates ≡ mates) }
+        ensures none_told { IfOk result (λ e. (e.pivots ≡ 0) × (e.looks ≡ 0)) }
     {
         let columns = tableau.columns();
         let pair = Pair {
@@ -192,6 +195,8 @@ impl<F: Field, T: Tableau<F>> Improver<F, T> {
         ensures size { size_of (T.state self.new.pair.tableau) self.new.pair.mates ≡ size_of (T.state self.old.pair.tableau) self.old.pair.mates + 1 }
         ensures told { steps.new + (self.old.pivots + self.old.looks) ≡ steps.old + (self.new.pivots + self.new.looks) }
         ensures steps { steps.new ≤ steps.old + 1 }
+        ensures search { self.new.search ≡ self.old.search }
+        ensures looks { self.new.looks ≡ self.old.looks }
     {
         let row = self.marks.free_row(&self.pair, x).unwrap();
         self.give(x, row, steps);
@@ -205,7 +210,13 @@ impl<F: Field, T: Tableau<F>> Improver<F, T> {
         ensures ready { IsReady F.modulus (T.state self.new.pair.tableau) self.new.pair.mates self.new.search.places self.new.marks self.new.size self.new.pivots self.new.looks }
         ensures layers { layers_of (T.state self.new.pair.tableau) self.new.pair.mates ≡ layers_of (T.state self.old.pair.tableau) self.old.pair.mates }
         ensures size { IsTrue result → size_of (T.state self.new.pair.tableau) self.new.pair.mates ≡ size_of (T.state self.old.pair.tableau) self.old.pair.mates + 1 }
-        ensures pivots { IsTrue result → steps.new ≤ steps.old + (T.state self.old.pair.tableau).columns + size_on (T.state self.old.pair.tableau).base (T.state self.old.pair.tableau).columns + 1 }
+        ensures few_pivots { IsTrue result → self.new.pivots ≤ self.old.pivots
+            + size_on (T.state self.old.pair.tableau).base (T.state self.old.pair.tableau).columns + 1 }
+        ensures few_looks { IsTrue result → self.new.looks ≤ self.old.looks + (T.state self.old.pair.tableau).columns }
+        ensures counted { IsTrue result → self.new.looks ≡ self.old.looks + self.new.search.looks }
+        ensures looked { self.new.search.all_looks ≡ counted_on self.old.search.all_looks self.new.search.looks }
+        ensures last { IsFalse result → self.new.search.looks
+            ≡ size_on (reached_of self.new.search) (T.state self.old.pair.tableau).columns }
         ensures pair { IsFalse result → self.new.pair ≡ self.old.pair }
         ensures none_told { IsFalse result → (self.new.pivots ≡ self.old.pivots) × (self.new.looks ≡ self.old.looks) }
         ensures no_walk { IsFalse result → HasNoWalk F.modulus (layers_of (T.state self.new.pair.tableau) self.new.pair.mates) (tableau_of (T.state self.new.pair.tableau) self.new.pair.mates) }
@@ -241,7 +252,12 @@ impl<F: Field, T: Tableau<F>> Improver<F, T> {
         ensures ready { IsReady F.modulus (T.state self.new.pair.tableau) self.new.pair.mates self.new.search.places self.new.marks self.new.size self.new.pivots self.new.looks }
         ensures layers { layers_of (T.state self.new.pair.tableau) self.new.pair.mates ≡ layers_of (T.state self.old.pair.tableau) self.old.pair.mates }
         ensures size { IsTrue result → size_of (T.state self.new.pair.tableau) self.new.pair.mates ≡ size_of (T.state self.old.pair.tableau) self.old.pair.mates + 1 }
-        ensures pivots { IsTrue result → steps.new ≤ steps.old + (T.state self.old.pair.tableau).columns + size_on (T.state self.old.pair.tableau).base (T.state self.old.pair.tableau).columns + 1 }
+        ensures few_pivots { IsTrue result → self.new.pivots ≤ self.old.pivots
+            + size_on (T.state self.old.pair.tableau).base (T.state self.old.pair.tableau).columns + 1 }
+        ensures few_looks { IsTrue result → self.new.looks ≤ self.old.looks + (T.state self.old.pair.tableau).columns }
+        ensures searched { IsTrue result → AreLooksOfSearch self.old.search self.new.search self.old.looks self.new.looks }
+        ensures last { IsFalse result → self.new.search.all_looks ≡ counted_on self.old.search.all_looks
+            (size_on (reached_of self.new.search) (T.state self.old.pair.tableau).columns) }
         ensures pair { IsFalse result → self.new.pair ≡ self.old.pair }
         ensures none_told { IsFalse result → (self.new.pivots ≡ self.old.pivots) × (self.new.looks ≡ self.old.looks) }
         ensures no_walk { IsFalse result → HasNoWalk F.modulus (layers_of (T.state self.new.pair.tableau) self.new.pair.mates) (tableau_of (T.state self.new.pair.tableau) self.new.pair.mates) }
@@ -261,8 +277,12 @@ impl<F: Field, T: Tableau<F>> Improver<F, T> {
         }
     }
 
-    // Ends with a best pair.
-    pub fn run<L: Ledger, M: Ledger>(&mut self, searches: &mut Steps<M>, steps: &mut Steps<L>)
+    // Ends with a best pair, and tells how many searches that took.
+    pub fn run<L: Ledger, M: Ledger>(
+        &mut self,
+        searches: &mut Steps<M>,
+        steps: &mut Steps<L>,
+    ) -> usize
         requires ready { IsReady F.modulus (T.state self.old.pair.tableau) self.old.pair.mates self.old.search.places self.old.marks self.old.size self.old.pivots self.old.looks }
         ensures ready { IsReady F.modulus (T.state self.new.pair.tableau) self.new.pair.mates self.new.search.places self.new.marks self.new.size self.new.pivots self.new.looks }
         ensures layers { layers_of (T.state self.new.pair.tableau) self.new.pair.mates ≡ layers_of (T.state self.old.pair.tableau) self.old.pair.mates }
@@ -270,11 +290,25 @@ impl<F: Field, T: Tableau<F>> Improver<F, T> {
         ensures reached { IsReachedFromFree F.modulus (layers_of (T.state self.new.pair.tableau) self.new.pair.mates) (tableau_of (T.state self.new.pair.tableau) self.new.pair.mates) (reached_of self.new.search) }
         ensures steps { AreFewSteps (T.state self.old.pair.tableau).columns (size_of (T.state self.old.pair.tableau) self.old.pair.mates) (size_of (T.state self.new.pair.tableau) self.new.pair.mates) steps.old steps.new }
         ensures told { steps.new + (self.old.pivots + self.old.looks) ≡ steps.old + (self.new.pivots + self.new.looks) + size_on (reached_of self.new.search) (T.state self.old.pair.tableau).columns }
-        ensures searches { searches.new + size_of (T.state self.old.pair.tableau) self.old.pair.mates ≡ searches.old + size_of (T.state self.new.pair.tableau) self.new.pair.mates + 1 }
+        ensures few_pivots { AreFewPivots (size_of (T.state self.old.pair.tableau) self.old.pair.mates)
+            (size_of (T.state self.new.pair.tableau) self.new.pair.mates) self.old.pivots self.new.pivots }
+        ensures few_looks { AreFewLooks (T.state self.old.pair.tableau).columns
+            (size_of (T.state self.old.pair.tableau) self.old.pair.mates) (size_of (T.state self.new.pair.tableau) self.new.pair.mates)
+            self.old.looks self.new.looks }
+        ensures looked { AreLooksOfSearches self.old.search self.new.search self.old.looks self.new.looks
+            (size_on (reached_of self.new.search) (T.state self.old.pair.tableau).columns) }
+        ensures made { result + size_of (T.state self.old.pair.tableau) self.old.pair.mates
+            ≡ size_of (T.state self.new.pair.tableau) self.new.pair.mates + 1 }
+        ensures searches { searches.new ≡ searches.old + result }
     {
+        // there are at most 8,192 columns, so that the count fits
+        let _columns = self.pair.tableau.columns();
+        let mut made = 0;
         let mut grown = true;
         while grown {
             grown = self.improve(searches, steps);
+            made += 1;
         }
+        made
     }
 }

@@ -82,6 +82,7 @@ fn assert_solved(
 {
     let engine = solved::<Brand>(alloc, q, t, Blank::new(1))?;
     assert_eq!(rt; engine.size(), size);
+    assert_eq!(rt; engine.searches(), size.saturating_add(1));
     let told = told(alloc, &engine)?;
     assert_eq!(rt; told.as_str(), text);
     Ok(())

@@ -15,6 +15,8 @@ loop-next-init g c =
       stored = c.first_waiting-from.ensures.stored;
       same_places = c.first_waiting-from.ensures.places;
       same_looks = c.first_waiting-from.ensures.looks;
+      same_walk = c.first_waiting-from.ensures.walk;
+      counted = c.first_waiting-from.ensures.all_looks ∙ c.saturating_add-self.ensures;
       within = c.first_waiting-from.ensures.within;
       looking = looking-first (g.A.Arcs.leads c.args.arcs.now) (places c.args.self.now) (state_of c.args.self.now) (state_of c.first_waiting-from.new.self) c.args.head c.args.self.now.filled c.first_waiting-from.new.self.filled c.first_waiting-from.result c.index-place.result.now c.index.result.now
           S c.requires.head at (item_read c.args.self.now.depth.items c.index-place.result.now c.index.result.now (omega (arith, at, below, c.requires.stored.sized.depth)) c.index.ensures)
@@ -50,6 +52,8 @@ loop-next-preserved g c =
             stored = F.stored;
             same_places = same;
             same_looks = F.looks ∙ (ap (λ (s : Scan). s.looks) w.self-is ∙ (w.put.ensures.looks ∙ I.same_looks));
+            same_walk = F.walk ∙ (ap (λ (s : Scan). s.walk) w.self-is ∙ (w.put.ensures.walk ∙ I.same_walk));
+            counted = F.all_looks ∙ (ap (λ (s : Scan). s.all_looks) w.self-is ∙ (w.put.ensures.all_looks ∙ I.counted));
             within = omega (arith, F.within, F.places, same);
             looking = looking-put (g.A.Arcs.leads c.args.arcs.now) (places c.args.self.now) (state_of c.args.self.now) (state_of c.loop-next.self) (state_of w.put.new.self) (state_of c.if-not-index.self) (state_of c.first_waiting-from-in-Some.new.self)
                 c.args.self.now.filled c.args.head c.loop-next.self.filled c.first_waiting-from-in-Some.new.self.filled (position_of c.loop-next.self next) c.loop-next.from c.len-places.result next c.first_waiting-from-in-Some.result c.index-place.result.now (c.index.result.now + 1)
@@ -62,6 +66,8 @@ loop-next-preserved g c =
             stored = F.stored;
             same_places = same;
             same_looks = F.looks ∙ (ap (λ (s : Scan). s.looks) w.self-is ∙ I.same_looks);
+            same_walk = F.walk ∙ (ap (λ (s : Scan). s.walk) w.self-is ∙ I.same_walk);
+            counted = F.all_looks ∙ (ap (λ (s : Scan). s.all_looks) w.self-is ∙ I.counted);
             within = omega (arith, F.within, F.places, same);
             looking = looking-skip (g.A.Arcs.leads c.args.arcs.now) (places c.args.self.now) (state_of c.args.self.now) (state_of c.loop-next.self) (state_of c.if-not-index.self) (state_of c.first_waiting-from-in-Some.new.self)
                 c.args.self.now.filled c.args.head c.loop-next.self.filled c.first_waiting-from-in-Some.new.self.filled c.loop-next.from c.len-places.result next c.first_waiting-from-in-Some.result c.index-place.result.now (c.index.result.now + 1)

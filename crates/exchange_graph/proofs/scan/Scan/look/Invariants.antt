@@ -1,4 +1,5 @@
 use Rattle.std.proofs.Common.{◌≡◌, ◌-◌, ◌≤◌}
+use Rattle.exchange_graph.specs.Counts.{counted_on}
 use Rattle.exchange_graph.specs.Looks.{IsLookingFrom}
 use Rattle.exchange_graph.specs.Scans.{IsStored, places, state_of}
 use Rattle.exchange_graph.proofs.scan.Scan.look.Given as goal
@@ -8,6 +9,8 @@ invariant-loop-next g l = record {
   stored : IsStored l.self;
   same_places : places l.self ≡ places l.fn.self;
   same_looks : l.self.looks ≡ l.fn.self.looks;
+  same_walk : l.self.walk ≡ l.fn.self.walk;
+  counted : l.self.all_looks ≡ counted_on l.fn.self.all_looks 1;
   within : l.from ≤ places l.fn.self;
   looking : IsLookingFrom (g.A.Arcs.leads l.arcs) (places l.fn.self) (state_of l.fn.self) (state_of l.self) l.fn.self.filled l.head l.self.filled l.from l.place l.depth;
 }

@@ -3,6 +3,7 @@ use Rattle.search_laws.specs.Searches.{IsSearch, IsGrown}
 use Rattle.search_laws.proofs.SearchLaws.{search-closed, search-reached_set}
 use Rattle.exchange_graph.specs.Marks.{members_of}
 use Rattle.exchange_graph.specs.Scans.{places, state_of, walk_of}
+use Rattle.exchange_graph.proofs.CountLaws.{counted-more, looked-at}
 use Rattle.exchange_graph.proofs.ItemLaws.{item_read}
 use Rattle.exchange_graph.proofs.LookLaws.{looked-starts, looked-ends, depth-below, found-shortest}
 use Rattle.exchange_graph.proofs.scan.Scan.shortest.Goals as goal
@@ -14,6 +15,8 @@ loop-head-init g c = record {
   search = c.start.ensures.search (g.A.Arcs.leads c.args.arcs.now);
   starts = c.start.ensures.starts;
   none = λ j l. absurd (omega arith);
+  same_walk = c.start.ensures.walk;
+  counted = omega (arith, c.start.ensures.all_looks);
   ticked = omega arith;
 }
 
@@ -32,6 +35,8 @@ loop-head-preserved g c =
       starts = looked-starts (places c.args.self.now) (members_of c.args.starts.now) (state_of c.loop-head.self) (state_of c.look.new.self) c.loop-head.self.filled G I.starts;
       none = looked-ends (g.A.Arcs.leads c.args.arcs.now) (places c.args.self.now) (members_of c.args.ends.now) (state_of c.loop-head.self) (state_of c.look.new.self) c.loop-head.head c.loop-head.self.filled c.index-place.result.now
           I.search c.loop-head-test.true G I.none q c.if-ends-place.false;
+      same_walk = c.look.ensures.walk ∙ I.same_walk;
+      counted = counted-more c.args.self.now.all_looks c.loop-head.self.all_looks c.look.new.self.all_looks c.loop-head.head I.counted c.look.ensures.all_looks;
       ticked = omega (arith, c.tick.ensures, I.ticked);
     }
 
@@ -51,6 +56,15 @@ returns-then-ends-place-clause-found g c =
     let d = item_read c.loop-head.self.depth.items c.index-place.result.now c.index-depth.result.now (omega (arith, below, q)) c.index-depth.ensures in
     found-shortest (g.A.Arcs.leads c.args.arcs.now) (places c.args.self.now) (members_of c.args.starts.now) (members_of c.args.ends.now) (state_of c.loop-head.self) c.loop-head.head c.loop-head.self.filled c.index-place.result.now c.index-depth.result.now (walk_of c.trace.new.self)
     S c.loop-head.invariant.starts c.loop-head.invariant.none c.loop-head-test.true q d c.if-ends-place.true c.trace.ensures.last c.trace.ensures.back
+
+pub returns-then-ends-place-clause-looked : goal.returns-then-ends-place-clause-looked
+returns-then-ends-place-clause-looked g c =
+    let S = c.loop-head.invariant.search in
+    let q = item_read c.loop-head.self.order.items c.loop-head.head c.index-place.result.now (omega (arith, S.filled_le)) c.index-place.ensures in
+    let below = S.below c.loop-head.head (omega (arith, S.filled_le)) in
+    let d = item_read c.loop-head.self.depth.items c.index-place.result.now c.index-depth.result.now (omega (arith, below, q)) c.index-depth.ensures in
+    looked-at (g.A.Arcs.leads c.args.arcs.now) (places c.args.self.now) (members_of c.args.starts.now) (members_of c.args.ends.now) (state_of c.loop-head.self) c.loop-head.head c.loop-head.self.filled
+    S c.loop-head.invariant.starts c.loop-head.invariant.none c.index-place.result.now c.index-depth.result.now c.loop-head-test.true q d
 
 pub returns-clause-closed : goal.returns-clause-closed
 returns-clause-closed g c = search-closed (g.A.Arcs.leads c.args.arcs.now) (places c.args.self.now) (members_of c.args.starts.now) (members_of c.args.ends.now) (state_of c.loop-head.self) c.loop-head.head c.loop-head.self.filled

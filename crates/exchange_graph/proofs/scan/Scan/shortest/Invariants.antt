@@ -1,5 +1,6 @@
 use Rattle.std.proofs.Common.{◌≡◌, ◌+◌, ◌-◌}
 use Rattle.search_laws.specs.Searches.{IsSearch, HasStarts, NoEndBefore}
+use Rattle.exchange_graph.specs.Counts.{counted_on}
 use Rattle.exchange_graph.specs.Marks.{members_of}
 use Rattle.exchange_graph.specs.Scans.{IsStored, places, state_of}
 use Rattle.exchange_graph.proofs.scan.Scan.shortest.Given as goal
@@ -11,6 +12,8 @@ invariant-loop-head g l = record {
   search : IsSearch (g.A.Arcs.leads l.arcs) (places l.fn.self) (state_of l.self) l.head l.self.filled;
   starts : HasStarts (places l.fn.self) (members_of l.starts) (state_of l.self);
   none : NoEndBefore (members_of l.ends) (state_of l.self) l.head;
+  same_walk : l.self.walk ≡ l.fn.self.walk;
+  counted : l.self.all_looks ≡ counted_on l.fn.self.all_looks l.head;
   ticked : l.steps ≡ l.fn.steps + l.head;
 }
 

@@ -15,6 +15,8 @@ loop-place-init c =
       stored = E.stored;
       same_places = E.places;
       same_looks = E.looks;
+      same_walk = E.walk;
+      same_count = E.all_looks;
       starting = λ arc. starting-first arc (places c.args.self.now) (members_of c.args.starts.now) (state_of N) N.filled E.filled
           (subst (λ (n : ℕ). IsSearch arc n (state_of N) 0 0) E.places
           (search-start arc (places N) (state_of N) (position_of N) E.stored.order_below E.stored.position_below E.stored.position_order E.stored.order_position (λ y l. E.reached y (omega (arith, l, E.places))))) E.reached;
@@ -40,6 +42,8 @@ loop-place-preserved c =
         stored = w.put.ensures.stored;
         same_places = w.put.ensures.places ∙ I.same_places;
         same_looks = w.put.ensures.looks ∙ I.same_looks;
+        same_walk = w.put.ensures.walk ∙ I.same_walk;
+        same_count = w.put.ensures.all_looks ∙ I.same_count;
         starting = λ arc. starting-put arc (places c.args.self.now) (members_of c.args.starts.now) (state_of c.loop-place.self) (state_of w.put.new.self) c.loop-place.self.filled w.put.new.self.filled (position_of c.loop-place.self here) here here (I.starting arc)
             (omega (arith, I.same_places)) (omega (arith, I.same_places, I.stored.position_below here below)) (I.stored.order_position here below) w.if-is_start.true w.put.ensures.put w.put.ensures.filled;
       })
@@ -47,6 +51,8 @@ loop-place-preserved c =
         stored = I.stored;
         same_places = I.same_places;
         same_looks = I.same_looks;
+        same_walk = I.same_walk;
+        same_count = I.same_count;
         starting = λ arc. starting-skip arc (places c.args.self.now) (members_of c.args.starts.now) (state_of c.loop-place.self) c.loop-place.self.filled here (I.starting arc) w.if-is_start.false;
       })
     ]

@@ -9,5 +9,7 @@ invariant-loop-place l = record {
   stored : IsStored l.self;
   same_places : places l.self ≡ places l.fn.self;
   same_looks : l.self.looks ≡ l.fn.self.looks;
+  same_walk : l.self.walk ≡ l.fn.self.walk;
+  same_count : l.self.all_looks ≡ l.fn.self.all_looks;
   starting : (arc : ℕ → ℕ → Bool) → IsStartingFrom arc (places l.fn.self) (members_of l.starts) (state_of l.self) l.self.filled l.place;
 }

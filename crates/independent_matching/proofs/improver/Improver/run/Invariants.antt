@@ -2,9 +2,10 @@ use Rattle.std.proofs.Common.{◌≡◌, ◌-◌, ◌+◌, ◌*◌, ◌≤◌, I
 use Rattle.residue_theory.specs.Sums.{size_on}
 use Rattle.exchange_graph.specs.Results.{reached_of}
 use Rattle.mixed_matrices.specs.Arcs.{HasNoWalk, IsReachedFromFree}
-use Rattle.independent_matching.specs.Engines.{AreFewSteps}
+use Rattle.independent_matching.specs.Engines.{AreFewLooks, AreFewPivots, AreFewSteps, AreLooksOfSearches}
 use Rattle.independent_matching.specs.Marks.{IsReady}
 use Rattle.independent_matching.specs.Sides.{layers_of, size_of, tableau_of}
+use Rattle.independent_matching.proofs.RunLaws.{AreLooksSoFar}
 use Rattle.independent_matching.proofs.improver.Improver.run.Given as goal
 
 abbrev pub invariant-loop-grown : goal.invariant-loop-grown
@@ -22,8 +23,12 @@ invariant-loop-grown g l =
       last : IsFalse l.grown → l.steps + (l.fn.self.pivots + l.fn.self.looks) ≡ l.fn.steps + (l.self.pivots + l.self.looks) + size_on (reached_of l.self.search) S₀.columns;
       no_walk : IsFalse l.grown → HasNoWalk p (layers_of S M) (tableau_of S M);
       reached : IsFalse l.grown → IsReachedFromFree p (layers_of S M) (tableau_of S M) (reached_of l.self.search);
-      asked : IsTrue l.grown → l.searches + size_of S₀ M₀ ≡ l.fn.searches + size_of S M;
-      searched : IsFalse l.grown → l.searches + size_of S₀ M₀ ≡ l.fn.searches + size_of S M + 1;
+      asked : l.searches ≡ l.fn.searches + l.made;
+      made : l.made + size_of S₀ M₀ ≡ size_of S M + cond l.grown 0 1;
+      few_pivots : AreFewPivots (size_of S₀ M₀) (size_of S M) l.fn.self.pivots l.self.pivots;
+      few_looks : AreFewLooks S₀.columns (size_of S₀ M₀) (size_of S M) l.fn.self.looks l.self.looks;
+      looked : IsTrue l.grown → AreLooksSoFar l.fn.self.search l.self.search l.fn.self.looks l.self.looks;
+      told_looks : IsFalse l.grown → AreLooksOfSearches l.fn.self.search l.self.search l.fn.self.looks l.self.looks (size_on (reached_of l.self.search) S₀.columns);
       count : IsFalse l.grown → AreFewSteps S₀.columns (size_of S₀ M₀) (size_of S M) l.fn.steps l.steps;
     }
 
