@@ -23,7 +23,7 @@ use Rattle.report_cli.specs.LayerTexts.{column_lines, layer_text, q_line, row_li
 use Rattle.report_cli.specs.RightFor.{IsRightFor}
 use Rattle.report_cli.specs.WholeLayers.{AreWholeLayers}
 use Rattle.report_cli.proofs.LayerPieces.{got_or}
-use Rattle.answer_laws.specs.NoAnswers.{NoListLeavesItsRange, NoColumnLineIsMadeUp, one_equation}
+use Rattle.answer_laws.specs.NoAnswers.{NoListLeavesItsRange, NoColumnLineIsMadeUp, one_equation, out_of_range}
 use Rattle.answer_laws.proofs.Answers.{analysed, layered}
 use Rattle.answer_laws.proofs.EmptyInput.{empty-pairs, one-shape, text-with, text_with}
 
@@ -95,9 +95,6 @@ small-base m n (pair ∷ next ∷ pairs) one two are =
     let within = are.within 1 next (omega arith) in
     absurd (omega (arith, rises, within.0, one))
 
-bad : List ℕ
-bad = codes "mixed-certificate 1\nkind matrix\nlength 9\neq a x=1\n\nshape 1 1 1 0 1\nrank 1\nbase 1=8\nmatch\nS 1: 1=1 1=5\nU 1: 1=1\nP 1: 1=1 8=1\nfirst 9 9 |\nblock 1: 1 | q1 |\nlast |\nend\n"
-
 module _ (c : Certificate) (right : IsRightFor one_equation c) where
   shape-is : c.ccf.shape ≡ record { equations = 1; unknowns = 1; q_rows = 1; t_rows = 0; columns = 1 }
   shape-is =
@@ -119,8 +116,8 @@ module _ (c : Certificate) (right : IsRightFor one_equation c) where
   text-is base is = text-with c Matrix one_equation _ (length base) base [] right.kind right.echo shape-is (rank-is base is) is mates-are
 
   -- the digit of the rank, or that of the base column, is another one
-  never-bad : certificate_text c ≡ bad → ⊥
-  unfolding bad digits
+  never-bad : certificate_text c ≡ out_of_range → ⊥
+  unfolding digits
   never-bad same = ⊎_elim
       (λ none. let at : get_or (certificate_text c) 72 0 ≡ 48 = ap (λ t. get_or t 72 0) (text-is [] none) in
       let there : get_or (certificate_text c) 72 0 ≡ 49 = ap (λ t. get_or t 72 0) same in absurd (omega (arith, at, there)))
@@ -129,9 +126,8 @@ module _ (c : Certificate) (right : IsRightFor one_equation c) where
       (small-base c.ccf.shape.q_rows c.ccf.shape.columns c.ccf.base (ap (λ (s : Shape). s.q_rows) shape-is) (ap (λ (s : Shape). s.columns) shape-is) (right.form).base)
 
 pub in-range : NoListLeavesItsRange
-unfolding bad
 in-range words asks answer =
-    let one = analysed words one_equation bad asks answer in
+    let one = analysed words one_equation out_of_range asks answer in
     never-bad one.certificate one.right (sym one.text_is)
 
 -- the lines of one column, and of one row

@@ -6,7 +6,8 @@ use Rattle.report_cli.specs.Rooms.{text_room}
 use Rattle.report_cli.specs.declared.status.Status.{Status}
 use Rattle.report_cli.specs.declared.status.Status.TheVariants.{Memory}
 
--- no call is to fail, no count of faults stands at its last value, and the sink has room for each text that may answer the input
+-- no call is to fail, no count of faults stands at its last value, and the sink has room for each text that may answer
+-- the input
 pub record IsCalm (source : MemorySource) (out : MemorySink) : Type 0 where
   pub source_fails : source.fails ≡ []
   pub out_fails : out.fails ≡ []
@@ -15,7 +16,8 @@ pub record IsCalm (source : MemorySource) (out : MemorySink) : Type 0 where
   pub room : length out.written + text_room (length source.left) ≤ out.room
 
 -- a run took the bytes `read` from the source, and this status and the appended text answer them
-pub record IsAnswered (words : List (List ℕ)) (source source' : MemorySource) (out out' : MemorySink) (status : Status) : Type 0 where
+pub record IsAnswered (words : List (List ℕ)) (source source' : MemorySource) (out out' : MemorySink) (status : Status) :
+    Type 0 where
   pub read : List ℕ
   pub text : List ℕ
   pub took : source.left ≡ read ++ source'.left

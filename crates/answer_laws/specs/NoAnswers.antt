@@ -1,5 +1,5 @@
 -- Texts that answer nothing.
-use Rattle.std.specs.Prelude.{◌≡◌, ℕ, List, [], codes}
+use Rattle.std.specs.Prelude.{◌≡◌, ℕ, List, [], ◌++◌, codes}
 use Rattle.report_cli.specs.Answer.{IsAnswer}
 use Rattle.report_cli.specs.Words.{AsksFor}
 use Rattle.report_cli.specs.declared.command.Command.{Command}
@@ -10,32 +10,40 @@ use Rattle.report_cli.specs.declared.status.Status.TheVariants.{Done}
 abbrev pub NeverAnswers : Command → List ℕ → List ℕ → Type 0
 NeverAnswers command input text = (words : List (List ℕ)) → AsksFor words command → IsAnswer words input Done text → ⊥
 
+-- the text of a certificate of the empty input, from its first tail on
+abbrev pub empty_certificate : List ℕ → List ℕ
+empty_certificate parts =
+    codes "mixed-certificate 1\nkind matrix\nlength 0\n\nshape 0 0 0 0 0\nrank 0\nbase\nmatch\n" ++ parts ++ codes "end\n"
+
 -- the certificate of the empty input
 abbrev pub empty_text : List ℕ
-empty_text = codes "mixed-certificate 1\nkind matrix\nlength 0\n\nshape 0 0 0 0 0\nrank 0\nbase\nmatch\nfirst |\nlast |\nend\n"
+empty_text = empty_certificate (codes "first |\nlast |\n")
 
 -- the empty input has that certificate alone
 abbrev pub TheEmptyInputHasOneAnswer : Type 0
-TheEmptyInputHasOneAnswer = (words : List (List ℕ)) (text : List ℕ) → AsksFor words Analyse → IsAnswer words [] Done text → text ≡ empty_text
+TheEmptyInputHasOneAnswer =
+    (words : List (List ℕ)) (text : List ℕ) → AsksFor words Analyse → IsAnswer words [] Done text → text ≡ empty_text
 
 -- a first tail with a column that is not there
 abbrev pub NoColumnIsMadeUp : Type 0
-NoColumnIsMadeUp =
-    NeverAnswers Analyse [] (codes "mixed-certificate 1\nkind matrix\nlength 0\n\nshape 0 0 0 0 0\nrank 0\nbase\nmatch\nfirst 6 |\nlast |\nend\n")
+NoColumnIsMadeUp = NeverAnswers Analyse [] (empty_certificate (codes "first 6 |\nlast |\n"))
 
 -- a block of nothing
 abbrev pub NoBlockIsEmpty : Type 0
-NoBlockIsEmpty =
-    NeverAnswers Analyse [] (codes "mixed-certificate 1\nkind matrix\nlength 0\n\nshape 0 0 0 0 0\nrank 0\nbase\nmatch\nfirst |\nblock 1: | |\nlast |\nend\n")
+NoBlockIsEmpty = NeverAnswers Analyse [] (empty_certificate (codes "first |\nblock 1: | |\nlast |\n"))
 
 -- one equation in one unknown
 abbrev pub one_equation : List ℕ
 one_equation = codes "eq a x=1\n"
 
--- a base column, and entries, past the last column
+-- a text with a base column, entries and columns of a tail past the last column
+abbrev pub out_of_range : List ℕ
+out_of_range =
+    codes "mixed-certificate 1\nkind matrix\nlength 9\neq a x=1\n\nshape 1 1 1 0 1\nrank 1\nbase 1=8\nmatch\n"
+    ++ codes "S 1: 1=1 1=5\nU 1: 1=1\nP 1: 1=1 8=1\nfirst 9 9 |\nblock 1: 1 | q1 |\nlast |\nend\n"
+
 abbrev pub NoListLeavesItsRange : Type 0
-NoListLeavesItsRange =
-    NeverAnswers Analyse one_equation (codes "mixed-certificate 1\nkind matrix\nlength 9\neq a x=1\n\nshape 1 1 1 0 1\nrank 1\nbase 1=8\nmatch\nS 1: 1=1 1=5\nU 1: 1=1\nP 1: 1=1 8=1\nfirst 9 9 |\nblock 1: 1 | q1 |\nlast |\nend\n")
+NoListLeavesItsRange = NeverAnswers Analyse one_equation out_of_range
 
 -- a line for a column that is not there
 abbrev pub NoColumnLineIsMadeUp : Type 0

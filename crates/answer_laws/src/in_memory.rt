@@ -26,8 +26,8 @@ pub fn run_in_memory<N: Sink>(
     ensures source { source.new.faults ≡ source.old.faults }
     ensures out { out.new.faults ≡ out.old.faults }
     ensures answers { Answers (map string_bytes words.now) source.old source.new out.old out.new result }
-    ensures complete { (model : MixedModel) → AsksForCommand (map string_bytes words.now) → length source.old.left ≤ model_limit →
-        GivesModel source.old.left model → (result ≡ Status.Done) ⊎ (result ≡ Status.Memory) }
+    ensures complete { (model : MixedModel) → AsksForCommand (map string_bytes words.now) →
+        length source.old.left ≤ model_limit → GivesModel source.old.left model → (result ≡ Status.Done) ⊎ (result ≡ Status.Memory) }
 {
     run(alloc, words, source, out, notes)
 }

@@ -15,8 +15,8 @@ pub record IsShapeWithin (k : ℕ) (shape : Shape) : Type 0 where
   pub t_rows : shape.t_rows ≤ k
   pub columns : shape.columns ≤ k
 
--- room for the lines from the shape on, where rows and columns number at most k: an item takes at most 12 bytes, a line has at most
--- 3 k items, and there are at most 5 k lines of rows and blocks
+-- room for the lines from the shape on, where rows and columns number at most k: an item takes at most 12 bytes, a line
+-- has at most 4 k items, and there are at most 5 k lines of rows and blocks
 abbrev pub contents_room : ℕ → ℕ
 contents_room k = 78 + 117 * k + 68 * (k * k)
 
