@@ -1,17 +1,14 @@
-//! A run over memory.
+//! Runs over memory.
 
-ghost use Rattle.std.specs.Prelude.{◌≡◌, ◌⊎◌, ℕ, ◌+◌, ◌≤◌, ◌<◌, ◌^◌, ◌-◌, [], ◌++◌, length, map};
+ghost use Rattle.std.specs.Prelude.{◌≡◌, ◌≤◌, length, map, Some, IfOk};
 ghost use Rattle.std.specs.String.{string_bytes};
-ghost use Rattle.matrix_reader.specs.Models.{GivesModel};
-ghost use Rattle.mixed_model.specs.Models.{MixedModel};
-ghost use Rattle.report_cli.specs.Answer.{AsksForCommand, IsAnswer};
-ghost use Rattle.report_cli.specs.Limits.{model_limit};
+ghost use Rattle.report_cli.specs.Answer.{IsComplete, OnlyAnswer};
 ghost use Rattle.report_cli.specs.Rooms.{text_room};
 ghost use Rattle.answer_laws.specs.InMemory.{IsCalm, Answers};
 
 use port_io::{MemSink, MemSource, Sink};
 use report_cli::{Status, run};
-use std::alloc::Global;
+use std::alloc::{AllocError, Global};
 
 /// A run over memory with enough room, of whose calls none is to fail: none does, and the run ends with the answer to
 /// the whole input, but for want of memory.
@@ -26,8 +23,27 @@ pub fn run_in_memory<N: Sink>(
     ensures source { source.new.faults ≡ source.old.faults }
     ensures out { out.new.faults ≡ out.old.faults }
     ensures answers { Answers (map string_bytes words.now) source.old source.new out.old out.new result }
-    ensures complete { (model : MixedModel) → AsksForCommand (map string_bytes words.now) →
-        length source.old.left ≤ model_limit → GivesModel source.old.left model → (result ≡ Status.Done) ⊎ (result ≡ Status.Memory) }
+    ensures only_answer { OnlyAnswer (map string_bytes words.now) (Some source.old.left) result }
+    ensures complete { IsComplete (map string_bytes words.now) (Some source.old.left) result }
 {
     run(alloc, words, source, out, notes)
+}
+
+/// How a run on this input ends, and what it writes, where the room is enough for each answer. It is an error that there
+/// is no memory for the streams.
+pub fn answer(
+    alloc: Global,
+    words: &[String],
+    input: &[u8],
+    room: usize,
+) -> Result<(Status, MemSink), AllocError>
+    requires { text_room (length input.now) ≤ room }
+    ensures only_answer { IfOk result (λ answer. OnlyAnswer (map string_bytes words.now) (Some input.now) answer.0) }
+    ensures complete { IfOk result (λ answer. IsComplete (map string_bytes words.now) (Some input.now) answer.0) }
+{
+    let mut source = MemSource::new(alloc, input, 65_536, &[])?;
+    let mut out = MemSink::new(alloc, room.max(1), room, &[])?;
+    let mut notes = MemSink::new(alloc, 64, 64, &[])?;
+    let status = run_in_memory(alloc, words, &mut source, &mut out, &mut notes);
+    Ok((status, out))
 }

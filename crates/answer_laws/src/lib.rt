@@ -4,8 +4,10 @@
 mod in_memory;
 mod laws;
 mod no_answers;
+#[cfg(test)]
+mod tests;
 
-pub use in_memory::run_in_memory;
+pub use in_memory::{answer, run_in_memory};
 pub use laws::{
     a_model_has_one_layer_text, answers_fit_in_their_room, answers_of_analyse_agree,
     answers_of_layer_are_one,
