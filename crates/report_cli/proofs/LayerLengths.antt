@@ -19,7 +19,7 @@ use Rattle.mixed_layering.specs.Layers.{AreLayersOf}
 use Rattle.cert_text.specs.Texts.{marked, spaced, item, numbers_text}
 use Rattle.text_lengths.proofs.Lengths.{marked-short, item-short, numbers-short, rising-few}
 use Rattle.text_lengths.proofs.TextLengths.{at_most}
-use Rattle.report_cli.specs.LayerTexts.{name_at, head_text, column_name, column_line, column_lines, entry_text, entries_text, q_line, t_line, row_lines, columns_text, layer_text}
+use Rattle.report_cli.specs.LayerTexts.{name_at, line_head, column_name, column_line, column_lines, entry_text, row_entries_text, q_line, t_line, row_lines, columns_text, layer_text}
 use Rattle.report_cli.specs.Rooms.{layer_room}
 use Rattle.report_cli.specs.WholeLayers.{AreWholeLayers}
 use Rattle.report_cli.proofs.LayerFacts.{row_long}
@@ -34,7 +34,7 @@ name-short names are k = ⊎_elim
     (λ out. let nothing : name_at names k ≡ [] = get_or-eq_default names [] out in omega (arith, ap length nothing))
     (cases_lt k (length names))
 
-head-short : (letter number : ℕ) → number < 100000 → length (head_text letter number) ≤ 7
+head-short : (letter number : ℕ) → number < 100000 → length (line_head letter number) ≤ 7
 head-short letter number few = omega (arith, length-append (marked letter number) (codes " "), marked-short letter number few)
 
 -- the lines of columns
@@ -45,7 +45,7 @@ column-name-short model is (Split equation) = omega (arith, name-short model.equ
 columns-short : (model : MixedModel) → IsModel model → (number : ℕ) (origins : List Origin) → number + length origins ≤ 8193 → length (column_lines model number origins) ≤ length origins * 105
 columns-short model is number [] few = omega arith
 columns-short model is number (origin ∷ origins) few =
-    let head : List ℕ = head_text 99 number in
+    let head : List ℕ = line_head 99 number in
     let name : List ℕ = column_name model origin in
     let line : length (column_line model number origin) ≤ 105 = omega (
       arith,
@@ -74,12 +74,12 @@ entry-short column number few small = go (number == 0)
     go true = omega arith
     go false = item-short column number few (omega (arith, small))
 
-entries-short : (column : ℕ) (row : List ℕ) → column + length row ≤ 8193 → All (λ number. number < 65521) row → length (entries_text column row) ≤ 12 * length row
+entries-short : (column : ℕ) (row : List ℕ) → column + length row ≤ 8193 → All (λ number. number < 65521) row → length (row_entries_text column row) ≤ 12 * length row
 entries-short column [] few small = omega arith
 entries-short column (number ∷ row) few small =
     let here : number < 65521 = All-head (λ number. number < 65521) number row small in
     let rest = entries-short (column + 1) row (omega (arith, few)) (All-tail (λ number. number < 65521) number row small) in
-    omega (arith, rest, length-append (entry_text column number) (entries_text (column + 1) row), entry-short column number (omega (arith, few)) here)
+    omega (arith, rest, length-append (entry_text column number) (row_entries_text (column + 1) row), entry-short column number (omega (arith, few)) here)
 
 -- the constants of a model are residues
 filled-small : (constant : Option ℕ) → ((c : ℕ) → constant ≡ Some c → c < res_modulus) → unwrap_or constant 0 < 65521
@@ -127,7 +127,7 @@ module _ (model : MixedModel) (is : IsModel model) (layers : Layers) (are : AreL
 
   q-line-short : (number : ℕ) (name row : List ℕ) → number < 100000 → length name ≤ 96 → All (λ number. number < 65521) row × (length row ≤ k) → length (q_line number name row) ≤ 104 + 12 * k
   q-line-short number name row small short row_is =
-      let head : List ℕ = head_text 113 number in
+      let head : List ℕ = line_head 113 number in
       omega (
         arith,
         head-short 113 number small,
@@ -135,13 +135,13 @@ module _ (model : MixedModel) (is : IsModel model) (layers : Layers) (are : AreL
         row_is.1,
         entries-short 1 row (omega (arith, row_is.1, few)) row_is.0,
         length-append head name,
-        length-append (head ++ name) (entries_text 1 row),
-        length-append (head ++ name ++ entries_text 1 row) (codes "\n"),
+        length-append (head ++ name) (row_entries_text 1 row),
+        length-append (head ++ name ++ row_entries_text 1 row) (codes "\n"),
       )
 
   t-line-short : (number : ℕ) (name row : List ℕ) → number < 100000 → length name ≤ 96 → All (λ column. column < 8192) row × (length row ≤ k) → length (t_line number name row) ≤ 104 + 6 * k
   t-line-short number name row small short row_is =
-      let head : List ℕ = head_text 116 number in
+      let head : List ℕ = line_head 116 number in
       omega (
         arith,
         head-short 116 number small,

@@ -5,7 +5,7 @@ use Rattle.std.proofs.Math.ListN.{drop_of_length-le}
 use Rattle.mixed_model.specs.Models.{MixedModel}
 use Rattle.mixed_model.specs.declared.origin.Origin.{Origin}
 use Rattle.cert_text.proofs.Pieces.{drop_next}
-use Rattle.report_cli.specs.LayerTexts.{name_at, column_line, column_lines, entry_text, entries_text, row_lines}
+use Rattle.report_cli.specs.LayerTexts.{name_at, column_line, column_lines, entry_text, row_entries_text, row_lines}
 
 -- an item that was got stands there
 pub got_or : {A : Type 0} (xs : List A) (i : ℕ) (d x : A) → slice_get xs i ≡ Some x → get_or xs i d ≡ x
@@ -23,11 +23,11 @@ pub columns_end : (model : MixedModel) (number : ℕ) (origins : List Origin) (i
 columns_end model number origins i all = ap (column_lines model number) (drop_of_length-le origins all)
 
 pub entries_left : (row : List ℕ) (i d : ℕ) → i < length row →
-    entries_text (i + 1) (drop i row) ≡ entry_text (i + 1) (get_or row i d) ++ entries_text (i + 1 + 1) (drop (i + 1) row)
-entries_left row i d within = ap (entries_text (i + 1)) (drop_next row i d within)
+    row_entries_text (i + 1) (drop i row) ≡ entry_text (i + 1) (get_or row i d) ++ row_entries_text (i + 1 + 1) (drop (i + 1) row)
+entries_left row i d within = ap (row_entries_text (i + 1)) (drop_next row i d within)
 
-pub entries_end : (column : ℕ) (row : List ℕ) (i : ℕ) → length row ≤ i → entries_text column (drop i row) ≡ []
-entries_end column row i all = ap (entries_text column) (drop_of_length-le row all)
+pub entries_end : (column : ℕ) (row : List ℕ) (i : ℕ) → length row ≤ i → row_entries_text column (drop i row) ≡ []
+entries_end column row i all = ap (row_entries_text column) (drop_of_length-le row all)
 
 pub rows_left : (line : ℕ → List ℕ → List ℕ → List ℕ) (names : List (List ℕ)) (origins : List ℕ) (rows : List (List ℕ)) (k : ℕ) → k < length rows →
     row_lines line names origins k (drop k rows) ≡ line (k + 1) (name_at names (slice_index origins k)) (get_or rows k []) ++ row_lines line names origins (k + 1) (drop (k + 1) rows)

@@ -28,8 +28,10 @@ pub record IsReported (words : List (List ℕ)) (input text : List ℕ) : Type 0
 -- a run with these words on this whole input ends with this status and this text on `out`, when nothing fails
 abbrev pub IsAnswer : List (List ℕ) → List ℕ → Status → List ℕ → Type 0
 IsAnswer words input Usage text = AsksForNothing words × (text ≡ [])
-IsAnswer words input (TooLong limit) text = AsksForCommand words × (limit ≡ model_limit) × (model_limit < length input) × (text ≡ [])
-IsAnswer words input (Refused refusal) text = AsksForCommand words × (length input ≤ model_limit) × IsRefused input refusal × (text ≡ [])
+IsAnswer words input (TooLong limit) text =
+    AsksForCommand words × (limit ≡ model_limit) × (model_limit < length input) × (text ≡ [])
+IsAnswer words input (Refused refusal) text =
+    AsksForCommand words × (length input ≤ model_limit) × IsRefused input refusal × (text ≡ [])
 IsAnswer words input Done text = (length input ≤ model_limit) × IsReported words input text
 IsAnswer words input ReadFault text = ⊥
 IsAnswer words input WriteFault text = ⊥
@@ -60,7 +62,8 @@ WritesNothing WriteFault p = Unit {0}
 WritesNothing _ p = p
 
 -- what was read, what was written, and that this is the answer
-pub record Answered (words : List (List ℕ)) (left left' written written' : Option (List ℕ)) (status : Status) : Type 0 where
+pub record Answered (words : List (List ℕ)) (left left' written written' : Option (List ℕ)) (status : Status) :
+    Type 0 where
   pub read : List ℕ
   pub text : List ℕ
   pub took : Took left left' read
@@ -80,13 +83,14 @@ pub record CutShort (words : List (List ℕ)) (left left' written written' : Opt
 -- where the whole input has an answer, the status is that of the answer, but for want of memory
 abbrev pub OnlyAnswer : List (List ℕ) → Option (List ℕ) → Status → Type 0
 OnlyAnswer words left status =
-    (input : List ℕ) (answer : Status) (text : List ℕ) → left ≡ Some input → IsAnswer words input answer text → (status ≡ answer) ⊎ (status ≡ Memory)
+    (input : List ℕ) (answer : Status) (text : List ℕ) → left ≡ Some input → IsAnswer words input answer text →
+    (status ≡ answer) ⊎ (status ≡ Memory)
 
 -- where the words ask for a command and the whole input keeps each rule, the run is done, but for want of memory
 abbrev pub IsComplete : List (List ℕ) → Option (List ℕ) → Status → Type 0
 IsComplete words left status =
-    (input : List ℕ) (model : MixedModel) → left ≡ Some input → AsksForCommand words → length input ≤ model_limit → GivesModel input model →
-    (status ≡ Done) ⊎ (status ≡ Memory)
+    (input : List ℕ) (model : MixedModel) → left ≡ Some input → AsksForCommand words → length input ≤ model_limit →
+    GivesModel input model → (status ≡ Done) ⊎ (status ≡ Memory)
 
 -- a text was written whole, or the sink failed
 abbrev pub IsDelivered : Status → Type 0 → Type 0 → Type 0

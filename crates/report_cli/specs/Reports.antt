@@ -22,7 +22,8 @@ abbrev pub IsReportFor : Command → List ℕ → Report → Type 0
 IsReportFor Analyse input (Certificate certificate) = IsRightFor input certificate
 IsReportFor Analyse input (Layers model layers) = ⊥
 IsReportFor Layer input (Certificate certificate) = ⊥
-IsReportFor Layer input (Layers model layers) = GivesModel input model × AreLayersOf model layers × AreWholeLayers layers
+IsReportFor Layer input (Layers model layers) =
+    GivesModel input model × AreLayersOf model layers × AreWholeLayers layers
 
 -- the echo is no longer than an input may be, and the layers are those of the model
 abbrev pub IsWritable : Report → Type 0

@@ -13,8 +13,8 @@ use Rattle.cert_text.specs.declared.certificate.Certificate.{Certificate}
 use Rattle.cert_text.specs.declared.kind.Kind.TheVariants.{Matrix}
 use Rattle.report_cli.specs.Limits.{model_limit}
 
--- the input keeps each rule and gives a model, and the certificate repeats the input, keeps the ranges and orders of its lines, and
--- has a right canonical form of the model's layered matrix
+-- the input keeps each rule and gives a model, and the certificate repeats the input, keeps the ranges and orders of
+-- its lines, and has a right canonical form of the model's layered matrix
 pub record IsRightFor (input : List ℕ) (certificate : Certificate) : Type 0 where
   pub model : MixedModel
   pub gives : GivesModel input model

@@ -2,7 +2,8 @@
 use Rattle.std.specs.Prelude.{ℕ, ◌+◌, ◌*◌, min}
 use Rattle.text_lengths.specs.Rooms.{certificate_room}
 
--- room for a layer text of at most k rows of each kind and k columns: a line has a name of at most 96 bytes and k items of at most 12
+-- room for a layer text of at most k rows of each kind and k columns: a line has a name of at most 96 bytes and k items
+-- of at most 12
 abbrev pub layer_room : ℕ → ℕ
 layer_room k = 14 + 313 * k + 18 * (k * k)
 

@@ -17,7 +17,8 @@ impl Command {
     /// The command that the words name: the program's own name, `analyse` or `layer`, and `matrix`. No other words name
     /// one.
     pub fn of(words: &[String]) -> Option<Command>
-        ensures { MatchOption result (AsksForNothing (map string_bytes words.now)) (AsksFor (map string_bytes words.now)) }
+        ensures { MatchOption result (AsksForNothing (map string_bytes words.now))
+            (AsksFor (map string_bytes words.now)) }
     {
         match words {
             [_, command, kind] if is_word(kind, "matrix") => Command::named(command),
@@ -25,9 +26,10 @@ impl Command {
         }
     }
 
-    /// The command of this name.
+    // The command of this name.
     fn named(word: &String) -> Option<Command>
-        ensures { MatchOption result (IsNoName (string_bytes word.now)) (λ command. string_bytes word.now ≡ name_of command) }
+        ensures { MatchOption result (IsNoName (string_bytes word.now))
+            (λ command. string_bytes word.now ≡ name_of command) }
     {
         if is_word(word, "analyse") {
             Some(Command::Analyse)
@@ -39,7 +41,7 @@ impl Command {
     }
 }
 
-/// Whether a word is this one.
+// Whether a word is this one.
 fn is_word(word: &String, text: &str) -> bool
     ensures { IsTrue result ↔ (string_bytes word.now ≡ text.now) }
 {

@@ -5,7 +5,7 @@ ghost use Rattle.cert_text.specs.Texts.{numbers_text};
 ghost use Rattle.cert_text.specs.Writing.{IsPut};
 ghost use Rattle.dense_q.specs.Tables.{height, row_at};
 ghost use Rattle.mixed_layering.specs.Layers.{AreLayersOf};
-ghost use Rattle.report_cli.specs.LayerTexts.{name_at, head_text, column_name, column_line, column_lines, entry_text, entries_text, q_line, t_line, row_lines, columns_text, layer_text};
+ghost use Rattle.report_cli.specs.LayerTexts.{name_at, line_head, column_name, column_line, column_lines, entry_text, row_entries_text, q_line, t_line, row_lines, columns_text, layer_text};
 ghost use Rattle.report_cli.specs.Columns.{IsOriginIn};
 ghost use Rattle.sparse_t.specs.Incidences.{row_at as columns_at};
 
@@ -31,7 +31,7 @@ pub fn put_layers<K: Sink>(
     put_t_lines(buffer, out, model, layered)
 }
 
-/// Puts the number of columns, and their lines.
+// Puts the number of columns, and their lines.
 fn put_columns<K: Sink>(
     buffer: &mut PieceBuffer,
     out: &mut K,
@@ -48,7 +48,7 @@ fn put_columns<K: Sink>(
     put_column_lines(buffer, out, model, layered)
 }
 
-/// Puts the lines of the columns.
+// Puts the lines of the columns.
 fn put_column_lines<K: Sink>(
     buffer: &mut PieceBuffer,
     out: &mut K,
@@ -66,7 +66,7 @@ fn put_column_lines<K: Sink>(
     Ok(())
 }
 
-/// Puts the line of a column.
+// Puts the line of a column.
 fn put_column_line<K: Sink>(
     buffer: &mut PieceBuffer,
     out: &mut K,
@@ -83,7 +83,7 @@ fn put_column_line<K: Sink>(
     put_piece(buffer, out, b"\n")
 }
 
-/// Puts how a line begins.
+// Puts how a line begins.
 fn put_head<K: Sink>(
     buffer: &mut PieceBuffer,
     out: &mut K,
@@ -91,13 +91,13 @@ fn put_head<K: Sink>(
     number: u64,
 ) -> Result<(), WriteFault>
     ensures { IsPut K.written K.faults K.flushes K.takes out.old buffer.old out.new buffer.new
-        (head_text letter number) result }
+        (line_head letter number) result }
 {
     put_number(buffer, out, letter, number)?;
     put_piece(buffer, out, b" ")
 }
 
-/// Puts the name of a column.
+// Puts the name of a column.
 fn put_column_name<K: Sink>(
     buffer: &mut PieceBuffer,
     out: &mut K,
@@ -114,7 +114,7 @@ fn put_column_name<K: Sink>(
     }
 }
 
-/// Puts the name of an unknown.
+// Puts the name of an unknown.
 fn put_unknown_name<K: Sink>(
     buffer: &mut PieceBuffer,
     out: &mut K,
@@ -128,7 +128,7 @@ fn put_unknown_name<K: Sink>(
     put_piece(buffer, out, model.unknown_name(unknown).as_bytes())
 }
 
-/// Puts the name of an equation.
+// Puts the name of an equation.
 fn put_equation_name<K: Sink>(
     buffer: &mut PieceBuffer,
     out: &mut K,
@@ -142,7 +142,7 @@ fn put_equation_name<K: Sink>(
     put_piece(buffer, out, model.equation_name(equation).as_bytes())
 }
 
-/// Puts the name of the auxiliary column of an equation.
+// Puts the name of the auxiliary column of an equation.
 fn put_auxiliary_name<K: Sink>(
     buffer: &mut PieceBuffer,
     out: &mut K,
@@ -157,7 +157,7 @@ fn put_auxiliary_name<K: Sink>(
     put_equation_name(buffer, out, model, equation)
 }
 
-/// Puts the lines of the Q rows.
+// Puts the lines of the Q rows.
 fn put_q_lines<K: Sink>(
     buffer: &mut PieceBuffer,
     out: &mut K,
@@ -174,7 +174,7 @@ fn put_q_lines<K: Sink>(
     Ok(())
 }
 
-/// Puts the line of a Q row.
+// Puts the line of a Q row.
 fn put_q_line<K: Sink>(
     buffer: &mut PieceBuffer,
     out: &mut K,
@@ -194,7 +194,7 @@ fn put_q_line<K: Sink>(
     put_piece(buffer, out, b"\n")
 }
 
-/// Puts the entries of a row of constants.
+// Puts the entries of a row of constants.
 fn put_entries<K: Sink>(
     buffer: &mut PieceBuffer,
     out: &mut K,
@@ -203,7 +203,7 @@ fn put_entries<K: Sink>(
 ) -> Result<(), WriteFault>
     requires { row < height matrix.now }
     ensures { IsPut K.written K.faults K.flushes K.takes out.old buffer.old out.new buffer.new
-        (entries_text 1 (row_at matrix.now row)) result }
+        (row_entries_text 1 (row_at matrix.now row)) result }
 {
     for column in 0..matrix.cols() {
         put_entry(buffer, out, column + 1, matrix.get(row, column))?;
@@ -211,7 +211,7 @@ fn put_entries<K: Sink>(
     Ok(())
 }
 
-/// Puts an entry of a row, counted from column 1, and nothing where it is 0.
+// Puts an entry of a row, counted from column 1, and nothing where it is 0.
 fn put_entry<K: Sink>(
     buffer: &mut PieceBuffer,
     out: &mut K,
@@ -227,7 +227,7 @@ fn put_entry<K: Sink>(
     }
 }
 
-/// Puts the lines of the T rows.
+// Puts the lines of the T rows.
 fn put_t_lines<K: Sink>(
     buffer: &mut PieceBuffer,
     out: &mut K,
@@ -244,7 +244,7 @@ fn put_t_lines<K: Sink>(
     Ok(())
 }
 
-/// Puts the line of a T row.
+// Puts the line of a T row.
 fn put_t_line<K: Sink>(
     buffer: &mut PieceBuffer,
     out: &mut K,
@@ -264,7 +264,7 @@ fn put_t_line<K: Sink>(
     put_piece(buffer, out, b"\n")
 }
 
-/// Puts the columns of the symbols of a row, rising.
+// Puts the columns of the symbols of a row, rising.
 fn put_symbols<K: Sink>(
     buffer: &mut PieceBuffer,
     out: &mut K,

@@ -79,21 +79,21 @@ impl Report {
     }
 }
 
-/// Tells a proof what the type of a layered matrix keeps.
+// Tells a proof what the type of a layered matrix keeps.
 fn is_whole(layered: &Layered)
     ensures { AreWholeLayers layered.now }
 {
     let _ = (layered.split(), layered.q.rows(), layered.t.rows());
 }
 
-/// Tells a proof what the type of a printed form keeps.
+// Tells a proof what the type of a printed form keeps.
 fn is_in_form(ccf: &Ccf)
     ensures { IsCcf ccf.now }
 {
     let _ = ccf.rank();
 }
 
-/// Appends the text of the layered matrix of a model to the sink.
+// Appends the text of the layered matrix of a model to the sink.
 fn write_layers<K: Sink>(out: &mut K, model: &Mixed, layered: &Layered) -> Result<(), WriteFault>
     requires { AreLayersOf model.now layered.now }
     ensures whole { OnOk result (Appended (K.written out.old) (K.written out.new) (layer_text model.now layered.now)) }

@@ -35,7 +35,8 @@ pub fn run<S: Source, K: Sink, N: Sink>(
     // what follows holds whatever `notes` does: no clause on the status, the source or `out` has a premise on it
 
     // a status that is no fault is the answer to what was read
-    ensures answered { Tells result (Answered (map string_bytes words.now) (S.left source.old) (S.left source.new) (K.written out.old) (K.written out.new) result) }
+    ensures answered { Tells result (Answered (map string_bytes words.now) (S.left source.old) (S.left source.new)
+        (K.written out.old) (K.written out.new) result) }
     ensures finished { result ≡ Status.Done → IsTrue (K.flushed out.new) }
     ensures one_flush { result ≡ Status.Done → K.flushes out.new ≡ one_more (K.flushes out.old) }
 
@@ -47,7 +48,8 @@ pub fn run<S: Source, K: Sink, N: Sink>(
 
     // faults have their cause
     ensures read_fault { result ≡ Status.ReadFault → Rose (S.faults source.old) (S.faults source.new) }
-    ensures write_fault { result ≡ Status.WriteFault → Rose (K.faults out.old) (K.faults out.new) × CutShort (map string_bytes words.now) (S.left source.old) (S.left source.new) (K.written out.old) (K.written out.new) }
+    ensures write_fault { result ≡ Status.WriteFault → Rose (K.faults out.old) (K.faults out.new)
+        × CutShort (map string_bytes words.now) (S.left source.old) (S.left source.new) (K.written out.old) (K.written out.new) }
 
     // and each fault is told: a call that failed is not tried again
     ensures read_told { result ≢ Status.ReadFault → S.faults source.new ≡ S.faults source.old }
@@ -55,7 +57,8 @@ pub fn run<S: Source, K: Sink, N: Sink>(
 
     // what is written, noted and taken
     ensures nothing_written { WritesNothing result (K.written out.new ≡ K.written out.old) }
-    ensures noted { Noted (N.written notes.old) (N.written notes.new) (N.faults notes.old) (N.faults notes.new) (note_of result) }
+    ensures noted { Noted (N.written notes.old) (N.written notes.new) (N.faults notes.old) (N.faults notes.new)
+        (note_of result) }
     ensures taken { TakesBy result (S.left source.old) (S.left source.new) }
     ensures taken_usage { result ≡ Status.Usage → S.left source.new ≡ S.left source.old }
     ensures asked { AsksWithin 65536 (model_limit + 1) (S.asked source.old) (S.asked source.new) }
@@ -66,22 +69,25 @@ pub fn run<S: Source, K: Sink, N: Sink>(
     ensures counts_out { K.faults out.old ≤ K.faults out.new }
     ensures counts_notes { N.faults notes.old ≤ N.faults notes.new }
     ensures calm_source { S.never_fails source.old → S.faults source.new ≡ S.faults source.old }
-    ensures calm_out { (input : List ℕ) → S.left source.old ≡ Some input → K.takes out.old (text_room (length input)) → K.faults out.new ≡ K.faults out.old }
+    ensures calm_out { (input : List ℕ) → S.left source.old ≡ Some input → K.takes out.old (text_room (length input)) →
+        K.faults out.new ≡ K.faults out.old }
 {
     let status = work(alloc, words, source, out);
     tell(notes, status);
     status
 }
 
-/// A run, but for what is noted.
+// A run, but for what is noted.
 fn work<S: Source, K: Sink>(alloc: Global, words: &[String], source: &mut S, out: &mut K) -> Status
-    ensures answered { Tells result (Answered (map string_bytes words.now) (S.left source.old) (S.left source.new) (K.written out.old) (K.written out.new) result) }
+    ensures answered { Tells result (Answered (map string_bytes words.now) (S.left source.old) (S.left source.new)
+        (K.written out.old) (K.written out.new) result) }
     ensures finished { result ≡ Status.Done → IsTrue (K.flushed out.new) }
     ensures one_flush { result ≡ Status.Done → K.flushes out.new ≡ one_more (K.flushes out.old) }
     ensures read_told { result ≢ Status.ReadFault → S.faults source.new ≡ S.faults source.old }
     ensures write_told { result ≢ Status.WriteFault → K.faults out.new ≡ K.faults out.old }
     ensures read_fault { result ≡ Status.ReadFault → Rose (S.faults source.old) (S.faults source.new) }
-    ensures write_fault { result ≡ Status.WriteFault → Rose (K.faults out.old) (K.faults out.new) × CutShort (map string_bytes words.now) (S.left source.old) (S.left source.new) (K.written out.old) (K.written out.new) }
+    ensures write_fault { result ≡ Status.WriteFault → Rose (K.faults out.old) (K.faults out.new)
+        × CutShort (map string_bytes words.now) (S.left source.old) (S.left source.new) (K.written out.old) (K.written out.new) }
     ensures nothing_written { WritesNothing result (K.written out.new ≡ K.written out.old) }
     ensures taken { TakesBy result (S.left source.old) (S.left source.new) }
     ensures taken_usage { result ≡ Status.Usage → S.left source.new ≡ S.left source.old }
@@ -90,7 +96,8 @@ fn work<S: Source, K: Sink>(alloc: Global, words: &[String], source: &mut S, out
     ensures counts_source { S.faults source.old ≤ S.faults source.new }
     ensures counts_out { K.faults out.old ≤ K.faults out.new }
     ensures calm_source { S.never_fails source.old → S.faults source.new ≡ S.faults source.old }
-    ensures calm_out { (input : List ℕ) → S.left source.old ≡ Some input → K.takes out.old (text_room (length input)) → K.faults out.new ≡ K.faults out.old }
+    ensures calm_out { (input : List ℕ) → S.left source.old ≡ Some input → K.takes out.old (text_room (length input)) →
+        K.faults out.new ≡ K.faults out.old }
 {
     let Some(command) = Command::of(words) else {
         return Status::Usage;
@@ -108,10 +115,13 @@ fn work<S: Source, K: Sink>(alloc: Global, words: &[String], source: &mut S, out
     }
 }
 
-/// Writes the whole text of a report, and flushes it.
+// Writes the whole text of a report, and flushes it.
 fn deliver<K: Sink>(out: &mut K, report: &Report) -> Status
     requires { IsWritable report.now }
-    ensures ends { IsDelivered result (Appended (K.written out.old) (K.written out.new) (report_text report.now) × IsTrue (K.flushed out.new)) (Rose (K.faults out.old) (K.faults out.new) × PartWritten (K.written out.old) (K.written out.new) (report_text report.now)) }
+    ensures ends { IsDelivered result
+        (Appended (K.written out.old) (K.written out.new) (report_text report.now) × IsTrue (K.flushed out.new))
+        (Rose (K.faults out.old) (K.faults out.new)
+        × PartWritten (K.written out.old) (K.written out.new) (report_text report.now)) }
     ensures counts { K.faults out.old ≤ K.faults out.new }
     ensures told { result ≢ Status.WriteFault → K.faults out.new ≡ K.faults out.old }
     ensures one_flush { result ≡ Status.Done → K.flushes out.new ≡ one_more (K.flushes out.old) }

@@ -12,7 +12,8 @@ use refusals::{Place, Refused, Why};
 
 /// Notes how a run ends, as far as the sink takes it: nothing where it is done, else one line.
 pub fn tell<N: Sink>(notes: &mut N, status: Status)
-    ensures noted { Noted (N.written notes.old) (N.written notes.new) (N.faults notes.old) (N.faults notes.new) (note_of status) }
+    ensures noted { Noted (N.written notes.old) (N.written notes.new) (N.faults notes.old) (N.faults notes.new)
+        (note_of status) }
     ensures counts { N.faults notes.old ≤ N.faults notes.new }
 {
     let mut buffer = PieceBuffer::new();
@@ -21,7 +22,7 @@ pub fn tell<N: Sink>(notes: &mut N, status: Status)
     }
 }
 
-/// Puts the line of a status, and nothing where the run is done.
+// Puts the line of a status, and nothing where the run is done.
 fn put_note<N: Sink>(
     buffer: &mut PieceBuffer,
     notes: &mut N,
@@ -36,7 +37,7 @@ fn put_note<N: Sink>(
     }
 }
 
-/// Puts the line of a status that is not `Done`.
+// Puts the line of a status that is not `Done`.
 fn put_line<N: Sink>(
     buffer: &mut PieceBuffer,
     notes: &mut N,
@@ -50,7 +51,7 @@ fn put_line<N: Sink>(
     put_piece(buffer, notes, b"\n")
 }
 
-/// Puts the words for a status.
+// Puts the words for a status.
 fn put_words<N: Sink>(
     buffer: &mut PieceBuffer,
     notes: &mut N,
@@ -70,7 +71,7 @@ fn put_words<N: Sink>(
     }
 }
 
-/// Puts the words for an input that is too long.
+// Puts the words for an input that is too long.
 fn put_limit<N: Sink>(buffer: &mut PieceBuffer, notes: &mut N, limit: u64) -> Result<(), WriteFault>
     ensures { IsPut N.written N.faults N.flushes N.takes notes.old buffer.old notes.new buffer.new
         (limit_text limit) result }
@@ -80,7 +81,7 @@ fn put_limit<N: Sink>(buffer: &mut PieceBuffer, notes: &mut N, limit: u64) -> Re
     put_piece(buffer, notes, b" bytes")
 }
 
-/// Puts a refusal: the place, a colon and the reason.
+// Puts a refusal: the place, a colon and the reason.
 fn put_refusal<N: Sink>(
     buffer: &mut PieceBuffer,
     notes: &mut N,
@@ -94,7 +95,7 @@ fn put_refusal<N: Sink>(
     put_why(buffer, notes, refused.why)
 }
 
-/// Puts a place: its word and, where it has one, its number.
+// Puts a place: its word and, where it has one, its number.
 fn put_place<N: Sink>(
     buffer: &mut PieceBuffer,
     notes: &mut N,
@@ -107,7 +108,7 @@ fn put_place<N: Sink>(
     put_place_number(buffer, notes, place)
 }
 
-/// Puts the word for a place.
+// Puts the word for a place.
 fn put_place_word<N: Sink>(
     buffer: &mut PieceBuffer,
     notes: &mut N,
@@ -119,7 +120,7 @@ fn put_place_word<N: Sink>(
     put_piece(buffer, notes, place.word().as_bytes())
 }
 
-/// Puts the number of a place behind a space, where it has one.
+// Puts the number of a place behind a space, where it has one.
 fn put_place_number<N: Sink>(
     buffer: &mut PieceBuffer,
     notes: &mut N,
@@ -134,7 +135,7 @@ fn put_place_number<N: Sink>(
     }
 }
 
-/// Puts the words for a reason.
+// Puts the words for a reason.
 fn put_why<N: Sink>(buffer: &mut PieceBuffer, notes: &mut N, why: Why) -> Result<(), WriteFault>
     ensures { IsPut N.written N.faults N.flushes N.takes notes.old buffer.old notes.new buffer.new
         (why_text why) result }

@@ -33,7 +33,7 @@ struct Case<'a> {
     notes: &'a [u8],
 }
 
-/// A case with ample room and no failing call.
+// A case with ample room and no failing call.
 fn calm<'a>(
     input: &'a [u8],
     status: u8,
@@ -64,7 +64,7 @@ fn words_of(alloc: Global, words: &[&str]) -> Result<Vec<String>, Fail> {
     Ok(all)
 }
 
-/// Whether the piece stands in the text.
+// Whether the piece stands in the text.
 fn holds(text: &[u8], piece: &[u8]) -> bool {
     for start in 0..=text.len() {
         if text[start..].starts_with(piece) {
@@ -74,7 +74,7 @@ fn holds(text: &[u8], piece: &[u8]) -> bool {
     false
 }
 
-/// Runs a case, and compares what it leaves. A run of status 2 takes no byte.
+// Runs a case, and compares what it leaves. A run of status 2 takes no byte.
 fn expect_case(rt: &impl Abort, alloc: Global, case: &Case) -> Result<(), Fail> {
     let words = words_of(alloc, &case.words)?;
     let mut source = MemSource::new(alloc, case.input, ROOM, case.source_fails)?;
@@ -93,7 +93,7 @@ fn expect_case(rt: &impl Abort, alloc: Global, case: &Case) -> Result<(), Fail> 
     Ok(())
 }
 
-/// A case that is answered by a certificate with this end.
+// A case that is answered by a certificate with this end.
 fn certified<'a>(input: &'a [u8], ends: &'a [u8]) -> Case<'a> {
     calm(
         input,
@@ -104,7 +104,7 @@ fn certified<'a>(input: &'a [u8], ends: &'a [u8]) -> Case<'a> {
     )
 }
 
-/// A case that is answered by a certificate that holds this piece and has this end.
+// A case that is answered by a certificate that holds this piece and has this end.
 fn certified_holding<'a>(input: &'a [u8], holds: &'a [u8], ends: &'a [u8]) -> Case<'a> {
     Case {
         holds,
@@ -112,7 +112,7 @@ fn certified_holding<'a>(input: &'a [u8], holds: &'a [u8], ends: &'a [u8]) -> Ca
     }
 }
 
-/// A case of `layer` that is answered by a text with this beginning and this end.
+// A case of `layer` that is answered by a text with this beginning and this end.
 fn layered<'a>(input: &'a [u8], begins: &'a [u8], ends: &'a [u8]) -> Case<'a> {
     Case {
         words: ["mixed", "layer", "matrix"],
@@ -120,7 +120,7 @@ fn layered<'a>(input: &'a [u8], begins: &'a [u8], ends: &'a [u8]) -> Case<'a> {
     }
 }
 
-/// A case that is refused with this note.
+// A case that is refused with this note.
 fn refused<'a>(input: &'a [u8], notes: &'a [u8]) -> Case<'a> {
     calm(input, 3, b"", b"", notes)
 }
@@ -315,7 +315,7 @@ fn each_beginning_is_answered(rt: HostRuntime) -> Result<(), Fail> {
     Ok(())
 }
 
-/// Runs each beginning of a text, which is answered by a text or by a refusal.
+// Runs each beginning of a text, which is answered by a text or by a refusal.
 fn expect_beginnings(
     rt: &impl Abort,
     alloc: Global,
@@ -428,7 +428,7 @@ fn as_many_unknowns_as_there_may_be(rt: HostRuntime) -> Result<(), Fail> {
     expect_case(&rt, rt.alloc(), &refused(text.as_bytes(), note))
 }
 
-/// The square matrix of rows of entries.
+// The square matrix of rows of entries.
 fn dense(alloc: Global, rows: &Items<Items<(usize, Res)>>) -> Result<Mat<Res>, Fail> {
     let size = rows.as_slice().len().min(8);
     let mut matrix = Mat::zeros(alloc, size, size)?;
