@@ -1,12 +1,7 @@
 //! Runs over memory. Expected texts are those of the formats, never the program's own.
 
-use crate::command::Command;
-use crate::report::Report;
 use crate::{Status, run};
-use cert_text::Items;
-use dense_q::Mat;
 use port_io::{MemSink, MemSource, read_all};
-use residue_field::Res;
 use std::alloc::Global;
 use std::process::Abort;
 use std::test::Fail;
@@ -426,35 +421,4 @@ fn as_many_unknowns_as_there_may_be(rt: HostRuntime) -> Result<(), Fail> {
     text.push_str("unknown x4097\n")?;
     let note = b"mixed: line 4097: too many\n";
     expect_case(&rt, rt.alloc(), &refused(text.as_bytes(), note))
-}
-
-// The square matrix of rows of entries.
-fn dense(alloc: Global, rows: &Items<Items<(usize, Res)>>) -> Result<Mat<Res>, Fail> {
-    let size = rows.as_slice().len().min(8);
-    let mut matrix = Mat::zeros(alloc, size, size)?;
-    for (row, entries) in rows.as_slice().iter().enumerate() {
-        for (column, number) in entries.as_slice() {
-            if row < size && *column < size {
-                matrix.set(row, *column, *number);
-            }
-        }
-    }
-    Ok(matrix)
-}
-
-#[test]
-fn the_transform_times_its_inverse_is_one(rt: HostRuntime) -> Result<(), Fail> {
-    let alloc = rt.alloc();
-    let input = b"eq a x=1 y=1\neq b x=1 y=?\n".to_vec(alloc)?;
-    let Report::Certificate(certificate) = Report::of(alloc, Command::Analyse, input)? else {
-        return Err(Fail::new("no certificate"));
-    };
-    let s = dense(alloc, certificate.ccf.s())?;
-    let u = dense(alloc, certificate.ccf.u())?;
-    assert_eq!(rt; (s.rows(), u.cols()), (2, 2));
-    let product = Mat::product(alloc, &s, &u)?;
-    for (row, column, want) in [(0, 0, 1), (0, 1, 0), (1, 0, 0), (1, 1, 1)] {
-        assert_eq!(rt; product.get(row, column).value(), want);
-    }
-    Ok(())
 }
