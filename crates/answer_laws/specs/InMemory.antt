@@ -1,7 +1,7 @@
 -- Runs over memory.
 use Rattle.std.specs.Prelude.{◌≡◌, ◌⊎◌, ℕ, ◌+◌, ◌-◌, ◌^◌, ◌≤◌, ◌<◌, List, [], ◌++◌, length}
 use Rattle.port_io.specs.Memory.{MemorySink, MemorySource}
-use Rattle.report_cli.specs.Answer.{IsAnswer}
+use Rattle.report_cli.specs.Answer.{IsAnswer, ReadsAll}
 use Rattle.report_cli.specs.Rooms.{text_room}
 use Rattle.report_cli.specs.declared.status.Status.{Status}
 use Rattle.report_cli.specs.declared.status.Status.TheVariants.{Memory}
@@ -15,12 +15,14 @@ pub record IsCalm (source : MemorySource) (out : MemorySink) : Type 0 where
   pub out_count : out.faults < 2 ^ 64 - 1
   pub room : length out.written + text_room (length source.left) ≤ out.room
 
--- a run took the bytes `read` from the source, and this status and the appended text answer them
+-- a run took the bytes `read` from the source, all of them where it tells of the whole input, and this status and the
+-- appended text answer them
 pub record IsAnswered (words : List (List ℕ)) (source source' : MemorySource) (out out' : MemorySink) (status : Status) :
     Type 0 where
   pub read : List ℕ
   pub text : List ℕ
   pub took : source.left ≡ read ++ source'.left
+  pub ended : ReadsAll status (source'.left ≡ [])
   pub appended : out'.written ≡ out.written ++ text
   pub answer : IsAnswer words read status text
 

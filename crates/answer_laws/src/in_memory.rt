@@ -29,8 +29,8 @@ pub fn run_in_memory<N: Sink>(
     run(alloc, words, source, out, notes)
 }
 
-/// How a run on this input ends, and what it writes, where the room is enough for each answer. It is an error that there
-/// is no memory for the streams.
+/// How a run on this input ends, where the room is enough for each answer, and the sink that was handed to it: what the
+/// sink holds is a clause of `run_in_memory`. It is an error that there is no memory for the streams.
 pub fn answer(
     alloc: Global,
     words: &[String],
