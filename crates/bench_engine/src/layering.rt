@@ -31,7 +31,7 @@ pub(crate) fn layered(
     let split = equations.iter().filter(|places| is_split(places)).count();
     let columns = size.saturating_add(split).min(8_192);
     let mut q = Mat::zeros(alloc, with_constants.min(8_192), columns)?;
-    let mut t = Pattern::empty(alloc, columns).map_err(|_| NoMemory)?;
+    let mut t = Pattern::empty(alloc, columns)?;
     let mut row = 0_usize;
     let mut auxiliary = size;
     for places in &equations {

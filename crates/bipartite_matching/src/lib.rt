@@ -2,10 +2,9 @@
 #![tactic(auto)]
 
 mod matching;
-mod memory;
 
 pub use matching::Match;
-pub use memory::NoMemory;
+pub use out_of_memory::NoMemory;
 
 #[cfg(test)]
 mod tests;

@@ -2,7 +2,7 @@ ghost use Rattle.std.specs.Prelude.{◌≡◌, ◌<◌, ℕ, true, None, IfOk, I
 ghost use Rattle.sparse_t.specs.Incidences.{height, touches};
 ghost use Rattle.bipartite_matching.specs.Matchings.{Matching, IsMatching, HasPair, IsRowMatched, IsRowFree, mate_at, empty_matching, with_pair, without_column};
 
-use crate::memory::NoMemory;
+use out_of_memory::NoMemory;
 use sparse_t::Pattern;
 use std::alloc::Global;
 use std::marker::Model;

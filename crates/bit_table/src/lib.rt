@@ -1,10 +1,9 @@
 //! Tables of bits in rows of words: sets of numbers, one for each row.
 #![tactic(auto)]
 
-mod memory;
 mod table;
 
-pub use memory::NoMemory;
+pub use out_of_memory::NoMemory;
 pub use table::BitTable;
 
 #[cfg(test)]

@@ -10,7 +10,6 @@ ghost use Rattle.ccf_builder.specs.Promises.{IsOfModel, OfEachModel};
 
 use crate::decomposition::decompose;
 use crate::matrices::{PrintedTableau, symbols_of, tableau_of};
-use crate::memory::NoMemory;
 use crate::pairs::{Pair, pair_of};
 use crate::parts::{PrintedParts, parts_of};
 use crate::solution::solve;
@@ -18,6 +17,7 @@ use cert_text::{Ccf, Items, Shape};
 use independent_matching::Engine;
 use minimiser_lattice::Lattice;
 use mixed_model::Layered;
+use out_of_memory::NoMemory;
 use row_transform::Tableau;
 use std::alloc::Global;
 

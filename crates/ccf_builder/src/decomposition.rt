@@ -9,9 +9,9 @@ ghost use Rattle.minimiser_lattice.specs.Views.{parts_in};
 ghost use Rattle.ccf_builder.specs.Decompositions.{IsDecomposition};
 ghost use Rattle.ccf_builder.specs.Tabulations.{Tabulates};
 
-use crate::memory::NoMemory;
 use independent_matching::Engine;
 use minimiser_lattice::Lattice;
+use out_of_memory::NoMemory;
 use row_transform::Tableau;
 use std::alloc::Global;
 

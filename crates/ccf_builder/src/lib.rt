@@ -4,14 +4,13 @@
 mod building;
 mod decomposition;
 mod matrices;
-mod memory;
 mod pairs;
 mod parts;
 mod placing;
 mod solution;
 
 pub use building::build;
-pub use memory::NoMemory;
+pub use out_of_memory::NoMemory;
 
 #[cfg(test)]
 mod tests;

@@ -8,9 +8,9 @@ ghost use Rattle.cert_text.specs.Ranges.{AreRising};
 ghost use Rattle.row_transform.specs.Dense.{state_of};
 ghost use Rattle.ccf_builder.specs.Matrices.{PrintsMatrix, PrintsPattern, PrintsRow, PrintsTableau};
 
-use crate::memory::NoMemory;
 use cert_text::Items;
 use dense_q::Mat;
+use out_of_memory::NoMemory;
 use residue_field::{Field, Res};
 use row_transform::{DenseTableau, Tableau};
 use sparse_t::Pattern;

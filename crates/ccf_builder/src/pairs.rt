@@ -6,8 +6,8 @@ ghost use Rattle.row_transform.specs.Dense.{state_of};
 ghost use Rattle.row_transform.specs.Tableaus.{IsTableau, IsBaseColumn};
 ghost use Rattle.ccf_builder.specs.Pairs.{AreWithin, IsMate, ListsPair, ListsPairs};
 
-use crate::memory::NoMemory;
 use independent_matching::Engine;
+use out_of_memory::NoMemory;
 use residue_field::Field;
 use row_transform::Tableau;
 use std::alloc::Global;

@@ -6,11 +6,11 @@ ghost use Rattle.cert_text.specs.declared.part.CcfBlock.{CcfBlock};
 ghost use Rattle.ccf_builder.specs.Pairs.{AreWithin};
 ghost use Rattle.ccf_builder.specs.Placings.{HasBlock, HasPart, ListsLower, ListsPart, PrintsParts};
 
-use crate::memory::NoMemory;
 use crate::pairs::Pair;
 use crate::placing::{Placing, column_parts, row_parts};
 use cert_text::{CcfBlock, CcfPart, Items};
 use minimiser_lattice::{Lattice, Part};
+use out_of_memory::NoMemory;
 use std::alloc::Global;
 
 /// Whether a number stands in this part.

@@ -5,8 +5,8 @@ ghost use Rattle.minimiser_lattice.specs.Views.{parts_in};
 ghost use Rattle.ccf_builder.specs.Pairs.{AreWithin};
 ghost use Rattle.ccf_builder.specs.Placings.{PlacesColumns, PlacesRows};
 
-use crate::memory::NoMemory;
 use minimiser_lattice::{Lattice, Part};
+use out_of_memory::NoMemory;
 use std::alloc::Global;
 
 /// The part of each column, of each Q row and of each T row.

@@ -3,10 +3,10 @@
 ghost use Rattle.std.specs.Prelude.{◌≡◌, ◌<◌, IfOk};
 ghost use Rattle.ccf_builder.specs.Solutions.{IsSolution};
 
-use crate::memory::NoMemory;
 use exchange_graph::Steps;
 use independent_matching::Engine;
 use mixed_model::Layered;
+use out_of_memory::NoMemory;
 use std::alloc::Global;
 use std::marker::Brand;
 use std::sync::ledger::{Blank, Ledger};

@@ -2,11 +2,10 @@
 #![tactic(auto)]
 
 mod matrix;
-mod memory;
 mod rows;
 
 pub use matrix::Mat;
-pub use memory::NoMemory;
+pub use out_of_memory::NoMemory;
 
 #[cfg(test)]
 mod tests;

@@ -4,8 +4,8 @@ ghost use Rattle.linear_algebra.specs.RowOperations.{IsRowAdded, IsRowScaled};
 ghost use Rattle.dense_q.specs.Rows.{plus_multiple, multiple};
 ghost use Rattle.dense_q.specs.Tables.{Table, IsMatrix, AreResidues, HasSameSize, IsTableOf, IsProduct, height, row_at, entry, zero_table, with_row, with_entry, with_rows_swapped, with_last_row};
 
-use crate::memory::NoMemory;
 use crate::rows;
+use out_of_memory::NoMemory;
 use residue_field::Field;
 use std::alloc::Global;
 use std::marker::Model;

@@ -3,14 +3,13 @@
 #![tactic(auto)]
 
 mod arcs;
-mod memory;
 mod scan;
 mod search;
 mod steps;
 mod waiting;
 
 pub use arcs::Arcs;
-pub use memory::NoMemory;
+pub use out_of_memory::NoMemory;
 pub use search::Search;
 pub use steps::Steps;
 

@@ -7,9 +7,9 @@ ghost use Rattle.exchange_graph.specs.Marks.{members_of};
 ghost use Rattle.exchange_graph.specs.Results.{Found, reached_of, step_of};
 
 use crate::arcs::Arcs;
-use crate::memory::NoMemory;
 use crate::scan::Scan;
 use crate::steps::Steps;
+use out_of_memory::NoMemory;
 use std::alloc::Global;
 use std::marker::Model;
 use std::sync::ledger::Ledger;

@@ -16,10 +16,10 @@ ghost use Rattle.independent_matching.specs.Engines.{AreLooksOfSearch, AreLooksO
 ghost use Rattle.independent_matching.specs.Sides.{layers_of, size_of, tableau_of};
 
 use crate::improver::Improver;
-use crate::memory::NoMemory;
 use bipartite_matching::Match;
 use exchange_graph::{Arcs, Steps};
 use mixed_model::Layered;
+use out_of_memory::NoMemory;
 use residue_field::{Field, Res};
 use row_transform::{DenseTableau, Tableau};
 use std::alloc::Global;

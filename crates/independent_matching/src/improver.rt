@@ -13,11 +13,11 @@ ghost use Rattle.independent_matching.specs.Marks.{AreMarksOfQ, IsReady};
 ghost use Rattle.independent_matching.specs.Sides.{AreRowsLeft, CanTake, IsFreeTaken, Takes, in_q, is_matched, layers_of, number, size_of, tableau_of};
 
 use crate::marks::Marks;
-use crate::memory::NoMemory;
 use crate::pair::Pair;
 use crate::row::Row;
 use bipartite_matching::Match;
 use exchange_graph::{Search, Steps};
+use out_of_memory::NoMemory;
 use residue_field::Field;
 use row_transform::Tableau;
 use std::alloc::Global;

@@ -5,13 +5,12 @@
 mod engine;
 mod improver;
 mod marks;
-mod memory;
 mod pair;
 mod row;
 
 pub use engine::Engine;
 pub use exchange_graph::{Arcs, Steps};
-pub use memory::NoMemory;
+pub use out_of_memory::NoMemory;
 
 #[cfg(test)]
 mod tests;

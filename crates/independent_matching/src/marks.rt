@@ -6,9 +6,9 @@ ghost use Rattle.mixed_matrices.specs.Arcs.{is_end, is_free};
 ghost use Rattle.independent_matching.specs.Marks.{AreMarks, AreMarksOfQ, AreTouched, IsChangedAt, IsEndMark, IsKept, IsQMark, IsTMark};
 ghost use Rattle.independent_matching.specs.Sides.{in_q, layers_of, number, tableau_of};
 
-use crate::memory::NoMemory;
 use crate::pair::Pair;
 use crate::row::Row;
+use out_of_memory::NoMemory;
 use residue_field::Field;
 use row_transform::Tableau;
 use std::alloc::Global;

@@ -5,7 +5,8 @@ ghost use Rattle.minimiser_lattice.specs.Paths.{Closes, IsEntered, IsFinished, I
 ghost use Rattle.minimiser_lattice.specs.Components.{IsStored, IsLed, leads_in, places, state_of, number_of};
 
 use bit_table::BitTable;
-use exchange_graph::{Arcs, NoMemory};
+use exchange_graph::Arcs;
+use out_of_memory::NoMemory;
 use std::alloc::Global;
 
 // The components of arcs, each a greatest set of places that reach each other, found along a path. The places that are
@@ -46,7 +47,7 @@ impl Components {
             stack: vec![in alloc; 0; n]?,
             base: vec![in alloc; 0; n]?,
             path: vec![in alloc; 0; n]?,
-            strict: BitTable::open(alloc, n, n).map_err(|_| NoMemory)?,
+            strict: BitTable::open(alloc, n, n)?,
             height: 0,
             groups: 0,
             depth: 0,

@@ -7,7 +7,8 @@ ghost use Rattle.minimiser_lattice.specs.Views.{Kept, parts_in};
 
 use crate::components::Components;
 use crate::listing::Listing;
-use exchange_graph::{Arcs, NoMemory};
+use exchange_graph::Arcs;
+use out_of_memory::NoMemory;
 use std::alloc::Global;
 use std::marker::Model;
 

@@ -9,7 +9,7 @@ ghost use Rattle.minimiser_lattice.specs.Listings.{HasPlaces, IsBetween, IsBetwe
 
 use crate::components::Components;
 use bit_table::BitTable;
-use exchange_graph::NoMemory;
+use out_of_memory::NoMemory;
 use std::alloc::Global;
 
 // The listing of components, each item of an array standing for a component or for a block. `watch` tells of a component
@@ -82,7 +82,7 @@ impl Listing {
             watch: vec![in alloc; 0; n]?,
             rank: vec![in alloc; 0; n]?,
             listed: vec![in alloc; 0; n]?,
-            between: BitTable::open(alloc, n, n).map_err(|_| NoMemory)?,
+            between: BitTable::open(alloc, n, n)?,
             blocks: 0,
         })
     }

@@ -4,8 +4,8 @@ ghost use Rattle.std.specs.Prelude.{◌≡◌, ◌<◌, ◌+◌, ℕ, length, If
 ghost use Rattle.std.specs.List.Sorted.{IsStrictlyIncreasing};
 ghost use Rattle.mixed_layering.specs.Columns.{AreColumns, StandsIn, IsAbsent};
 
-use crate::memory::NoMemory;
 use mixed_model::Origin;
+use out_of_memory::NoMemory;
 use std::alloc::Global;
 
 /// The origins of the columns: the unknowns in order, then the split equations.

@@ -8,9 +8,9 @@ ghost use Rattle.mixed_layering.specs.Members.{AreEquations, AreSplit};
 ghost use Rattle.mixed_layering.specs.Places.{constant_place, FillsRow};
 
 use crate::columns::place_of;
-use crate::memory::NoMemory;
 use dense_q::Mat;
 use mixed_model::Mixed;
+use out_of_memory::NoMemory;
 use residue_field::Res;
 use std::alloc::Global;
 

@@ -6,9 +6,9 @@ ghost use Rattle.mixed_layering.specs.Layers.{AreLayersOf};
 use crate::columns::column_origins;
 use crate::constants::constants_of;
 use crate::members::rows_of;
-use crate::memory::NoMemory;
 use crate::symbols::symbols_of;
 use mixed_model::{Layered, Mixed};
+use out_of_memory::NoMemory;
 use std::alloc::Global;
 
 /// The layered matrix of a model. Its columns are the unknowns in order, then an auxiliary column for each equation

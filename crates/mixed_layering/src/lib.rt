@@ -5,11 +5,10 @@ mod columns;
 mod constants;
 mod layering;
 mod members;
-mod memory;
 mod symbols;
 
 pub use layering::layer;
-pub use memory::NoMemory;
+pub use out_of_memory::NoMemory;
 
 #[cfg(test)]
 mod tests;

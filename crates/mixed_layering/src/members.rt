@@ -4,8 +4,8 @@ ghost use Rattle.std.specs.Prelude.{◌≡◌, ◌<◌, ◌+◌, ℕ, Bool, leng
 ghost use Rattle.mixed_model.specs.Models.{IsModel, mixed_matrix_of};
 ghost use Rattle.mixed_layering.specs.Members.{AreListed, AreRows};
 
-use crate::memory::NoMemory;
 use mixed_model::Mixed;
+use out_of_memory::NoMemory;
 use std::alloc::Global;
 
 /// The equations that give Q rows, those that give T rows, and those that give both, each by rising number.

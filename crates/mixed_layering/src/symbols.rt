@@ -7,8 +7,8 @@ ghost use Rattle.mixed_layering.specs.Members.{AreEquations, AreSplit};
 ghost use Rattle.mixed_layering.specs.Places.{symbol_place, AreTouched, AreRowsOfSymbols};
 
 use crate::columns::place_of;
-use crate::memory::NoMemory;
 use mixed_model::Mixed;
+use out_of_memory::NoMemory;
 use sparse_t::Pattern;
 use std::alloc::Global;
 

@@ -12,17 +12,6 @@ pub enum AddError {
     NoMemory,
 }
 
-/// Memory ran out.
-#[derive(Clone, Copy, Debug, PartialEq, Eq, Error)]
-#[error("out of memory")]
-pub struct NoMemory;
-
-impl From<AllocError> for NoMemory {
-    fn from(_error: AllocError) -> NoMemory {
-        NoMemory
-    }
-}
-
 impl From<AllocError> for AddError {
     ghost use Rattle.std.specs.Prelude.{◌≡◌};
     ghost use Rattle.mixed_model.specs.declared.errors.AddError.TheVariants.{NoMemory};

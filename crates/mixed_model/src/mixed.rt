@@ -6,9 +6,10 @@ ghost use Rattle.mixed_model.specs.Rows.{putting, putting_symbol};
 ghost use Rattle.mixed_model.specs.Models.{MixedModel, IsModel, PutsAt, PutsSymbolAt, constant_of, symbol_of, row_of, mixed_matrix_of, empty_model, with_equation, with_unknown, with_seen_unknown};
 
 use crate::entry::{Entries, Entry};
-use crate::errors::{AddError, NoMemory};
+use crate::errors::AddError;
 use crate::names::Names;
 use crate::rows;
+use out_of_memory::NoMemory;
 use residue_field::Res;
 use std::alloc::Global;
 use std::marker::Model;

@@ -1,7 +1,17 @@
-ghost use Rattle.std.specs.Prelude.{◌≡◌, ◌≢◌, ℕ, ◌+◌, ◌*◌, ◌%◌, ◌^◌, ◌<◌, ◌↔◌, IsTrue, IsNone, IfSome};
-ghost use Rattle.residue_field.specs.Fields.{IsField};
+//! Fields whose values are residues modulo a prime.
 
-/// The values of a field, each seen by contracts as a whole number below the modulus, which is prime.
+ghost use Rattle.std.specs.Prelude.{◌≡◌, ◌≢◌, ℕ, ◌+◌, ◌*◌, ◌%◌, ◌^◌, ◌<◌, ◌↔◌, IsTrue, IsNone, IfSome, IsErr, IfOk};
+ghost use Rattle.residue_field.specs.Fields.{IsField};
+ghost use Rattle.residue_field.specs.Fractions.{Vanishes, IsFraction};
+
+use thiserror::Error;
+
+/// A fraction that has no residue, or only by chance the residue 0.
+#[derive(Clone, Copy, PartialEq, Eq, Debug, Error)]
+#[error("the fraction vanishes in the field")]
+pub struct Vanish;
+
+/// The values of a field, each seen by contracts as a whole number below the modulus, a prime greater than 2.
 /// A sum is that of the numbers modulo the modulus, and so is a product.
 pub trait Field: Copy + Eq + Drop {
     ghost use Rattle.residue_theory.specs.Residues.{IsPrime};
@@ -9,6 +19,20 @@ pub trait Field: Copy + Eq + Drop {
     ghost modulus: { ℕ };
 
     ghost number: { Self → ℕ };
+
+    ghost MODULUS: { ℕ };
+
+    /// The prime.
+    const MODULUS: u32;
+
+    /// The value of a whole number.
+    fn of(n: u64) -> Self
+        ensures { number result ≡ n % modulus };
+
+    /// The number of this value, below the modulus.
+    fn value(self) -> u32
+        ensures number { result ≡ number self }
+        ensures below { result < modulus };
 
     fn zero() -> Self
         ensures { number result ≡ 0 };
@@ -44,9 +68,32 @@ pub trait Field: Copy + Eq + Drop {
     fn in_field(self)
         ensures { number self < modulus };
 
+    /// The value of `num / den`, or of `- num / den` where `negative`. A fraction vanishes where the modulus divides
+    /// its denominator, or divides its numerator though that is not 0.
+    fn from_fraction(negative: bool, num: u64, den: u64) -> Result<Self, Vanish>
+        ensures vanish { IsErr result ↔ Vanishes modulus num den }
+        ensures fraction { IfOk result (λ r. IsFraction modulus negative num den (number r)) }
+        ensures below { IfOk result (λ r. number r < modulus) }
+    {
+        let numerator = Self::of(num);
+        if num != 0 && numerator.is_zero() {
+            return Err(Vanish);
+        }
+        let Some(inverse) = Self::of(den).inv() else {
+            return Err(Vanish);
+        };
+        let fraction = numerator.mul(inverse);
+        fraction.in_field();
+        Ok(if negative { fraction.neg() } else { fraction })
+    }
+
     ghost prime: { IsPrime modulus };
 
+    ghost odd: { 2 < modulus };
+
     ghost small: { modulus < 2 ^ 32 };
+
+    ghost constant: { MODULUS ≡ modulus };
 
     ghost equality: { (x y : Self) → IsTrue (Self.eq x y) ↔ (number x ≡ number y) };
 }

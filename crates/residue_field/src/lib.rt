@@ -4,8 +4,8 @@
 mod field;
 mod res;
 
-pub use field::{Field, values_form_a_field};
-pub use res::{Res, Vanish};
+pub use field::{Field, Vanish, values_form_a_field};
+pub use res::Res;
 
 #[cfg(test)]
 mod tests;

@@ -1,9 +1,9 @@
-ghost use Rattle.std.specs.Prelude.{◌≡◌, ◌≢◌, ℕ, ◌+◌, ◌-◌, ◌*◌, ◌%◌, ◌^◌, ◌<◌, ◌≤◌, ◌↔◌, IsTrue, IsErr, IfOk};
-ghost use Rattle.residue_field.specs.Fractions.{Vanishes, IsFraction};
+//! The residues modulo 65,521.
+
+ghost use Rattle.std.specs.Prelude.{◌≡◌, ◌≢◌, ℕ, ◌+◌, ◌-◌, ◌*◌, ◌%◌, ◌^◌, ◌<◌, ◌≤◌, ◌↔◌};
 
 use crate::field::Field;
 use std::marker::Model;
-use thiserror::Error;
 
 const MODULUS: u32 = 65_521;
 
@@ -23,61 +23,37 @@ impl Model for Res {
     ghost inverse = { λ n. record { value = n } };
 }
 
-/// A fraction that has no residue, or only by chance the residue 0.
-#[derive(Clone, Copy, PartialEq, Eq, Debug, Error)]
-#[error("the fraction vanishes modulo 65521")]
-pub struct Vanish;
-
-impl Res {
-    /// The residue of a whole number.
-    pub fn of(n: u64) -> Res
-        ensures { result ≡ n % MODULUS }
-    {
-        Res {
-            value: (n % MODULUS as u64) as u32,
-        }
-    }
-
-    /// The number of this residue, from 0 to 65,520.
-    pub fn value(self) -> u32
-        ensures number { result ≡ self }
-        ensures below { result < MODULUS }
-    {
-        self.value
-    }
-
-    /// The residue of `num / den`, or of `- num / den` where `negative`. A fraction vanishes where 65,521 divides
-    /// its denominator, or divides its numerator though that is not 0.
-    pub fn from_fraction(negative: bool, num: u64, den: u64) -> Result<Res, Vanish>
-        ensures vanish { IsErr result ↔ Vanishes MODULUS num den }
-        ensures fraction { IfOk result (λ r. IsFraction MODULUS negative num den r) }
-        ensures below { IfOk result (λ r. r < MODULUS) }
-    {
-        let numerator = Res::of(num);
-        if num != 0 && numerator.is_zero() {
-            return Err(Vanish);
-        }
-        let Some(inverse) = Res::of(den).inv() else {
-            return Err(Vanish);
-        };
-        let fraction = numerator.mul(inverse);
-        Ok(if negative { fraction.neg() } else { fraction })
-    }
-}
-
 impl Field for Res {
     ghost use Rattle.residue_theory.proofs.Primes.{prime_65521};
-    ghost use Rattle.std.proofs.Common.{arith, rules};
+    ghost use Rattle.std.proofs.Common.{arith, refl, rules};
 
     ghost modulus = { 65521 };
 
     ghost number = { λ x. x };
 
+    ghost MODULUS = { 65521 };
+
     ghost prime = { prime_65521 };
+
+    ghost odd = { Prim.omega arith };
 
     ghost small = { Prim.omega arith };
 
+    ghost constant = { refl };
+
     ghost equality = { λ x y. Prim.search rules };
+
+    const MODULUS: u32 = MODULUS;
+
+    fn of(n: u64) -> Res {
+        Res {
+            value: (n % MODULUS as u64) as u32,
+        }
+    }
+
+    fn value(self) -> u32 {
+        self.value
+    }
 
     fn zero() -> Res {
         Res { value: 0 }

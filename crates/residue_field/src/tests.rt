@@ -36,6 +36,11 @@ fn inverse_of<F: Field>(x: F) -> Option<F> {
 }
 
 #[test]
+fn the_modulus(rt: HostRuntime) {
+    assert_eq!(rt; Res::MODULUS, 65_521);
+}
+
+#[test]
 fn inverses(rt: HostRuntime) {
     for (n, want) in [
         (0, None),

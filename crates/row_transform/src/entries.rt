@@ -5,7 +5,8 @@ ghost use Rattle.bit_table.specs.Bits.{bit_in};
 ghost use Rattle.row_transform.specs.Entries.{HasSizeOf, IsListed, IsFilled};
 
 use bit_table::BitTable;
-use dense_q::{Mat, NoMemory};
+use dense_q::Mat;
+use out_of_memory::NoMemory;
 use residue_field::Field;
 use std::alloc::Global;
 

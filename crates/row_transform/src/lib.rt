@@ -9,7 +9,7 @@ mod tableau;
 mod transform;
 
 pub use dense::DenseTableau;
-pub use dense_q::NoMemory;
+pub use out_of_memory::NoMemory;
 pub use tableau::{Tableau, TableauParts};
 
 #[cfg(test)]

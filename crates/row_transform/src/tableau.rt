@@ -3,7 +3,8 @@ ghost use Rattle.number_ranges.specs.Ranges.{HasNone, IsLeast};
 ghost use Rattle.row_transform.specs.Tableaus.{State, IsTableau, IsBare, IsBaseColumn, IsPivot, IsDrop, AreParts, has_entry};
 ghost use Rattle.linear_algebra.specs.Columns.{IsCombination};
 
-use dense_q::{Mat, NoMemory};
+use dense_q::Mat;
+use out_of_memory::NoMemory;
 use residue_field::Field;
 
 /// The matrices of a tableau: S and its inverse U, with a row and a column for each row of Q, and P = S * Q.

@@ -4,7 +4,8 @@ ghost use Rattle.linear_algebra.specs.RowOperations.{IsRowAdded, IsRowScaled, Is
 ghost use Rattle.dense_q.specs.Tables.{Table, height, entry, HasSameSize, IsTableOf};
 ghost use Rattle.row_transform.specs.Transforms.{IsSized, LeadsFrom, LeadsFromTheSame, ZeroRowsStay};
 
-use dense_q::{Mat, NoMemory};
+use dense_q::Mat;
+use out_of_memory::NoMemory;
 use residue_field::Field;
 use std::alloc::Global;
 

@@ -3,10 +3,9 @@
 
 mod columns;
 mod lists;
-mod memory;
 mod pattern;
 
-pub use memory::NoMemory;
+pub use out_of_memory::NoMemory;
 pub use pattern::Pattern;
 
 #[cfg(test)]

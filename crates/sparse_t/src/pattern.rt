@@ -5,7 +5,7 @@ ghost use Rattle.sparse_t.specs.Incidences.{Incidence, IsIncidence, AreRowsOf, h
 
 use crate::columns::Columns;
 use crate::lists::{Numbers, holds};
-use crate::memory::NoMemory;
+use out_of_memory::NoMemory;
 use std::alloc::Global;
 use std::marker::Model;
 
