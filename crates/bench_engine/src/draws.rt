@@ -1,3 +1,5 @@
+//! Draws of numbers that are the same in each run.
+
 ghost use Rattle.std.specs.Prelude.{◌≡◌, ◌≤◌, ◌<◌};
 
 use std::alloc::{AllocError, Global};

@@ -1,3 +1,5 @@
+//! Layered matrices that are drawn, a family each.
+
 ghost use Rattle.std.specs.Prelude.{◌≡◌, ◌≤◌, ◌<◌, length, IfOk};
 ghost use Rattle.dense_q.specs.Tables.{height};
 

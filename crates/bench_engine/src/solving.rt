@@ -1,3 +1,5 @@
+//! The engine, run on what was drawn.
+
 ghost use Rattle.std.specs.Prelude.{◌≡◌, ◌≤◌, ◌<◌};
 
 use crate::draws::{Draws, Family};

@@ -1,3 +1,5 @@
+//! Dense matrices over a field.
+
 ghost use Rattle.std.specs.Prelude.{◌≡◌, ℕ, ◌<◌, ◌≤◌, ◌≢◌, map, length, IfOk, OnOk, OnErr};
 ghost use Rattle.linear_algebra.specs.Products.{identity};
 ghost use Rattle.linear_algebra.specs.RowOperations.{IsRowAdded, IsRowScaled};
@@ -168,7 +170,8 @@ impl<F: Field> Mat<F> {
     pub fn scale_row(&mut self, i: usize, c: F)
         requires { i < height self.old }
         ensures row { self.new ≡ with_row self.old i (multiple F.modulus (F.number c) (row_at self.old i)) }
-        ensures scaled { IsRowScaled F.modulus (height self.old) self.old.width (entry self.old) (entry self.new) i (F.number c) }
+        ensures scaled { IsRowScaled F.modulus (height self.old) self.old.width (entry self.old)
+            (entry self.new) i (F.number c) }
         ensures size { HasSameSize self.new self.old }
     {
         rows::multiply(&mut self.rows[i], c);
@@ -188,8 +191,10 @@ impl<F: Field> Mat<F> {
         requires target { i < height self.old }
         requires source { j < height self.old }
         requires apart { i ≢ j }
-        ensures row { self.new ≡ with_row self.old i (plus_multiple F.modulus (F.number c) (row_at self.old i) (row_at self.old j)) }
-        ensures added { IsRowAdded F.modulus (height self.old) self.old.width (entry self.old) (entry self.new) i j (F.number c) }
+        ensures row { self.new
+            ≡ with_row self.old i (plus_multiple F.modulus (F.number c) (row_at self.old i) (row_at self.old j)) }
+        ensures added { IsRowAdded F.modulus (height self.old) self.old.width (entry self.old) (entry self.new)
+            i j (F.number c) }
         ensures size { HasSameSize self.new self.old }
     {
         let empty = Vec::new(*self.rows.allocator());

@@ -24,22 +24,26 @@ ShortestWalksAreRoutes =
 
 -- before the first move
 abbrev pub MovesBegin : Type 0
-MovesBegin = (p : ℕ) (L : Layered) (F : Tableau) (R : Route) → HasTableau p L F → IsRoute p L F R → IsStage p L F R (suc R.last) F
+MovesBegin = (p : ℕ) (L : Layered) (F : Tableau) (R : Route) → HasTableau p L F → IsRoute p L F R →
+    IsStage p L F R (suc R.last) F
 
 -- the last column that has still to move may take its row, and then the stage is the next one
 abbrev pub MovesGoOn : Type 0
 MovesGoOn =
     (p : ℕ) (L : Layered) (F : Tableau) (R : Route) → HasTableau p L F → IsRoute p L F R →
     (i : ℕ) (G H : Tableau) → IsStage p L F R (suc i) G →
-    (R.in_q i ≡ true → (G.P (R.row i) (R.at i) % p ≢ 0) × (G.base (R.at i) ≡ false) × (TakesRow p L G H (R.row i) (R.at i) → IsStage p L F R i H))
+    (R.in_q i ≡ true → (G.P (R.row i) (R.at i) % p ≢ 0) × (G.base (R.at i) ≡ false)
+    × (TakesRow p L G H (R.row i) (R.at i) → IsStage p L F R i H))
     × (R.in_q i ≡ false → TakesMate L G H (R.row i) (R.at i) → IsStage p L F R i H)
 
 -- after the last move the tableau has a pair with one column more
 abbrev pub MovesEndInALargerPair : Type 0
 MovesEndInALargerPair =
     (p : ℕ) (L : Layered) (F : Tableau) (R : Route) → HasTableau p L F → IsRoute p L F R →
-    (G : Tableau) → IsStage p L F R 0 G → HasTableau p L G × (pair_size L G.base G.matched ≡ pair_size L F.base F.matched + 1)
+    (G : Tableau) → IsStage p L F R 0 G → HasTableau p L G
+    × (pair_size L G.base G.matched ≡ pair_size L F.base F.matched + 1)
 
 -- there are at most as many pivots as base columns, and one
 abbrev pub RoutesHaveFewPivots : Type 0
-RoutesHaveFewPivots = (p : ℕ) (L : Layered) (F : Tableau) (R : Route) → IsRoute p L F R → size_on R.in_q (suc R.last) ≤ size_on F.base L.columns + 1
+RoutesHaveFewPivots = (p : ℕ) (L : Layered) (F : Tableau) (R : Route) → IsRoute p L F R →
+    size_on R.in_q (suc R.last) ≤ size_on F.base L.columns + 1

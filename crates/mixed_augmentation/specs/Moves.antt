@@ -68,8 +68,10 @@ pub record IsRoute (p : ℕ) (L : Layered) (F : Tableau) (R : Route) : Type 0 wh
   pub below : (j : ℕ) → j ≤ R.last → R.at j < L.columns
   pub differ : (i j : ℕ) → i ≤ R.last → j ≤ R.last → R.at i ≡ R.at j → i ≡ j
   pub first : (F.base (R.at 0) ≡ false) × (F.matched (R.at 0) ≡ false)
-  pub row_left : (j : ℕ) → j < R.last → R.in_q j ≡ true → (F.base (R.at (suc j)) ≡ true) × (F.row (R.at (suc j)) ≡ R.row j)
-  pub mate_left : (j : ℕ) → j < R.last → R.in_q j ≡ false → (F.matched (R.at (suc j)) ≡ true) × (F.mate (R.at (suc j)) ≡ R.row j)
+  pub row_left : (j : ℕ) → j < R.last → R.in_q j ≡ true → (F.base (R.at (suc j)) ≡ true)
+      × (F.row (R.at (suc j)) ≡ R.row j)
+  pub mate_left : (j : ℕ) → j < R.last → R.in_q j ≡ false → (F.matched (R.at (suc j)) ≡ true)
+      × (F.mate (R.at (suc j)) ≡ R.row j)
   pub row_end : R.in_q R.last ≡ true → HasNoBase L.columns F.base F.row (R.row R.last)
   pub mate_end : R.in_q R.last ≡ false → HasNoBase L.columns F.matched F.mate (R.row R.last)
   pub row_below : (j : ℕ) → j ≤ R.last → R.in_q j ≡ true → R.row j < L.q_rows
@@ -78,7 +80,8 @@ pub record IsRoute (p : ℕ) (L : Layered) (F : Tableau) (R : Route) : Type 0 wh
   pub symbol : (j : ℕ) → j ≤ R.last → R.in_q j ≡ false → L.t (R.row j) (R.at j) ≡ true
   pub far : (i j : ℕ) → i < j → j ≤ R.last → R.in_q j ≡ true → F.P (R.row j) (R.at i) % p ≡ 0
 
--- the first i columns of the route have still to move, and the others have moved; F is from before all moves, and G from now
+-- the first i columns of the route have still to move, and the others have moved; F is from before all moves, and G
+-- from now
 pub record IsStage (p : ℕ) (L : Layered) (F : Tableau) (R : Route) (i : ℕ) (G : Tableau) : Type 0 where
   pub le : i ≤ suc R.last
   pub kernel : SameKernel p L.q_rows L.columns L.q G.P
@@ -91,10 +94,12 @@ pub record IsStage (p : ℕ) (L : Layered) (F : Tableau) (R : Route) (i : ℕ) (
   pub same_row : (j : ℕ) → j < i → F.base (R.at j) ≡ true → G.row (R.at j) ≡ F.row (R.at j)
   pub same_mate : (j : ℕ) → j < i → F.matched (R.at j) ≡ true → G.mate (R.at j) ≡ F.mate (R.at j)
   -- the row that is taken next: a Q row with no column or with one that is matched too, or a T row with no column
-  pub row_place : (j : ℕ) → suc j ≡ i → R.in_q j ≡ true → (y : ℕ) → y < L.columns → G.base y ≡ true → G.row y ≡ R.row j → G.matched y ≡ true
+  pub row_place : (j : ℕ) → suc j ≡ i → R.in_q j ≡ true → (y : ℕ) → y < L.columns → G.base y ≡ true →
+      G.row y ≡ R.row j → G.matched y ≡ true
   pub mate_place : (j : ℕ) → suc j ≡ i → R.in_q j ≡ false → HasNoBase L.columns G.matched G.mate (R.row j)
   -- a column that is both in the base and matched has the Q row that is taken next
-  pub both_have : (y : ℕ) → y < L.columns → G.base y ≡ true → G.matched y ≡ true → (j : ℕ) × (suc j ≡ i) × (R.in_q j ≡ true) × (G.row y ≡ R.row j)
+  pub both_have : (y : ℕ) → y < L.columns → G.base y ≡ true → G.matched y ≡ true → (j : ℕ) × (suc j ≡ i)
+      × (R.in_q j ≡ true) × (G.row y ≡ R.row j)
   -- the columns of the pair are the same, but for the first one at the end
   pub used : (y : ℕ) → y < L.columns → (0 < i) ⊎ (y ≢ R.at 0) → (G.base y || G.matched y) ≡ (F.base y || F.matched y)
   pub used_first : i ≡ 0 → (G.base (R.at 0) || G.matched (R.at 0)) ≡ true

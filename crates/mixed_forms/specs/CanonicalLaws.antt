@@ -18,14 +18,16 @@ CheckedPartsAreCanonical =
 abbrev pub CheckedOrderIsCanonical : Type 0
 CheckedOrderIsCanonical =
     (p : ℕ) → IsPrime p → (L : Layered) (F : Tableau) → HasTableau p L F →
-    (G : Parts) (below lower : ℕ → ℕ → Bool) → KeepsPartRules p L F G below lower → (k l : ℕ) → k < G.blocks → l < G.blocks →
+    (G : Parts) (below lower : ℕ → ℕ → Bool) → KeepsPartRules p L F G below lower → (k l : ℕ) →
+    k < G.blocks → l < G.blocks →
     (below k l ≡ true) ↔ IsBlockBelow p L G k l
 
 -- the printed lists are the lower lists
 abbrev pub CheckedListsAreCanonical : Type 0
 CheckedListsAreCanonical =
     (p : ℕ) → IsPrime p → (L : Layered) (F : Tableau) → HasTableau p L F →
-    (G : Parts) (below lower : ℕ → ℕ → Bool) → KeepsPartRules p L F G below lower → (k l : ℕ) → k < G.blocks → l < G.blocks →
+    (G : Parts) (below lower : ℕ → ℕ → Bool) → KeepsPartRules p L F G below lower → (k l : ℕ) →
+    k < G.blocks → l < G.blocks →
     (lower l k ≡ true) ↔ IsLowerBlock p L G k l
 
 -- a column set is a minimiser exactly where it is an ideal

@@ -12,7 +12,8 @@ use Rattle.mixed_matrices.specs.Tableaus.{IsTableau, Tableau}
 
 -- no end is reached from a free column, so the pair is best
 abbrev pub CheckedPartsHaveNoWalk : Type 0
-CheckedPartsHaveNoWalk = (p : ℕ) (L : Layered) (F : Tableau) (G : Parts) (below lower : ℕ → ℕ → Bool) → KeepsPartRules p L F G below lower → HasNoWalk p L F
+CheckedPartsHaveNoWalk = (p : ℕ) (L : Layered) (F : Tableau) (G : Parts) (below lower : ℕ → ℕ → Bool) →
+    KeepsPartRules p L F G below lower → HasNoWalk p L F
 
 -- the parts, with the S of the tableau, are a form
 abbrev pub CheckedPartsAreAForm : Type 0
@@ -33,4 +34,5 @@ PartsOfTheArcsKeepTheRules =
     (p : ℕ) (L : Layered) (F : Tableau) (G : Parts) (below lower : ℕ → ℕ → Bool) → HasNoWalk p L F →
     AreParts (leads_to p L F) L.columns (is_free F) (is_end p L F) (in_first G) (in_last G) (block_of G) G.blocks →
     IsBelow (leads_to p L F) L.columns (is_free F) (is_end p L F) (block_of G) G.blocks below →
-    IsCover below G.blocks lower → ((k l : ℕ) → lower l k ≡ true → (k < G.blocks) × (l < G.blocks)) → HasRows L F G → KeepsPartRules p L F G below lower
+    IsCover below G.blocks lower → ((k l : ℕ) → lower l k ≡ true → (k < G.blocks) × (l < G.blocks)) → HasRows L F G →
+    KeepsPartRules p L F G below lower

@@ -31,7 +31,8 @@ pub record AreCanonical (p : ℕ) (L : Layered) (G : Parts) : Type 0 where
   pub first : (x : ℕ) → x < L.columns → (G.column x ≡ 0) ↔ ((X : ℕ → Bool) → IsMinimiser p L X → X x ≡ true)
   pub last : (x : ℕ) → x < L.columns → (G.column x ≡ G.blocks + 1) ↔ ((X : ℕ → Bool) → IsMinimiser p L X → X x ≡ false)
   -- two columns share a block where every minimiser holds both or neither
-  pub block : (k l x y : ℕ) → IsOfBlock L G k x → IsOfBlock L G l y → (k ≡ l) ↔ ((X : ℕ → Bool) → IsMinimiser p L X → X x ≡ X y)
+  pub block : (k l x y : ℕ) → IsOfBlock L G k x → IsOfBlock L G l y → (k ≡ l) ↔
+      ((X : ℕ → Bool) → IsMinimiser p L X → X x ≡ X y)
   -- at each place stands, of the blocks all of whose lower ones have stood before, the one with the least column
   pub ready : (k : ℕ) → k < G.blocks → IsReadyAt p L G k k
   pub least : (k l x y : ℕ) → k < l → IsReadyAt p L G k l → IsLeastColumn L G k x → IsLeastColumn L G l y → x < y
@@ -48,7 +49,8 @@ pub record IsIdealOf (L : Layered) (G : Parts) (below : ℕ → ℕ → Bool) (K
   pub block : (k x : ℕ) → IsOfBlock L G k x → X x ≡ K k
   pub last : (x : ℕ) → x < L.columns → G.column x ≡ G.blocks + 1 → X x ≡ false
 
--- the parts are a form with this S, and canonical; below is the order of their blocks, and lower l k says that k is in the lower list of l
+-- the parts are a form with this S, and canonical; below is the order of their blocks, and lower l k says that k is in
+-- the lower list of l
 pub record AreRightParts (p : ℕ) (L : Layered) (S : ℕ → ℕ → ℕ) (G : Parts) (below lower : ℕ → ℕ → Bool) : Type 0 where
   pub form : IsForm p L S G
   pub canonical : AreCanonical p L G

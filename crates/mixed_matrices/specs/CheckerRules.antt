@@ -34,6 +34,7 @@ IsListingIn p L F G = IsListing (leads_to p L F) L.columns (is_free F) (is_end p
 -- below k l says that block k is below block l, and lower l k that k is in the list of l
 pub record KeepsPartRules (p : ℕ) (L : Layered) (F : Tableau) (G : Parts) (below lower : ℕ → ℕ → Bool) : Type 0 where
   pub rows : HasRows L F G
-  pub rules : KeepsRules (leads_to p L F) L.columns (is_free F) (is_end p L F) (in_first G) (in_last G) (block_of G) G.blocks lower
+  pub rules : KeepsRules (leads_to p L F) L.columns (is_free F) (is_end p L F) (in_first G) (in_last G)
+      (block_of G) G.blocks lower
   pub order : IsBelow (leads_to p L F) L.columns (is_free F) (is_end p L F) (block_of G) G.blocks below
   pub lists : IsCover below G.blocks lower

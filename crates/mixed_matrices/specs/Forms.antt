@@ -1,5 +1,5 @@
--- Block triangular forms of a layered matrix, and what is at least as fine as another (Murota, chapters 2 and 4).
--- Parts are numbered from 0: part 0 is the first tail, part k + 1 is block k, and after the blocks stands the last tail.
+-- Block triangular forms of a layered matrix, and what is at least as fine as another (Murota, chapters 2 and 4). Parts
+-- are numbered from 0: part 0 is the first tail, part k + 1 is block k, and after the blocks stands the last tail.
 use Rattle.std.specs.Prelude.{ℕ, ◌+◌, ◌<◌, ◌≤◌, ◌≡◌, ◌≢◌, ◌%◌, ◌⊎◌, false, leb}
 use Rattle.residue_theory.specs.Sums.{size_on}
 use Rattle.linear_algebra.specs.Products.{IsInverse, product}
@@ -24,7 +24,13 @@ part_rows L G k = size_on (in_part G.q_row k) L.q_rows + size_on (in_part G.t_ro
 
 -- L with S * Q in place of Q
 abbrev pub transformed : (ℕ → ℕ → ℕ) → Layered → Layered
-transformed S L = record { q_rows = L.q_rows; t_rows = L.t_rows; columns = L.columns; q = product L.q_rows S L.q; t = L.t }
+transformed S L = record {
+  q_rows = L.q_rows;
+  t_rows = L.t_rows;
+  columns = L.columns;
+  q = product L.q_rows S L.q;
+  t = L.t;
+}
 
 -- the diagonal part k
 abbrev pub diagonal_part : Layered → Parts → ℕ → Layered
@@ -43,18 +49,22 @@ pub record IsTriangular (p : ℕ) (L : Layered) (G : Parts) : Type 0 where
   pub empty : (k l : ℕ) → l < k → IsEmptyAt p L G k l
   pub first : (part_rows L G 0 < part_columns L G 0) ⊎ ((part_rows L G 0 ≡ 0) × (part_columns L G 0 ≡ 0))
   pub square : (k : ℕ) → 1 ≤ k → k ≤ G.blocks → (part_rows L G k ≡ part_columns L G k) × (0 < part_columns L G k)
-  pub last : (part_columns L G (G.blocks + 1) < part_rows L G (G.blocks + 1)) ⊎ ((part_rows L G (G.blocks + 1) ≡ 0) × (part_columns L G (G.blocks + 1) ≡ 0))
+  pub last : (part_columns L G (G.blocks + 1) < part_rows L G (G.blocks + 1))
+      ⊎ ((part_rows L G (G.blocks + 1) ≡ 0) × (part_columns L G (G.blocks + 1) ≡ 0))
   pub row_rank : (k : ℕ) → k ≤ G.blocks → IsLayeredRank p (diagonal_part L G k) (part_rows L G k)
   pub column_rank : IsLayeredRank p (diagonal_part L G (G.blocks + 1)) (part_columns L G (G.blocks + 1))
 
 -- a form of L: an invertible S, and parts with which S * Q above T is block triangular
 abbrev pub IsForm : ℕ → Layered → (ℕ → ℕ → ℕ) → Parts → Type 0
-IsForm p L S G = ((U : ℕ → ℕ → ℕ) × IsInverse p L.q_rows S U × IsInverse p L.q_rows U S) × IsTriangular p (transformed S L) G
+IsForm p L S G = ((U : ℕ → ℕ → ℕ) × IsInverse p L.q_rows S U × IsInverse p L.q_rows U S)
+    × IsTriangular p (transformed S L) G
 
 -- with an order of its blocks: at a row of block k and a column of block l no entry, unless k is l or below l
 abbrev pub IsOrdered : ℕ → Layered → (ℕ → ℕ → ℕ) → Parts → (ℕ → ℕ → Type 0) → Type 0
-IsOrdered p L S G Below = (k l : ℕ) → k < G.blocks → l < G.blocks → k ≢ l → (Below k l → ⊥) → IsEmptyAt p (transformed S L) G (k + 1) (l + 1)
+IsOrdered p L S G Below = (k l : ℕ) → k < G.blocks → l < G.blocks → k ≢ l → (Below k l → ⊥) →
+    IsEmptyAt p (transformed S L) G (k + 1) (l + 1)
 
 -- F is at least as fine as G: the first tail and the first k blocks of G are a union of column parts of F
 abbrev pub IsAsFine : Layered → Parts → Parts → Type 0
-IsAsFine L F G = (k : ℕ) → k ≤ G.blocks → (x y : ℕ) → x < L.columns → y < L.columns → F.column x ≡ F.column y → leb (G.column x) k ≡ leb (G.column y) k
+IsAsFine L F G = (k : ℕ) → k ≤ G.blocks → (x y : ℕ) → x < L.columns → y < L.columns → F.column x ≡ F.column y →
+    leb (G.column x) k ≡ leb (G.column y) k

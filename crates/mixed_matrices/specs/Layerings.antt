@@ -1,5 +1,5 @@
--- The layered matrix of a mixed matrix. A row with constants and symbols is split: its constants become a Q row, its symbols
--- a T row, and an auxiliary column has an entry in both (Murota, chapter 4, splits every row).
+-- The layered matrix of a mixed matrix. A row with constants and symbols is split: its constants become a Q row, its
+-- symbols a T row, and an auxiliary column has an entry in both (Murota, chapter 4, splits every row).
 use Rattle.std.specs.Prelude.{ℕ, ◌+◌, ◌<◌, ◌≡◌, Bool, true, false, cond, eqb, not, ◌||◌}
 use Rattle.residue_theory.specs.Sets.{both, some_below}
 use Rattle.residue_theory.specs.Sums.{size_on}
@@ -32,7 +32,8 @@ pub record Origins : Type 0 where
   pub of_z : ℕ → ℕ
   pub split : ℕ
 
--- L is M with a Q row for each row of A and a T row for each row of D; a row of both is split, even where it need not be
+-- L is M with a Q row for each row of A and a T row for each row of D; a row of both is split, even where it need not
+-- be
 pub record IsLayering (M : Mixed) (A D : ℕ → Bool) (L : Layered) (O : Origins) : Type 0 where
   pub constants : (i j : ℕ) → i < M.rows → j < M.columns → A i ≡ false → M.constant i j ≡ 0
   pub symbols : (i j : ℕ) → i < M.rows → j < M.columns → D i ≡ false → M.symbol i j ≡ false
@@ -41,7 +42,8 @@ pub record IsLayering (M : Mixed) (A D : ℕ → Bool) (L : Layered) (O : Origin
   pub auxiliary : AreMembers (both A D) M.rows O.of_z O.split
   pub columns : L.columns ≡ M.columns + O.split
   pub q : (i j : ℕ) → i < L.q_rows → j < M.columns → L.q i j ≡ M.constant (O.of_q i) j
-  pub q_auxiliary : (i k : ℕ) → i < L.q_rows → k < O.split → L.q i (M.columns + k) ≡ cond (eqb (O.of_q i) (O.of_z k)) 1 0
+  pub q_auxiliary : (i k : ℕ) → i < L.q_rows → k < O.split →
+      L.q i (M.columns + k) ≡ cond (eqb (O.of_q i) (O.of_z k)) 1 0
   pub t : (i j : ℕ) → i < L.t_rows → j < M.columns → L.t i j ≡ M.symbol (O.of_t i) j
   pub t_auxiliary : (i k : ℕ) → i < L.t_rows → k < O.split → L.t i (M.columns + k) ≡ eqb (O.of_t i) (O.of_z k)
 

@@ -1,4 +1,5 @@
--- Mixed matrices: the matrix of a model, whose entries are numbers that are known and symbols that are free (Murota, chapter 4).
+-- Mixed matrices: the matrix of a model, whose entries are numbers that are known and symbols that are free (Murota,
+-- chapter 4).
 use Rattle.std.specs.Prelude.{ℕ, ◌+◌, ◌<◌, ◌≡◌, Bool, cond}
 use Rattle.linear_algebra.specs.Products.{Agree}
 

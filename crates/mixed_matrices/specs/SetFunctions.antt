@@ -1,4 +1,5 @@
--- The set function p(X) = rho(X) + gamma(X) - |X| of a layered matrix, and the column sets where it is least (Murota, chapter 4).
+-- The set function p(X) = rho(X) + gamma(X) - |X| of a layered matrix, and the column sets where it is least (Murota,
+-- chapter 4).
 use Rattle.std.specs.Prelude.{ℕ, ◌+◌, ◌≤◌, Bool}
 use Rattle.residue_theory.specs.Sets.{both, some_below}
 use Rattle.residue_theory.specs.Sums.{size_on}
@@ -19,7 +20,8 @@ gamma L X = size_on (touches L X) L.t_rows
 
 -- p(X) is at most p(Y), as sums: rho(X) + gamma(X) + |Y| is at most rho(Y) + gamma(Y) + |X|
 abbrev pub IsNoGreater : ℕ → Layered → (ℕ → Bool) → (ℕ → Bool) → Type 0
-IsNoGreater p L X Y = (r s : ℕ) → IsRho p L X r → IsRho p L Y s → r + gamma L X + size_on Y L.columns ≤ s + gamma L Y + size_on X L.columns
+IsNoGreater p L X Y = (r s : ℕ) → IsRho p L X r → IsRho p L Y s →
+    r + gamma L X + size_on Y L.columns ≤ s + gamma L Y + size_on X L.columns
 
 -- no column set has a smaller p than X
 abbrev pub IsMinimiser : ℕ → Layered → (ℕ → Bool) → Type 0

@@ -1,4 +1,5 @@
--- A pair in a tableau: P, which is Q after row operations, a base of unit columns of P, and columns that are matched in T.
+-- A pair in a tableau: P, which is Q after row operations, a base of unit columns of P, and columns that are matched in
+-- T.
 use Rattle.std.specs.Prelude.{ℕ, Bool}
 use Rattle.residue_theory.specs.Sets.{both, IsApart}
 use Rattle.linear_algebra.specs.Products.{product, IsInverse, Agree}

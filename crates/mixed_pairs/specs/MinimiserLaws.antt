@@ -14,12 +14,14 @@ use Rattle.mixed_matrices.specs.Tableaus.{HasTableau, Tableau}
 abbrev pub RankIsTheLeastBound : Type 0
 RankIsTheLeastBound =
     (p : ℕ) → IsPrime p → (L : Layered) (X : ℕ → Bool) (r R : ℕ) → IsRho p L X r → IsLayeredRank p L R →
-    (R + size_on X L.columns ≤ r + gamma L X + L.columns) × (IsMinimiser p L X ↔ (R + size_on X L.columns ≡ r + gamma L X + L.columns))
+    (R + size_on X L.columns ≤ r + gamma L X + L.columns)
+    × (IsMinimiser p L X ↔ (R + size_on X L.columns ≡ r + gamma L X + L.columns))
 
 -- the minimum of p is |pair| - N
 abbrev pub MinimumIsSizeLessColumns : Type 0
 MinimumIsSizeLessColumns =
-    (p : ℕ) → IsPrime p → (L : Layered) (F : Tableau) → HasTableau p L F → HasNoWalk p L F → (X : ℕ → Bool) (r : ℕ) → IsRho p L X r →
+    (p : ℕ) → IsPrime p → (L : Layered) (F : Tableau) → HasTableau p L F → HasNoWalk p L F →
+    (X : ℕ → Bool) (r : ℕ) → IsRho p L X r →
     IsMinimiser p L X ↔ (r + gamma L X + L.columns ≡ pair_size L F.base F.matched + size_on X L.columns)
 
 -- a column set is a minimiser exactly where it is closed
@@ -31,5 +33,6 @@ MinimisersAreTheClosedSets =
 -- what is reached from the free columns is the least minimiser
 abbrev pub ReachedColumnsAreTheLeastMinimiser : Type 0
 ReachedColumnsAreTheLeastMinimiser =
-    (p : ℕ) → IsPrime p → (L : Layered) (F : Tableau) → HasTableau p L F → HasNoWalk p L F → (X : ℕ → Bool) → IsReachedFromFree p L F X →
+    (p : ℕ) → IsPrime p → (L : Layered) (F : Tableau) → HasTableau p L F → HasNoWalk p L F → (X : ℕ → Bool) →
+    IsReachedFromFree p L F X →
     IsMinimiser p L X × ((Y : ℕ → Bool) → IsMinimiser p L Y → IsWithin L.columns X Y)

@@ -22,36 +22,43 @@ EachModelHasOneRank =
 abbrev pub EachLayeredMatrixHasOneRank : Type 0
 EachLayeredMatrixHasOneRank =
     (p : ℕ) → IsPrime p → (L : Layered) →
-    (r : ℕ) × IsLayeredRank p L r × ((s : ℕ) → IsLayeredRank p L s → s ≡ r) × (r ≤ L.q_rows + L.t_rows) × (r ≤ L.columns)
+    (r : ℕ) × IsLayeredRank p L r × ((s : ℕ) → IsLayeredRank p L s → s ≡ r)
+    × (r ≤ L.q_rows + L.t_rows) × (r ≤ L.columns)
 
 -- where a pair reaches the bound, its size is R(L)
 abbrev pub PairsThatReachTheBoundShowTheRank : Type 0
 PairsThatReachTheBoundShowTheRank =
-    (p : ℕ) → IsPrime p → (L : Layered) (I J : ℕ → Bool) (mate : ℕ → ℕ) → IsPair p L I J mate → (X : ℕ → Bool) (r : ℕ) → IsRho p L X r →
+    (p : ℕ) → IsPrime p → (L : Layered) (I J : ℕ → Bool) (mate : ℕ → ℕ) → IsPair p L I J mate →
+    (X : ℕ → Bool) (r : ℕ) → IsRho p L X r →
     pair_size L I J + size_on X L.columns ≡ r + gamma L X + L.columns → IsLayeredRank p L (pair_size L I J)
 
 -- where no end is reached from a free column of a tableau, the size of its pair is R(L)
 abbrev pub PairsWithoutWalkShowTheRank : Type 0
 PairsWithoutWalkShowTheRank =
-    (p : ℕ) → IsPrime p → (L : Layered) (F : Tableau) → HasTableau p L F → HasNoWalk p L F → IsLayeredRank p L (pair_size L F.base F.matched)
+    (p : ℕ) → IsPrime p → (L : Layered) (F : Tableau) → HasTableau p L F → HasNoWalk p L F →
+    IsLayeredRank p L (pair_size L F.base F.matched)
 
 -- a best pair has the size R(L)
 abbrev pub BestPairsShowTheRank : Type 0
 BestPairsShowTheRank =
-    (p : ℕ) → IsPrime p → (L : Layered) (I J : ℕ → Bool) (mate : ℕ → ℕ) → IsPair p L I J mate → IsBest p L I J → IsLayeredRank p L (pair_size L I J)
+    (p : ℕ) → IsPrime p → (L : Layered) (I J : ℕ → Bool) (mate : ℕ → ℕ) → IsPair p L I J mate → IsBest p L I J →
+    IsLayeredRank p L (pair_size L I J)
 
 -- 1 at the places of a matching and 0 elsewhere give a rank of at least the pair's size
 abbrev pub MatchingValuesReachThePair : Type 0
 MatchingValuesReachThePair =
     (p : ℕ) → IsPrime p → (L : Layered) (I J : ℕ → Bool) (mate : ℕ → ℕ) → IsPair p L I J mate → (s : ℕ) →
-    IsRank p (layered_value L (matching_values J mate)) (L.q_rows + L.t_rows) L.columns everything s → pair_size L I J ≤ s
+    IsRank p (layered_value L (matching_values J mate)) (L.q_rows + L.t_rows) L.columns everything s →
+    pair_size L I J ≤ s
 
 -- the entries decide the structural rank: of models, and of layered matrices
 abbrev pub SameModelsHaveTheSameRank : Type 0
-SameModelsHaveTheSameRank = (p : ℕ) (M N : Mixed) → AreSameModels p M N → (r : ℕ) → IsStructuralRank p M r → IsStructuralRank p N r
+SameModelsHaveTheSameRank = (p : ℕ) (M N : Mixed) → AreSameModels p M N → (r : ℕ) → IsStructuralRank p M r →
+    IsStructuralRank p N r
 
 abbrev pub SameLayersHaveTheSameRank : Type 0
-SameLayersHaveTheSameRank = (p : ℕ) (L K : Layered) → AreSameLayers p L K → (r : ℕ) → IsLayeredRank p L r → IsLayeredRank p K r
+SameLayersHaveTheSameRank = (p : ℕ) (L K : Layered) → AreSameLayers p L K → (r : ℕ) → IsLayeredRank p L r →
+    IsLayeredRank p K r
 
 -- a model without its equation i has the rank of the model in which that equation is emptied
 abbrev pub EmptiedEquationsAreLeftOut : Type 0

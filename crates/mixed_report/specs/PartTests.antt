@@ -1,5 +1,5 @@
--- Surplus equations and undetermined unknowns, read from the canonical parts of a layered matrix of the model and from the
--- tableau beside them.
+-- Surplus equations and undetermined unknowns, read from the canonical parts of a layered matrix of the model and from
+-- the tableau beside them.
 use Rattle.std.specs.Prelude.{ℕ, ◌+◌, ◌<◌, ◌≡◌, ◌≢◌, ◌%◌, ◌↔◌, Bool, false}
 use Rattle.residue_theory.specs.Residues.{IsPrime}
 use Rattle.mixed_matrices.specs.CanonicalParts.{AreCanonical}

@@ -17,8 +17,8 @@ RemovedUnknownsAreEmptiedColumns =
     IsStructuralRank p (without_unknown j M) r ↔
     IsLayeredRank p (layered_part everything everything (without everything j) L) (r + O.split)
 
--- without an equation with symbols: its T row goes; where it is split, its Q row may stay, since the auxiliary column is then
--- the unit column of that row
+-- without an equation with symbols: its T row goes; where it is split, its Q row may stay, since the auxiliary column
+-- is then the unit column of that row
 abbrev pub RemovedEquationsAreEmptiedRowsOfSymbols : Type 0
 RemovedEquationsAreEmptiedRowsOfSymbols =
     (p : ℕ) → IsPrime p → 2 < p → (M : Mixed) (A D : ℕ → Bool) (L : Layered) (O : Origins) → IsLayering M A D L O →

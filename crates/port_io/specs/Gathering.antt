@@ -15,14 +15,16 @@ nothing_gathered = record { held = []; handed = 0 }
 
 -- the sink and the buffer hold these bytes more: what was handed on was appended, and with what the
 -- buffer holds now it makes what the buffer held before and these bytes, in order
-pub record Gathered (written : Option (List ℕ)) (buffer : Gathering) (written_after : Option (List ℕ)) (buffer_after : Gathering) (bytes : List ℕ) : Type 0 where
+pub record Gathered (written : Option (List ℕ)) (buffer : Gathering) (written_after : Option (List ℕ))
+    (buffer_after : Gathering) (bytes : List ℕ) : Type 0 where
   pub handed : List ℕ
   pub appended : Appended written written_after handed
   pub order : handed ++ buffer_after.held ≡ buffer.held ++ bytes
   pub counted : shown buffer_after.handed ≡ shown (buffer.handed + length handed)
 
 -- the first of these bytes were gathered, and the others not
-pub record GatheredPart (written : Option (List ℕ)) (buffer : Gathering) (written_after : Option (List ℕ)) (buffer_after : Gathering) (bytes : List ℕ) : Type 0 where
+pub record GatheredPart (written : Option (List ℕ)) (buffer : Gathering) (written_after : Option (List ℕ))
+    (buffer_after : Gathering) (bytes : List ℕ) : Type 0 where
   pub part : List ℕ
   pub rest : List ℕ
   pub split : bytes ≡ part ++ rest

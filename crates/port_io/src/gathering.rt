@@ -50,12 +50,14 @@ impl PieceBuffer {
     /// the buffer was made.
     pub fn put<K: Sink>(&mut self, sink: &mut K, piece: &[u8]) -> Result<(), WriteFault>
         ensures all { OnOk result (Gathered (K.written sink.old) self.old (K.written sink.new) self.new piece.now) }
-        ensures part { IfErr result (λ _. GatheredPart (K.written sink.old) self.old (K.written sink.new) self.new piece.now) }
+        ensures part { IfErr result (λ _.
+            GatheredPart (K.written sink.old) self.old (K.written sink.new) self.new piece.now) }
         ensures counted { IfErr result (λ fault. fault.written ≡ self.new.handed) }
         ensures fits { IfErr result (λ fault. fault.written < 2 ^ 64) }
         ensures cause { HasCause (K.faults sink.old) (K.faults sink.new) result }
         ensures no_flush { K.flushes sink.new ≡ K.flushes sink.old }
-        ensures steady { (more : ℕ) → K.takes sink.old (length self.old.held + length piece.now + more) → (K.faults sink.new ≡ K.faults sink.old) × IsOk result × K.takes sink.new (length self.new.held + more) }
+        ensures steady { (more : ℕ) → K.takes sink.old (length self.old.held + length piece.now + more) →
+            (K.faults sink.new ≡ K.faults sink.old) × IsOk result × K.takes sink.new (length self.new.held + more) }
     {
         if self.hold(piece) {
             return Ok(());
@@ -77,7 +79,8 @@ impl PieceBuffer {
         ensures fits { IfErr result (λ fault. fault.written < 2 ^ 64) }
         ensures cause { HasCause (K.faults sink.old) (K.faults sink.new) result }
         ensures no_flush { K.flushes sink.new ≡ K.flushes sink.old }
-        ensures steady { (more : ℕ) → K.takes sink.old (length self.old.held + more) → (K.faults sink.new ≡ K.faults sink.old) × IsOk result × K.takes sink.new more }
+        ensures steady { (more : ℕ) → K.takes sink.old (length self.old.held + more) →
+            (K.faults sink.new ≡ K.faults sink.old) × IsOk result × K.takes sink.new more }
     {
         if let Err(fault) = write_all(sink, &self.bytes[self.start..self.end]) {
             self.start += fault.written;
@@ -92,9 +95,10 @@ impl PieceBuffer {
         Ok(())
     }
 
-    /// Holds the piece too, and answers true, if there is place for it.
+    // Holds the piece too, and answers true, if there is place for it.
     fn hold(&mut self, piece: &[u8]) -> bool
-        ensures { MatchBool result (self.new ≡ record self.old { held = self.old.held ++ piece.now }) (self.new ≡ self.old) }
+        ensures { MatchBool result (self.new ≡ record self.old { held = self.old.held ++ piece.now })
+            (self.new ≡ self.old) }
     {
         if piece.len() > SIZE - self.end {
             return false;
@@ -105,17 +109,19 @@ impl PieceBuffer {
         true
     }
 
-    /// Gives the sink a piece that is too long to be held, when nothing is held.
+    // Gives the sink a piece that is too long to be held, when nothing is held.
     fn pass<K: Sink>(&mut self, sink: &mut K, piece: &[u8]) -> Result<(), WriteFault>
         requires { self.old.held ≡ [] }
         ensures all { OnOk result (Gathered (K.written sink.old) self.old (K.written sink.new) self.new piece.now) }
-        ensures part { IfErr result (λ _. GatheredPart (K.written sink.old) self.old (K.written sink.new) self.new piece.now) }
+        ensures part { IfErr result (λ _.
+            GatheredPart (K.written sink.old) self.old (K.written sink.new) self.new piece.now) }
         ensures empty { self.new.held ≡ [] }
         ensures counted { IfErr result (λ fault. fault.written ≡ self.new.handed) }
         ensures fits { IfErr result (λ fault. fault.written < 2 ^ 64) }
         ensures cause { HasCause (K.faults sink.old) (K.faults sink.new) result }
         ensures no_flush { K.flushes sink.new ≡ K.flushes sink.old }
-        ensures steady { (more : ℕ) → K.takes sink.old (length piece.now + more) → (K.faults sink.new ≡ K.faults sink.old) × IsOk result × K.takes sink.new more }
+        ensures steady { (more : ℕ) → K.takes sink.old (length piece.now + more) →
+            (K.faults sink.new ≡ K.faults sink.old) × IsOk result × K.takes sink.new more }
     {
         if let Err(fault) = write_all(sink, piece) {
             self.handed = self.handed.saturating_add(fault.written);

@@ -33,15 +33,18 @@ const PIECE: usize = 65_536;
 pub fn read_all<S: Source>(alloc: Global, source: &mut S, limit: u64) -> Result<Vec<u8>, ReadError>
     requires { limit ≤ 2147483648 }
     ensures within { IfOk result (λ bytes. length bytes.items ≤ limit) }
-    ensures all { IfOk result (λ bytes. Took (S.left source.old) (S.left source.new) bytes.items × Ended (S.left source.new)) }
-    ensures too_long { result ≡ Err ReadError.TooLong → TookExactly (limit + 1) (S.left source.old) (S.left source.new) }
+    ensures all { IfOk result (λ bytes.
+        Took (S.left source.old) (S.left source.new) bytes.items × Ended (S.left source.new)) }
+    ensures too_long { result ≡ Err ReadError.TooLong →
+        TookExactly (limit + 1) (S.left source.old) (S.left source.new) }
     ensures fault_taken { result ≡ Err ReadError.ReadFault → TookAtMost limit (S.left source.old) (S.left source.new) }
     ensures memory_taken { result ≡ Err ReadError.NoMemory → TookAtMost limit (S.left source.old) (S.left source.new) }
     ensures fault { result ≡ Err ReadError.ReadFault → Rose (S.faults source.old) (S.faults source.new) }
     ensures no_fault { result ≢ Err ReadError.ReadFault → S.faults source.new ≡ S.faults source.old }
     ensures later { S.faults source.old ≤ S.faults source.new }
     ensures asked { AsksWithin 65536 (limit + 1) (S.asked source.old) (S.asked source.new) }
-    ensures steady { S.never_fails source.old → S.never_fails source.new × (S.faults source.new ≡ S.faults source.old) × (result ≢ Err ReadError.ReadFault) }
+    ensures steady { S.never_fails source.old → S.never_fails source.new × (S.faults source.new ≡ S.faults source.old)
+        × (result ≢ Err ReadError.ReadFault) }
 {
     let Ok(mut buffer) = buffer_of(alloc, PIECE) else {
         return Err(ReadError::NoMemory);
@@ -49,14 +52,14 @@ pub fn read_all<S: Source>(alloc: Global, source: &mut S, limit: u64) -> Result<
     read_through(alloc, source, &mut buffer, limit)
 }
 
-/// A buffer of this size.
+// A buffer of this size.
 fn buffer_of(alloc: Global, size: usize) -> Result<Vec<u8>, AllocError>
     ensures { IfOk result (λ buffer. length buffer.items ≡ size) }
 {
     vec![in alloc; 0u8; size]
 }
 
-/// All bytes to the end, through this buffer.
+// All bytes to the end, through this buffer.
 fn read_through<S: Source>(
     alloc: Global,
     source: &mut S,
@@ -66,15 +69,18 @@ fn read_through<S: Source>(
     requires limit { limit ≤ 2147483648 }
     requires room { 0 < length buffer.old }
     ensures within { IfOk result (λ bytes. length bytes.items ≤ limit) }
-    ensures all { IfOk result (λ bytes. Took (S.left source.old) (S.left source.new) bytes.items × Ended (S.left source.new)) }
-    ensures too_long { result ≡ Err ReadError.TooLong → TookExactly (limit + 1) (S.left source.old) (S.left source.new) }
+    ensures all { IfOk result (λ bytes.
+        Took (S.left source.old) (S.left source.new) bytes.items × Ended (S.left source.new)) }
+    ensures too_long { result ≡ Err ReadError.TooLong →
+        TookExactly (limit + 1) (S.left source.old) (S.left source.new) }
     ensures fault_taken { result ≡ Err ReadError.ReadFault → TookAtMost limit (S.left source.old) (S.left source.new) }
     ensures memory_taken { result ≡ Err ReadError.NoMemory → TookAtMost limit (S.left source.old) (S.left source.new) }
     ensures fault { result ≡ Err ReadError.ReadFault → Rose (S.faults source.old) (S.faults source.new) }
     ensures no_fault { result ≢ Err ReadError.ReadFault → S.faults source.new ≡ S.faults source.old }
     ensures later { S.faults source.old ≤ S.faults source.new }
     ensures asked { AsksWithin (length buffer.old) (limit + 1) (S.asked source.old) (S.asked source.new) }
-    ensures steady { S.never_fails source.old → S.never_fails source.new × (S.faults source.new ≡ S.faults source.old) × (result ≢ Err ReadError.ReadFault) }
+    ensures steady { S.never_fails source.old → S.never_fails source.new × (S.faults source.new ≡ S.faults source.old)
+        × (result ≢ Err ReadError.ReadFault) }
 {
     let most = limit as usize + 1;
     let mut bytes = Vec::new(alloc);

@@ -66,7 +66,7 @@ fn counts_a_flush_as_a_call(rt: HostRuntime) -> Result<(), Fail> {
     Ok(())
 }
 
-/// Puts the piece many times, then a piece that is longer than the buffer, then hands on.
+// Puts the piece many times, then a piece that is longer than the buffer, then hands on.
 fn put_many<K: Sink>(alloc: Global, sink: &mut K) -> Result<Option<usize>, Fail> {
     let long = vec![in alloc; b'x'; 5000]?;
     let mut buffer = PieceBuffer::new();

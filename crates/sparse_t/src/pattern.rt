@@ -1,3 +1,5 @@
+//! Patterns: which places of some rows and columns hold a symbol.
+
 ghost use Rattle.std.specs.Prelude.{◌≡◌, ◌<◌, ℕ, IfOk, OnOk, OnErr, []};
 ghost use Rattle.std.specs.List.Sorted.{IsStrictlyIncreasing};
 ghost use Rattle.sparse_t.specs.Lists.{IsBelow};
