@@ -7,7 +7,8 @@ use Rattle.std.proofs.lemmas.List.Elements.{All-append, All-from_get_or}
 use Rattle.residue_theory.proofs.SumLaws.{nat_cases}
 use Rattle.residue_theory.proofs.SetLaws.{differ, eqb_from, eqb_true, not_true}
 use Rattle.residue_field.specs.Modulus.{res_modulus}
-use Rattle.sparse_t.specs.Lists.{IsBelow, has as touched}
+use Rattle.residue_theory.specs.Sets.{has as touched}
+use Rattle.sparse_t.specs.Lists.{IsBelow}
 use Rattle.sparse_t.proofs.ListLaws.{nat_eq-apart, nat_eq-itself}
 use Rattle.cert_text.specs.Ranges.{AreEntries, AreRising}
 use Rattle.cert_text.specs.Readings.{entry_at, has}

@@ -1,6 +1,7 @@
 //! Dense matrices over a field.
 
 ghost use Rattle.std.specs.Prelude.{◌≡◌, ℕ, ◌<◌, ◌≤◌, ◌≢◌, map, length, IfOk, OnOk, OnErr};
+ghost use Rattle.limits.specs.Limits.{column_limit};
 ghost use Rattle.linear_algebra.specs.Products.{identity};
 ghost use Rattle.linear_algebra.specs.RowOperations.{IsRowAdded, IsRowScaled};
 ghost use Rattle.dense_q.specs.Rows.{plus_multiple, multiple};
@@ -35,8 +36,8 @@ impl<F: Field> Model for Mat<F> {
 impl<F: Field> Mat<F> {
     /// The matrix of so many rows and columns whose entries are all zero.
     pub fn zeros(alloc: Global, rows: usize, cols: usize) -> Result<Mat<F>, NoMemory>
-        requires rows { rows ≤ 8192 }
-        requires cols { cols ≤ 8192 }
+        requires rows { rows ≤ column_limit }
+        requires cols { cols ≤ column_limit }
         ensures { IfOk result (λ m. m ≡ zero_table rows cols) }
     {
         let mut all = Vec::with_capacity(alloc, rows)?;
@@ -51,7 +52,7 @@ impl<F: Field> Mat<F> {
 
     /// The square matrix with 1 where row and column are the same, and 0 elsewhere.
     pub fn identity(alloc: Global, n: usize) -> Result<Mat<F>, NoMemory>
-        requires { n ≤ 8192 }
+        requires { n ≤ column_limit }
         ensures { IfOk result (IsTableOf n n identity) }
     {
         let mut all = Vec::with_capacity(alloc, n)?;
@@ -157,7 +158,7 @@ impl<F: Field> Mat<F> {
     /// Puts a row below the last one.
     pub fn push_row(&mut self, row: &[F]) -> Result<(), NoMemory>
         requires width { length row.now ≡ self.old.width }
-        requires room { height self.old < 8192 }
+        requires room { height self.old < column_limit }
         ensures ok { OnOk result (self.new ≡ with_last_row self.old (map F.number row.now)) }
         ensures err { OnErr result (self.new ≡ self.old) }
     {

@@ -2,7 +2,7 @@
 use Rattle.std.proofs.Common.{◌≡◌, ℕ, zero, suc, ◌+◌, ◌%◌, ◌<◌, ◌≤◌, ◌≢◌, Bool, true, false, ◌||◌, ◌⊎◌, inl, inr, refl, ap, sym, subst, ◌∙◌, arith}
 use Rattle.std.proofs.lemmas.Bool.Decides.{nat_tests}
 use Rattle.residue_theory.specs.Sets.{with_one, either}
-use Rattle.linear_algebra.specs.Bases.{IsBase}
+use Rattle.linear_algebra.specs.Bases.{IsBaseTaken, IsBase}
 use Rattle.linear_algebra.specs.RowOperations.{IsPivoted}
 use Rattle.linear_algebra.specs.Kernels.{SameKernel}
 use Rattle.linear_algebra_laws.proofs.Kernels.{kernel-trans}
@@ -13,7 +13,7 @@ use Rattle.mixed_matrices.specs.Pairs.{IsMatching, pair_size}
 use Rattle.mixed_matrices.specs.Tableaus.{Tableau, HasTableau}
 use Rattle.residue_theory.proofs.SetLaws.{differ, either-first, either-second, with_one-new}
 use Rattle.residue_theory.proofs.CountLaws.{size-either}
-use Rattle.mixed_augmentation.specs.Moves.{IsBaseTaken, IsUnlinked, IsLinked, TakesRow, TakesMate, Route, IsRoute, IsStage}
+use Rattle.mixed_augmentation.specs.Moves.{IsUnlinked, IsLinked, TakesRow, TakesMate, Route, IsRoute, IsStage}
 
 pub test_cases : (b : Bool) → (b ≡ true) ⊎ (b ≡ false)
 test_cases true = inl refl

@@ -1,19 +1,11 @@
 -- How a column moves to another row, and the chain of moves along a walk (Murota, chapter 2, independent matching).
 use Rattle.std.specs.Prelude.{ℕ, suc, ◌<◌, ◌≤◌, ◌≡◌, ◌≢◌, ◌%◌, ◌⊎◌, Bool, true, false, ◌||◌, cond, ltb}
-use Rattle.linear_algebra.specs.Bases.{IsBase, HasNoBase}
+use Rattle.linear_algebra.specs.Bases.{IsBase, IsBaseTaken, HasNoBase}
 use Rattle.linear_algebra.specs.Kernels.{SameKernel}
 use Rattle.linear_algebra.specs.RowOperations.{IsPivoted}
 use Rattle.mixed_matrices.specs.LayeredMatrices.{Layered}
 use Rattle.mixed_matrices.specs.Pairs.{IsMatching}
 use Rattle.mixed_matrices.specs.Tableaus.{Tableau}
-
--- column v is now the base column of row r; the column that was it before is none now, and all others stay.
--- There are n columns; B and row are the base before, C and now the base after
-pub record IsBaseTaken (n : ℕ) (B : ℕ → Bool) (row : ℕ → ℕ) (C : ℕ → Bool) (now : ℕ → ℕ) (r v : ℕ) : Type 0 where
-  pub member : C v ≡ true
-  pub at_row : now v ≡ r
-  pub only : (y : ℕ) → y < n → y ≢ v → C y ≡ true → (B y ≡ true) × (row y ≢ r) × (now y ≡ row y)
-  pub kept : (y : ℕ) → y < n → y ≢ v → B y ≡ true → row y ≢ r → C y ≡ true
 
 -- column v is not matched, and the matches of all others stay
 pub record IsUnlinked (n : ℕ) (J : ℕ → Bool) (mate : ℕ → ℕ) (K : ℕ → Bool) (now : ℕ → ℕ) (v : ℕ) : Type 0 where

@@ -6,7 +6,7 @@ use Rattle.std.proofs.lemmas.Bool.{cases_lt, eqb-false}
 use Rattle.std.proofs.lemmas.List.{get_or-replicate, get_or_append_left}
 use Rattle.std.proofs.Math.Seq.{get_or-append_seam}
 use Rattle.dense_q.specs.Tables.{entry, zero_table}
-use Rattle.sparse_t.specs.Lists.{has}
+use Rattle.residue_theory.specs.Sets.{has}
 use Rattle.sparse_t.specs.Incidences.{Incidence, with_last_row}
 use Rattle.sparse_t.proofs.ListLaws.{has-append, has-none, rising-append, below-append}
 use Rattle.mixed_matrices.specs.Models.{Mixed}

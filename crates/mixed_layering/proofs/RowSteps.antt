@@ -3,7 +3,8 @@ use Rattle.std.proofs.Common.{◌≡◌, ℕ, ◌<◌, ◌≤◌, Bool, true, fa
 use Rattle.std.specs.Option.{unwrap_or}
 use Rattle.std.proofs.lemmas.Bool.{cases_lt}
 use Rattle.std.proofs.Math.Seq.{get_or-append_seam}
-use Rattle.sparse_t.specs.Lists.{has, IsBelow}
+use Rattle.residue_theory.specs.Sets.{has}
+use Rattle.sparse_t.specs.Lists.{IsBelow}
 use Rattle.sparse_t.proofs.ListLaws.{has-at, has-append}
 use Rattle.mixed_model.specs.declared.entry.Entry.{Entry}
 use Rattle.mixed_model.specs.Rows.{entry_in, constant_at_place, symbol_at_place, constant_in, symbol_in, IsRow, IsWithin}

@@ -3,7 +3,7 @@ use Rattle.std.specs.Prelude.{ℕ, ◌+◌, ◌-◌, ◌<◌, ◌≡◌, ◌≢�
 use Rattle.std.specs.List.Sorted.{IsStrictlyIncreasing}
 use Rattle.dense_q.specs.Tables.{Table, HasSameSize, row_at, entry}
 use Rattle.mixed_matrices.specs.Models.{Mixed}
-use Rattle.sparse_t.specs.Lists.{has}
+use Rattle.residue_theory.specs.Sets.{has}
 use Rattle.sparse_t.specs.Incidences.{Incidence, touches}
 
 -- the entry of the Q row of an equation: its constants, and 1 at its auxiliary column

@@ -1,7 +1,7 @@
 -- How the rows of each column are kept beside the rows.
 use Rattle.std.specs.Prelude.{ℕ, ◌+◌, ◌<◌, ◌≤◌, ◌≡◌, true, false, List, [], ◌∷◌, ◌++◌, length, map, slice_index, slice_index_or}
 use Rattle.smallvec.specs.SmallVec.{SmallVec}
-use Rattle.sparse_t.specs.Lists.{has}
+use Rattle.residue_theory.specs.Sets.{has}
 use Rattle.sparse_t.specs.Incidences.{IsIncidence, AreRowsOf}
 
 -- the numbers in one of some lists

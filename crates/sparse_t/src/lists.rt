@@ -2,7 +2,7 @@
 
 ghost use Rattle.std.specs.Prelude.{◌≡◌};
 ghost use Rattle.std.specs.List.Sorted.{IsStrictlyIncreasing};
-ghost use Rattle.sparse_t.specs.Lists.{has};
+ghost use Rattle.residue_theory.specs.Sets.{has};
 
 use smallvec::SmallVec;
 

@@ -1,7 +1,8 @@
 use Rattle.std.proofs.Common.{◌≡◌, ℕ, ◌∷◌, ◌++◌, [], length, ap, sym, subst, ◌∙◌, arith}
 use Rattle.std.specs.List.Sorted.{IsStrictlyIncreasing}
 use Rattle.std.proofs.lemmas.List.{append_assoc}
-use Rattle.sparse_t.specs.Lists.{has, IsBelow}
+use Rattle.residue_theory.specs.Sets.{has}
+use Rattle.sparse_t.specs.Lists.{IsBelow}
 use Rattle.sparse_t.proofs.ListLaws.{rising-append, below-append}
 use Rattle.mixed_model.specs.Models.{row_of}
 use Rattle.mixed_model.specs.Rows.{symbol_in}

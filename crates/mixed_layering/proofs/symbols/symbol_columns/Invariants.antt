@@ -1,6 +1,7 @@
 use Rattle.std.proofs.Common.{◌≡◌, ◌++◌, ℕ, length}
 use Rattle.std.specs.List.Sorted.{IsStrictlyIncreasing}
-use Rattle.sparse_t.specs.Lists.{has, IsBelow}
+use Rattle.residue_theory.specs.Sets.{has}
+use Rattle.sparse_t.specs.Lists.{IsBelow}
 use Rattle.mixed_model.specs.Models.{row_of}
 use Rattle.mixed_model.specs.Rows.{symbol_in}
 use Rattle.mixed_layering.proofs.symbols.symbol_columns.Given as goal
