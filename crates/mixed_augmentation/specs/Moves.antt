@@ -3,7 +3,7 @@ use Rattle.std.specs.Prelude.{ℕ, suc, ◌<◌, ◌≤◌, ◌≡◌, ◌≢◌
 use Rattle.linear_algebra.specs.Bases.{IsBase, IsBaseTaken, HasNoBase}
 use Rattle.linear_algebra.specs.Kernels.{SameKernel}
 use Rattle.linear_algebra.specs.RowOperations.{IsPivoted}
-use Rattle.mixed_matrices.specs.LayeredMatrices.{Layered}
+use Rattle.mixed_matrices.specs.LayeredMatrices.{LayeredMatrix}
 use Rattle.mixed_matrices.specs.Pairs.{IsMatching}
 use Rattle.mixed_matrices.specs.Tableaus.{Tableau}
 
@@ -21,13 +21,13 @@ pub record IsLinked (n : ℕ) (J : ℕ → Bool) (mate : ℕ → ℕ) (K : ℕ �
   pub mates : (y : ℕ) → y < n → y ≢ v → now y ≡ mate y
 
 -- column v takes Q row r, by a pivot, and leaves its T row
-pub record TakesRow (p : ℕ) (L : Layered) (F G : Tableau) (r v : ℕ) : Type 0 where
+pub record TakesRow (p : ℕ) (L : LayeredMatrix) (F G : Tableau) (r v : ℕ) : Type 0 where
   pub pivoted : IsPivoted p L.q_rows L.columns F.P G.P r v
   pub taken : IsBaseTaken L.columns F.base F.row G.base G.row r v
   pub unlinked : IsUnlinked L.columns F.matched F.mate G.matched G.mate v
 
 -- column v takes T row t and leaves the one that it had
-pub record TakesMate (L : Layered) (F G : Tableau) (t v : ℕ) : Type 0 where
+pub record TakesMate (L : LayeredMatrix) (F G : Tableau) (t v : ℕ) : Type 0 where
   pub entries : G.P ≡ F.P
   pub same_base : G.base ≡ F.base
   pub same_rows : G.row ≡ F.row
@@ -50,13 +50,13 @@ route F at k in_q row = record {
 }
 
 -- the row is a Q row where in_q holds, else a T row; column x may take it, and no column has it
-pub record IsFreeRow (p : ℕ) (L : Layered) (F : Tableau) (x : ℕ) (in_q : Bool) (row : ℕ) : Type 0 where
+pub record IsFreeRow (p : ℕ) (L : LayeredMatrix) (F : Tableau) (x : ℕ) (in_q : Bool) (row : ℕ) : Type 0 where
   pub of_q : in_q ≡ true → (row < L.q_rows) × (F.P row x % p ≢ 0) × HasNoBase L.columns F.base F.row row
   pub of_t : in_q ≡ false → (row < L.t_rows) × (L.t row x ≡ true) × HasNoBase L.columns F.matched F.mate row
 
 -- the route's first column is free, each other one has the row that the one before it is to take, nobody has the
 -- last row, and no earlier column has an entry in a Q row that is to be taken
-pub record IsRoute (p : ℕ) (L : Layered) (F : Tableau) (R : Route) : Type 0 where
+pub record IsRoute (p : ℕ) (L : LayeredMatrix) (F : Tableau) (R : Route) : Type 0 where
   pub below : (j : ℕ) → j ≤ R.last → R.at j < L.columns
   pub differ : (i j : ℕ) → i ≤ R.last → j ≤ R.last → R.at i ≡ R.at j → i ≡ j
   pub first : (F.base (R.at 0) ≡ false) × (F.matched (R.at 0) ≡ false)
@@ -74,7 +74,7 @@ pub record IsRoute (p : ℕ) (L : Layered) (F : Tableau) (R : Route) : Type 0 wh
 
 -- the first i columns of the route have still to move, and the others have moved; F is from before all moves, and G
 -- from now
-pub record IsStage (p : ℕ) (L : Layered) (F : Tableau) (R : Route) (i : ℕ) (G : Tableau) : Type 0 where
+pub record IsStage (p : ℕ) (L : LayeredMatrix) (F : Tableau) (R : Route) (i : ℕ) (G : Tableau) : Type 0 where
   pub le : i ≤ suc R.last
   pub kernel : SameKernel p L.q_rows L.columns L.q G.P
   pub unit_columns : IsBase p G.P L.q_rows L.columns G.base G.row
