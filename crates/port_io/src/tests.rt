@@ -1,6 +1,6 @@
 //! Calls over memory, with ample memory.
 
-use crate::{MemSink, MemSource, PieceBuffer, ReadError, Sink, Source, read_all, write_all};
+use crate::{MemSink, MemSource, PieceBuffer, Pump, ReadError, Sink, Source, read_all, write_all};
 use std::alloc::Global;
 use std::test::Fail;
 
@@ -30,6 +30,39 @@ fn reads_nothing_past_a_fault_or_the_limit(rt: HostRuntime) -> Result<(), Fail> 
         let rest = read_all(alloc, &mut source, 9)?;
         assert_eq!(rt; rest.as_slice(), left, "at {failing}");
     }
+    Ok(())
+}
+
+#[test]
+fn pumps_pieces_to_the_end(rt: HostRuntime) -> Result<(), Fail> {
+    let mut source = MemSource::new(rt.alloc(), b"seventeen", 4, &[2])?;
+    let mut pump = Pump::new(rt.alloc(), 9)?;
+    let cases: [(Result<usize, ReadError>, &[u8]); 5] = [
+        (Ok(4), b"seve"),
+        (Err(ReadError::ReadFault), b""),
+        (Ok(4), b"ntee"),
+        (Ok(1), b"n"),
+        (Ok(0), b""),
+    ];
+    for (want, piece) in cases {
+        assert!(rt; !pump.ended());
+        assert_eq!(rt; pump.next(&mut source), want);
+        assert_eq!(rt; pump.piece(), piece);
+    }
+    assert!(rt; pump.ended());
+    Ok(())
+}
+
+#[test]
+fn a_pump_stays_too_long(rt: HostRuntime) -> Result<(), Fail> {
+    let mut source = MemSource::new(rt.alloc(), b"seventeen", 4, &[])?;
+    let mut pump = Pump::new(rt.alloc(), 6)?;
+    for want in [Ok(4), Err(ReadError::TooLong), Err(ReadError::TooLong)] {
+        assert!(rt; !pump.ended());
+        assert_eq!(rt; pump.next(&mut source), want);
+    }
+    let rest = read_all(rt.alloc(), &mut source, 9)?;
+    assert_eq!(rt; rest.as_slice(), b"en".as_slice());
     Ok(())
 }
 
