@@ -5,7 +5,6 @@
 #![tactic(auto)]
 
 mod asking;
-mod gathering;
 mod memory;
 mod ports;
 mod pump;
@@ -16,7 +15,6 @@ mod tests;
 mod writing;
 
 pub use asking::Asked;
-pub use gathering::PieceBuffer;
 pub use memory::{MemSink, MemSource};
 pub use ports::{Failed, Sink, Source};
 pub use pump::Pump;

@@ -15,8 +15,8 @@ use std::marker::Model;
 // The most bytes of one call.
 const PIECE: usize = 65_536;
 
-/// Takes an input from a source piece by piece, through a buffer of 65,536 bytes that is made once, up to a limit. Contracts see
-/// the piece, how many bytes were taken, the limit, and whether the input ended.
+/// Takes an input from a source piece by piece, through a buffer of 65,536 bytes that is made once, up to a limit.
+/// Contracts see the piece, how many bytes were taken, the limit, and whether the input ended.
 #[derive(Drop)]
 pub struct Pump {
     buffer: Vec<u8>,
@@ -32,7 +32,12 @@ impl Model for Pump {
 
     ghost Value = { Pumping };
 
-    ghost view = { λ p. record { piece = take p.filled p.buffer.items; taken = p.taken; limit = p.limit; ended = p.ended } };
+    ghost view = { λ p. record {
+      piece = take p.filled p.buffer.items;
+      taken = p.taken;
+      limit = p.limit;
+      ended = p.ended;
+    } };
 
     ghost invariant = { λ p. (length p.buffer.items ≡ 65536) × (p.filled ≤ 65536) × (p.taken ≤ p.limit + 1)
         × (p.limit ≤ 2147483648) };
@@ -53,9 +58,9 @@ impl Pump {
         })
     }
 
-    /// Takes the next piece, and answers how long it is: 0 at the end alone. It asks the source once, for at most 65,536
-    /// bytes, and for none beyond `limit + 1` in all; and not at all where that many were taken: it is `TooLong` then, at
-    /// each later call too. After a refusal the piece is empty, and after `ReadFault` all else is as it was.
+    /// Takes the next piece, and answers how long it is: 0 at the end alone. It asks the source once, for at most
+    /// 65,536 bytes, and for none beyond `limit + 1` in all; and not at all where that many were taken: it is `TooLong`
+    /// then, at each later call too. After a refusal the piece is empty, and after `ReadFault` all else is as it was.
     pub fn next<S: Source>(&mut self, source: &mut S) -> Result<usize, ReadError>
         requires { self.old.ended ≡ false }
         ensures piece { IfOk result (λ count. length self.new.piece ≡ count) }
@@ -76,9 +81,11 @@ impl Pump {
         ensures fault { result ≡ Err ReadError.ReadFault → Rose (S.faults source.old) (S.faults source.new) }
         ensures no_fault { result ≢ Err ReadError.ReadFault → S.faults source.new ≡ S.faults source.old }
         ensures later { S.faults source.old ≤ S.faults source.new }
-        ensures asked { AsksWithin 65536 (self.old.limit + 1 - self.old.taken) (S.asked source.old) (S.asked source.new) }
+        ensures asked { AsksWithin 65536 (self.old.limit + 1 - self.old.taken) (S.asked source.old)
+            (S.asked source.new) }
         ensures told { IfOk result (λ count. (S.asked source.new).taken ≤ (S.asked source.old).taken + count) }
-        ensures steady { S.never_fails source.old → S.never_fails source.new × (S.faults source.new ≡ S.faults source.old)
+        ensures steady { S.never_fails source.old → S.never_fails source.new
+            × (S.faults source.new ≡ S.faults source.old)
             × (result ≢ Err ReadError.ReadFault) }
     {
         self.filled = 0;
