@@ -1,6 +1,8 @@
+//! Models that are built, and what they tell.
+
 use super::*;
 use dense_q::Mat;
-use residue_field::Res;
+use residue_field::{Field, Res};
 use sparse_t::Pattern;
 use std::alloc::Global;
 use std::test::Fail;
