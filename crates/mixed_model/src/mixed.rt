@@ -227,7 +227,8 @@ impl<F: Field> Mixed<F> {
 
 /// Models with the same names, the same constants and the same symbols are the same.
 pub fn places_tell_a_model()
-    ensures { (p : ℕ) (a b : MixedModel) → IsModel p a → IsModel p b → a.equations ≡ b.equations → a.unknowns ≡ b.unknowns
+    ensures { (p : ℕ) (a b : MixedModel) → IsModel p a → IsModel p b
+        → a.equations ≡ b.equations → a.unknowns ≡ b.unknowns
         → ((i j : ℕ) → i < length a.equations → j < length a.unknowns → constant_of a i j ≡ constant_of b i j)
         → ((i j : ℕ) → i < length a.equations → j < length a.unknowns → symbol_of a i j ≡ symbol_of b i j) → a ≡ b }
 {}

@@ -74,7 +74,8 @@ pub(crate) fn put_constant_in_row<F: Field>(
     requires within { i < vec_len rows.old }
     requires rows { All (λ row. IsRow F.modulus row.items) rows.old.items }
     requires constant { F.number constant ≢ 0 }
-    ensures put { OnOk result (ChangesRow (PutsConstant F.modulus column (F.number constant)) i (rows_of rows.old) (rows_of rows.new)) }
+    ensures put { OnOk result
+        (ChangesRow (PutsConstant F.modulus column (F.number constant)) i (rows_of rows.old) (rows_of rows.new)) }
     ensures answer { AnswersAdd result (putting (row_at rows.old.items i) column) }
     ensures kept { OnErr result (rows_of rows.new ≡ rows_of rows.old) }
 {
