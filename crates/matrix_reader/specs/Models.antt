@@ -25,7 +25,8 @@ symbol_said items unknown = list_any (λ item. bytes_eq unknown (unknown_of item
 abbrev pub items_at : List Equation → ℕ → List (List ℕ)
 items_at equations i = slice_index_or (map (λ equation. equation.items) equations) i []
 
--- The model of some equations and unknowns: their names, and at each place what the equation's items say of the unknown.
+-- The model of some equations and unknowns: their names, and at each place what the equation's items say of the
+-- unknown.
 pub record IsModelOf (p : ℕ) (list : List Equation) (unknowns : List (List ℕ)) (model : MixedModel) : Type 0 where
   pub is_model : IsModel p model
   pub equations_are : model.equations ≡ map (λ equation. equation.name) list

@@ -40,7 +40,8 @@ value_rule p value = if is_symbol value then None else result_err (number_of p (
 -- an item by itself
 abbrev pub term_rule : ℕ → List ℕ → Option Why
 term_rule p item =
-    if has_equals_sign item then option_or (name_rule (unknown_of item)) (value_rule p (value_of item)) else Some BadShape
+    if has_equals_sign item then option_or (name_rule (unknown_of item)) (value_rule p (value_of item))
+    else Some BadShape
 
 -- the unknown of an item: it does not stand earlier in the line
 abbrev pub place_rule : List (List (List ℕ)) → List (List ℕ) → List ℕ → Option Why
