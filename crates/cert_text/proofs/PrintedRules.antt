@@ -46,8 +46,8 @@ no_block : CcfBlock
 no_block = record { part = record { columns = []; q_rows = []; t_rows = [] }; lower = [] }
 
 -- the blocks of a lower list stand before its own
-pub lower-before : (c : Contents) → IsCcf c → (k l : ℕ) → lower_of c l k ≡ true → (k < l) × (l < length c.blocks)
-lower-before c is k l h = elim (lt_cases l (length c.blocks)) [
+pub lower-before : (p : ℕ) (c : Contents) → IsCcf p c → (k l : ℕ) → lower_of c l k ≡ true → (k < l) × (l < length c.blocks)
+lower-before p c is k l h = elim (lt_cases l (length c.blocks)) [
   | inl low ↦
       let same : get_or (map (λ (block : CcfBlock). block.lower) c.blocks) l [] ≡ (get_or c.blocks l no_block).lower = get_or-map (λ (block : CcfBlock). block.lower) c.blocks l no_block [] low in
       (has-below l (get_or c.blocks l no_block).lower k ((is.blocks l no_block low).lower).below (subst (λ list. has list k ≡ true) same h), low)
@@ -92,9 +92,9 @@ has-first [] some = absurd (omega arith)
 has-first (x ∷ xs) some = either-first (eqb x x) (has xs x) (eqb_from x x refl)
 
 -- each block has a column, which stands in it alone
-block-member : (M : Mixed) (L : Layered) (c : Contents) → IsCcf c → HasShape M L c → StandsOnce L.columns (column_lists c) → (k : ℕ) → k < length c.blocks →
+block-member : (p : ℕ) (M : Mixed) (L : Layered) (c : Contents) → IsCcf p c → HasShape M L c → StandsOnce L.columns (column_lists c) → (k : ℕ) → k < length c.blocks →
     (x : ℕ) × (x < L.columns) × ((parts_of c).column x ≡ suc k)
-block-member M L c is sizes once k within =
+block-member p M L c is sizes once k within =
     let block = is.blocks k no_block within in
     let columns : List ℕ = (get_or c.blocks k no_block).part.columns in
     let x : ℕ = get_or columns 0 0 in
@@ -134,7 +134,7 @@ tails-apart y b first last = both (eqb_true y 0 first) (eqb_true y (b + 1) last)
     both p q = absurd (omega arith)
 
 -- the rules one by one are the rules together
-pub rules-printed : (p : ℕ) (M : Mixed) (L : Layered) (c : Contents) → IsCcf c → KeepsRules p M L c → KeepsPrintedRules p M L c
+pub rules-printed : (p : ℕ) (M : Mixed) (L : Layered) (c : Contents) → IsCcf p c → KeepsRules p M L c → KeepsPrintedRules p M L c
 rules-printed p M L c is K = record {
   shape = K.shape;
   inverse = K.inverse;
@@ -159,8 +159,8 @@ rules-printed p M L c is K = record {
         last_to = (K.reasons).last_to;
         block_mutual = (K.reasons).block_mutual;
         number = λ x in_one. block-number ((parts_of c).column x) (length c.blocks) (((K.rows).rows).columns x in_one.below) in_one.not_first in_one.not_last;
-        member = λ k kb. let at = block-member M L c is K.shape K.columns k kb in let stands = in-block L c at.0 k at.1 at.2 kb in (at.0, stands.0, stands.1);
-        falling = λ k l h. (lower-before c is k l h).0;
+        member = λ k kb. let at = block-member p M L c is K.shape K.columns k kb in let stands = in-block L c at.0 k at.1 at.2 kb in (at.0, stands.0, stands.1);
+        falling = λ k l h. (lower-before p c is k l h).0;
         least = (K.listing).least;
       };
       order = (K.listing).order;

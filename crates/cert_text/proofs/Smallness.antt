@@ -1,7 +1,9 @@
 -- Numbers in range have a next one of 64 bits.
-use Rattle.std.proofs.Common.{ℕ, ◌<◌, ◌≤◌, ◌^◌, List, length, arith}
+use Rattle.std.proofs.Common.{ℕ, ◌≡◌, ◌<◌, ◌≤◌, ◌^◌, List, length, get_or, sym, subst, arith}
+use Rattle.std.proofs.lemmas.List.{get_or-map, length-map}
 use Rattle.std.specs.Prelude.{slice_index_or}
 use Rattle.std.specs.List.{All}
+use Rattle.cert_text.specs.Contents.{numbered, numbered_rows}
 use Rattle.cert_text.specs.declared.shape.Shape.{Shape}
 use Rattle.cert_text.specs.declared.part.CcfPart.{CcfPart}
 use Rattle.cert_text.specs.declared.part.CcfBlock.{CcfBlock}
@@ -13,8 +15,21 @@ small_numbers n few numbers are = λ k d within. omega (arith, few, are.below k 
 pub small_pairs : (m n : ℕ) → m ≤ 8192 → n ≤ 8192 → (pairs : List (ℕ × ℕ)) → ArePairs m n pairs → AreSmallPairs pairs
 small_pairs m n low few pairs are = λ k d within. (omega (arith, low, (are.within k d within).0), omega (arith, few, (are.within k d within).1))
 
-pub small_rows : (n : ℕ) → n ≤ 8192 → (rows : List (List (ℕ × ℕ))) → All (AreEntries n) rows → All HasSmallKeys rows
-small_rows n few rows all = λ k d within i e inside. omega (arith, few, ((all k d within).within i e inside).0)
+pub small_keys : {T : Type 0} (number : T → ℕ) (p n : ℕ) → n ≤ 8192 → (entries : List (ℕ × T)) →
+    AreEntries p n (numbered number entries) → HasSmallKeys entries
+small_keys {T} number p n few entries are = λ i d inside.
+    let named : ℕ × T → ℕ × ℕ = λ entry. (entry.0, number entry.1) in
+    let same : get_or (numbered number entries) i (named d) ≡ named (get_or entries i d) = get_or-map named entries i d (named d) inside in
+    let at = are.within i (named d) (subst (λ m. i < m) (sym (length-map entries named)) inside) in
+    let low : (get_or entries i d).0 < n = subst (λ (entry : ℕ × ℕ). entry.0 < n) same at.0 in
+    omega (arith, few, low)
+
+pub small_rows : {T : Type 0} (number : T → ℕ) (p n : ℕ) → n ≤ 8192 → (rows : List (List (ℕ × T))) →
+    All (AreEntries p n) (numbered_rows number rows) → All HasSmallKeys rows
+small_rows {T} number p n few rows all = λ k d within.
+    let same : get_or (numbered_rows number rows) k (numbered number d) ≡ numbered number (get_or rows k d) = get_or-map (numbered number) rows k d (numbered number d) within in
+    small_keys number p n few (get_or rows k d)
+    (subst (AreEntries p n) same (all k (numbered number d) (subst (λ m. k < m) (sym (length-map rows (numbered number))) within)))
 
 pub small_columns : (n : ℕ) → n ≤ 8192 → (rows : List (List ℕ)) → All (AreRising n) rows → All AreSmall rows
 small_columns n few rows all = λ k d within. small_numbers n few (slice_index_or rows k d) (all k d within)

@@ -2,7 +2,6 @@
 use Rattle.std.specs.Prelude.{ℕ, ◌+◌, ◌<◌, ◌≤◌, ◌≡◌, ◌^◌, List, length, map, slice_index_or}
 use Rattle.std.specs.List.{All}
 use Rattle.std.specs.List.Sorted.{IsStrictlyIncreasing}
-use Rattle.residue_field.specs.Modulus.{res_modulus}
 use Rattle.cert_text.specs.Contents.{Contents}
 use Rattle.cert_text.specs.declared.shape.Shape.{Shape}
 use Rattle.cert_text.specs.declared.part.CcfPart.{CcfPart}
@@ -25,15 +24,15 @@ pub record ArePairs (m n : ℕ) (pairs : List (ℕ × ℕ)) : Type 0 where
   pub rising : IsStrictlyIncreasing (map (λ pair. pair.0) pairs)
   pub within : All (λ pair. (pair.0 < m) × (pair.1 < n)) pairs
 
--- by rising column below n, with residues that are not 0
-pub record AreEntries (n : ℕ) (entries : List (ℕ × ℕ)) : Type 0 where
+-- by rising column below n, with numbers below p that are not 0
+pub record AreEntries (p n : ℕ) (entries : List (ℕ × ℕ)) : Type 0 where
   pub rising : IsStrictlyIncreasing (map (λ entry. entry.0) entries)
-  pub within : All (λ entry. (entry.0 < n) × (0 < entry.1) × (entry.1 < res_modulus)) entries
+  pub within : All (λ entry. (entry.0 < n) × (0 < entry.1) × (entry.1 < p)) entries
 
 -- m rows of entries in n columns
-pub record IsMatrix (m n : ℕ) (rows : List (List (ℕ × ℕ))) : Type 0 where
+pub record IsMatrix (p m n : ℕ) (rows : List (List (ℕ × ℕ))) : Type 0 where
   pub count : length rows ≡ m
-  pub entries : All (AreEntries n) rows
+  pub entries : All (AreEntries p n) rows
 
 -- m rows of symbols in n columns
 pub record IsPattern (m n : ℕ) (rows : List (List ℕ)) : Type 0 where
@@ -51,14 +50,15 @@ pub record IsBlock (shape : Shape) (k : ℕ) (block : CcfBlock) : Type 0 where
   pub some : 0 < length block.part.columns
   pub lower : AreRising k block.lower
 
-pub record IsCcf (c : Contents) : Type 0 where
+-- a form with values modulo this number
+pub record IsCcf (modulus : ℕ) (c : Contents) : Type 0 where
   pub shape : IsShape c.shape
   pub rank : c.rank ≤ 8192
   pub base : ArePairs c.shape.q_rows c.shape.columns c.base
   pub mates : ArePairs c.shape.t_rows c.shape.columns c.mates
-  pub s : IsMatrix c.shape.q_rows c.shape.q_rows c.s
-  pub u : IsMatrix c.shape.q_rows c.shape.q_rows c.u
-  pub p : IsMatrix c.shape.q_rows c.shape.columns c.p
+  pub s : IsMatrix modulus c.shape.q_rows c.shape.q_rows c.s
+  pub u : IsMatrix modulus c.shape.q_rows c.shape.q_rows c.u
+  pub p : IsMatrix modulus c.shape.q_rows c.shape.columns c.p
   pub t : IsPattern c.shape.t_rows c.shape.columns c.t
   pub first : IsPart c.shape c.first
   pub blocks : (k : ℕ) (d : CcfBlock) → k < length c.blocks → IsBlock c.shape k (slice_index_or c.blocks k d)
@@ -73,7 +73,7 @@ abbrev pub AreSmallPairs : List (ℕ × ℕ) → Type 0
 AreSmallPairs pairs = All (λ pair. (pair.0 + 1 < 2 ^ 64) × (pair.1 + 1 < 2 ^ 64)) pairs
 
 -- and entries at such columns
-abbrev pub HasSmallKeys : List (ℕ × ℕ) → Type 0
+abbrev pub HasSmallKeys : {T : Type 0} → List (ℕ × T) → Type 0
 HasSmallKeys entries = All (λ entry. entry.0 + 1 < 2 ^ 64) entries
 
 pub record IsSmallPart (part : CcfPart) : Type 0 where
@@ -88,4 +88,5 @@ pub record IsSmallBlock (block : CcfBlock) : Type 0 where
 -- each block has small rows and columns, and lower blocks that stand before it
 abbrev pub AreSmallBlocks : List CcfBlock → Type 0
 AreSmallBlocks blocks =
-    (k : ℕ) (d : CcfBlock) → k < length blocks → IsSmallPart (slice_index_or blocks k d).part × All (λ number. number < k) (slice_index_or blocks k d).lower
+    (k : ℕ) (d : CcfBlock) → k < length blocks →
+    IsSmallPart (slice_index_or blocks k d).part × All (λ number. number < k) (slice_index_or blocks k d).lower

@@ -13,4 +13,4 @@ use Rattle.cert_text.specs.Rules.{KeepsRules}
 abbrev pub RightWhereRulesAreKept : Type 0
 RightWhereRulesAreKept =
     (p : ℕ) → IsPrime p → 2 < p → (M : Mixed) (L : Layered) (O : Origins) → IsLayeredMatrixOf M L O →
-    (c : Contents) → IsCcf c → IsRightCcf p M L O c ↔ KeepsRules p M L c
+    (c : Contents) → IsCcf p c → IsRightCcf p M L O c ↔ KeepsRules p M L c

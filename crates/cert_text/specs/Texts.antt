@@ -1,7 +1,6 @@
 -- The text of a certificate, by cases on its fields. Rows, columns and blocks are counted from 0 here, and from 1 in the text.
 use Rattle.std.specs.Prelude.{ℕ, ◌+◌, List, [], ◌∷◌, ◌++◌, length, codes, decimal}
-use Rattle.cert_text.specs.Contents.{Contents}
-use Rattle.cert_text.specs.declared.certificate.Certificate.{Certificate}
+use Rattle.cert_text.specs.Contents.{Contents, Certificate}
 use Rattle.cert_text.specs.declared.kind.Kind.{Kind}
 use Rattle.cert_text.specs.declared.kind.Kind.TheVariants.{Matrix, Netlist, Flowsheet}
 use Rattle.cert_text.specs.declared.shape.Shape.{Shape}

@@ -1,5 +1,7 @@
+//! A printed canonical form: its lines as values, and how they are put.
+
 ghost use Rattle.std.specs.Prelude.{◌≡◌, ◌<◌, ℕ, ◌≤◌, length, slice_index_or};
-ghost use Rattle.cert_text.specs.Contents.{Contents};
+ghost use Rattle.cert_text.specs.Contents.{Contents, contents_of, numbered_rows};
 ghost use Rattle.cert_text.specs.Ranges.{IsCcf, AreSmall, AreSmallPairs, HasSmallKeys, IsSmallPart, AreSmallBlocks};
 ghost use Rattle.std.specs.List.{All};
 ghost use Rattle.cert_text.specs.Texts.{contents_text, shape_text, pair_text, matrices_text, parts_text};
@@ -12,7 +14,7 @@ use crate::numbers::{put_number, put_piece};
 use crate::part::{CcfBlock, CcfPart};
 use crate::shape::Shape;
 use port_io::{PieceBuffer, Sink, WriteFault};
-use residue_field::Res;
+use residue_field::Field;
 use std::marker::Model;
 
 /// A printed combinatorial canonical form of a layered matrix: what a certificate has besides the input. (Murota, chapter
@@ -25,48 +27,49 @@ use std::marker::Model;
 /// - `t` (T x N), for each row the columns of its symbols, rising;
 /// - `first`, `blocks` and `last`, the parts; each block has a column, and its lower blocks stand before it.
 #[derive(Drop)]
-pub struct Ccf {
+pub struct Ccf<F: Field> {
     shape: Shape,
     rank: usize,
     base: Items<(usize, usize)>,
     mates: Items<(usize, usize)>,
-    s: Items<Items<(usize, Res)>>,
-    u: Items<Items<(usize, Res)>>,
-    p: Items<Items<(usize, Res)>>,
+    s: Items<Items<(usize, F)>>,
+    u: Items<Items<(usize, F)>>,
+    p: Items<Items<(usize, F)>>,
     t: Items<Items<usize>>,
     first: CcfPart,
     blocks: Items<CcfBlock>,
     last: CcfPart,
 }
 
-impl Model for Ccf {
-    ghost use Rattle.cert_text.specs.Contents.{Contents};
+impl<F: Field> Model for Ccf<F> {
+    ghost use Rattle.cert_text.specs.Contents.{Contents, contents_of};
     ghost use Rattle.cert_text.specs.Ranges.{IsCcf};
 
     ghost Value = { Contents };
 
-    ghost view = { λ c. record { shape = c.shape; rank = c.rank; base = c.base; mates = c.mates; s = c.s; u = c.u; p = c.p; t = c.t; first = c.first; blocks = c.blocks; last = c.last } };
+    ghost view = { λ c. contents_of F.number c.shape c.rank c.base c.mates c.s c.u c.p c.t c.first c.blocks c.last };
 
-    ghost invariant = { λ c. IsCcf (record { shape = c.shape; rank = c.rank; base = c.base; mates = c.mates; s = c.s; u = c.u; p = c.p; t = c.t; first = c.first; blocks = c.blocks; last = c.last }) };
+    ghost invariant = { λ c. IsCcf F.modulus
+        (contents_of F.number c.shape c.rank c.base c.mates c.s c.u c.p c.t c.first c.blocks c.last) };
 }
 
-impl Ccf {
+impl<F: Field> Ccf<F> {
     /// The form with these lines. It takes no memory.
     pub fn new(
         shape: Shape,
         rank: usize,
         base: Items<(usize, usize)>,
         mates: Items<(usize, usize)>,
-        s: Items<Items<(usize, Res)>>,
-        u: Items<Items<(usize, Res)>>,
-        p: Items<Items<(usize, Res)>>,
+        s: Items<Items<(usize, F)>>,
+        u: Items<Items<(usize, F)>>,
+        p: Items<Items<(usize, F)>>,
         t: Items<Items<usize>>,
         first: CcfPart,
         blocks: Items<CcfBlock>,
         last: CcfPart,
-    ) -> Ccf
-        requires { IsCcf (record { shape = shape; rank = rank; base = base; mates = mates; s = s; u = u; p = p; t = t; first = first; blocks = blocks; last = last }) }
-        ensures { result ≡ record { shape = shape; rank = rank; base = base; mates = mates; s = s; u = u; p = p; t = t; first = first; blocks = blocks; last = last } }
+    ) -> Ccf<F>
+        requires { IsCcf F.modulus (contents_of F.number shape rank base mates s u p t first blocks last) }
+        ensures { result ≡ contents_of F.number shape rank base mates s u p t first blocks last }
     {
         Ccf {
             shape,
@@ -86,7 +89,7 @@ impl Ccf {
     /// The numbers of equations, unknowns, rows and columns.
     pub fn shape(&self) -> Shape
         ensures shape { result ≡ self.now.shape }
-        ensures ccf { IsCcf self.now }
+        ensures ccf { IsCcf F.modulus self.now }
     {
         self.shape
     }
@@ -94,7 +97,7 @@ impl Ccf {
     /// The structural rank.
     pub fn rank(&self) -> usize
         ensures rank { result ≡ self.now.rank }
-        ensures ccf { IsCcf self.now }
+        ensures ccf { IsCcf F.modulus self.now }
     {
         self.rank
     }
@@ -102,7 +105,7 @@ impl Ccf {
     /// Q rows and their base columns, by rising row.
     pub fn base(&self) -> &Items<(usize, usize)>
         ensures base { result.now ≡ self.now.base }
-        ensures ccf { IsCcf self.now }
+        ensures ccf { IsCcf F.modulus self.now }
     {
         &self.base
     }
@@ -110,31 +113,31 @@ impl Ccf {
     /// T rows and their matched columns, by rising row.
     pub fn mates(&self) -> &Items<(usize, usize)>
         ensures mates { result.now ≡ self.now.mates }
-        ensures ccf { IsCcf self.now }
+        ensures ccf { IsCcf F.modulus self.now }
     {
         &self.mates
     }
 
     /// The rows of S, Q x Q: the columns and numbers of the entries that are not 0.
-    pub fn s(&self) -> &Items<Items<(usize, Res)>>
-        ensures s { result.now ≡ self.now.s }
-        ensures ccf { IsCcf self.now }
+    pub fn s(&self) -> &Items<Items<(usize, F)>>
+        ensures s { numbered_rows F.number result.now ≡ self.now.s }
+        ensures ccf { IsCcf F.modulus self.now }
     {
         &self.s
     }
 
     /// The rows of U, Q x Q, the inverse of S.
-    pub fn u(&self) -> &Items<Items<(usize, Res)>>
-        ensures u { result.now ≡ self.now.u }
-        ensures ccf { IsCcf self.now }
+    pub fn u(&self) -> &Items<Items<(usize, F)>>
+        ensures u { numbered_rows F.number result.now ≡ self.now.u }
+        ensures ccf { IsCcf F.modulus self.now }
     {
         &self.u
     }
 
     /// The rows of P, Q x N: S times the constants.
-    pub fn p(&self) -> &Items<Items<(usize, Res)>>
-        ensures p { result.now ≡ self.now.p }
-        ensures ccf { IsCcf self.now }
+    pub fn p(&self) -> &Items<Items<(usize, F)>>
+        ensures p { numbered_rows F.number result.now ≡ self.now.p }
+        ensures ccf { IsCcf F.modulus self.now }
     {
         &self.p
     }
@@ -142,7 +145,7 @@ impl Ccf {
     /// The rows of T, T x N: the columns of the symbols.
     pub fn t(&self) -> &Items<Items<usize>>
         ensures t { result.now ≡ self.now.t }
-        ensures ccf { IsCcf self.now }
+        ensures ccf { IsCcf F.modulus self.now }
     {
         &self.t
     }
@@ -150,7 +153,7 @@ impl Ccf {
     /// The first tail.
     pub fn first(&self) -> &CcfPart
         ensures first { result.now ≡ self.now.first }
-        ensures ccf { IsCcf self.now }
+        ensures ccf { IsCcf F.modulus self.now }
     {
         &self.first
     }
@@ -158,7 +161,7 @@ impl Ccf {
     /// The blocks, in order.
     pub fn blocks(&self) -> &Items<CcfBlock>
         ensures blocks { result.now ≡ self.now.blocks }
-        ensures ccf { IsCcf self.now }
+        ensures ccf { IsCcf F.modulus self.now }
     {
         &self.blocks
     }
@@ -166,7 +169,7 @@ impl Ccf {
     /// The last tail.
     pub fn last(&self) -> &CcfPart
         ensures last { result.now ≡ self.now.last }
-        ensures ccf { IsCcf self.now }
+        ensures ccf { IsCcf F.modulus self.now }
     {
         &self.last
     }
@@ -201,7 +204,7 @@ impl Ccf {
     }
 }
 
-/// Puts the line of the shape.
+// Puts the line of the shape.
 fn put_shape<K: Sink>(buffer: &mut PieceBuffer, out: &mut K, shape: Shape) -> Result<(), WriteFault>
     ensures { IsPut K.written K.faults K.flushes K.takes out.old buffer.old out.new buffer.new
         (shape_text shape) result }
@@ -215,7 +218,7 @@ fn put_shape<K: Sink>(buffer: &mut PieceBuffer, out: &mut K, shape: Shape) -> Re
     put_piece(buffer, out, b"\n")
 }
 
-/// Puts the lines of the rank, the base and the match.
+// Puts the lines of the rank, the base and the match.
 fn put_pair<K: Sink>(
     buffer: &mut PieceBuffer,
     out: &mut K,
@@ -237,13 +240,13 @@ fn put_pair<K: Sink>(
     put_piece(buffer, out, b"\n")
 }
 
-/// Puts the lines of S, U, P and T.
-fn put_matrices<K: Sink>(
+// Puts the lines of S, U, P and T.
+fn put_matrices<F: Field, K: Sink>(
     buffer: &mut PieceBuffer,
     out: &mut K,
-    s: &[Items<(usize, Res)>],
-    u: &[Items<(usize, Res)>],
-    p: &[Items<(usize, Res)>],
+    s: &[Items<(usize, F)>],
+    u: &[Items<(usize, F)>],
+    p: &[Items<(usize, F)>],
     t: &[Items<usize>],
 ) -> Result<(), WriteFault>
     requires s { All HasSmallKeys s.now }
@@ -251,7 +254,8 @@ fn put_matrices<K: Sink>(
     requires p { All HasSmallKeys p.now }
     requires t { All AreSmall t.now }
     ensures { IsPut K.written K.faults K.flushes K.takes out.old buffer.old out.new buffer.new
-        (matrices_text s.now u.now p.now t.now) result }
+        (matrices_text (numbered_rows F.number s.now) (numbered_rows F.number u.now) (numbered_rows F.number p.now) t.now)
+        result }
 {
     put_matrix(buffer, out, b"S", s)?;
     put_matrix(buffer, out, b"U", u)?;
@@ -259,7 +263,7 @@ fn put_matrices<K: Sink>(
     put_pattern(buffer, out, b"T", t)
 }
 
-/// Puts the lines of the parts.
+// Puts the lines of the parts.
 fn put_parts<K: Sink>(
     buffer: &mut PieceBuffer,
     out: &mut K,

@@ -1,3 +1,5 @@
+//! A certificate, and how its text is written.
+
 ghost use Rattle.std.specs.Prelude.{◌≡◌, ℕ, ◌+◌, ◌≤◌, codes, length, IsOk, OnOk, IfErr};
 ghost use Rattle.port_io.specs.Bytes.{Appended};
 ghost use Rattle.port_io.specs.Causes.{HasCause};
@@ -9,19 +11,29 @@ use crate::items::Items;
 use crate::kind::Kind;
 use crate::numbers::{put_number, put_piece};
 use port_io::{PieceBuffer, Sink, WriteFault};
+use residue_field::Field;
+use std::marker::Model;
 
 /// A certificate: the kind of an input, the input itself, and the canonical form of its model.
 #[derive(Drop)]
-pub struct Certificate {
+pub struct Certificate<F: Field> {
     pub kind: Kind,
     /// The input, at most 8,388,608 bytes.
     pub echo: Items<u8>,
-    pub ccf: Ccf,
+    pub ccf: Ccf<F>,
+}
+
+impl<F: Field> Model for Certificate<F> {
+    ghost use Rattle.cert_text.specs.Contents as contents;
+
+    ghost Value = { contents.Certificate };
+
+    ghost view = { λ c. record { kind = c.kind; echo = c.echo; ccf = c.ccf } };
 }
 
 /// Appends the whole text of a certificate to the sink, in pieces of some KiB, and takes no memory. It does not flush.
 /// Where the sink fails, a first part of the text was appended, and `written` counts its bytes.
-pub fn write<K: Sink>(cert: &Certificate, out: &mut K) -> Result<(), WriteFault>
+pub fn write<F: Field, K: Sink>(cert: &Certificate<F>, out: &mut K) -> Result<(), WriteFault>
     requires { length cert.now.echo ≤ 8388608 }
     ensures whole { OnOk result (Appended (K.written out.old) (K.written out.new) (certificate_text cert.now)) }
     ensures part { IfErr result (IsCut (K.written out.old) (K.written out.new) (certificate_text cert.now)) }
@@ -35,11 +47,11 @@ pub fn write<K: Sink>(cert: &Certificate, out: &mut K) -> Result<(), WriteFault>
     buffer.hand_on(out)
 }
 
-/// Puts the text of a certificate.
-fn put_certificate<K: Sink>(
+// Puts the text of a certificate.
+fn put_certificate<F: Field, K: Sink>(
     buffer: &mut PieceBuffer,
     out: &mut K,
-    cert: &Certificate,
+    cert: &Certificate<F>,
 ) -> Result<(), WriteFault>
     ensures { IsPut K.written K.faults K.flushes K.takes out.old buffer.old out.new buffer.new
         (certificate_text cert.now) result }
@@ -48,7 +60,7 @@ fn put_certificate<K: Sink>(
     cert.ccf.put(buffer, out)
 }
 
-/// Puts the version, the kind, the length and the echo.
+// Puts the version, the kind, the length and the echo.
 fn put_echo<K: Sink>(
     buffer: &mut PieceBuffer,
     out: &mut K,
@@ -67,7 +79,7 @@ fn put_echo<K: Sink>(
     put_piece(buffer, out, b"\n")
 }
 
-/// The word for a kind.
+// The word for a kind.
 fn word_of(kind: Kind) -> &'static [u8]
     ensures { result.now ≡ kind_text kind }
 {

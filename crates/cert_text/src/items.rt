@@ -1,3 +1,5 @@
+//! A list within a certificate.
+
 ghost use Rattle.std.specs.Prelude.{◌≡◌};
 
 use std::marker::Model;

@@ -1,3 +1,5 @@
+//! The kinds of an input text.
+
 /// The kind of an input text.
 #[derive(Clone, Copy, Debug, PartialEq, Eq)]
 pub enum Kind {

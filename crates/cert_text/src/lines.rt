@@ -2,6 +2,7 @@
 
 ghost use Rattle.std.specs.Prelude.{◌≡◌, ℕ, ◌+◌, ◌<◌, ◌^◌, codes};
 ghost use Rattle.std.specs.List.{All};
+ghost use Rattle.cert_text.specs.Contents.{numbered, numbered_rows};
 ghost use Rattle.cert_text.specs.Ranges.{AreSmall, HasSmallKeys, IsSmallPart, IsSmallBlock, AreSmallBlocks};
 ghost use Rattle.cert_text.specs.Texts.{head_text, entries_line, columns_line, matrix_text, pattern_text, part_text, tail_line, block_line, blocks_text};
 ghost use Rattle.cert_text.specs.Writing.{IsPut};
@@ -11,9 +12,9 @@ use crate::lists::{put_entries, put_letters, put_numbers};
 use crate::numbers::{put_number, put_piece};
 use crate::part::{CcfBlock, CcfPart};
 use port_io::{PieceBuffer, Sink, WriteFault};
-use residue_field::Res;
+use residue_field::Field;
 
-/// Puts how a numbered line begins.
+// Puts how a numbered line begins.
 fn put_head<K: Sink>(
     buffer: &mut PieceBuffer,
     out: &mut K,
@@ -28,24 +29,24 @@ fn put_head<K: Sink>(
     put_piece(buffer, out, b":")
 }
 
-/// Puts the line of a row of a matrix.
-fn put_entries_line<K: Sink>(
+// Puts the line of a row of a matrix.
+fn put_entries_line<F: Field, K: Sink>(
     buffer: &mut PieceBuffer,
     out: &mut K,
     word: &[u8],
     number: u64,
-    entries: &[(usize, Res)],
+    entries: &[(usize, F)],
 ) -> Result<(), WriteFault>
     requires { HasSmallKeys entries.now }
     ensures { IsPut K.written K.faults K.flushes K.takes out.old buffer.old out.new buffer.new
-        (entries_line word.now number entries.now) result }
+        (entries_line word.now number (numbered F.number entries.now)) result }
 {
     put_head(buffer, out, word, number)?;
     put_entries(buffer, out, entries)?;
     put_piece(buffer, out, b"\n")
 }
 
-/// Puts the line of a row of a pattern.
+// Puts the line of a row of a pattern.
 fn put_columns_line<K: Sink>(
     buffer: &mut PieceBuffer,
     out: &mut K,
@@ -63,15 +64,15 @@ fn put_columns_line<K: Sink>(
 }
 
 /// Puts the lines of the rows of a matrix.
-pub fn put_matrix<K: Sink>(
+pub fn put_matrix<F: Field, K: Sink>(
     buffer: &mut PieceBuffer,
     out: &mut K,
     word: &[u8],
-    rows: &[Items<(usize, Res)>],
+    rows: &[Items<(usize, F)>],
 ) -> Result<(), WriteFault>
     requires { All HasSmallKeys rows.now }
     ensures { IsPut K.written K.faults K.flushes K.takes out.old buffer.old out.new buffer.new
-        (matrix_text word.now 1 rows.now) result }
+        (matrix_text word.now 1 (numbered_rows F.number rows.now)) result }
 {
     for (row, entries) in rows.iter().enumerate() {
         put_entries_line(buffer, out, word, row as u64 + 1, entries.as_slice())?;
@@ -96,7 +97,7 @@ pub fn put_pattern<K: Sink>(
     Ok(())
 }
 
-/// Puts the columns of a part, a bar, and its rows.
+// Puts the columns of a part, a bar, and its rows.
 fn put_part<K: Sink>(
     buffer: &mut PieceBuffer,
     out: &mut K,
@@ -128,7 +129,7 @@ pub fn put_tail<K: Sink>(
     put_piece(buffer, out, b"\n")
 }
 
-/// Puts the line of a block.
+// Puts the line of a block.
 fn put_block<K: Sink>(
     buffer: &mut PieceBuffer,
     out: &mut K,

@@ -2,13 +2,14 @@
 
 ghost use Rattle.std.specs.Prelude.{◌≡◌, ℕ, ◌+◌, ◌<◌, ◌^◌, codes};
 ghost use Rattle.std.specs.List.{All};
+ghost use Rattle.cert_text.specs.Contents.{numbered};
 ghost use Rattle.cert_text.specs.Ranges.{AreSmall, AreSmallPairs, HasSmallKeys};
 ghost use Rattle.cert_text.specs.Texts.{pairs_text, entries_text, numbers_text, letters_text, lettered, item};
 ghost use Rattle.cert_text.specs.Writing.{IsPut};
 
 use crate::numbers::{put_item, put_number, put_piece};
 use port_io::{PieceBuffer, Sink, WriteFault};
-use residue_field::Res;
+use residue_field::Field;
 
 /// Puts the items of rows and their columns.
 pub fn put_pairs<K: Sink>(
@@ -26,28 +27,28 @@ pub fn put_pairs<K: Sink>(
     Ok(())
 }
 
-/// Puts the item of a column, counted from 1, and the number there.
-fn put_entry<K: Sink>(
+// Puts the item of a column, counted from 1, and the number there.
+fn put_entry<F: Field, K: Sink>(
     buffer: &mut PieceBuffer,
     out: &mut K,
     column: usize,
-    entry: Res,
+    entry: F,
 ) -> Result<(), WriteFault>
     ensures { IsPut K.written K.faults K.flushes K.takes out.old buffer.old out.new buffer.new
-        (item column entry) result }
+        (item column (F.number entry)) result }
 {
     put_item(buffer, out, column, u64::from(entry.value()))
 }
 
 /// Puts the items of columns and the numbers there.
-pub fn put_entries<K: Sink>(
+pub fn put_entries<F: Field, K: Sink>(
     buffer: &mut PieceBuffer,
     out: &mut K,
-    entries: &[(usize, Res)],
+    entries: &[(usize, F)],
 ) -> Result<(), WriteFault>
     requires { HasSmallKeys entries.now }
     ensures { IsPut K.written K.faults K.flushes K.takes out.old buffer.old out.new buffer.new
-        (entries_text entries.now) result }
+        (entries_text (numbered F.number entries.now)) result }
 {
     for entry in entries {
         put_entry(buffer, out, entry.0 + 1, entry.1)?;
@@ -71,7 +72,7 @@ pub fn put_numbers<K: Sink>(
     Ok(())
 }
 
-/// Puts a row behind its letter, behind a space.
+// Puts a row behind its letter, behind a space.
 fn put_lettered<K: Sink>(
     buffer: &mut PieceBuffer,
     out: &mut K,

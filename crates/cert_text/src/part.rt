@@ -1,3 +1,5 @@
+//! The parts of a block triangular form, as a certificate prints them.
+
 use crate::items::Items;
 
 /// A part of a block triangular form: its columns, Q rows and T rows, counted from 0 and each list rising. (Murota,

@@ -1,3 +1,5 @@
+//! Pieces, numbers and items over memory.
+
 use super::*;
 use port_io::{MemSink, PieceBuffer};
 use std::test::Fail;
