@@ -7,7 +7,9 @@ use Rattle.mixed_model.specs.declared.errors.AddError.TheVariants.{Twice, TooMan
 
 -- what may be a name: 1 to 96 bytes, none of them a space or a tab
 abbrev pub is_label : List ℕ → Bool
-is_label name = nat_le 1 (length name) && nat_le (length name) 96 && list_all (λ byte. not (nat_eq byte 32 || nat_eq byte 9)) name
+is_label name =
+    nat_le 1 (length name) && nat_le (length name) 96
+    && list_all (λ byte. not (nat_eq byte 32 || nat_eq byte 9)) name
 
 -- at most 4,096 names, no two of them the same
 pub record IsNameList (names : List (List ℕ)) : Type 0 where

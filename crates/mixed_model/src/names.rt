@@ -1,3 +1,5 @@
+//! The names of equations or of unknowns.
+
 ghost use Rattle.std.specs.Prelude.{◌≡◌, ◌∷◌, ◌++◌, [], ◌<◌, IsTrue, false, not, ◌||◌, nat_eq, length, map, position, slice_get, Some, OnOk, OnErr};
 ghost use Rattle.std.specs.List.{list_all};
 ghost use Rattle.std.specs.Str.{bytes_eq};
