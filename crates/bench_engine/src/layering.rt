@@ -1,3 +1,5 @@
+//! The layered matrix of drawn equations.
+
 ghost use Rattle.std.specs.Prelude.{◌≡◌, ◌≤◌, ◌<◌, length, IfOk};
 ghost use Rattle.dense_q.specs.Tables.{height};
 
@@ -5,7 +7,7 @@ use crate::draws::{Draws, Family, Place, equation};
 use dense_q::Mat;
 use independent_matching::NoMemory;
 use mixed_model::{Layered, Origin};
-use residue_field::Res;
+use residue_field::{Field, Res};
 use sparse_t::Pattern;
 use std::alloc::Global;
 
@@ -16,7 +18,7 @@ pub(crate) fn layered(
     draws: &mut Draws,
     family: Family,
     size: usize,
-) -> Result<Layered, NoMemory>
+) -> Result<Layered<Res>, NoMemory>
     requires size { 1 ≤ size }
     requires few { size ≤ 4096 }
 {
@@ -122,7 +124,7 @@ fn push_row(t: &mut Pattern, columns: &[usize]) -> Result<(), NoMemory>
 }
 
 // Every row is said to come from the first equation, and every column from the first unknown: the engine asks for neither.
-fn with_origins(alloc: Global, q: Mat<Res>, t: Pattern) -> Result<Layered, NoMemory>
+fn with_origins(alloc: Global, q: Mat<Res>, t: Pattern) -> Result<Layered<Res>, NoMemory>
     requires { t.width ≡ q.width }
 {
     let q_origins = vec![in alloc; 0; q.rows()]?;
