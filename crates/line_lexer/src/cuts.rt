@@ -1,3 +1,5 @@
+//! Texts cut into lines, and lines into tokens.
+
 ghost use Rattle.std.specs.Prelude.{◌≡◌, ◌≤◌, ℕ, true, false, length, position, MatchResult};
 ghost use Rattle.std.specs.List.{enumerate_from, list_all};
 ghost use Rattle.line_lexer.specs.Lines.{lines_of};

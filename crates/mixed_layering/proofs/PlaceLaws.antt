@@ -28,7 +28,7 @@ eqb-behind u a b = by (eqb a b) refl
     by true e = eq-eqb (u + a) (u + b) (ap (λ x. u + x) (eqb-true a b e)) ∙ sym e
     by false e = ne_eqb (u + a) (u + b) (λ same. eqb-false a b e (omega (arith, same))) ∙ sym e
 
-module _ (model : MixedModel) (is : IsModel model) (equation : ℕ) (at : equation < length model.equations) (split : List ℕ) where
+module _ (p : ℕ) (model : MixedModel) (is : IsModel p model) (equation : ℕ) (at : equation < length model.equations) (split : List ℕ) where
   -- no constant stands past the unknowns
   past_constant : (k : ℕ) → constant_at model equation (length model.unknowns + k) ≡ 0
   past_constant k =

@@ -6,9 +6,9 @@ use Rattle.mixed_model.specs.Rows.{symbol_in}
 use Rattle.mixed_layering.proofs.symbols.symbol_columns.Given as goal
 
 abbrev pub invariant-loop-entry : goal.invariant-loop-entry
-invariant-loop-entry l = record {
-  can_next : (goal.iterator-loop-entry).can_next l.entry-iterator;
-  is_finite : (goal.iterator-loop-entry).is_finite l.entry-iterator;
+invariant-loop-entry g l = record {
+  can_next : (goal.iterator-loop-entry g).can_next l.entry-iterator;
+  is_finite : (goal.iterator-loop-entry g).is_finite l.entry-iterator;
   split : row_of l.model l.equation ≡ l.yielded ++ l.entry-iterator;
   rising : IsStrictlyIncreasing l.columns.items;
   below : IsBelow (length l.model.unknowns) l.columns.items;
