@@ -1,4 +1,4 @@
-//! Draws of numbers that are the same in each run.
+//! Equations that are drawn at random.
 
 ghost use Rattle.std.specs.Prelude.{◌≡◌, ◌≤◌, ◌<◌};
 

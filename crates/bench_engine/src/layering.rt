@@ -1,4 +1,4 @@
-//! Layered matrices that are drawn, a family each.
+//! The layered matrix of drawn equations.
 
 ghost use Rattle.std.specs.Prelude.{◌≡◌, ◌≤◌, ◌<◌, length, IfOk};
 ghost use Rattle.dense_q.specs.Tables.{height};
@@ -7,7 +7,7 @@ use crate::draws::{Draws, Family, Place, equation};
 use dense_q::Mat;
 use independent_matching::NoMemory;
 use mixed_model::{Layered, Origin};
-use residue_field::Res;
+use residue_field::{Field, Res};
 use sparse_t::Pattern;
 use std::alloc::Global;
 
@@ -18,7 +18,7 @@ pub(crate) fn layered(
     draws: &mut Draws,
     family: Family,
     size: usize,
-) -> Result<Layered, NoMemory>
+) -> Result<Layered<Res>, NoMemory>
     requires size { 1 ≤ size }
     requires few { size ≤ 4096 }
 {
@@ -120,11 +120,11 @@ fn push_row(t: &mut Pattern, columns: &[usize]) -> Result<(), NoMemory>
         [a, b, c] if a < b && b < c && *c < width => t.push_row(&[*a as u32, *b as u32, *c as u32]),
         _ => Ok(()),
     };
-    pushed.map_err(|_| NoMemory)
+    Ok(pushed?)
 }
 
 // Every row is said to come from the first equation, and every column from the first unknown: the engine asks for neither.
-fn with_origins(alloc: Global, q: Mat<Res>, t: Pattern) -> Result<Layered, NoMemory>
+fn with_origins(alloc: Global, q: Mat<Res>, t: Pattern) -> Result<Layered<Res>, NoMemory>
     requires { t.width ≡ q.width }
 {
     let q_origins = vec![in alloc; 0; q.rows()]?;

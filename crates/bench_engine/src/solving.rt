@@ -1,4 +1,4 @@
-//! The engine, run on what was drawn.
+//! The engine, run on a drawn matrix.
 
 ghost use Rattle.std.specs.Prelude.{◌≡◌, ◌≤◌, ◌<◌};
 
@@ -6,6 +6,7 @@ use crate::draws::{Draws, Family};
 use crate::layering::layered;
 use exchange_graph::Steps;
 use independent_matching::{Engine, NoMemory};
+use residue_field::Res;
 use row_transform::Tableau;
 use std::alloc::Global;
 use std::sync::ledger::{Blank, Ledger};
@@ -36,7 +37,7 @@ pub(crate) fn solve<L: Ledger>(
 {
     let mut draws = Draws::new(size as u64);
     let layered = layered(alloc, &mut draws, family, size)?;
-    let mut engine = Engine::open(alloc, &layered)?;
+    let mut engine: Engine<Res> = Engine::open(alloc, &layered)?;
     let mut steps = Steps::<L>::new(blank);
     engine.run(&mut steps);
     let columns = engine.tableau().columns();

@@ -60,8 +60,8 @@ moved-lower p L G H blocks same k l b = record {
 no_block : CcfBlock
 no_block = record { part = record { columns = []; q_rows = []; t_rows = [] }; lower = [] }
 
-lower-rises : (c : Contents) → IsCcf c → (l : ℕ) → l < length c.blocks → AreRising l (get_or (lower_lists c) l [])
-lower-rises c is l ll = subst (λ list. AreRising l list) (sym (get_or-map (λ (block : CcfBlock). block.lower) c.blocks l no_block [] ll)) (is.blocks l no_block ll).lower
+lower-rises : (p : ℕ) (c : Contents) → IsCcf p c → (l : ℕ) → l < length c.blocks → AreRising l (get_or (lower_lists c) l [])
+lower-rises p c is l ll = subst (λ list. AreRising l list) (sym (get_or-map (λ (block : CcfBlock). block.lower) c.blocks l no_block [] ll)) (is.blocks l no_block ll).lower
 
 lower-long : (c : Contents) → length (lower_lists c) ≡ length c.blocks
 lower-long c = length-map c.blocks (λ (block : CcfBlock). block.lower)
@@ -85,7 +85,7 @@ minus : (a b x y : ℕ) → a + x ≡ b + y → x ≡ y → a ≡ b
 minus a b x y e f = omega arith
 
 module _ (p : ℕ) (prime : IsPrime p) (big : 2 < p) (M : Mixed) (L K : Layered) (O N : Origins) (lay : IsLayeredMatrixOf M L O) (other : IsLayeredMatrixOf M K N)
-    (c d : Contents) (is : IsCcf c) (so : IsCcf d) (R : IsRightCcf p M L O c) (Q : IsRightCcf p M K N d) where
+    (c d : Contents) (is : IsCcf p c) (so : IsCcf p d) (R : IsRightCcf p M L O c) (Q : IsRightCcf p M K N d) where
   -- ---- one layered matrix
   same : AreSameLayers p L K
   same = one-matrix M (gives_q M) (has_symbol M) L K O N lay other p
@@ -133,8 +133,8 @@ module _ (p : ℕ) (prime : IsPrime p) (big : 2 < p) (M : Mixed) (L K : Layered)
 
   columns-agree : column_lists c ≡ column_lists d
   columns-agree = same-places L.columns (column_lists c) (column_lists d)
-      (subst (λ n. All (AreRising n) (column_lists c)) (R.shape).columns (columns-rise c is))
-      (subst (λ n. All (AreRising n) (column_lists d)) ((Q.shape).columns ∙ sym same.columns) (columns-rise d so))
+      (subst (λ n. All (AreRising n) (column_lists c)) (R.shape).columns (columns-rise p c is))
+      (subst (λ n. All (AreRising n) (column_lists d)) ((Q.shape).columns ∙ sym same.columns) (columns-rise p d so))
       (R.block_triangular_form).columns columns-once (as-long (column_lists c) (column_lists d) (columns-long c) (columns-long d)) one.1
 
   -- ---- the T rows
@@ -168,8 +168,8 @@ module _ (p : ℕ) (prime : IsPrime p) (big : 2 < p) (M : Mixed) (L K : Layered)
 
   t_rows-agree : t_row_lists c ≡ t_row_lists d
   t_rows-agree = same-places L.t_rows (t_row_lists c) (t_row_lists d)
-      (subst (λ n. All (AreRising n) (t_row_lists c)) (R.shape).t_rows (t_rows-rise c is))
-      (subst (λ n. All (AreRising n) (t_row_lists d)) ((Q.shape).t_rows ∙ sym same.t_rows) (t_rows-rise d so))
+      (subst (λ n. All (AreRising n) (t_row_lists c)) (R.shape).t_rows (t_rows-rise p c is))
+      (subst (λ n. All (AreRising n) (t_row_lists d)) ((Q.shape).t_rows ∙ sym same.t_rows) (t_rows-rise p d so))
       (R.block_triangular_form).t_rows t_rows-once (as-long (t_row_lists c) (t_row_lists d) (t_rows-long c) (t_rows-long d)) t_part
 
   -- ---- the numbers of Q rows
@@ -184,9 +184,9 @@ module _ (p : ℕ) (prime : IsPrime p) (big : 2 < p) (M : Mixed) (L K : Layered)
   q-long : (k : ℕ) → k < length (q_row_lists c) → length (get_or (q_row_lists c) k []) ≡ length (get_or (q_row_lists d) k [])
   q-long k kl =
       let other_long : k < length (q_row_lists d) = subst (λ n. k < n) (as-long (q_row_lists c) (q_row_lists d) (q_rows-long c) (q_rows-long d)) kl in
-      place-counted L.q_rows (q_row_lists c) (subst (λ n. All (AreRising n) (q_row_lists c)) (R.shape).q_rows (q_rows-rise c is)) (R.block_triangular_form).q_rows k kl
+      place-counted L.q_rows (q_row_lists c) (subst (λ n. All (AreRising n) (q_row_lists c)) (R.shape).q_rows (q_rows-rise p c is)) (R.block_triangular_form).q_rows k kl
       ∙ q-counted k (omega (arith, kl, q_rows-long c))
-      ∙ sym (place-counted L.q_rows (q_row_lists d) (subst (λ n. All (AreRising n) (q_row_lists d)) ((Q.shape).q_rows ∙ sym same.q_rows) (q_rows-rise d so)) q_rows-once k other_long)
+      ∙ sym (place-counted L.q_rows (q_row_lists d) (subst (λ n. All (AreRising n) (q_row_lists d)) ((Q.shape).q_rows ∙ sym same.q_rows) (q_rows-rise p d so)) q_rows-once k other_long)
 
   -- ---- the lower lists
   lists_of : (k l : ℕ) → k < length d.blocks → l < length d.blocks → (lower_of d l k ≡ true) ↔ IsLowerBlock p (with_entries L K.q K.t) (parts_of d) k l
@@ -203,7 +203,7 @@ module _ (p : ℕ) (prime : IsPrime p) (big : 2 < p) (M : Mixed) (L K : Layered)
       (same-lower p L K.q K.t into from (parts_of d) k l ((lists_of k l (subst (λ n. k < n) one.0 kl) (subst (λ n. l < n) one.0 ll)).0 h)))
 
   lower-one : (l : ℕ) → l < length c.blocks → get_or (lower_lists c) l [] ≡ get_or (lower_lists d) l []
-  lower-one l ll = same-lists l (get_or (lower_lists c) l []) (get_or (lower_lists d) l []) (lower-rises c is l ll) (lower-rises d so l (subst (λ n. l < n) one.0 ll))
+  lower-one l ll = same-lists l (get_or (lower_lists c) l []) (get_or (lower_lists d) l []) (lower-rises p c is l ll) (lower-rises p d so l (subst (λ n. l < n) one.0 ll))
       (λ k kl h. lower-into k l (omega arith) ll h) (λ k kl h. lower-from k l (omega arith) ll h)
 
   pub agreed : Agree c d

@@ -70,11 +70,11 @@ q_rows-long c = parts-long (λ part. part.q_rows) 0 c
 pub t_rows-long : (c : Contents) → length (t_row_lists c) ≡ length c.blocks + 2
 t_rows-long c = parts-long (λ part. part.t_rows) 0 c
 
-pub columns-rise : (c : Contents) → IsCcf c → All (AreRising c.shape.columns) (column_lists c)
-columns-rise c is = parts-rise (λ part. part.columns) c.shape.columns c (is.first).columns (λ k d kl. ((is.blocks k d kl).part).columns) (is.last).columns
+pub columns-rise : (p : ℕ) (c : Contents) → IsCcf p c → All (AreRising c.shape.columns) (column_lists c)
+columns-rise p c is = parts-rise (λ part. part.columns) c.shape.columns c (is.first).columns (λ k d kl. ((is.blocks k d kl).part).columns) (is.last).columns
 
-pub q_rows-rise : (c : Contents) → IsCcf c → All (AreRising c.shape.q_rows) (q_row_lists c)
-q_rows-rise c is = parts-rise (λ part. part.q_rows) c.shape.q_rows c (is.first).q_rows (λ k d kl. ((is.blocks k d kl).part).q_rows) (is.last).q_rows
+pub q_rows-rise : (p : ℕ) (c : Contents) → IsCcf p c → All (AreRising c.shape.q_rows) (q_row_lists c)
+q_rows-rise p c is = parts-rise (λ part. part.q_rows) c.shape.q_rows c (is.first).q_rows (λ k d kl. ((is.blocks k d kl).part).q_rows) (is.last).q_rows
 
-pub t_rows-rise : (c : Contents) → IsCcf c → All (AreRising c.shape.t_rows) (t_row_lists c)
-t_rows-rise c is = parts-rise (λ part. part.t_rows) c.shape.t_rows c (is.first).t_rows (λ k d kl. ((is.blocks k d kl).part).t_rows) (is.last).t_rows
+pub t_rows-rise : (p : ℕ) (c : Contents) → IsCcf p c → All (AreRising c.shape.t_rows) (t_row_lists c)
+t_rows-rise p c is = parts-rise (λ part. part.t_rows) c.shape.t_rows c (is.first).t_rows (λ k d kl. ((is.blocks k d kl).part).t_rows) (is.last).t_rows

@@ -31,5 +31,5 @@ pub record Agree (c d : Contents) : Type 0 where
 abbrev pub RightFormsAgree : Type 0
 RightFormsAgree =
     (p : ℕ) → IsPrime p → 2 < p → (M : Mixed) (L K : Layered) (O N : Origins) →
-    IsLayeredMatrixOf M L O → IsLayeredMatrixOf M K N → (c d : Contents) → IsCcf c → IsCcf d →
+    IsLayeredMatrixOf M L O → IsLayeredMatrixOf M K N → (c d : Contents) → IsCcf p c → IsCcf p d →
     IsRightCcf p M L O c → IsRightCcf p M K N d → Agree c d

@@ -1,3 +1,5 @@
+//! The engine.
+
 ghost use Rattle.std.specs.Prelude.{◌≡◌, ◌≤◌, ℕ, ◌+◌, ◌*◌, ◌<◌, ◌%◌, Bool, false, IfOk, IsTrue, IsFalse, is_some, Option};
 ghost use Rattle.residue_theory.specs.Sums.{size_on};
 ghost use Rattle.dense_q.specs.Tables.{entry};
@@ -6,8 +8,6 @@ ghost use Rattle.sparse_t.specs.Incidences.{height};
 ghost use Rattle.bipartite_matching.specs.Matchings.{HasPair, IsMatching, IsRowFree, mate_at};
 ghost use Rattle.mixed_matrices.specs.Arcs.{is_end, is_free, leads_to};
 ghost use Rattle.exchange_graph.specs.Results.{reached_of};
-ghost use Rattle.residue_field.specs.Modulus.{res_modulus};
-ghost use Rattle.row_transform.specs.Dense.{state_of};
 ghost use Rattle.mixed_matrices.specs.Tableaus.{HasTableau};
 ghost use Rattle.mixed_model.specs.Layers.{layered_matrix_of};
 ghost use Rattle.exchange_graph.specs.Counts.{counted_on};
@@ -20,7 +20,7 @@ use bipartite_matching::Match;
 use exchange_graph::{Arcs, Steps};
 use mixed_model::Layered;
 use out_of_memory::NoMemory;
-use residue_field::{Field, Res};
+use residue_field::Field;
 use row_transform::{DenseTableau, Tableau};
 use std::alloc::Global;
 use std::marker::{Brand, Model};
@@ -32,7 +32,7 @@ use std::sync::ledger::{Blank, Ledger};
 /// Its arcs are those from a column x to another column y whose row x could take: P has an entry in x at the row of
 /// the base column y, or the T row matched with y touches x.
 #[derive(Drop)]
-pub struct Engine<F: Field = Res, T: Tableau<F> = DenseTableau<F>> {
+pub struct Engine<F: Field, T: Tableau<F> = DenseTableau<F>> {
     improver: Improver<F, T>,
     searches: usize,
 }
@@ -48,25 +48,23 @@ impl<F: Field, T: Tableau<F>> Model for Engine<F, T> {
     ghost invariant = { λ e. IsReady F.modulus (T.state e.improver.pair.tableau) e.improver.pair.mates e.improver.search.places e.improver.marks e.improver.size e.improver.pivots e.improver.looks };
 }
 
-impl Engine<Res, DenseTableau<Res>> {
+impl<F: Field, T: Tableau<F>> Engine<F, T> {
     /// The empty pair of a layered matrix. It takes all the memory that the engine will use.
-    pub fn open(alloc: Global, l: &Layered) -> Result<Self, NoMemory>
-        ensures layers { IfOk result (λ e. layers (entry l.now.q) (state_of res_modulus e.tableau) e.matching ≡ layered_matrix_of l.now) }
-        ensures entries { IfOk result (λ e. AreEntries res_modulus (state_of res_modulus e.tableau) (entry l.now.q)) }
-        ensures empty { IfOk result (λ e. size_of (state_of res_modulus e.tableau) e.matching ≡ 0) }
+    pub fn open(alloc: Global, l: &Layered<F>) -> Result<Self, NoMemory>
+        ensures layers { IfOk result (λ e. layers (entry l.now.q) (T.state e.tableau) e.matching ≡ layered_matrix_of l.now) }
+        ensures entries { IfOk result (λ e. AreEntries F.modulus (T.state e.tableau) (entry l.now.q)) }
+        ensures empty { IfOk result (λ e. size_of (T.state e.tableau) e.matching ≡ 0) }
         ensures none_told { IfOk result (λ e. (e.pivots ≡ 0) × (e.looks ≡ 0) × (e.searches ≡ 0)) }
     {
-        let _layers = l.split();
-        let tableau = DenseTableau::open(alloc, &l.q)?;
+        l.are_layers();
+        let tableau = T::open(alloc, &l.q)?;
         let mates = Match::open(alloc, &l.t)?;
         Ok(Engine {
             improver: Improver::open(alloc, tableau, mates)?,
             searches: 0,
         })
     }
-}
 
-impl<F: Field, T: Tableau<F>> Engine<F, T> {
     /// Searches once for a shortest walk from a free column to an end. Where there is one, the pair grows by a column along
     /// it, from its end backwards; else the pair is best and stays. A free column that is an end is such a walk, and then no
     /// column is looked at.

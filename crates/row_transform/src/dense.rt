@@ -1,3 +1,5 @@
+//! A tableau of dense matrices.
+
 ghost use Rattle.std.specs.Prelude.{◌≡◌, ◌≢◌, ℕ, ◌<◌, ◌≤◌, ◌%◌, Bool, true, false, IfOk};
 ghost use Rattle.dense_q.specs.Tables.{height, entry};
 ghost use Rattle.row_transform.specs.Tableaus.{IsOpened};
@@ -33,21 +35,16 @@ impl<F: Field> Model for DenseTableau<F> {
     ghost invariant = { λ t. IsDense F.modulus (record { p = t.transform.p; s = t.transform.s; v = t.transform.v; base = t.base }) × IsListed F.modulus t.transform.p t.entries.bits };
 }
 
-impl<F: Field> DenseTableau<F> {
-    /// The tableau of a matrix before any row operation, with no base column.
-    pub fn open(alloc: Global, q: &Mat<F>) -> Result<DenseTableau<F>, NoMemory>
-        ensures { IfOk result (λ t. IsOpened F.modulus (height q.now) q.now.width (entry q.now) (state_of F.modulus t)) }
-    {
+impl<F: Field> Tableau<F> for DenseTableau<F> {
+    ghost state = { state_of F.modulus };
+
+    fn open(alloc: Global, q: &Mat<F>) -> Result<Self, NoMemory> {
         Ok(DenseTableau {
             transform: Transform::open(alloc, q)?,
             entries: Entries::of(alloc, q)?,
             base: Base::empty(alloc, q.rows(), q.cols())?,
         })
     }
-}
-
-impl<F: Field> Tableau<F> for DenseTableau<F> {
-    ghost state = { state_of F.modulus };
 
     fn rows(&self) -> usize {
         self.transform.rows()

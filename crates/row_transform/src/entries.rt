@@ -1,3 +1,5 @@
+//! Where the columns of a matrix have entries.
+
 ghost use Rattle.std.specs.Prelude.{◌≡◌, ◌≢◌, ℕ, ◌%◌, ◌<◌, ◌≤◌, true, IfOk, IfSome, IfNone};
 ghost use Rattle.number_ranges.specs.Ranges.{HasNone, IsLeast};
 ghost use Rattle.dense_q.specs.Tables.{height, entry};

@@ -1,11 +1,15 @@
+//! Tableaus, and the matrices that they keep.
+
 ghost use Rattle.std.specs.Prelude.{◌≡◌, ◌≢◌, ℕ, ◌<◌, ◌≤◌, ◌%◌, Bool, true, false, IfSome, IfNone, IfOk, IsTrue, ◌↔◌};
 ghost use Rattle.number_ranges.specs.Ranges.{HasNone, IsLeast};
-ghost use Rattle.row_transform.specs.Tableaus.{State, IsTableau, IsBare, IsBaseColumn, IsPivot, IsDrop, AreParts, has_entry};
+ghost use Rattle.dense_q.specs.Tables.{height, entry};
+ghost use Rattle.row_transform.specs.Tableaus.{State, IsOpened, IsTableau, IsBare, IsBaseColumn, IsPivot, IsDrop, AreParts, has_entry};
 ghost use Rattle.linear_algebra.specs.Columns.{IsCombination};
 
 use dense_q::Mat;
 use out_of_memory::NoMemory;
 use residue_field::Field;
+use std::alloc::Global;
 
 /// The matrices of a tableau: S and its inverse U, with a row and a column for each row of Q, and P = S * Q.
 #[derive(Drop)]
@@ -19,6 +23,10 @@ pub struct TableauParts<F: Field> {
 /// its own; in P it is 1 there and 0 elsewhere. Rows and columns are counted from 0. (Murota 2000, chapter 2.)
 pub trait Tableau<F: Field>: Drop {
     ghost state: { Self → State };
+
+    /// The tableau of a matrix before any row operation, with no base column.
+    fn open(alloc: Global, q: &Mat<F>) -> Result<Self, NoMemory>
+        ensures { IfOk result (λ t. IsOpened F.modulus (height q.now) q.now.width (entry q.now) (state t)) };
 
     /// How many rows there are.
     fn rows(&self) -> usize

@@ -1,3 +1,5 @@
+//! Row operations on a matrix, with their own matrix and its inverse.
+
 ghost use Rattle.std.specs.Prelude.{◌≡◌, ◌≢◌, ℕ, ◌+◌, ◌*◌, ◌%◌, ◌<◌, ◌≤◌, IfOk};
 ghost use Rattle.linear_algebra.specs.Products.{identity};
 ghost use Rattle.linear_algebra.specs.RowOperations.{IsRowAdded, IsRowScaled, IsPivoted};
