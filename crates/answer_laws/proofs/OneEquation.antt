@@ -5,7 +5,7 @@ use Rattle.std.specs.List.{slice_get}
 use Rattle.std.proofs.lemmas.List.Elements.{All-head}
 use Rattle.residue_theory.specs.Sums.{size_on}
 use Rattle.residue_theory.proofs.SetLaws.{differ, both-second, not_true, some_below-found}
-use Rattle.mixed_matrices.specs.LayeredMatrices.{Layered}
+use Rattle.mixed_matrices.specs.LayeredMatrices.{LayeredMatrix}
 use Rattle.mixed_matrices.specs.Layerings.{AreMembers, Origins, IsLayeredMatrixOf, gives_q, has_constant, has_symbol}
 use Rattle.mixed_model.specs.Models.{MixedModel, mixed_matrix_of, symbol_of}
 use Rattle.mixed_model.specs.Layers.{Layers, layered_matrix_of}
@@ -69,7 +69,7 @@ module _ (model : MixedModel) (gives : GivesModel one_equation model) where
       or-true true = refl
       or-true false = refl
 
-  module _ (L : Layered) (O : Origins) (are : IsLayeredMatrixOf (mixed_matrix_of model) L O) where
+  module _ (L : LayeredMatrix) (O : Origins) (are : IsLayeredMatrixOf (mixed_matrix_of model) L O) where
     pub one-q : L.q_rows ≡ 1
     one-q = one-listed _ _ _ _ one-row first-gives are.q_rows
 

@@ -1,6 +1,7 @@
 //! The engine, run on a drawn matrix.
 
 ghost use Rattle.std.specs.Prelude.{◌≡◌, ◌≤◌, ◌<◌};
+ghost use Rattle.limits.specs.Limits.{equation_limit};
 
 use crate::draws::{Draws, Family};
 use crate::layering::layered;
@@ -30,7 +31,7 @@ pub(crate) fn solve<L: Ledger>(
     blank: Blank,
 ) -> Result<Found, NoMemory>
     requires size { 1 ≤ size }
-    requires few { size ≤ 4096 }
+    requires few { size ≤ equation_limit }
     requires name { blank.name ≡ L.name }
     requires parts { blank.parts ≡ L.parts }
     requires some { 0 < blank.parts }

@@ -6,7 +6,7 @@ use Rattle.residue_theory.specs.Residues.{IsPrime}
 use Rattle.bipartite_matching.specs.Matchings.{Matching}
 use Rattle.dense_q.specs.Tables.{entry}
 use Rattle.sparse_t.specs.Incidences.{touches}
-use Rattle.mixed_matrices.specs.LayeredMatrices.{Layered}
+use Rattle.mixed_matrices.specs.LayeredMatrices.{LayeredMatrix}
 use Rattle.mixed_matrices.specs.Layerings.{Origins, IsLayeredMatrixOf}
 use Rattle.mixed_matrices.specs.StructuralRanks.{IsStructuralRank}
 use Rattle.mixed_layering_laws.proofs.LayeringRank.{model_rank}
@@ -56,7 +56,7 @@ module _ (p : ℕ) (prime : IsPrime p) (odd : 2 < p) (of : Layers) (layers_ok : 
     (v : Parts) (decomposed : IsDecomposition p t matching v)
     (first : CcfPart) (blocks : List CcfBlock) (last : CcfPart) (parts : PrintsParts v t.rows (length of.t.rows) base mates first blocks last) where
   -- the layered matrix on which the engine stands
-  abbrev N : Layered
+  abbrev N : LayeredMatrix
   N = layers (entry of.q) t matching
 
   abbrev pub contents : Contents
@@ -75,10 +75,10 @@ module _ (p : ℕ) (prime : IsPrime p) (odd : 2 < p) (of : Layers) (layers_ok : 
   }
 
   t_rows_are : length of.t.rows ≡ N.t_rows
-  t_rows_are = sym (ap (λ (K : Layered). K.t_rows) solution.layers_are)
+  t_rows_are = sym (ap (λ (K : LayeredMatrix). K.t_rows) solution.layers_are)
 
   width_is : of.t.width ≡ t.columns
-  width_is = layers_ok.same_columns ∙ sym (ap (λ (K : Layered). K.columns) solution.layers_are)
+  width_is = layers_ok.same_columns ∙ sym (ap (λ (K : LayeredMatrix). K.columns) solution.layers_are)
 
   matched : ListsPairs (IsMate matching t.columns) N.t_rows mates
   matched = subst (λ m. ListsPairs (IsMate matching t.columns) m mates) t_rows_are pair.mates_are
@@ -95,7 +95,7 @@ module _ (p : ℕ) (prime : IsPrime p) (odd : 2 < p) (of : Layers) (layers_ok : 
   product = record {
     q = product-entries p t.rows t.columns (matrix_of s) t.s (entry of.q) (matrix_of P) t.p prints.s_is.same prints.p_is.same (transformed p (entry of.q) t solution.entries tableau);
     t = λ i j il jl.
-        prints_t.same i j (subst (λ m. i < m) (sym t_rows_are) il) (subst (λ n. j < n) (sym width_is) jl) ∙ sym (ap (λ (K : Layered). K.t i j) solution.layers_are);
+        prints_t.same i j (subst (λ m. i < m) (sym t_rows_are) il) (subst (λ n. j < n) (sym width_is) jl) ∙ sym (ap (λ (K : LayeredMatrix). K.t i j) solution.layers_are);
   }
 
   module _ (model : MixedModel) (is : IsModel p model) (are : AreLayersOf model of) where

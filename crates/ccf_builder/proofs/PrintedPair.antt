@@ -7,7 +7,7 @@ use Rattle.dense_q.specs.Tables.{entry}
 use Rattle.bipartite_matching.specs.Matchings.{Matching}
 use Rattle.bipartite_matching.proofs.MateLaws.{pair-matched, matched-pair}
 use Rattle.mixed_matrices.specs.Arcs.{is_end, is_free, leads_to}
-use Rattle.mixed_matrices.specs.LayeredMatrices.{Layered}
+use Rattle.mixed_matrices.specs.LayeredMatrices.{LayeredMatrix}
 use Rattle.mixed_matrices.specs.Tableaus.{Tableau}
 use Rattle.mixed_model.specs.Layers.{Layers}
 use Rattle.row_transform.specs.Tableaus.{State, IsTableau, IsBaseColumn}
@@ -32,7 +32,7 @@ no_block = record { part = no_part; lower = [] }
 
 module _ (p : ℕ) (of : Layers) (t : State) (M : Matching) (reached : ℕ → Bool) (solution : IsSolution p of t M reached) (tableau : IsTableau p t) where
   -- the layered matrix on which the engine stands
-  abbrev pub L : Layered
+  abbrev pub L : LayeredMatrix
   L = layers (entry of.q) t M
 
   -- the tableau of the engine

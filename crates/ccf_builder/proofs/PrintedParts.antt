@@ -11,7 +11,7 @@ use Rattle.closed_sets.specs.Rules.{KeepsRules as KeepsPlaces}
 use Rattle.mixed_matrices.specs.Arcs.{has_base, has_match, is_end, is_free, leads_to}
 use Rattle.mixed_matrices.specs.CheckerRules.{HasRows, KeepsPartRules, block_of, in_first, in_last}
 use Rattle.mixed_matrices.specs.Forms.{Parts as Forms}
-use Rattle.mixed_matrices.specs.LayeredMatrices.{Layered}
+use Rattle.mixed_matrices.specs.LayeredMatrices.{LayeredMatrix}
 use Rattle.mixed_matrices.specs.Tableaus.{Tableau}
 use Rattle.mixed_model.specs.Layers.{Layers}
 use Rattle.row_transform.specs.Tableaus.{State, IsTableau, IsBaseColumn}
@@ -85,7 +85,7 @@ module _ (p : ℕ) (of : Layers) (S : State) (M : Matching) (reached : ℕ → B
     (of_t : PlacesRows (L p of S M reached solution tableau).t_rows mates placing.columns placing.t_rows)
     (first last : CcfPart) (blocks : List CcfBlock) (of_first : HasPart placing First first) (count : length blocks ≡ v.blocks)
     (in_blocks : (k : ℕ) (d : CcfBlock) → k < length blocks → HasBlock placing v k (slice_index_or blocks k d)) (of_last : HasPart placing Last last) where
-  abbrev N : Layered
+  abbrev N : LayeredMatrix
   N = L p of S M reached solution tableau
 
   abbrev H : Tableau

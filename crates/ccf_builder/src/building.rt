@@ -1,6 +1,7 @@
 //! The canonical form of a layered matrix.
 
 ghost use Rattle.std.specs.Prelude.{◌≡◌, ◌≤◌, ◌+◌, ◌-◌, length, IfOk};
+ghost use Rattle.limits.specs.Limits.{column_limit};
 ghost use Rattle.exchange_graph.specs.Results.{reached_of};
 ghost use Rattle.mixed_model.specs.Layers.{layered_matrix_of, split_of};
 ghost use Rattle.cert_text.specs.Contents.{numbered_rows};
@@ -11,7 +12,7 @@ ghost use Rattle.ccf_builder.specs.Promises.{IsOfModel, OfEachModel};
 
 use crate::decomposition::decompose;
 use crate::matrices::{PrintedTableau, symbols_of, tableau_of};
-use crate::pairs::{Pair, pair_of};
+use crate::pairs::{PairLists, pair_of};
 use crate::parts::{PrintedParts, parts_of};
 use crate::solution::solve;
 use cert_text::{Ccf, Items, Shape};
@@ -55,7 +56,7 @@ fn built<F: Field, T: Tableau<F>>(alloc: Global, l: &Layered<F>) -> Result<Ccf<F
 struct Solved<F: Field, T: Tableau<F>> {
     engine: Engine<F, T>,
     lattice: Lattice,
-    pair: Pair,
+    pair: PairLists,
 }
 
 // The lines of the matrices, of the symbols and of the parts.
@@ -151,7 +152,7 @@ fn assembled<F: Field, T: Tableau<F>>(
 
 // The sizes of a layered matrix with so many Q rows and columns, and of its model.
 fn shape_of<F: Field>(l: &Layered<F>, q_rows: usize, columns: usize) -> Shape
-    requires few { q_rows ≤ 8192 }
+    requires few { q_rows ≤ column_limit }
     requires rows { split_of l.now ≤ q_rows + length l.now.t.rows }
     requires columns { split_of l.now ≤ columns }
     ensures { result ≡ record {

@@ -14,8 +14,8 @@ use residue_field::Field;
 use row_transform::Tableau;
 use std::alloc::Global;
 
-/// The parts of the arcs of the engine's pair: the first tail is what is reached from the free columns, the last one what
-/// reaches an end.
+/// The parts of the arcs of the engine's pair: the first tail is what is reached from the free columns, the last one
+/// what reaches an end.
 pub fn decompose<F: Field, T: Tableau<F>>(
     alloc: Global,
     engine: &Engine<F, T>,

@@ -12,7 +12,7 @@ use std::alloc::Global;
 
 /// Each Q row with its base column, and each T row with the column with which it is matched, by rising row.
 #[derive(Drop)]
-pub struct Pair {
+pub struct PairLists {
     pub base: Vec<(usize, usize)>,
     pub mates: Vec<(usize, usize)>,
 }
@@ -22,7 +22,7 @@ pub fn pair_of<F: Field, T: Tableau<F>>(
     alloc: Global,
     engine: &Engine<F, T>,
     t_rows: usize,
-) -> Result<Pair, NoMemory>
+) -> Result<PairLists, NoMemory>
     requires { t_rows ≡ length engine.now.matching.pattern.rows }
     ensures lists { IfOk result (λ pair.
         ListsPair (T.state engine.now.tableau) engine.now.matching t_rows pair.base.items pair.mates.items) }
@@ -30,7 +30,7 @@ pub fn pair_of<F: Field, T: Tableau<F>>(
         AreWithin (T.state engine.now.tableau).rows (T.state engine.now.tableau).columns pair.base.items) }
     ensures mates { IfOk result (λ pair. AreWithin t_rows (T.state engine.now.tableau).columns pair.mates.items) }
 {
-    Ok(Pair {
+    Ok(PairLists {
         base: base_pairs(alloc, engine.tableau())?,
         mates: mate_pairs(alloc, engine, t_rows)?,
     })

@@ -6,7 +6,7 @@ ghost use Rattle.cert_text.specs.declared.part.CcfBlock.{CcfBlock};
 ghost use Rattle.ccf_builder.specs.Pairs.{AreWithin};
 ghost use Rattle.ccf_builder.specs.Placings.{HasBlock, HasPart, ListsLower, ListsPart, PrintsParts};
 
-use crate::pairs::Pair;
+use crate::pairs::PairLists;
 use crate::placing::{Placing, column_parts, row_parts};
 use cert_text::{CcfBlock, CcfPart, Items};
 use minimiser_lattice::{Lattice, Part};
@@ -94,15 +94,15 @@ pub struct PrintedParts {
     pub last: CcfPart,
 }
 
-/// The parts of so many columns, Q rows and T rows: each column in its own part, and each row in that of its column, or in
-/// the last one where it has none.
+/// The parts of so many columns, Q rows and T rows: each column in its own part, and each row in that of its column, or
+/// in the last one where it has none.
 pub fn parts_of(
     alloc: Global,
     lattice: &Lattice,
     columns: usize,
     q_rows: usize,
     t_rows: usize,
-    pair: &Pair,
+    pair: &PairLists,
 ) -> Result<PrintedParts, NoMemory>
     requires columns { columns ≡ lattice.now.places }
     requires base { AreWithin q_rows columns pair.now.base.items }

@@ -18,8 +18,8 @@ struct Ratio {
     denominator: u64,
 }
 
-/// The value of a number in the field: a sign or none, and then 1 to 18 digits, or two such numerals with a `/` between them,
-/// or two with a `.` between them and at most 18 digits together.
+/// The value of a number in the field: a sign or none, and then 1 to 18 digits, or two such numerals with a `/` between
+/// them, or two with a `.` between them and at most 18 digits together.
 ///
 /// Any other text is `Why::BadNumber`. A number is `Why::Vanish` where the modulus divides its denominator, or divides
 /// its numerator though that is not 0.

@@ -1,5 +1,6 @@
 -- What the reader knows between two lines, and within one.
 use Rattle.std.specs.Prelude.{◌≡◌, ◌≢◌, ℕ, ◌+◌, ◌<◌, ◌≤◌, Bool, not, ◌&&◌, ◌||◌, if◌then◌else◌, List, [], ◌∷◌, ◌++◌, length, codes, nat_eq, slice_index, slice_index_or, slice_set, Option, Some, None, Result, Ok, Err}
+use Rattle.limits.specs.Limits.{equation_limit}
 use Rattle.refusals.specs.declared.Why.{Why}
 use Rattle.refusals.specs.declared.Why.TheVariants.{Twice, TooMany}
 use Rattle.line_lexer.specs.Tokens.{words_of}
@@ -46,25 +47,26 @@ abbrev pub MarkedFrom : ℕ → Option ℕ → ℕ → MixedModel → MixedModel
 MarkedFrom p (Some k) line old new old_lines new_lines unknown j =
     (j ≡ k) × (new ≡ old) × (new_lines ≡ slice_set old_lines k line) × (slice_index old_lines k ≢ line)
 MarkedFrom p None line old new old_lines new_lines unknown j =
-    (j ≡ length old.unknowns) × (length old.unknowns < 4096) × (new ≡ with_unknown old unknown) × IsModel p new
+    (j ≡ length old.unknowns) × (length old.unknowns < equation_limit)
+    × (new ≡ with_unknown old unknown) × IsModel p new
     × (new_lines ≡ old_lines ++ line ∷ [])
 
 -- why it can't be marked
 abbrev pub UnmarkedFrom : Option ℕ → ℕ → MixedModel → List ℕ → Why → Type 0
 UnmarkedFrom (Some k) line old old_lines why = (why ≡ Twice) × (slice_index old_lines k ≡ line)
-UnmarkedFrom None line old old_lines why = (why ≡ TooMany) × (4096 ≤ length old.unknowns)
+UnmarkedFrom None line old old_lines why = (why ≡ TooMany) × (equation_limit ≤ length old.unknowns)
 
 -- what is left after an unknown stood in a line that marks none: by where the unknown stood
 abbrev pub SeenFrom : ℕ → Option ℕ → ℕ → MixedModel → MixedModel → List ℕ → List ℕ → List ℕ → Type 0
 SeenFrom p (Some k) line old new old_lines new_lines unknown = (new ≡ old) × (new_lines ≡ old_lines)
 SeenFrom p None line old new old_lines new_lines unknown =
-    (length old.unknowns < 4096) × (new ≡ with_unknown old unknown) × IsModel p new
+    (length old.unknowns < equation_limit) × (new ≡ with_unknown old unknown) × IsModel p new
     × (new_lines ≡ old_lines ++ line ∷ [])
 
 -- why it can't stand there
 abbrev pub UnseenFrom : Option ℕ → MixedModel → Why → Type 0
 UnseenFrom (Some k) old why = ⊥
-UnseenFrom None old why = (why ≡ TooMany) × (4096 ≤ length old.unknowns)
+UnseenFrom None old why = (why ≡ TooMany) × (equation_limit ≤ length old.unknowns)
 
 -- What putting a value at the place (i, j) leaves: its constant stands there, unless it is 0, and a symbol, if it has
 -- one.

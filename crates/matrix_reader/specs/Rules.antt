@@ -4,6 +4,7 @@ use Rattle.std.specs.Prelude.{ℕ, ◌||◌, List, [], ◌∷◌, ◌++◌, leng
 use Rattle.std.specs.Option.{option_or}
 use Rattle.std.specs.Result.{result_err}
 use Rattle.std.specs.Str.{bytes_eq}
+use Rattle.limits.specs.Limits.{equation_limit}
 use Rattle.refusals.specs.declared.Why.{Why}
 use Rattle.refusals.specs.declared.Why.TheVariants.{BadByte, BadWord, BadShape, BadName, Twice, TooMany}
 use Rattle.line_lexer.specs.Names.{is_name}
@@ -23,12 +24,14 @@ name_rule name = if is_name name then None else Some BadName
 
 -- an unknown is there, or is one of the first 4,096
 abbrev pub room_rule : List (List ℕ) → List ℕ → Option Why
-room_rule unknowns unknown = if has_name unknowns unknown || nat_lt (length unknowns) 4096 then None else Some TooMany
+room_rule unknowns unknown = if has_name unknowns unknown || nat_lt (length unknowns) equation_limit
+    then None else Some TooMany
 
 -- the name of an equation: it is new, and one of the first 4,096
 abbrev pub new_equation_rule : List (List ℕ) → List ℕ → Option Why
 new_equation_rule equations name =
-    if has_name equations name then Some Twice else (if nat_lt (length equations) 4096 then None else Some TooMany)
+    if has_name equations name then Some Twice else (if nat_lt (length equations) equation_limit then None
+    else Some TooMany)
 
 abbrev pub equation_rule : List (List (List ℕ)) → List ℕ → Option Why
 equation_rule before name = option_or (name_rule name) (new_equation_rule (equation_names before) name)

@@ -1,6 +1,7 @@
 //! The model of an equation list.
 
 ghost use Rattle.std.specs.Prelude.{◌≤◌, length, IfOk, IfErr};
+ghost use Rattle.limits.specs.Limits.{input_limit};
 ghost use Rattle.matrix_reader.specs.Models.{GivesModel, IsRefusal};
 
 use crate::fault::LineFault;
@@ -22,7 +23,7 @@ use std::alloc::Global;
 /// without an `=`, by its name (`BadName`), its value (`BadNumber`, `Vanish`) and its unknown (`Twice` in one line,
 /// `TooMany`); in an `unknown` line each name (`BadName`, `TooMany`).
 pub fn read<F: Field>(alloc: Global, bytes: &[u8]) -> Result<Mixed<F>, ReadModel>
-    requires { length bytes.now ≤ 8388608 }
+    requires { length bytes.now ≤ input_limit }
     ensures model { IfOk result (λ m. GivesModel F.modulus bytes.now m) }
     ensures refused { IfErr result (λ why. IsRefusal F.modulus bytes.now why) }
 {

@@ -9,7 +9,7 @@ use Rattle.dense_q.specs.Tables.{entry, zero_table}
 use Rattle.residue_theory.specs.Sets.{has}
 use Rattle.sparse_t.specs.Incidences.{Incidence, with_last_row}
 use Rattle.sparse_t.proofs.ListLaws.{has-append, has-none, rising-append, below-append}
-use Rattle.mixed_matrices.specs.Models.{Mixed}
+use Rattle.mixed_matrices.specs.Models.{MixedMatrix}
 use Rattle.mixed_model.specs.Models.{MixedModel, IsModel, row_of, constant_at, mixed_matrix_of}
 use Rattle.mixed_model.proofs.ModelLaws.{beyond_unknowns}
 use Rattle.mixed_layering.specs.Columns.{StandsIn, IsAbsent}
@@ -48,7 +48,7 @@ module _ (p : ℕ) (model : MixedModel) (is : IsModel p model) (equation : ℕ) 
       (λ b low. refl)
       (λ k low. rw (no_place split equation absent k low) (past_constant k))
 
-module _ (M : Mixed) (equation : ℕ) (split list : List ℕ) (touched : AreTouched M.columns (M.symbol equation) list) where
+module _ (M : MixedMatrix) (equation : ℕ) (split list : List ℕ) (touched : AreTouched M.columns (M.symbol equation) list) where
   -- the list has nothing past the unknowns
   past_symbol : (b : ℕ) → M.columns ≤ b → has list b ≡ false
   past_symbol b high = has-none list b (λ k at e. omega (arith, touched.below k at, e, high))
@@ -78,7 +78,7 @@ module _ (M : Mixed) (equation : ℕ) (split list : List ℕ) (touched : AreTouc
   }
 
 -- one row more
-pub rows-next : (M : Mixed) (split equations : List ℕ) (n : ℕ) (t : Incidence) (list : List ℕ) → AreRowsOfSymbols M split equations n t → AreTouched (M.columns + length split) (symbol_place M split (slice_index equations n)) list → AreRowsOfSymbols M split equations (n + 1) (with_last_row t list)
+pub rows-next : (M : MixedMatrix) (split equations : List ℕ) (n : ℕ) (t : Incidence) (list : List ℕ) → AreRowsOfSymbols M split equations n t → AreTouched (M.columns + length split) (symbol_place M split (slice_index equations n)) list → AreRowsOfSymbols M split equations (n + 1) (with_last_row t list)
 rows-next M split equations n t list are touched = record {
   width = are.width;
   count = length-append t.rows (list ∷ []) ∙ omega (arith, are.count);

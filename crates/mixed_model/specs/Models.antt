@@ -1,6 +1,6 @@
 -- Models, seen as data, and what the calls of `Mixed` leave.
 use Rattle.std.specs.Prelude.{◌≡◌, ℕ, ◌&&◌, ◌||◌, Bool, List, [], ◌∷◌, ◌++◌, length, nat_eq, if◌then◌else◌, Option, Some, unwrap_or, slice_index_or, All}
-use Rattle.mixed_matrices.specs.Models.{Mixed}
+use Rattle.mixed_matrices.specs.Models.{MixedMatrix}
 use Rattle.mixed_model.specs.Entries.{RowEntry}
 use Rattle.mixed_model.specs.Names.{IsNameList, see}
 use Rattle.mixed_model.specs.Rows.{IsRow, IsWithin, constant_in, symbol_in}
@@ -29,7 +29,7 @@ abbrev pub constant_at : MixedModel → ℕ → ℕ → ℕ
 constant_at model i j = unwrap_or (constant_of model i j) 0
 
 -- the mixed matrix of a model
-abbrev pub mixed_matrix_of : MixedModel → Mixed
+abbrev pub mixed_matrix_of : MixedModel → MixedMatrix
 mixed_matrix_of model = record {
   rows = length model.equations;
   columns = length model.unknowns;

@@ -10,8 +10,8 @@ use residue_field::Field;
 use sparse_t::Pattern;
 use std::marker::Model;
 
-/// A layered mixed matrix over F: rows of constants above rows of symbols, on the same columns. It keeps for each row the
-/// equation, and for each column the unknown or the split equation, from which it comes. (Murota, chapter 4.)
+/// A layered mixed matrix over F: rows of constants above rows of symbols, on the same columns. It keeps for each row
+/// the equation, and for each column the unknown or the split equation, from which it comes. (Murota, chapter 4.)
 #[derive(Drop)]
 pub struct Layered<F: Field> {
     /// The constants, Q rows x columns.

@@ -5,9 +5,9 @@ use Rattle.residue_theory.specs.Sets.{everything}
 use Rattle.residue_theory.specs.Sums.{size_on}
 use Rattle.residue_theory.proofs.CountLaws.{size-everything}
 use Rattle.residue_theory.proofs.SumLaws.{size_on-within}
-use Rattle.mixed_matrices.specs.LayeredMatrices.{Layered}
+use Rattle.mixed_matrices.specs.LayeredMatrices.{LayeredMatrix}
 use Rattle.mixed_matrices.specs.Layerings.{AreMembers, Origins, IsLayeredMatrixOf}
-use Rattle.mixed_matrices.specs.Models.{Mixed}
+use Rattle.mixed_matrices.specs.Models.{MixedMatrix}
 use Rattle.mixed_model.specs.Models.{MixedModel, IsModel, mixed_matrix_of}
 use Rattle.mixed_model.specs.Layers.{Layers, layered_matrix_of}
 use Rattle.mixed_layering.specs.Layers.{AreLayersOf, origins_of}
@@ -32,12 +32,12 @@ pub members-few : (A : ℕ → Bool) (n : ℕ) (at : ℕ → ℕ) (m : ℕ) → 
 members-few A n at m are = omega (arith, are.count, size-everything n, size_on-within everything A n (λ j jl h. refl))
 
 -- the layered matrix of a model that a text gives has no more rows and columns than the text has room for
-pub record IsNarrow (n : ℕ) (L : Layered) : Type 0 where
+pub record IsNarrow (n : ℕ) (L : LayeredMatrix) : Type 0 where
   pub q_rows : L.q_rows ≤ columns_within n
   pub t_rows : L.t_rows ≤ columns_within n
   pub columns : L.columns ≤ columns_within n
 
-narrow : (text : List ℕ) (model : MixedModel) (L : Layered) (O : Origins) → GivesModel text model → IsLayeredMatrixOf (mixed_matrix_of model) L O → IsNarrow (length text) L
+narrow : (text : List ℕ) (model : MixedModel) (L : LayeredMatrix) (O : Origins) → GivesModel text model → IsLayeredMatrixOf (mixed_matrix_of model) L O → IsNarrow (length text) L
 narrow text model L O gives are =
     let few = few-names text model gives in
     let is : IsModel model = (gives.given).is_model in

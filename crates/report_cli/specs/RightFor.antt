@@ -3,7 +3,7 @@ use Rattle.std.specs.Prelude.{◌≡◌, ℕ, ◌≤◌, List, length}
 use Rattle.refusals.specs.declared.Refused.{Refused}
 use Rattle.refusals.specs.declared.ReadModel.TheVariants.{Refused as Refusal}
 use Rattle.residue_field.specs.Modulus.{res_modulus}
-use Rattle.mixed_matrices.specs.LayeredMatrices.{Layered}
+use Rattle.mixed_matrices.specs.LayeredMatrices.{LayeredMatrix}
 use Rattle.mixed_matrices.specs.Layerings.{Origins, IsLayeredMatrixOf}
 use Rattle.mixed_model.specs.Models.{MixedModel, mixed_matrix_of}
 use Rattle.matrix_reader.specs.Models.{GivesModel, IsRefusal}
@@ -22,7 +22,7 @@ pub record IsRightFor (input : List ℕ) (certificate : Certificate) : Type 0 wh
   pub echo : certificate.echo ≡ input
   pub short : length certificate.echo ≤ model_limit
   pub form : IsCcf certificate.ccf
-  pub layered : Layered
+  pub layered : LayeredMatrix
   pub origins : Origins
   pub layers : IsLayeredMatrixOf (mixed_matrix_of model) layered origins
   pub right : IsRightCcf res_modulus (mixed_matrix_of model) layered origins certificate.ccf

@@ -15,8 +15,8 @@ use residue_field::Field;
 use std::alloc::Global;
 use std::marker::Model;
 
-/// A tableau that keeps all entries of its matrices, and for each column the rows where P may have one that is not zero:
-/// a search of the exchange graph asks for the entries of a column at each of its looks, and most are zero.
+/// A tableau that keeps all entries of its matrices, and for each column the rows where P may have one that is not
+/// zero: a search of the exchange graph asks for the entries of a column at each of its looks, and most are zero.
 #[derive(Drop)]
 pub struct DenseTableau<F: Field> {
     transform: Transform<F>,
@@ -32,7 +32,12 @@ impl<F: Field> Model for DenseTableau<F> {
 
     ghost view = { λ t. record { p = t.transform.p; s = t.transform.s; v = t.transform.v; base = t.base } };
 
-    ghost invariant = { λ t. IsDense F.modulus (record { p = t.transform.p; s = t.transform.s; v = t.transform.v; base = t.base }) × IsListed F.modulus t.transform.p t.entries.bits };
+    ghost invariant = { λ t. IsDense F.modulus (record {
+      p = t.transform.p;
+      s = t.transform.s;
+      v = t.transform.v;
+      base = t.base;
+    }) × IsListed F.modulus t.transform.p t.entries.bits };
 }
 
 impl<F: Field> Tableau<F> for DenseTableau<F> {

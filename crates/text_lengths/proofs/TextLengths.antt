@@ -7,9 +7,9 @@ use Rattle.residue_theory.specs.Sets.{everything}
 use Rattle.residue_theory.proofs.CountLaws.{size-everything, size-surjection}
 use Rattle.mixed_matrices.specs.CanonicalParts.{AreCanonical}
 use Rattle.mixed_matrices.specs.Forms.{Parts}
-use Rattle.mixed_matrices.specs.LayeredMatrices.{Layered}
+use Rattle.mixed_matrices.specs.LayeredMatrices.{LayeredMatrix}
 use Rattle.mixed_matrices.specs.Layerings.{Origins}
-use Rattle.mixed_matrices.specs.Models.{Mixed}
+use Rattle.mixed_matrices.specs.Models.{MixedMatrix}
 use Rattle.cert_text.specs.Contents.{Contents}
 use Rattle.cert_text.specs.Ranges.{IsCcf, IsPart, AreRising}
 use Rattle.cert_text.specs.Right.{IsRightCcf}
@@ -22,7 +22,7 @@ use Rattle.text_lengths.proofs.Lengths.{marked-short}
 use Rattle.text_lengths.proofs.LineLengths.{pairs-within, matrix-short, pattern-short, tail-short, blocks-short}
 
 -- canonical parts have no more blocks than columns
-blocks-few : (p : ℕ) (L : Layered) (G : Parts) → AreCanonical p L G → G.blocks ≤ L.columns
+blocks-few : (p : ℕ) (L : LayeredMatrix) (G : Parts) → AreCanonical p L G → G.blocks ≤ L.columns
 blocks-few p L G are = omega (
   arith,
   size-everything G.blocks,
@@ -173,7 +173,7 @@ echo-short kind echo few =
       length-append five (codes "\n"),
     )
 
-pub certificate-short : (p : ℕ) (M : Mixed) (L : Layered) (O : Origins) (c : Certificate) (n k : ℕ) →
+pub certificate-short : (p : ℕ) (M : MixedMatrix) (L : LayeredMatrix) (O : Origins) (c : Certificate) (n k : ℕ) →
     length c.echo ≤ n → n ≤ 8388608 → k ≤ 8192 → IsCcf c.ccf → IsRightCcf p M L O c.ccf → IsShapeWithin k c.ccf.shape →
     length (certificate_text c) ≤ certificate_room n k
 certificate-short p M L O c n k within limit few is right low =
