@@ -9,7 +9,7 @@ use Rattle.mixed_matrices.specs.CanonicalParts.{AreCanonical}
 use Rattle.mixed_matrices.specs.Forms.{Parts}
 use Rattle.mixed_matrices.specs.LayeredMatrices.{LayeredMatrix}
 use Rattle.mixed_matrices.specs.Layerings.{Origins}
-use Rattle.mixed_matrices.specs.Models.{Mixed}
+use Rattle.mixed_matrices.specs.Models.{MixedMatrix}
 use Rattle.cert_text.specs.Contents.{Contents, Certificate}
 use Rattle.cert_text.specs.Ranges.{IsCcf, IsPart, AreRising}
 use Rattle.cert_text.specs.Right.{IsRightCcf}
@@ -172,7 +172,7 @@ echo-short kind echo few =
       length-append five (codes "\n"),
     )
 
-pub certificate-short : (p : ℕ) → p ≤ 100000 → (M : Mixed) (L : Layered) (O : Origins) (c : Certificate) (n k : ℕ) →
+pub certificate-short : (p : ℕ) → p ≤ 100000 → (M : MixedMatrix) (L : LayeredMatrix) (O : Origins) (c : Certificate) (n k : ℕ) →
     length c.echo ≤ n → n ≤ 8388608 → k ≤ 8192 → IsCcf p c.ccf → IsRightCcf p M L O c.ccf → IsShapeWithin k c.ccf.shape →
     length (certificate_text c) ≤ certificate_room n k
 certificate-short p short M L O c n k within limit few is right low =

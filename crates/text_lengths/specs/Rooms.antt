@@ -1,9 +1,10 @@
 -- How many bytes a certificate's text has at most.
 use Rattle.std.specs.Prelude.{ℕ, ◌+◌, ◌*◌, ◌≤◌, length}
 use Rattle.limits.specs.Limits.{column_limit, input_limit}
+use Rattle.limits.specs.Limits.{column_limit, input_limit}
 use Rattle.mixed_matrices.specs.LayeredMatrices.{LayeredMatrix}
 use Rattle.mixed_matrices.specs.Layerings.{Origins}
-use Rattle.mixed_matrices.specs.Models.{Mixed}
+use Rattle.mixed_matrices.specs.Models.{MixedMatrix}
 use Rattle.cert_text.specs.Contents.{Certificate}
 use Rattle.cert_text.specs.Ranges.{IsCcf}
 use Rattle.cert_text.specs.Right.{IsRightCcf}
@@ -28,6 +29,7 @@ certificate_room n k = n + 51 + contents_room k
 -- The modulus is such that the numbers below it have at most five digits.
 abbrev pub CertificateTextsAreShort : Type 0
 CertificateTextsAreShort =
-    (p : ℕ) → p ≤ 100000 → (M : Mixed) (L : Layered) (O : Origins) (c : Certificate) (n k : ℕ) →
-    length c.echo ≤ n → n ≤ 8388608 → k ≤ 8192 → IsCcf p c.ccf → IsRightCcf p M L O c.ccf → IsShapeWithin k c.ccf.shape →
+    (p : ℕ) → p ≤ 100000 → (M : MixedMatrix) (L : LayeredMatrix) (O : Origins) (c : Certificate) (n k : ℕ) →
+    length c.echo ≤ n → n ≤ input_limit → k ≤ column_limit → IsCcf p c.ccf → IsRightCcf p M L O c.ccf →
+    IsShapeWithin k c.ccf.shape →
     length (certificate_text c) ≤ certificate_room n k
