@@ -1,7 +1,6 @@
 -- How many bytes a certificate's text has at most.
 use Rattle.std.specs.Prelude.{ℕ, ◌+◌, ◌*◌, ◌≤◌, length}
 use Rattle.limits.specs.Limits.{column_limit, input_limit}
-use Rattle.limits.specs.Limits.{column_limit, input_limit}
 use Rattle.mixed_matrices.specs.LayeredMatrices.{LayeredMatrix}
 use Rattle.mixed_matrices.specs.Layerings.{Origins}
 use Rattle.mixed_matrices.specs.Models.{MixedMatrix}
