@@ -67,7 +67,7 @@ pub record IsLayered (input text : List ℕ) : Type 0 where
   pub model : MixedModel
   pub layers : Layers
   pub text_is : text ≡ layer_text model layers
-  pub gives : GivesModel input model
+  pub gives : GivesModel res_modulus input model
   pub are : AreLayersOf model layers
   pub whole : AreWholeLayers layers
 

@@ -1,5 +1,6 @@
 -- An input has one refusal, or none.
 use Rattle.std.proofs.Common.{◌≡◌, ℕ, ◌+◌, List, ap, sym, ◌∙◌}
+use Rattle.residue_field.specs.Modulus.{res_modulus}
 use Rattle.refusals.specs.declared.Refused.{Refused}
 use Rattle.refusals.specs.declared.Place.TheVariants.{Line}
 use Rattle.refusals.specs.declared.Why.{Why}
@@ -9,7 +10,7 @@ use Rattle.matrix_reader.proofs.FirstBroken.{gives-unbroken, first_broken-one}
 use Rattle.report_cli.specs.RightFor.{IsRefused}
 
 -- an input that gives a model has none
-pub given-unrefused : {A : Type 0} (input : List ℕ) (refused : Refused) (model : MixedModel) → GivesModel input model → IsRefused input refused → A
+pub given-unrefused : {A : Type 0} (input : List ℕ) (refused : Refused) (model : MixedModel) → GivesModel res_modulus input model → IsRefused input refused → A
 given-unrefused input refused model gives (n, why, is, first) = absurd (gives-unbroken input model n why gives first)
 
 pub refused-alone : (input : List ℕ) (refused other : Refused) → IsRefused input refused → IsRefused input other → refused ≡ other

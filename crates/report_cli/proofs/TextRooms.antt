@@ -37,10 +37,10 @@ pub record IsNarrow (n : ℕ) (L : LayeredMatrix) : Type 0 where
   pub t_rows : L.t_rows ≤ columns_within n
   pub columns : L.columns ≤ columns_within n
 
-narrow : (text : List ℕ) (model : MixedModel) (L : LayeredMatrix) (O : Origins) → GivesModel text model → IsLayeredMatrixOf (mixed_matrix_of model) L O → IsNarrow (length text) L
+narrow : (text : List ℕ) (model : MixedModel) (L : LayeredMatrix) (O : Origins) → GivesModel res_modulus text model → IsLayeredMatrixOf (mixed_matrix_of model) L O → IsNarrow (length text) L
 narrow text model L O gives are =
     let few = few-names text model gives in
-    let is : IsModel model = (gives.given).is_model in
+    let is : IsModel res_modulus model = (gives.given).is_model in
     let e : length model.equations ≤ 4096 = (is.equations).few in
     let u : length model.unknowns ≤ 4096 = (is.unknowns).few in
     let q : L.q_rows ≤ length model.equations = members-few _ _ _ _ are.q_rows in
@@ -72,7 +72,7 @@ certificate-fits input c right short =
           (omega (arith, echo)) short (few_columns (length input)) right.form right.right within,
     )
 
-layers-fit : (input : List ℕ) (model : MixedModel) (layers : Layers) → GivesModel input model → AreLayersOf model layers → AreWholeLayers layers →
+layers-fit : (input : List ℕ) (model : MixedModel) (layers : Layers) → GivesModel res_modulus input model → AreLayersOf model layers → AreWholeLayers layers →
     length (report_text (Layering model layers)) ≤ text_room (length input)
 layers-fit input model layers gives are whole =
     let low = narrow input model (layered_matrix_of layers) (origins_of layers are.split) gives are.layered in

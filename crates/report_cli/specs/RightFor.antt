@@ -17,11 +17,11 @@ use Rattle.report_cli.specs.Limits.{model_limit}
 -- its lines, and has a right canonical form of the model's layered matrix
 pub record IsRightFor (input : List ℕ) (certificate : Certificate) : Type 0 where
   pub model : MixedModel
-  pub gives : GivesModel input model
+  pub gives : GivesModel res_modulus input model
   pub kind : certificate.kind ≡ Matrix
   pub echo : certificate.echo ≡ input
   pub short : length certificate.echo ≤ model_limit
-  pub form : IsCcf certificate.ccf
+  pub form : IsCcf res_modulus certificate.ccf
   pub layered : LayeredMatrix
   pub origins : Origins
   pub layers : IsLayeredMatrixOf (mixed_matrix_of model) layered origins
@@ -29,4 +29,4 @@ pub record IsRightFor (input : List ℕ) (certificate : Certificate) : Type 0 wh
 
 -- the refusal holds the first rule that the input breaks, and its line
 abbrev pub IsRefused : List ℕ → Refused → Type 0
-IsRefused input refused = IsRefusal input (Refusal refused)
+IsRefused input refused = IsRefusal res_modulus input (Refusal refused)
