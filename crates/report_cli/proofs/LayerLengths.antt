@@ -86,7 +86,7 @@ filled-small : (constant : Option ℕ) → ((c : ℕ) → constant ≡ Some c �
 filled-small None residue = omega arith
 filled-small (Some c) residue = residue c refl
 
-constants-small : (first : ℕ) (row : List RowEntry) → RisesFrom first row → (j : ℕ) → unwrap_or (constant_in row j) 0 < 65521
+constants-small : (first : ℕ) (row : List RowEntry) → RisesFrom res_modulus first row → (j : ℕ) → unwrap_or (constant_in row j) 0 < 65521
 constants-small first [] rises j = omega arith
 constants-small first (item ∷ row) rises j = go (constants-small (item.column + 1) row rises.2 j) (nat_eq item.column j)
   where
