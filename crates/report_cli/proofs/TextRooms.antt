@@ -39,7 +39,7 @@ pub record IsNarrow (n : ℕ) (L : LayeredMatrix) : Type 0 where
 
 narrow : (text : List ℕ) (model : MixedModel) (L : LayeredMatrix) (O : Origins) → GivesModel res_modulus text model → IsLayeredMatrixOf (mixed_matrix_of model) L O → IsNarrow (length text) L
 narrow text model L O gives are =
-    let few = few-names text model gives in
+    let few = few-names res_modulus text model gives in
     let is : IsModel res_modulus model = (gives.given).is_model in
     let e : length model.equations ≤ 4096 = (is.equations).few in
     let u : length model.unknowns ≤ 4096 = (is.unknowns).few in
@@ -68,7 +68,7 @@ certificate-fits input c right short =
     let echo : length c.echo ≡ length input = ap length right.echo in
     omega (
       arith,
-      certificate-short res_modulus (mixed_matrix_of right.model) right.layered right.origins c (length input) (columns_within (length input))
+      certificate-short res_modulus (omega arith) (mixed_matrix_of right.model) right.layered right.origins c (length input) (columns_within (length input))
           (omega (arith, echo)) short (few_columns (length input)) right.form right.right within,
     )
 
