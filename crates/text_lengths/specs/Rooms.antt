@@ -28,5 +28,6 @@ certificate_room n k = n + 51 + contents_room k
 abbrev pub CertificateTextsAreShort : Type 0
 CertificateTextsAreShort =
     (p : ℕ) → p ≤ 100000 → (M : Mixed) (L : Layered) (O : Origins) (c : Certificate) (n k : ℕ) →
-    length c.echo ≤ n → n ≤ 8388608 → k ≤ 8192 → IsCcf p c.ccf → IsRightCcf p M L O c.ccf → IsShapeWithin k c.ccf.shape →
+    length c.echo ≤ n → n ≤ 8388608 → k ≤ 8192 →
+    IsCcf p c.ccf → IsRightCcf p M L O c.ccf → IsShapeWithin k c.ccf.shape →
     length (certificate_text c) ≤ certificate_room n k
