@@ -1,3 +1,3 @@
+pub mod Giving
 pub mod Numbers
-pub mod Outlets
 pub mod Texts

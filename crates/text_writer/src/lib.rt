@@ -3,7 +3,7 @@
 
 mod digits;
 mod held;
-mod outlet;
+mod progress;
 mod writer;
 
 pub use writer::TextWriter;

@@ -6,25 +6,26 @@ ghost use Rattle.text_writer.specs.Texts.{HasPut, Puts, Finishes};
 
 use crate::digits::{LONGEST, put_digits};
 use crate::held::Held;
-use crate::outlet::Outlet;
+use crate::progress::Progress;
 use port_io::{Sink, WriteFault};
 
 /// Takes the pieces of a long text on their way to a sink, and gathers them, so that the sink is not called for each of
 /// them. Once a call of the sink has failed, no call is made any more, and `finish` tells the fault. It takes no memory.
-#[derive(Drop)]
 pub struct TextWriter<'a, K: Sink> {
-    outlet: Outlet<'a, K>,
+    out: &'a mut K,
+    progress: Progress,
     held: Held,
 }
 
 impl<'a, K: Sink> TextWriter<'a, K> {
     /// A writer over this sink.
     pub fn new(out: &'a mut K) -> TextWriter<'a, K>
-        ensures same_sink { result.outlet.out.ghost_name ≡ out.entry.ghost_name }
+        ensures same_sink { result.out.ghost_name ≡ out.entry.ghost_name }
         ensures nothing { HasPut K.Sink out.old result [] }
     {
         TextWriter {
-            outlet: Outlet::new(out),
+            out,
+            progress: Progress::nothing(),
             held: Held::new(),
         }
     }
@@ -36,10 +37,10 @@ impl<'a, K: Sink> TextWriter<'a, K> {
         if self.held.hold(piece) {
             return;
         }
-        self.outlet.give(self.held.as_slice());
+        self.progress.give(self.out, self.held.as_slice());
         self.held.clear();
         if !self.held.hold(piece) {
-            self.outlet.give(piece);
+            self.progress.give(self.out, piece);
         }
     }
 
@@ -67,13 +68,16 @@ impl<'a, K: Sink> TextWriter<'a, K> {
         self.number(b'=', value);
     }
 
-    /// Gives the sink all that is still held, and does not flush it.
-    pub fn finish(&mut self) -> Result<(), WriteFault>
-        ensures same_sink { self.new.outlet.out.ghost_name ≡ self.old.outlet.out.ghost_name }
-        ensures written { Finishes K.Sink self.old self.new.outlet.out.now result }
+    /// Gives the sink all that is still held, and does not flush it. An error tells how many bytes the sink took.
+    pub fn finish(self) -> Result<(), WriteFault>
+        ensures { Finishes K.Sink self.entry self.exit.0.now result }
     {
-        self.outlet.give(self.held.as_slice());
-        self.held.clear();
-        self.outlet.outcome()
+        let TextWriter {
+            out,
+            mut progress,
+            held,
+        } = self;
+        progress.give(out, held.as_slice());
+        progress.outcome()
     }
 }

@@ -4,7 +4,7 @@ use Rattle.port_io.specs.Bytes.{Appended}
 use Rattle.port_io.specs.Causes.{HasCause, Rose, shown}
 use Rattle.port_io.specs.declared.ports.Sink.{Ghosts}
 use Rattle.port_io.specs.declared.writing.WriteFault.{WriteFault}
-use Rattle.text_writer.specs.declared.outlet.Outlet.{Outlet}
+use Rattle.text_writer.specs.declared.progress.Progress.{Progress}
 
 -- a first part of a text, perhaps all, was appended
 pub record AppendedPart (written written' : Option (List ℕ)) (text : List ℕ) : Type 0 where
@@ -29,19 +29,21 @@ pub record IsWritten {S : Type 0} (K : Ghosts S) (first last : S) (text : List �
   pub calm : (more : ℕ) → K.takes first (length text + more) →
       (K.faults last ≡ K.faults first) × IsOk result × K.takes last more
 
--- since the sink stood as `first`, this text was given to the outlet: the sink has a part of it, and all where no call
--- has failed
-pub record HasGiven {S : Type 0} (K : Ghosts S) (first : S) (outlet : Outlet S) (text : List ℕ) : Type 0 where
-  pub has : AppendedPart (K.written first) (K.written outlet.out.now) text
-  pub counted : outlet.handed ≡ shown (length has.part)
-  pub fine : outlet.failed ≡ false → (has.rest ≡ []) × (K.faults outlet.out.now ≡ K.faults first)
-  pub later : K.faults first ≤ K.faults outlet.out.now
-  pub failed : outlet.failed ≡ true → Rose (K.faults first) (K.faults outlet.out.now)
-  pub no_flush : K.flushes outlet.out.now ≡ K.flushes first
-  pub calm : (more : ℕ) → K.takes first (length text + more) →
-      (outlet.failed ≡ false) × K.takes outlet.out.now more
+-- before the first byte is given
+abbrev pub nothing_given : Progress
+nothing_given = record { handed = 0; failed = false }
+
+-- since the sink stood as `first`, this text was given to it: the sink has a part of it, and all where no call failed
+pub record HasGiven {S : Type 0} (K : Ghosts S) (first sink : S) (progress : Progress) (text : List ℕ) : Type 0 where
+  pub has : AppendedPart (K.written first) (K.written sink) text
+  pub counted : progress.handed ≡ shown (length has.part)
+  pub fine : progress.failed ≡ false → (has.rest ≡ []) × (K.faults sink ≡ K.faults first)
+  pub later : K.faults first ≤ K.faults sink
+  pub failed : progress.failed ≡ true → Rose (K.faults first) (K.faults sink)
+  pub no_flush : K.flushes sink ≡ K.flushes first
+  pub calm : (more : ℕ) → K.takes first (length text + more) → (progress.failed ≡ false) × K.takes sink more
 
 -- these bytes were given behind whatever was given before
-pub record Gives {S : Type 0} (K : Ghosts S) (before after : Outlet S) (bytes : List ℕ) : Type 0 where
-  pub same_sink : after.out.ghost_name ≡ before.out.ghost_name
-  pub behind : (first : S) (text : List ℕ) → HasGiven K first before text → HasGiven K first after (text ++ bytes)
+abbrev pub Gives : {S : Type 0} → Ghosts S → S → Progress → S → Progress → List ℕ → Type 0
+Gives {S} K sink progress sink' progress' bytes =
+    (first : S) (text : List ℕ) → HasGiven K first sink progress text → HasGiven K first sink' progress' (text ++ bytes)
