@@ -3,10 +3,11 @@
 
 Usage, at the top of the repository: tools/house_style.py [CRATE ..]   (no crate: all)
 
-It looks for three things, and judges nothing else:
+It looks for four things, and judges nothing else:
   head     a file of src/ begins with `//!` and its subject, a file of specs/ or proofs/*.antt with `--` and its subject
   private  a private function has its comment as `//`, a public one as `///`
   long     a clause of src/, or a line of specs/, is at most 120 characters wide
+  table    the tables of docs/architecture.md and README.md name each crate of crates.txt, and no other
 """
 import collections
 import pathlib
@@ -71,15 +72,32 @@ def departures(crate):
                 yield from ((path, *what) for what in each)
 
 
+def tables():
+    """Crates that a table leaves out, or has though there is none. Programs prove nothing of their own for README.md."""
+    known = re.findall(r"^(\w+):", pathlib.Path("crates.txt").read_text(encoding="utf-8"), re.MULTILINE)
+    for path, wanted in (("docs/architecture.md", known), ("README.md", [name for name in known if not is_program(name)])):
+        rows = re.findall(r"^\| (`\w+`(?:, `\w+`)*) \|", pathlib.Path(path).read_text(encoding="utf-8"), re.MULTILINE)
+        named = [name for row in rows for name in re.findall(r"\w+", row)]
+        yield from ((path, 1, "table", f"has no crate `{name}`") for name in wanted if name not in named)
+        if path.startswith("docs"):
+            yield from ((path, 1, "table", f"there is no crate `{name}`") for name in named if name not in known)
+
+
+def is_program(name):
+    return pathlib.Path("crates", name, "src", "main.rt").exists()
+
+
 def main(names):
     top = pathlib.Path("crates")
     crates = [top / name for name in names] or sorted(top.iterdir())
     counts = collections.Counter()
-    for crate in crates:
-        for path, number, kind, what in departures(crate):
-            counts[kind] += 1
-            print(f"{path}:{number}: {what}")
-    print(" ".join(f"{kind}={counts[kind]}" for kind in ("head", "private", "long")))
+    found = [each for crate in crates for each in departures(crate)]
+    if not names:
+        found += tables()
+    for path, number, kind, what in found:
+        counts[kind] += 1
+        print(f"{path}:{number}: {what}")
+    print(" ".join(f"{kind}={counts[kind]}" for kind in ("head", "private", "long", "table")))
 
 
 if __name__ == "__main__":

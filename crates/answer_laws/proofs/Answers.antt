@@ -67,7 +67,7 @@ pub record IsLayered (input text : List ℕ) : Type 0 where
   pub model : MixedModel
   pub layers : Layers
   pub text_is : text ≡ layer_text model layers
-  pub gives : GivesModel input model
+  pub gives : GivesModel res_modulus input model
   pub are : AreLayersOf model layers
   pub whole : AreWholeLayers layers
 
@@ -89,7 +89,7 @@ agreeing words input text other asks first second =
     let two = analysed words input other asks second in
     let a = one.right in
     let b = two.right in
-    let same : b.model ≡ a.model = text_gives_one input b.model a.model b.gives a.gives in
+    let same : b.model ≡ a.model = text_gives_one res_modulus input b.model a.model b.gives a.gives in
     let layers : IsLayeredMatrixOf (mixed_matrix_of a.model) b.layered b.origins = subst (λ m. IsLayeredMatrixOf (mixed_matrix_of m) b.layered b.origins) same b.layers in
     let right : IsRightCcf res_modulus (mixed_matrix_of a.model) b.layered b.origins (two.certificate).ccf =
     subst (λ m. IsRightCcf res_modulus (mixed_matrix_of m) b.layered b.origins (two.certificate).ccf) same b.right in
@@ -112,7 +112,7 @@ pub one-answer : (words : List (List ℕ)) (input text other : List ℕ) → Ask
 one-answer words input text other asks first second =
     let one = layered words input text asks first in
     let two = layered words input other asks second in
-    let same : two.model ≡ one.model = text_gives_one input two.model one.model two.gives one.gives in
+    let same : two.model ≡ one.model = text_gives_one res_modulus input two.model one.model two.gives one.gives in
     one.text_is ∙ one-layer-text one.model one.layers two.layers one.are one.whole (subst (λ m. AreLayersOf m two.layers) same two.are) two.whole
     ∙ sym (two.text_is ∙ ap (λ m. layer_text m two.layers) same)
 

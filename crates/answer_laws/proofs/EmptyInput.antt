@@ -2,6 +2,7 @@
 use Rattle.std.proofs.Common.{◌≡◌, ℕ, ◌<◌, List, [], ◌∷◌, ◌++◌, length, get_or, codes, refl, ap, ◌∙◌, arith}
 use Rattle.std.specs.Fmt.{digits}
 use Rattle.std.proofs.lemmas.List.Elements.{All-head}
+use Rattle.residue_field.specs.Modulus.{res_modulus}
 use Rattle.cert_text.specs.Contents.{Contents}
 use Rattle.cert_text.specs.Ranges.{IsCcf, IsPart, IsBlock, AreRising, ArePairs}
 use Rattle.cert_text.specs.Texts.{shape_text, pair_text, matrices_text, parts_text, echo_text, certificate_text}
@@ -78,7 +79,7 @@ text-with c kind echo shape rank base mates is_kind is_echo is_shape is_rank is_
     ∙ ap (λ x. text_with kind echo shape rank x c.ccf.mates X Y) is_base
     ∙ ap (λ x. text_with kind echo shape rank base x X Y) is_mates
 
-empty-matrices : (c : Contents) → IsCcf c → c.shape.q_rows ≡ 0 → c.shape.t_rows ≡ 0 → matrices_text c.s c.u c.p c.t ≡ []
+empty-matrices : (c : Contents) → IsCcf res_modulus c → c.shape.q_rows ≡ 0 → c.shape.t_rows ≡ 0 → matrices_text c.s c.u c.p c.t ≡ []
 empty-matrices c is q t =
     ap (λ x. matrices_text x c.u c.p c.t) (empty-list c.s ((is.s).count ∙ q))
     ∙ ap (λ x. matrices_text [] x c.p c.t) (empty-list c.u ((is.u).count ∙ q))
@@ -88,7 +89,7 @@ empty-matrices c is q t =
 abbrev nothing : CcfPart
 nothing = part [] [] []
 
-empty-parts : (c : Contents) → IsCcf c → c.shape.q_rows ≡ 0 → c.shape.t_rows ≡ 0 → c.shape.columns ≡ 0 → parts_text c.first c.blocks c.last ≡ codes "first |\nlast |\n"
+empty-parts : (c : Contents) → IsCcf res_modulus c → c.shape.q_rows ≡ 0 → c.shape.t_rows ≡ 0 → c.shape.columns ≡ 0 → parts_text c.first c.blocks c.last ≡ codes "first |\nlast |\n"
 empty-parts c is q t n =
     ap (λ x. parts_text x c.blocks c.last) (empty-part c.shape c.first q t n is.first)
     ∙ ap (λ x. parts_text nothing x c.last) (empty-blocks c.shape c.blocks n is.blocks)

@@ -3,9 +3,10 @@ use Rattle.std.proofs.Common.{◌≡◌, ℕ, zero, suc, ◌+◌, ◌<◌, Bool,
 use Rattle.std.specs.Fmt.{digits}
 use Rattle.std.specs.List.{slice_get}
 use Rattle.std.proofs.lemmas.List.Elements.{All-head}
+use Rattle.residue_field.specs.Modulus.{res_modulus}
 use Rattle.residue_theory.specs.Sums.{size_on}
 use Rattle.residue_theory.proofs.SetLaws.{differ, both-second, not_true, some_below-found}
-use Rattle.mixed_matrices.specs.LayeredMatrices.{Layered}
+use Rattle.mixed_matrices.specs.LayeredMatrices.{LayeredMatrix}
 use Rattle.mixed_matrices.specs.Layerings.{AreMembers, Origins, IsLayeredMatrixOf, gives_q, has_constant, has_symbol}
 use Rattle.mixed_model.specs.Models.{MixedModel, mixed_matrix_of, symbol_of}
 use Rattle.mixed_model.specs.Layers.{Layers, layered_matrix_of}
@@ -39,7 +40,7 @@ one-listed A n at m one member are = omega (arith, are.count, ap (size_on A) one
     counted : (b : Bool) → b ≡ true → 0 + cond {A = ℕ} b 1 0 ≡ 1
     counted b is = rw is (omega arith)
 
-module _ (model : MixedModel) (gives : GivesModel one_equation model) where
+module _ (model : MixedModel) (gives : GivesModel res_modulus one_equation model) where
   one-row : length model.equations ≡ 1
   one-row = ap length (gives.given).equations_are
 
@@ -69,7 +70,7 @@ module _ (model : MixedModel) (gives : GivesModel one_equation model) where
       or-true true = refl
       or-true false = refl
 
-  module _ (L : Layered) (O : Origins) (are : IsLayeredMatrixOf (mixed_matrix_of model) L O) where
+  module _ (L : LayeredMatrix) (O : Origins) (are : IsLayeredMatrixOf (mixed_matrix_of model) L O) where
     pub one-q : L.q_rows ≡ 1
     one-q = one-listed _ _ _ _ one-row first-gives are.q_rows
 
@@ -144,7 +145,7 @@ first-row : (names : List (List ℕ)) (origins : List ℕ) (rows : List (List �
 first-row names origins [] more one = absurd (omega (arith, one))
 first-row names origins (row ∷ rows) more one = refl
 
-never-made-up : (model : MixedModel) (layers : Layers) → GivesModel one_equation model → AreLayersOf model layers → AreWholeLayers layers →
+never-made-up : (model : MixedModel) (layers : Layers) → GivesModel res_modulus one_equation model → AreLayersOf model layers → AreWholeLayers layers →
     layer_text model layers ≡ codes "columns 1\nc1 x\nc2 x\nq1 a 1=1\n" → ⊥
 unfolding digits
 never-made-up model layers gives are whole same =

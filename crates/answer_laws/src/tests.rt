@@ -42,7 +42,7 @@ fn value<F: Field>(matrix: &Mat<F>, row: usize, column: usize) -> Option<F> {
     }
 }
 
-/// S and U are those of a certificate of `eq a x=1 y=1` and `eq b x=1 y=?`.
+// S and U are those of a certificate of `eq a x=1 y=1` and `eq b x=1 y=?`.
 #[test]
 fn a_transform_times_its_inverse_is_one(rt: HostRuntime) -> Result<(), Fail> {
     let s = matrix(rt.alloc(), &[[0, 1], [1, 65_520]])?;

@@ -1,3 +1,5 @@
+//! Equations that are drawn at random.
+
 ghost use Rattle.std.specs.Prelude.{◌≡◌, ◌≤◌, ◌<◌};
 
 use std::alloc::{AllocError, Global};

@@ -1,11 +1,14 @@
+//! The layered matrix of drawn equations.
+
 ghost use Rattle.std.specs.Prelude.{◌≡◌, ◌≤◌, ◌<◌, length, IfOk};
+ghost use Rattle.limits.specs.Limits.{equation_limit};
 ghost use Rattle.dense_q.specs.Tables.{height};
 
 use crate::draws::{Draws, Family, Place, equation};
 use dense_q::Mat;
 use independent_matching::NoMemory;
 use mixed_model::{Layered, Origin};
-use residue_field::Res;
+use residue_field::{Field, Res};
 use sparse_t::Pattern;
 use std::alloc::Global;
 
@@ -16,9 +19,9 @@ pub(crate) fn layered(
     draws: &mut Draws,
     family: Family,
     size: usize,
-) -> Result<Layered, NoMemory>
+) -> Result<Layered<Res>, NoMemory>
     requires size { 1 ≤ size }
-    requires few { size ≤ 4096 }
+    requires few { size ≤ equation_limit }
 {
     let mut equations = Vec::with_capacity(alloc, size)?;
     for _equation in 0..size {
@@ -112,17 +115,20 @@ fn push_row(t: &mut Pattern, columns: &[usize]) -> Result<(), NoMemory>
         return Ok(());
     }
     let width = t.cols().min(8_192);
-    let pushed = match columns {
-        [a] if *a < width => t.push_row(&[*a as u32]),
-        [a, b] if a < b && *b < width => t.push_row(&[*a as u32, *b as u32]),
-        [a, b, c] if a < b && b < c && *c < width => t.push_row(&[*a as u32, *b as u32, *c as u32]),
-        _ => Ok(()),
-    };
-    pushed.map_err(|_| NoMemory)
+    match columns {
+        [a] if *a < width => t.push_row(&[*a as u32])?,
+        [a, b] if a < b && *b < width => t.push_row(&[*a as u32, *b as u32])?,
+        [a, b, c] if a < b && b < c && *c < width => t.push_row(&[
+            *a as u32, *b as u32, *c as u32,
+        ])?,
+        _ => {}
+    }
+    Ok(())
 }
 
-// Every row is said to come from the first equation, and every column from the first unknown: the engine asks for neither.
-fn with_origins(alloc: Global, q: Mat<Res>, t: Pattern) -> Result<Layered, NoMemory>
+// Every row is said to come from the first equation, and every column from the first unknown: the engine asks for
+// neither.
+fn with_origins(alloc: Global, q: Mat<Res>, t: Pattern) -> Result<Layered<Res>, NoMemory>
     requires { t.width ≡ q.width }
 {
     let q_origins = vec![in alloc; 0; q.rows()]?;

@@ -1,9 +1,10 @@
 //! Runs the engine on a layered matrix that is drawn at random, and writes what it finds. The words are a family
-//! (`symbols`, `constants` or `mixed`) and how many equations and unknowns there are, from 1 to 4,096. It tells how many
-//! searches there were and how many steps, which are looks at columns and pivots.
+//! (`symbols`, `constants` or `mixed`) and how many equations and unknowns there are, from 1 to 4,096. It tells how
+//! many searches there were and how many steps, which are looks at columns and pivots.
 #![tactic(auto)]
 
 ghost use Rattle.std.specs.Prelude.{◌≤◌, IfSome};
+ghost use Rattle.limits.specs.Limits.{equation_limit};
 
 mod draws;
 mod layering;
@@ -47,7 +48,7 @@ fn main(rt: HostRuntime) -> ExitCode {
 // The family and how many equations it has.
 fn words(rt: &(impl Env + AllocGlobal)) -> Option<(Family, usize)>
     ensures some { IfSome result (λ w. 1 ≤ w.1) }
-    ensures few { IfSome result (λ w. w.1 ≤ 4096) }
+    ensures few { IfSome result (λ w. w.1 ≤ equation_limit) }
 {
     let words: Vec<String> = env::args(rt).ok()?.collect(rt.alloc()).ok()?;
     match words.as_slice() {

@@ -1,9 +1,13 @@
+//! The engine, run on a drawn matrix.
+
 ghost use Rattle.std.specs.Prelude.{◌≡◌, ◌≤◌, ◌<◌};
+ghost use Rattle.limits.specs.Limits.{equation_limit};
 
 use crate::draws::{Draws, Family};
 use crate::layering::layered;
 use exchange_graph::Steps;
 use independent_matching::{Engine, NoMemory};
+use residue_field::Res;
 use row_transform::Tableau;
 use std::alloc::Global;
 use std::sync::ledger::{Blank, Ledger};
@@ -27,14 +31,14 @@ pub(crate) fn solve<L: Ledger>(
     blank: Blank,
 ) -> Result<Found, NoMemory>
     requires size { 1 ≤ size }
-    requires few { size ≤ 4096 }
+    requires few { size ≤ equation_limit }
     requires name { blank.name ≡ L.name }
     requires parts { blank.parts ≡ L.parts }
     requires some { 0 < blank.parts }
 {
     let mut draws = Draws::new(size as u64);
     let layered = layered(alloc, &mut draws, family, size)?;
-    let mut engine = Engine::open(alloc, &layered)?;
+    let mut engine: Engine<Res> = Engine::open(alloc, &layered)?;
     let mut steps = Steps::<L>::new(blank);
     engine.run(&mut steps);
     let columns = engine.tableau().columns();

@@ -1,5 +1,5 @@
-//! Fills a lattice with arcs of a named shape, and tells how many blocks there are, and how many pairs of which one covers
-//! the other: `bench_lattice SHAPE PLACES`. It serves to measure what the lattice takes.
+//! Fills a lattice with arcs of a named shape, and tells how many blocks there are, and how many pairs of which one
+//! covers the other: `bench_lattice SHAPE PLACES`. It serves to measure what the lattice takes.
 #![tactic(auto)]
 
 mod shape;

@@ -1,3 +1,5 @@
+//! Arcs of named shapes.
+
 ghost use Rattle.bench_lattice.specs.Shapes.{leads_of};
 
 use exchange_graph::Arcs;

@@ -4,9 +4,10 @@
 
 use matrix_reader::read;
 use port_io::{StdSource, read_all};
+use residue_field::Res;
 use std::process::ExitCode;
 
-/// The most bytes of a model's text.
+// The most bytes of a model's text.
 const MODEL_LIMIT: u64 = 8_388_608;
 
 fn main(rt: HostRuntime) -> ExitCode {
@@ -14,7 +15,7 @@ fn main(rt: HostRuntime) -> ExitCode {
     let Ok(input) = read_all(rt.alloc(), &mut source, MODEL_LIMIT) else {
         return ExitCode::FAILURE;
     };
-    let Ok(model) = read(rt.alloc(), &input) else {
+    let Ok(model) = read::<Res>(rt.alloc(), &input) else {
         return ExitCode::FAILURE;
     };
     match println!(rt;

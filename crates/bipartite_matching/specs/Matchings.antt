@@ -41,5 +41,7 @@ without_column m col = record m { mates = slice_set m.mates col None }
 pub record IsStored (p : Incidence) (columns mates : List (Option ℕ)) : Type 0 where
   pub matching : IsMatching (record { pattern = p; mates = mates })
   pub rows : length columns ≡ height p
-  pub column : (row col : ℕ) → HasPair (record { pattern = p; mates = mates }) row col → slice_index_or columns row None ≡ Some col
-  pub pair : (row col : ℕ) → slice_index_or columns row None ≡ Some col → HasPair (record { pattern = p; mates = mates }) row col
+  pub column : (row col : ℕ) → HasPair (record { pattern = p; mates = mates }) row col →
+      slice_index_or columns row None ≡ Some col
+  pub pair : (row col : ℕ) → slice_index_or columns row None ≡ Some col →
+      HasPair (record { pattern = p; mates = mates }) row col

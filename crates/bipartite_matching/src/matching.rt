@@ -1,3 +1,5 @@
+//! Matchings of a bipartite graph: rows, columns and the symbol places that join them.
+
 ghost use Rattle.std.specs.Prelude.{◌≡◌, ◌<◌, ℕ, true, None, IfOk, IfSome, IfNone};
 ghost use Rattle.sparse_t.specs.Incidences.{height, touches};
 ghost use Rattle.bipartite_matching.specs.Matchings.{Matching, IsMatching, HasPair, IsRowMatched, IsRowFree, mate_at, empty_matching, with_pair, without_column};

@@ -1,3 +1,5 @@
+//! Tests of matchings.
+
 use super::*;
 use sparse_t::Pattern;
 use std::alloc::Global;

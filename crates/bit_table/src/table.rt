@@ -1,3 +1,5 @@
+//! A table of bits in words of 64, so that a row is looked through a word at a time.
+
 ghost use Rattle.std.specs.Prelude.{◌≡◌, ℕ, ◌<◌, ◌≤◌, Bool, true, false, IfOk, IfSome, IfNone};
 ghost use Rattle.number_ranges.specs.Ranges.{HasNone, IsLeast};
 ghost use Rattle.bit_table.specs.Bits.{bit_in, IsBitSet, IsJoined, IsRowCleared};

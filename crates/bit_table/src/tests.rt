@@ -1,3 +1,5 @@
+//! Tests of tables of bits.
+
 ghost use Rattle.std.specs.Prelude.{◌<◌, ◌≤◌};
 
 use super::*;

@@ -1,21 +1,20 @@
 -- What is printed of an engine that has run on the layered matrix of a model is right for the model.
-use Rattle.std.proofs.Common.{◌≡◌, ℕ, ◌+◌, ◌-◌, ◌<◌, ◌≤◌, List, length, get_or, refl, ap, sym, ◌∙◌, subst, arith}
+use Rattle.std.proofs.Common.{◌≡◌, ℕ, Bool, ◌+◌, ◌-◌, ◌<◌, ◌≤◌, List, length, get_or, refl, ap, sym, ◌∙◌, subst, arith}
 use Rattle.residue_theory.specs.Sets.{either}
 use Rattle.residue_theory.proofs.CountLaws.{size-either}
-use Rattle.residue_theory.proofs.Primes.{prime_65521}
-use Rattle.residue_field.specs.Modulus.{res_modulus}
+use Rattle.residue_theory.specs.Residues.{IsPrime}
+use Rattle.bipartite_matching.specs.Matchings.{Matching}
 use Rattle.dense_q.specs.Tables.{entry}
 use Rattle.sparse_t.specs.Incidences.{touches}
-use Rattle.mixed_matrices.specs.LayeredMatrices.{Layered}
+use Rattle.mixed_matrices.specs.LayeredMatrices.{LayeredMatrix}
 use Rattle.mixed_matrices.specs.Layerings.{Origins, IsLayeredMatrixOf}
 use Rattle.mixed_matrices.specs.StructuralRanks.{IsStructuralRank}
 use Rattle.mixed_layering_laws.proofs.LayeringRank.{model_rank}
 use Rattle.mixed_layering.specs.Layers.{AreLayersOf, origins_of}
 use Rattle.mixed_model.specs.Layers.{Layers, AreLayers, layered_matrix_of, split_of}
 use Rattle.mixed_model.specs.Models.{MixedModel, IsModel, mixed_matrix_of}
-use Rattle.row_transform.specs.Dense.{Dense, state_of}
 use Rattle.row_transform.specs.Tableaus.{State, IsTableau, IsBaseColumn}
-use Rattle.independent_matching.specs.Engines.{Standing, layers}
+use Rattle.independent_matching.specs.Engines.{layers}
 use Rattle.independent_matching.specs.Sides.{is_matched, mate_of, size_of}
 use Rattle.minimiser_lattice.specs.Parts.{Parts}
 use Rattle.cert_text.specs.Contents.{Contents}
@@ -49,23 +48,21 @@ part-ranges q t n e u placing part c columns q_rows t_rows is = record {
   t_rows = subst (λ k. AreRising k c.t_rows) t_rows is.t_rows.rising;
 }
 
-module _ (of : Layers) (layers_ok : AreLayers of) (engine : Standing Dense) (solution : IsSolution of engine) (tableau : IsTableau res_modulus (state_of res_modulus engine.tableau))
-    (base mates : List (ℕ × ℕ)) (pair : ListsPair (state_of res_modulus engine.tableau) engine.matching (length of.t.rows) base mates)
-    (s u P : List (List (ℕ × ℕ))) (prints : PrintsTableau (state_of res_modulus engine.tableau) s u P)
+module _ (p : ℕ) (prime : IsPrime p) (odd : 2 < p) (of : Layers) (layers_ok : AreLayers of)
+    (t : State) (matching : Matching) (reached : ℕ → Bool) (solution : IsSolution p of t matching reached) (tableau : IsTableau p t)
+    (base mates : List (ℕ × ℕ)) (pair : ListsPair t matching (length of.t.rows) base mates)
+    (s u P : List (List (ℕ × ℕ))) (prints : PrintsTableau p t s u P)
     (T : List (List ℕ)) (prints_t : PrintsPattern (length of.t.rows) of.t.width (touches of.t) T)
-    (v : Parts) (decomposed : IsDecomposition (state_of res_modulus engine.tableau) engine.matching v)
-    (first : CcfPart) (blocks : List CcfBlock) (last : CcfPart) (parts : PrintsParts v (state_of res_modulus engine.tableau).rows (length of.t.rows) base mates first blocks last) where
-  abbrev t : State
-  t = state_of res_modulus engine.tableau
-
+    (v : Parts) (decomposed : IsDecomposition p t matching v)
+    (first : CcfPart) (blocks : List CcfBlock) (last : CcfPart) (parts : PrintsParts v t.rows (length of.t.rows) base mates first blocks last) where
   -- the layered matrix on which the engine stands
-  abbrev N : Layered
-  N = layers (entry of.q) t engine.matching
+  abbrev N : LayeredMatrix
+  N = layers (entry of.q) t matching
 
   abbrev pub contents : Contents
   contents = record {
     shape = record { equations = t.rows + length of.t.rows - split_of of; unknowns = t.columns - split_of of; q_rows = t.rows; t_rows = length of.t.rows; columns = t.columns };
-    rank = size_of t engine.matching - split_of of;
+    rank = size_of t matching - split_of of;
     base = base;
     mates = mates;
     s = s;
@@ -78,38 +75,38 @@ module _ (of : Layers) (layers_ok : AreLayers of) (engine : Standing Dense) (sol
   }
 
   t_rows_are : length of.t.rows ≡ N.t_rows
-  t_rows_are = sym (ap (λ (K : Layered). K.t_rows) solution.layers_are)
+  t_rows_are = sym (ap (λ (K : LayeredMatrix). K.t_rows) solution.layers_are)
 
   width_is : of.t.width ≡ t.columns
-  width_is = layers_ok.same_columns ∙ sym (ap (λ (K : Layered). K.columns) solution.layers_are)
+  width_is = layers_ok.same_columns ∙ sym (ap (λ (K : LayeredMatrix). K.columns) solution.layers_are)
 
-  matched : ListsPairs (IsMate engine.matching t.columns) N.t_rows mates
-  matched = subst (λ m. ListsPairs (IsMate engine.matching t.columns) m mates) t_rows_are pair.mates_are
+  matched : ListsPairs (IsMate matching t.columns) N.t_rows mates
+  matched = subst (λ m. ListsPairs (IsMate matching t.columns) m mates) t_rows_are pair.mates_are
 
   t_placed : PlacesRows N.t_rows mates parts.placing.columns parts.placing.t_rows
   t_placed = subst (λ m. PlacesRows m mates parts.placing.columns parts.placing.t_rows) t_rows_are parts.t_are
 
-  few_in_pair : size_of t engine.matching ≤ t.columns
+  few_in_pair : size_of t matching ≤ t.columns
   few_in_pair =
-      let apart = (solved of engine solution tableau).tableau.apart in
-      omega (arith, size-either t.base (is_matched engine.matching) t.columns apart, size-within (either t.base (is_matched engine.matching)) t.columns)
+      let apart = (solved p of t matching reached solution tableau).tableau.apart in
+      omega (arith, size-either t.base (is_matched matching) t.columns apart, size-within (either t.base (is_matched matching)) t.columns)
 
-  product : HasProduct res_modulus N contents
+  product : HasProduct p N contents
   product = record {
-    q = product-entries res_modulus t.rows t.columns (matrix_of s) t.s (entry of.q) (matrix_of P) t.p prints.s_is.same prints.p_is.same (transformed res_modulus (entry of.q) t solution.entries tableau);
+    q = product-entries p t.rows t.columns (matrix_of s) t.s (entry of.q) (matrix_of P) t.p prints.s_is.same prints.p_is.same (transformed p (entry of.q) t solution.entries tableau);
     t = λ i j il jl.
-        prints_t.same i j (subst (λ m. i < m) (sym t_rows_are) il) (subst (λ n. j < n) (sym width_is) jl) ∙ sym (ap (λ (K : Layered). K.t i j) solution.layers_are);
+        prints_t.same i j (subst (λ m. i < m) (sym t_rows_are) il) (subst (λ n. j < n) (sym width_is) jl) ∙ sym (ap (λ (K : LayeredMatrix). K.t i j) solution.layers_are);
   }
 
-  module _ (model : MixedModel) (is : IsModel model) (are : AreLayersOf model of) where
+  module _ (model : MixedModel) (is : IsModel p model) (are : AreLayersOf model of) where
     abbrev O : Origins
     O = origins_of of are.split
 
     laid : IsLayeredMatrixOf (mixed_matrix_of model) N O
     laid = subst (λ K. IsLayeredMatrixOf (mixed_matrix_of model) K O) (sym solution.layers_are) are.layered
 
-    ranked : IsStructuralRank res_modulus (mixed_matrix_of model) (size_of t engine.matching - length are.split) × (length are.split ≤ size_of t engine.matching)
-    ranked = model_rank res_modulus prime_65521 (omega arith) (mixed_matrix_of model) N O laid (size_of t engine.matching) (solved of engine solution tableau).rank
+    ranked : IsStructuralRank p (mixed_matrix_of model) (size_of t matching - length are.split) × (length are.split ≤ size_of t matching)
+    ranked = model_rank p prime odd (mixed_matrix_of model) N O laid (size_of t matching) (solved p of t matching reached solution tableau).rank
 
     shape : HasShape (mixed_matrix_of model) N contents
     shape = record {
@@ -120,23 +117,23 @@ module _ (of : Layers) (layers_ok : AreLayers of) (engine : Standing Dense) (sol
       columns = refl;
     }
 
-    rules : KeepsPrintedRules res_modulus (mixed_matrix_of model) N contents
+    rules : KeepsPrintedRules p (mixed_matrix_of model) N contents
     rules = record {
       shape = shape;
-      inverse = inverse-entries res_modulus t.rows (matrix_of s) t.s (matrix_of u) t.u prints.s_is.same prints.u_is.same tableau.inverse;
+      inverse = inverse-entries p t.rows (matrix_of s) t.s (matrix_of u) t.u prints.s_is.same prints.u_is.same tableau.inverse;
       product_is = product;
-      units = base-units of engine solution tableau base mates pair.base_is matched P prints.p_is;
+      units = base-units p of t matching reached solution tableau base mates pair.base_is matched P prints.p_is;
       matching = record {
-        symbols = mate-symbols of engine solution tableau base mates pair.base_is matched P prints.p_is;
-        differ = pair-columns-differ of engine solution tableau base mates pair.base_is matched P prints.p_is;
+        symbols = mate-symbols p of t matching reached solution tableau base mates pair.base_is matched P prints.p_is;
+        differ = pair-columns-differ p of t matching reached solution tableau base mates pair.base_is matched P prints.p_is;
       };
-      counted = let size = pair-size of engine solution tableau base mates pair.base_is matched P prints.p_is in omega (arith, size, ranked.1, are.count, laid.columns);
-      columns = columns-once of engine solution tableau base mates pair.base_is matched P prints.p_is v decomposed parts.placing parts.columns parts.q_are t_placed first last blocks parts.first_is parts.count parts.blocks_are parts.last_is;
+      counted = let size = pair-size p of t matching reached solution tableau base mates pair.base_is matched P prints.p_is in omega (arith, size, ranked.1, are.count, laid.columns);
+      columns = columns-once p of t matching reached solution tableau base mates pair.base_is matched P prints.p_is v decomposed parts.placing parts.columns parts.q_are t_placed first last blocks parts.first_is parts.count parts.blocks_are parts.last_is;
       checked = record {
-        q_rows = q_rows-once of engine solution tableau base mates pair.base_is matched P prints.p_is v decomposed parts.placing parts.columns parts.q_are t_placed first last blocks parts.first_is parts.count parts.blocks_are parts.last_is;
-        t_rows = t_rows-once of engine solution tableau base mates pair.base_is matched P prints.p_is v decomposed parts.placing parts.columns parts.q_are t_placed first last blocks parts.first_is parts.count parts.blocks_are parts.last_is;
+        q_rows = q_rows-once p of t matching reached solution tableau base mates pair.base_is matched P prints.p_is v decomposed parts.placing parts.columns parts.q_are t_placed first last blocks parts.first_is parts.count parts.blocks_are parts.last_is;
+        t_rows = t_rows-once p of t matching reached solution tableau base mates pair.base_is matched P prints.p_is v decomposed parts.placing parts.columns parts.q_are t_placed first last blocks parts.first_is parts.count parts.blocks_are parts.last_is;
         below = v.below;
-        parts = parts-printed of engine solution tableau base mates pair.base_is matched P prints.p_is v decomposed parts.placing parts.columns parts.q_are t_placed first last blocks parts.first_is parts.count parts.blocks_are parts.last_is;
+        parts = parts-printed p of t matching reached solution tableau base mates pair.base_is matched P prints.p_is v decomposed parts.placing parts.columns parts.q_are t_placed first last blocks parts.first_is parts.count parts.blocks_are parts.last_is;
       };
     }
 
@@ -145,11 +142,11 @@ module _ (of : Layers) (layers_ok : AreLayers of) (engine : Standing Dense) (sol
         let block = parts.blocks_are k d kb in
         record {
           part = part-ranges t.rows (length of.t.rows) t.columns contents.shape.equations contents.shape.unknowns parts.placing (Block k) (get_or blocks k d).part (parts.columns.count ∙ decomposed.places) parts.q_are.count parts.t_are.count block.part;
-          some = block-some of engine solution tableau base mates pair.base_is matched P prints.p_is v decomposed parts.placing parts.columns parts.q_are t_placed first last blocks parts.first_is parts.count parts.blocks_are parts.last_is k d kb;
+          some = block-some p of t matching reached solution tableau base mates pair.base_is matched P prints.p_is v decomposed parts.placing parts.columns parts.q_are t_placed first last blocks parts.first_is parts.count parts.blocks_are parts.last_is k d kb;
           lower = block.lower.rising;
         }
 
-    pub fits : IsCcf contents
+    pub fits : IsCcf p contents
     fits = record {
       shape = record {
         equations = omega (arith, shape.equations, is.equations.few);
@@ -159,9 +156,9 @@ module _ (of : Layers) (layers_ok : AreLayers of) (engine : Standing Dense) (sol
         columns = omega (arith, few-split (mixed_matrix_of model) N O laid, is.equations.few, is.unknowns.few, laid.columns);
       };
       rank = omega (arith, few_in_pair, few-split (mixed_matrix_of model) N O laid, is.equations.few, is.unknowns.few, laid.columns);
-      base = are-pairs (IsBaseColumn t) t.rows t.columns base pair.base_is t.base t.row (base_told of engine solution tableau) (base_has of engine solution tableau) (base_low of engine solution tableau);
+      base = are-pairs (IsBaseColumn t) t.rows t.columns base pair.base_is t.base t.row (base_told p of t matching reached solution tableau) (base_has p of t matching reached solution tableau) (base_low p of t matching reached solution tableau);
       mates = subst (λ m. ArePairs m t.columns mates) (sym t_rows_are)
-          (are-pairs (IsMate engine.matching t.columns) N.t_rows t.columns mates matched (is_matched engine.matching) (mate_of engine.matching) (mate_told of engine solution tableau) (mate_has of engine solution tableau) (mate_low of engine solution tableau));
+          (are-pairs (IsMate matching t.columns) N.t_rows t.columns mates matched (is_matched matching) (mate_of matching) (mate_told p of t matching reached solution tableau) (mate_has p of t matching reached solution tableau) (mate_low p of t matching reached solution tableau));
       s = prints.s_is.is;
       u = prints.u_is.is;
       p = prints.p_is.is;
@@ -171,21 +168,21 @@ module _ (of : Layers) (layers_ok : AreLayers of) (engine : Standing Dense) (sol
       last = part-ranges t.rows (length of.t.rows) t.columns contents.shape.equations contents.shape.unknowns parts.placing Last last (parts.columns.count ∙ decomposed.places) parts.q_are.count parts.t_are.count parts.last_is;
     }
 
-    right : IsRightCcf res_modulus (mixed_matrix_of model) (layered_matrix_of of) O contents
-    right = subst (λ K. IsRightCcf res_modulus (mixed_matrix_of model) K O contents) solution.layers_are
-        (rules-right res_modulus prime_65521 (omega arith) (mixed_matrix_of model) N O laid contents fits rules)
+    right : IsRightCcf p (mixed_matrix_of model) (layered_matrix_of of) O contents
+    right = subst (λ K. IsRightCcf p (mixed_matrix_of model) K O contents) solution.layers_are
+        (rules-right p prime odd (mixed_matrix_of model) N O laid contents fits rules)
 
   -- the number of split rows is small
-  pub split-rows : IsOfModel of → split_of of ≤ t.rows + length of.t.rows
+  pub split-rows : IsOfModel p of → split_of of ≤ t.rows + length of.t.rows
   split-rows some = let counted = rows-counted (mixed_matrix_of some.model) N (O some.model some.is some.are) (laid some.model some.is some.are) in omega (arith, counted, t_rows_are, some.are.count)
 
-  pub split-size : IsOfModel of → split_of of ≤ size_of t engine.matching
+  pub split-size : IsOfModel p of → split_of of ≤ size_of t matching
   split-size some = omega (arith, (ranked some.model some.is some.are).1, some.are.count)
 
-  pub of-model : IsOfModel of → IsCcf contents
+  pub of-model : IsOfModel p of → IsCcf p contents
   of-model some = fits some.model some.is some.are
 
-  pub of-each : OfEachModel of (λ M O. IsRightCcf res_modulus M (layered_matrix_of of) O contents)
+  pub of-each : OfEachModel p of (λ M O. IsRightCcf p M (layered_matrix_of of) O contents)
   of-each model is are = right model is are
 
   -- the same for equal parts
@@ -200,8 +197,8 @@ module _ (of : Layers) (layers_ok : AreLayers of) (engine : Standing Dense) (sol
         ∙ ap (λ k. record { shape = sizes; rank = rank; base = k; mates = mates; s = s; u = u; p = P; t = T; first = first; blocks = blocks; last = last }) (sym base_is)
         ∙ ap (λ k. record { shape = sizes; rank = rank; base = base_list; mates = k; s = s; u = u; p = P; t = T; first = first; blocks = blocks; last = last }) (sym mates_are)
 
-    pub copied-fits : IsOfModel of → IsCcf copied
-    copied-fits some = subst IsCcf same (of-model some)
+    pub copied-fits : IsOfModel p of → IsCcf p copied
+    copied-fits some = subst (IsCcf p) same (of-model some)
 
-    pub copied-right : OfEachModel of (λ M O. IsRightCcf res_modulus M (layered_matrix_of of) O copied)
-    copied-right = subst (λ c. OfEachModel of (λ M O. IsRightCcf res_modulus M (layered_matrix_of of) O c)) same of-each
+    pub copied-right : OfEachModel p of (λ M O. IsRightCcf p M (layered_matrix_of of) O copied)
+    copied-right = subst (λ c. OfEachModel p of (λ M O. IsRightCcf p M (layered_matrix_of of) O c)) same of-each

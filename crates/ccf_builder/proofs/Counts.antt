@@ -3,9 +3,9 @@ use Rattle.std.proofs.Common.{◌≡◌, ℕ, zero, suc, ◌+◌, ◌<◌, ◌�
 use Rattle.residue_theory.specs.Sets.{both}
 use Rattle.residue_theory.specs.Sums.{size_on}
 use Rattle.residue_theory.proofs.SetLaws.{differ}
-use Rattle.mixed_matrices.specs.LayeredMatrices.{Layered}
+use Rattle.mixed_matrices.specs.LayeredMatrices.{LayeredMatrix}
 use Rattle.mixed_matrices.specs.Layerings.{IsLayeredMatrixOf, Origins, gives_q, has_constant, has_symbol}
-use Rattle.mixed_matrices.specs.Models.{Mixed}
+use Rattle.mixed_matrices.specs.Models.{MixedMatrix}
 
 one_more : (b : Bool) (s n : ℕ) → s ≤ n → s + cond b 1 0 ≤ n + 1
 one_more true s n few = omega (arith, few)
@@ -36,17 +36,17 @@ given false true = refl
 given false false = refl
 
 -- each equation gives a Q row or a T row, and a split one both
-pub rows-counted : (M : Mixed) (L : Layered) (O : Origins) → IsLayeredMatrixOf M L O → L.q_rows + L.t_rows ≡ M.rows + O.split
+pub rows-counted : (M : MixedMatrix) (L : LayeredMatrix) (O : Origins) → IsLayeredMatrixOf M L O → L.q_rows + L.t_rows ≡ M.rows + O.split
 rows-counted M L O lay =
     let cover : size_on (gives_q M) M.rows + size_on (has_symbol M) M.rows ≡ M.rows + size_on (both (gives_q M) (has_symbol M)) M.rows =
     size-cover (gives_q M) (has_symbol M) M.rows (λ i _. given (has_constant M i) (has_symbol M i)) in
     omega (arith, cover, lay.q_rows.count, lay.t_rows.count, lay.auxiliary.count)
 
-pub few-q_rows : (M : Mixed) (L : Layered) (O : Origins) → IsLayeredMatrixOf M L O → L.q_rows ≤ M.rows
+pub few-q_rows : (M : MixedMatrix) (L : LayeredMatrix) (O : Origins) → IsLayeredMatrixOf M L O → L.q_rows ≤ M.rows
 few-q_rows M L O lay = omega (arith, size-within (gives_q M) M.rows, lay.q_rows.count)
 
-pub few-t_rows : (M : Mixed) (L : Layered) (O : Origins) → IsLayeredMatrixOf M L O → L.t_rows ≤ M.rows
+pub few-t_rows : (M : MixedMatrix) (L : LayeredMatrix) (O : Origins) → IsLayeredMatrixOf M L O → L.t_rows ≤ M.rows
 few-t_rows M L O lay = omega (arith, size-within (has_symbol M) M.rows, lay.t_rows.count)
 
-pub few-split : (M : Mixed) (L : Layered) (O : Origins) → IsLayeredMatrixOf M L O → O.split ≤ M.rows
+pub few-split : (M : MixedMatrix) (L : LayeredMatrix) (O : Origins) → IsLayeredMatrixOf M L O → O.split ≤ M.rows
 few-split M L O lay = omega (arith, size-within (both (gives_q M) (has_symbol M)) M.rows, lay.auxiliary.count)

@@ -3,18 +3,15 @@ use Rattle.std.proofs.Common.{◌≡◌, ℕ, ◌+◌, ◌<◌, ◌%◌, Bool, t
 use Rattle.residue_theory.specs.Sums.{size_on}
 use Rattle.residue_theory.proofs.SumLaws.{sum_on-same}
 use Rattle.residue_theory.proofs.SetLaws.{differ}
-use Rattle.residue_field.specs.Modulus.{res_modulus}
 use Rattle.dense_q.specs.Tables.{entry}
 use Rattle.bipartite_matching.specs.Matchings.{Matching}
 use Rattle.bipartite_matching.proofs.MateLaws.{pair-matched, matched-pair}
-use Rattle.exchange_graph.specs.Results.{reached_of}
 use Rattle.mixed_matrices.specs.Arcs.{is_end, is_free, leads_to}
-use Rattle.mixed_matrices.specs.LayeredMatrices.{Layered}
+use Rattle.mixed_matrices.specs.LayeredMatrices.{LayeredMatrix}
 use Rattle.mixed_matrices.specs.Tableaus.{Tableau}
 use Rattle.mixed_model.specs.Layers.{Layers}
-use Rattle.row_transform.specs.Dense.{Dense, state_of}
 use Rattle.row_transform.specs.Tableaus.{State, IsTableau, IsBaseColumn}
-use Rattle.independent_matching.specs.Engines.{Standing, IsSolved, layers}
+use Rattle.independent_matching.specs.Engines.{IsSolved, layers}
 use Rattle.independent_matching.specs.Sides.{layers_of, tableau_of, is_matched, mate_of, size_of}
 use Rattle.independent_matching.proofs.EngineLaws.{same-arcs as kept-arcs, same-ends as kept-ends}
 use Rattle.cert_text.specs.Readings.{matrix_of, pair_at, has_column, row_with, ColumnsDiffer, IsUnitColumn}
@@ -33,23 +30,17 @@ no_part = record { columns = []; q_rows = []; t_rows = [] }
 no_block : CcfBlock
 no_block = record { part = no_part; lower = [] }
 
-module _ (of : Layers) (engine : Standing Dense) (solution : IsSolution of engine) (tableau : IsTableau res_modulus (state_of res_modulus engine.tableau)) where
-  abbrev pub t : State
-  t = state_of res_modulus engine.tableau
-
-  abbrev pub M : Matching
-  M = engine.matching
-
+module _ (p : ℕ) (of : Layers) (t : State) (M : Matching) (reached : ℕ → Bool) (solution : IsSolution p of t M reached) (tableau : IsTableau p t) where
   -- the layered matrix on which the engine stands
-  abbrev pub L : Layered
+  abbrev pub L : LayeredMatrix
   L = layers (entry of.q) t M
 
   -- the tableau of the engine
   abbrev pub F : Tableau
   F = tableau_of t M
 
-  pub solved : IsSolved res_modulus L F (reached_of engine.found)
-  solved = subst (λ N. IsSolved res_modulus N F (reached_of engine.found)) (sym solution.layers_are) solution.solved
+  pub solved : IsSolved p L F reached
+  solved = subst (λ N. IsSolved p N F reached) (sym solution.layers_are) solution.solved
 
   pub base_told : (r y : ℕ) → IsBaseColumn t r y → (y < t.columns) × (t.base y ≡ true) × (t.row y ≡ r)
   base_told r y is = (is.below, is.member, is.at_row)
@@ -70,7 +61,7 @@ module _ (of : Layers) (engine : Standing Dense) (solution : IsSolution of engin
   mate_low y yl h = solved.tableau.matching.below y yl h
 
   module _ (base mates : List (ℕ × ℕ)) (bases : ListsPairs (IsBaseColumn t) t.rows base) (matched : ListsPairs (IsMate M t.columns) L.t_rows mates)
-      (P : List (List (ℕ × ℕ))) (prints_p : PrintsMatrix t.rows t.columns t.p P) where
+      (P : List (List (ℕ × ℕ))) (prints_p : PrintsMatrix p t.rows t.columns t.p P) where
     -- the printed tableau
     abbrev pub G : Tableau
     G = record { P = matrix_of P; base = has_column base; row = row_with base; matched = has_column mates; mate = row_with mates }
@@ -88,25 +79,25 @@ module _ (of : Layers) (engine : Standing Dense) (solution : IsSolution of engin
     mate-row = row-same (IsMate M t.columns) L.t_rows t.columns mates matched (is_matched M) (mate_of M) mate_told mate_has mate_low
 
     module _ (x : ℕ) (xl : x < t.columns) where
-      pub printed-arc : (y : ℕ) → y < t.columns → leads_to res_modulus (layers_of t M) F x y ≡ leads_to res_modulus L G x y
-      printed-arc y yl = sym (ap (λ (arc : ℕ → ℕ → Bool). arc x y) (kept-arcs res_modulus (entry of.q) t M)) ∙ same-arcs res_modulus L F G
+      pub printed-arc : (y : ℕ) → y < t.columns → leads_to p (layers_of t M) F x y ≡ leads_to p L G x y
+      printed-arc y yl = sym (ap (λ (arc : ℕ → ℕ → Bool). arc x y) (kept-arcs p (entry of.q) t M)) ∙ same-arcs p L F G
           (λ z zl. sym (base-same z zl)) (λ z zl h. sym (base-row z zl h)) base_low (λ z zl. sym (mate-same z zl)) (λ z zl h. sym (mate-row z zl h)) (λ i j il jl. sym (prints_p.same i j il jl)) x y xl yl
 
       pub printed-free : is_free F x ≡ is_free G x
-      printed-free = same-free res_modulus L F G
+      printed-free = same-free p L F G
           (λ z zl. sym (base-same z zl)) (λ z zl h. sym (base-row z zl h)) base_low (λ z zl. sym (mate-same z zl)) (λ z zl h. sym (mate-row z zl h)) (λ i j il jl. sym (prints_p.same i j il jl)) x xl
 
-      pub printed-end : is_end res_modulus (layers_of t M) F x ≡ is_end res_modulus L G x
-      printed-end = sym (ap (λ (ends : ℕ → Bool). ends x) (kept-ends res_modulus (entry of.q) t M)) ∙ same-ends res_modulus L F G
+      pub printed-end : is_end p (layers_of t M) F x ≡ is_end p L G x
+      printed-end = sym (ap (λ (ends : ℕ → Bool). ends x) (kept-ends p (entry of.q) t M)) ∙ same-ends p L F G
           (λ z zl. sym (base-same z zl)) (λ z zl h. sym (base-row z zl h)) base_low (λ z zl. sym (mate-same z zl)) (λ z zl h. sym (mate-row z zl h)) (λ i j il jl. sym (prints_p.same i j il jl)) x xl
 
-    pub base-units : (k : ℕ) → k < length base → IsUnitColumn res_modulus t.rows (matrix_of P) (pair_at base k).0 (pair_at base k).1
+    pub base-units : (k : ℕ) → k < length base → IsUnitColumn p t.rows (matrix_of P) (pair_at base k).0 (pair_at base k).1
     base-units k kl =
         let column = bases.member k kl in
         let low : (pair_at base k).0 < t.rows = bases.below k kl in
         record {
-          one = ap (λ x. x % res_modulus) (prints_p.same (pair_at base k).0 (pair_at base k).1 low column.below) ∙ subst (λ i. t.p i (pair_at base k).1 % res_modulus ≡ 1) column.at_row ((tableau.unit_columns).one (pair_at base k).1 column.below column.member);
-          zero = λ i il other. ap (λ x. x % res_modulus) (prints_p.same i (pair_at base k).1 il column.below) ∙ (tableau.unit_columns).zero (pair_at base k).1 i column.below column.member il (λ e. other (e ∙ column.at_row));
+          one = ap (λ x. x % p) (prints_p.same (pair_at base k).0 (pair_at base k).1 low column.below) ∙ subst (λ i. t.p i (pair_at base k).1 % p ≡ 1) column.at_row ((tableau.unit_columns).one (pair_at base k).1 column.below column.member);
+          zero = λ i il other. ap (λ x. x % p) (prints_p.same i (pair_at base k).1 il column.below) ∙ (tableau.unit_columns).zero (pair_at base k).1 i column.below column.member il (λ e. other (e ∙ column.at_row));
         }
 
     pub mate-symbols : (k : ℕ) → k < length mates → L.t (pair_at mates k).0 (pair_at mates k).1 ≡ true

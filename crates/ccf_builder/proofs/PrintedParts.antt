@@ -2,8 +2,8 @@
 use Rattle.std.proofs.Common.{◌≡◌, ℕ, ◌+◌, ◌-◌, ◌<◌, ◌≤◌, inl, inr, Bool, true, false, cond, eqb, ◌&&◌, List, [], ◌∷◌, ◌++◌, length, map, get_or, slice_get, slice_index_or, Some, refl, ap, sym, ◌∙◌, subst, arith}
 use Rattle.std.proofs.lemmas.List.{get_or-map, get_or_past, length-map}
 use Rattle.residue_theory.proofs.SetLaws.{differ, both_true, eqb_from, eqb_true, not_true, lt_cases, some_below-holds}
-use Rattle.residue_field.specs.Modulus.{res_modulus}
 use Rattle.dense_q.specs.Tables.{entry}
+use Rattle.bipartite_matching.specs.Matchings.{Matching}
 use Rattle.closed_sets.specs.Blocks.{IsBelow}
 use Rattle.closed_sets.specs.Closed.{IsMiddle, NoEndReached}
 use Rattle.closed_sets.specs.Orders.{IsCover}
@@ -11,12 +11,10 @@ use Rattle.closed_sets.specs.Rules.{KeepsRules as KeepsPlaces}
 use Rattle.mixed_matrices.specs.Arcs.{has_base, has_match, is_end, is_free, leads_to}
 use Rattle.mixed_matrices.specs.CheckerRules.{HasRows, KeepsPartRules, block_of, in_first, in_last}
 use Rattle.mixed_matrices.specs.Forms.{Parts as Forms}
-use Rattle.mixed_matrices.specs.LayeredMatrices.{Layered}
+use Rattle.mixed_matrices.specs.LayeredMatrices.{LayeredMatrix}
 use Rattle.mixed_matrices.specs.Tableaus.{Tableau}
 use Rattle.mixed_model.specs.Layers.{Layers}
-use Rattle.row_transform.specs.Dense.{Dense, state_of}
 use Rattle.row_transform.specs.Tableaus.{State, IsTableau, IsBaseColumn}
-use Rattle.independent_matching.specs.Engines.{Standing}
 use Rattle.independent_matching.specs.Sides.{layers_of, is_matched, mate_of}
 use Rattle.independent_matching.proofs.EngineLaws.{same-arcs as kept-arcs, same-ends as kept-ends}
 use Rattle.minimiser_lattice.specs.Parts.{Parts, part_in}
@@ -32,7 +30,7 @@ use Rattle.ccf_builder.specs.Placings.{PlacesColumns, PlacesRows, Placing, HasPa
 use Rattle.ccf_builder.specs.Solutions.{IsSolution}
 use Rattle.cert_text.proofs.PrintedRules.{has-below}
 use Rattle.ccf_builder.proofs.PairLists.{same-tests}
-use Rattle.ccf_builder.proofs.PrintedPair.{t, L, F, G, solved, base_told, base_has, base_low, mate_told, mate_has, mate_low, printed-arc, printed-free, printed-end}
+use Rattle.ccf_builder.proofs.PrintedPair.{L, F, G, solved, base_told, base_has, base_low, mate_told, mate_has, mate_low, printed-arc, printed-free, printed-end}
 use Rattle.ccf_builder.proofs.RowParts.{bare-part, column-part, part_of_row, row-bounded, row-part, row-with-below}
 use Rattle.ccf_builder.proofs.PartLists.{IsOfBlocks, once, place, place_of_part}
 use Rattle.ccf_builder.proofs.SameRules.{same-below, same-clear, same-rules}
@@ -78,31 +76,28 @@ module _ (list_of : CcfPart → List ℕ) (parts : List Part) (blocks : List Ccf
   pub middle-lists : (k : ℕ) → k < length blocks → ListsPart parts (Block k) (get_or middle_lists k [])
   middle-lists k kb = subst (λ list. ListsPart parts (Block k) list) (sym (get_or-map (λ (block : CcfBlock). list_of block.part) blocks k no_block [] kb)) (in_blocks k kb)
 
-module _ (of : Layers) (engine : Standing Dense) (solution : IsSolution of engine) (tableau : IsTableau res_modulus (state_of res_modulus engine.tableau))
-    (base mates : List (ℕ × ℕ)) (bases : ListsPairs (IsBaseColumn (t of engine solution tableau)) (t of engine solution tableau).rows base)
-    (matched : ListsPairs (IsMate engine.matching (t of engine solution tableau).columns) (L of engine solution tableau).t_rows mates)
-    (P : List (List (ℕ × ℕ))) (prints_p : PrintsMatrix (t of engine solution tableau).rows (t of engine solution tableau).columns (t of engine solution tableau).p P)
-    (v : Parts) (decomposed : IsDecomposition (t of engine solution tableau) engine.matching v)
-    (placing : Placing) (of_columns : PlacesColumns v placing.columns) (of_q : PlacesRows (t of engine solution tableau).rows base placing.columns placing.q_rows)
-    (of_t : PlacesRows (L of engine solution tableau).t_rows mates placing.columns placing.t_rows)
+module _ (p : ℕ) (of : Layers) (S : State) (M : Matching) (reached : ℕ → Bool) (solution : IsSolution p of S M reached) (tableau : IsTableau p S)
+    (base mates : List (ℕ × ℕ)) (bases : ListsPairs (IsBaseColumn S) S.rows base)
+    (matched : ListsPairs (IsMate M S.columns) (L p of S M reached solution tableau).t_rows mates)
+    (P : List (List (ℕ × ℕ))) (prints_p : PrintsMatrix p S.rows S.columns S.p P)
+    (v : Parts) (decomposed : IsDecomposition p S M v)
+    (placing : Placing) (of_columns : PlacesColumns v placing.columns) (of_q : PlacesRows S.rows base placing.columns placing.q_rows)
+    (of_t : PlacesRows (L p of S M reached solution tableau).t_rows mates placing.columns placing.t_rows)
     (first last : CcfPart) (blocks : List CcfBlock) (of_first : HasPart placing First first) (count : length blocks ≡ v.blocks)
     (in_blocks : (k : ℕ) (d : CcfBlock) → k < length blocks → HasBlock placing v k (slice_index_or blocks k d)) (of_last : HasPart placing Last last) where
-  abbrev S : State
-  S = state_of res_modulus engine.tableau
-
-  abbrev N : Layered
-  N = L of engine solution tableau
+  abbrev N : LayeredMatrix
+  N = L p of S M reached solution tableau
 
   abbrev H : Tableau
-  H = G of engine solution tableau base mates bases matched P prints_p
+  H = G p of S M reached solution tableau base mates bases matched P prints_p
 
   abbrev arc : ℕ → ℕ → Bool
-  arc = leads_to res_modulus (layers_of S engine.matching) (F of engine solution tableau)
+  arc = leads_to p (layers_of S M) (F p of S M reached solution tableau)
 
   pub clear : NoEndReached arc S.columns decomposed.starts decomposed.ends
-  clear = same-clear (leads_to res_modulus N (F of engine solution tableau)) arc S.columns (is_free (F of engine solution tableau)) decomposed.starts (is_end res_modulus N (F of engine solution tableau)) decomposed.ends
-      (λ x y _ _. ap (λ (a : ℕ → ℕ → Bool). a x y) (kept-arcs res_modulus (entry of.q) S engine.matching)) (λ x xl. sym (decomposed.starts_are x xl))
-      (λ x xl. ap (λ (e : ℕ → Bool). e x) (kept-ends res_modulus (entry of.q) S engine.matching) ∙ sym (decomposed.ends_are x xl)) (solved of engine solution tableau).no_walk
+  clear = same-clear (leads_to p N (F p of S M reached solution tableau)) arc S.columns (is_free (F p of S M reached solution tableau)) decomposed.starts (is_end p N (F p of S M reached solution tableau)) decomposed.ends
+      (λ x y _ _. ap (λ (a : ℕ → ℕ → Bool). a x y) (kept-arcs p (entry of.q) S M)) (λ x xl. sym (decomposed.starts_are x xl))
+      (λ x xl. ap (λ (e : ℕ → Bool). e x) (kept-ends p (entry of.q) S M) ∙ sym (decomposed.ends_are x xl)) (solved p of S M reached solution tableau).no_walk
 
   pub rules : KeepsPlaces arc S.columns decomposed.starts decomposed.ends v.first v.last v.block v.blocks v.covers
   rules = decomposed.rules clear
@@ -138,15 +133,15 @@ module _ (of : Layers) (engine : Standing Dense) (solution : IsSolution of engin
 
   -- the Q rows
   abbrev pub q_part : ℕ → Part
-  q_part = part_of_row (IsBaseColumn S) S.rows S.columns base bases S.base S.row (base_told of engine solution tableau) (base_has of engine solution tableau) (base_low of engine solution tableau)
+  q_part = part_of_row (IsBaseColumn S) S.rows S.columns base bases S.base S.row (base_told p of S M reached solution tableau) (base_has p of S M reached solution tableau) (base_low p of S M reached solution tableau)
       v placing.columns placing.q_rows decomposed.places of_columns of_q bounded
 
   q_told : (i : ℕ) → i < S.rows → slice_get placing.q_rows i ≡ Some (q_part i)
-  q_told = row-part (IsBaseColumn S) S.rows S.columns base bases S.base S.row (base_told of engine solution tableau) (base_has of engine solution tableau) (base_low of engine solution tableau)
+  q_told = row-part (IsBaseColumn S) S.rows S.columns base bases S.base S.row (base_told p of S M reached solution tableau) (base_has p of S M reached solution tableau) (base_low p of S M reached solution tableau)
       v placing.columns placing.q_rows decomposed.places of_columns of_q bounded
 
   q_bounded : (i : ℕ) → i < S.rows → IsOfBlocks (length blocks) (q_part i)
-  q_bounded i il = subst (λ b. IsOfBlocks b (q_part i)) (sym count) (row-bounded (IsBaseColumn S) S.rows S.columns base bases S.base S.row (base_told of engine solution tableau) (base_has of engine solution tableau) (base_low of engine solution tableau)
+  q_bounded i il = subst (λ b. IsOfBlocks b (q_part i)) (sym count) (row-bounded (IsBaseColumn S) S.rows S.columns base bases S.base S.row (base_told p of S M reached solution tableau) (base_has p of S M reached solution tableau) (base_low p of S M reached solution tableau)
       v placing.columns placing.q_rows decomposed.places of_columns of_q bounded i il)
 
   q_blocks : (k : ℕ) → k < length blocks → ListsPart placing.q_rows (Block k) (get_or blocks k no_block).part.q_rows
@@ -164,15 +159,15 @@ module _ (of : Layers) (engine : Standing Dense) (solution : IsSolution of engin
 
   -- the T rows
   abbrev pub t_part : ℕ → Part
-  t_part = part_of_row (IsMate engine.matching S.columns) N.t_rows S.columns mates matched (is_matched engine.matching) (mate_of engine.matching) (mate_told of engine solution tableau) (mate_has of engine solution tableau) (mate_low of engine solution tableau)
+  t_part = part_of_row (IsMate M S.columns) N.t_rows S.columns mates matched (is_matched M) (mate_of M) (mate_told p of S M reached solution tableau) (mate_has p of S M reached solution tableau) (mate_low p of S M reached solution tableau)
       v placing.columns placing.t_rows decomposed.places of_columns of_t bounded
 
   t_told : (i : ℕ) → i < N.t_rows → slice_get placing.t_rows i ≡ Some (t_part i)
-  t_told = row-part (IsMate engine.matching S.columns) N.t_rows S.columns mates matched (is_matched engine.matching) (mate_of engine.matching) (mate_told of engine solution tableau) (mate_has of engine solution tableau) (mate_low of engine solution tableau)
+  t_told = row-part (IsMate M S.columns) N.t_rows S.columns mates matched (is_matched M) (mate_of M) (mate_told p of S M reached solution tableau) (mate_has p of S M reached solution tableau) (mate_low p of S M reached solution tableau)
       v placing.columns placing.t_rows decomposed.places of_columns of_t bounded
 
   t_bounded : (i : ℕ) → i < N.t_rows → IsOfBlocks (length blocks) (t_part i)
-  t_bounded i il = subst (λ b. IsOfBlocks b (t_part i)) (sym count) (row-bounded (IsMate engine.matching S.columns) N.t_rows S.columns mates matched (is_matched engine.matching) (mate_of engine.matching) (mate_told of engine solution tableau) (mate_has of engine solution tableau) (mate_low of engine solution tableau)
+  t_bounded i il = subst (λ b. IsOfBlocks b (t_part i)) (sym count) (row-bounded (IsMate M S.columns) N.t_rows S.columns mates matched (is_matched M) (mate_of M) (mate_told p of S M reached solution tableau) (mate_has p of S M reached solution tableau) (mate_low p of S M reached solution tableau)
       v placing.columns placing.t_rows decomposed.places of_columns of_t bounded i il)
 
   t_blocks : (k : ℕ) → k < length blocks → ListsPart placing.t_rows (Block k) (get_or blocks k no_block).part.t_rows
@@ -206,23 +201,23 @@ module _ (of : Layers) (engine : Standing Dense) (solution : IsSolution of engin
   rows-printed = record {
     columns = λ x xl. subst (λ n. n ≤ length blocks + 1) (sym (column-place x xl)) (place-few (length blocks) (part_in v x) (bounded-here x xl));
     base = λ y yl h.
-        q_row-place (row_with base y) (row-with-below (IsBaseColumn S) S.rows S.columns base bases S.base S.row (base_told of engine solution tableau) (base_has of engine solution tableau) (base_low of engine solution tableau)
+        q_row-place (row_with base y) (row-with-below (IsBaseColumn S) S.rows S.columns base bases S.base S.row (base_told p of S M reached solution tableau) (base_has p of S M reached solution tableau) (base_low p of S M reached solution tableau)
         v placing.columns placing.q_rows decomposed.places of_columns of_q bounded y h)
-        ∙ ap (place_of_part (length blocks)) (column-part (IsBaseColumn S) S.rows S.columns base bases S.base S.row (base_told of engine solution tableau) (base_has of engine solution tableau) (base_low of engine solution tableau)
+        ∙ ap (place_of_part (length blocks)) (column-part (IsBaseColumn S) S.rows S.columns base bases S.base S.row (base_told p of S M reached solution tableau) (base_has p of S M reached solution tableau) (base_low p of S M reached solution tableau)
         v placing.columns placing.q_rows decomposed.places of_columns of_q bounded y h)
         ∙ sym (column-place y yl);
     matched = λ y yl h.
-        t_row-place (row_with mates y) (row-with-below (IsMate engine.matching S.columns) N.t_rows S.columns mates matched (is_matched engine.matching) (mate_of engine.matching) (mate_told of engine solution tableau) (mate_has of engine solution tableau) (mate_low of engine solution tableau)
+        t_row-place (row_with mates y) (row-with-below (IsMate M S.columns) N.t_rows S.columns mates matched (is_matched M) (mate_of M) (mate_told p of S M reached solution tableau) (mate_has p of S M reached solution tableau) (mate_low p of S M reached solution tableau)
         v placing.columns placing.t_rows decomposed.places of_columns of_t bounded y h)
-        ∙ ap (place_of_part (length blocks)) (column-part (IsMate engine.matching S.columns) N.t_rows S.columns mates matched (is_matched engine.matching) (mate_of engine.matching) (mate_told of engine solution tableau) (mate_has of engine solution tableau) (mate_low of engine solution tableau)
+        ∙ ap (place_of_part (length blocks)) (column-part (IsMate M S.columns) N.t_rows S.columns mates matched (is_matched M) (mate_of M) (mate_told p of S M reached solution tableau) (mate_has p of S M reached solution tableau) (mate_low p of S M reached solution tableau)
         v placing.columns placing.t_rows decomposed.places of_columns of_t bounded y h)
         ∙ sym (column-place y yl);
     other_q = λ i il none.
-        q_row-place i il ∙ ap (place_of_part (length blocks)) (bare-part (IsBaseColumn S) S.rows S.columns base bases S.base S.row (base_told of engine solution tableau) (base_has of engine solution tableau) (base_low of engine solution tableau)
+        q_row-place i il ∙ ap (place_of_part (length blocks)) (bare-part (IsBaseColumn S) S.rows S.columns base bases S.base S.row (base_told p of S M reached solution tableau) (base_has p of S M reached solution tableau) (base_low p of S M reached solution tableau)
         v placing.columns placing.q_rows decomposed.places of_columns of_q bounded i il
         (λ y yl member same. differ none (some_below-holds S.columns (λ z. has_column base z && eqb (row_with base z) i) y yl (both_true (has_column base y) (eqb (row_with base y) i) member (eqb_from (row_with base y) i same)))));
     other_t = λ i il none.
-        t_row-place i il ∙ ap (place_of_part (length blocks)) (bare-part (IsMate engine.matching S.columns) N.t_rows S.columns mates matched (is_matched engine.matching) (mate_of engine.matching) (mate_told of engine solution tableau) (mate_has of engine solution tableau) (mate_low of engine solution tableau)
+        t_row-place i il ∙ ap (place_of_part (length blocks)) (bare-part (IsMate M S.columns) N.t_rows S.columns mates matched (is_matched M) (mate_of M) (mate_told p of S M reached solution tableau) (mate_has p of S M reached solution tableau) (mate_low p of S M reached solution tableau)
         v placing.columns placing.t_rows decomposed.places of_columns of_t bounded i il
         (λ y yl member same. differ none (some_below-holds S.columns (λ z. has_column mates z && eqb (row_with mates z) i) y yl (both_true (has_column mates y) (eqb (row_with mates y) i) member (eqb_from (row_with mates y) i same)))));
   }
@@ -258,16 +253,16 @@ module _ (of : Layers) (engine : Standing Dense) (solution : IsSolution of engin
   ]
 
   starts_same : (x : ℕ) → x < S.columns → decomposed.starts x ≡ is_free H x
-  starts_same x xl = decomposed.starts_are x xl ∙ printed-free of engine solution tableau base mates bases matched P prints_p x xl
+  starts_same x xl = decomposed.starts_are x xl ∙ printed-free p of S M reached solution tableau base mates bases matched P prints_p x xl
 
-  ends_same : (x : ℕ) → x < S.columns → decomposed.ends x ≡ is_end res_modulus N H x
-  ends_same x xl = decomposed.ends_are x xl ∙ printed-end of engine solution tableau base mates bases matched P prints_p x xl
+  ends_same : (x : ℕ) → x < S.columns → decomposed.ends x ≡ is_end p N H x
+  ends_same x xl = decomposed.ends_are x xl ∙ printed-end p of S M reached solution tableau base mates bases matched P prints_p x xl
 
-  arcs_same : (x y : ℕ) → x < S.columns → y < S.columns → arc x y ≡ leads_to res_modulus N H x y
-  arcs_same x y xl yl = printed-arc of engine solution tableau base mates bases matched P prints_p x xl y yl
+  arcs_same : (x y : ℕ) → x < S.columns → y < S.columns → arc x y ≡ leads_to p N H x y
+  arcs_same x y xl yl = printed-arc p of S M reached solution tableau base mates bases matched P prints_p x xl y yl
 
-  rules-same : KeepsPlaces (leads_to res_modulus N H) S.columns (is_free H) (is_end res_modulus N H) (in_first printed) (in_last printed) (block_of printed) (length blocks) lower
-  rules-same = same-rules arc (leads_to res_modulus N H) S.columns decomposed.starts (is_free H) decomposed.ends (is_end res_modulus N H) arcs_same starts_same ends_same
+  rules-same : KeepsPlaces (leads_to p N H) S.columns (is_free H) (is_end p N H) (in_first printed) (in_last printed) (block_of printed) (length blocks) lower
+  rules-same = same-rules arc (leads_to p N H) S.columns decomposed.starts (is_free H) decomposed.ends (is_end p N H) arcs_same starts_same ends_same
       v.first (in_first printed) v.last (in_last printed) v.block (block_of printed) (length blocks) v.covers lower first_same last_same
       (λ x is. block_same x is.below is.not_first is.not_last) lower_same lower_falls
       (subst (λ b. KeepsPlaces arc S.columns decomposed.starts decomposed.ends v.first v.last v.block b v.covers) (sym count) rules)
@@ -277,8 +272,8 @@ module _ (of : Layers) (engine : Standing Dense) (solution : IsSolution of engin
       (not_true (v.first x) (λ h. no_start ((decomposed.lattice.parts.first x xl).0 h)))
       (not_true (v.last x) (λ h. no_end ((decomposed.lattice.parts.last x xl).0 h)))
 
-  order-same : IsBelow (leads_to res_modulus N H) S.columns (is_free H) (is_end res_modulus N H) (block_of printed) (length blocks) v.below
-  order-same = same-below arc (leads_to res_modulus N H) S.columns decomposed.starts (is_free H) decomposed.ends (is_end res_modulus N H) arcs_same starts_same ends_same
+  order-same : IsBelow (leads_to p N H) S.columns (is_free H) (is_end p N H) (block_of printed) (length blocks) v.below
+  order-same = same-below arc (leads_to p N H) S.columns decomposed.starts (is_free H) decomposed.ends (is_end p N H) arcs_same starts_same ends_same
       v.block (block_of printed) (length blocks) v.below middle_block
       (subst (λ b. IsBelow arc S.columns decomposed.starts decomposed.ends v.block b v.below) (sym count) decomposed.lattice.order)
 
@@ -292,7 +287,7 @@ module _ (of : Layers) (engine : Standing Dense) (solution : IsSolution of engin
     all = λ k l kb lb h none. sym (lower_same l k lb kb) ∙ covers.all k l kb lb h none;
   }
 
-  pub parts-printed : KeepsPartRules res_modulus N H printed v.below lower
+  pub parts-printed : KeepsPartRules p N H printed v.below lower
   parts-printed = record { rows = rows-printed; rules = rules-same; order = order-same; lists = lists-same }
 
   -- each block has a column

@@ -6,9 +6,10 @@ use Rattle.std.proofs.lemmas.List.{get_or_append_left, get_or_push, get_or-map, 
 use Rattle.std.proofs.lemmas.List.Elements.{All-append, All-from_get_or}
 use Rattle.residue_theory.proofs.SumLaws.{nat_cases}
 use Rattle.residue_theory.proofs.SetLaws.{differ, eqb_from, eqb_true, not_true}
-use Rattle.residue_field.specs.Modulus.{res_modulus}
-use Rattle.sparse_t.specs.Lists.{IsBelow, has as touched}
+use Rattle.residue_theory.specs.Sets.{has as touched}
+use Rattle.sparse_t.specs.Lists.{IsBelow}
 use Rattle.sparse_t.proofs.ListLaws.{nat_eq-apart, nat_eq-itself}
+use Rattle.cert_text.specs.Contents.{numbered, numbered_rows}
 use Rattle.cert_text.specs.Ranges.{AreEntries, AreRising}
 use Rattle.cert_text.specs.Readings.{entry_at, has}
 use Rattle.ccf_builder.specs.Matrices.{PrintsMatrix, PrintsPattern, PrintsRow}
@@ -38,7 +39,7 @@ entry_at-none (entry ∷ entries) n apart =
     ap (λ b. cond b entry.1 (entry_at entries n)) (not_true (eqb entry.0 n) (λ h. apart 0 (omega arith) (eqb_true entry.0 n h)))
     ∙ entry_at-none entries n (λ k kl. apart (suc k) (omega (arith, kl)))
 
-module _ (n : ℕ) (row : ℕ → ℕ) (entries : List (ℕ × ℕ)) (prints : PrintsRow n row entries) where
+module _ (p n : ℕ) (row : ℕ → ℕ) (entries : List (ℕ × ℕ)) (prints : PrintsRow p n row entries) where
   apart : (k : ℕ) → k < length entries → (get_or entries k (0, 0)).0 ≢ n
   apart k kl e = absurd (omega (arith, (prints.are.within k (0, 0) kl).0, e))
 
@@ -52,14 +53,14 @@ module _ (n : ℕ) (row : ℕ → ℕ) (entries : List (ℕ × ℕ)) (prints : P
   }
 
   -- one column more, with an entry that is not 0
-  pub row-more : (v : ℕ) → v ≡ row n → v ≢ 0 → v < res_modulus → PrintsRow (n + 1) row (entries ++ (n, v) ∷ [])
+  pub row-more : (v : ℕ) → v ≡ row n → v ≢ 0 → v < p → PrintsRow p (n + 1) row (entries ++ (n, v) ∷ [])
   unfolding keys
   row-more v is some small = record {
     are = record {
       rising = subst IsStrictlyIncreasing (sym (map-append (λ (entry : ℕ × ℕ). entry.0) entries ((n, v) ∷ []))) (rising-push n (n + 1) n (keys entries) keys_are (omega arith) (omega arith)).rising;
-      within = All-append (λ (entry : ℕ × ℕ). (entry.0 < n + 1) × (0 < entry.1) × (entry.1 < res_modulus)) entries ((n, v) ∷ [])
+      within = All-append (λ (entry : ℕ × ℕ). (entry.0 < n + 1) × (0 < entry.1) × (entry.1 < p)) entries ((n, v) ∷ [])
           (λ k d kl. let at = prints.are.within k d kl in (omega (arith, at.0), at.1, at.2))
-          (all-one (λ (entry : ℕ × ℕ). (entry.0 < n + 1) × (0 < entry.1) × (entry.1 < res_modulus)) (n, v) (omega arith, omega (arith, some), small));
+          (all-one (λ (entry : ℕ × ℕ). (entry.0 < n + 1) × (0 < entry.1) × (entry.1 < p)) (n, v) (omega arith, omega (arith, some), small));
     };
     same = λ j low. elim (nat_cases j n) [
       | inl equal ↦ subst (λ c. entry_at (entries ++ (n, v) ∷ []) c ≡ row c) (sym equal) (entry_at-new entries n v apart ∙ is)
@@ -68,7 +69,7 @@ module _ (n : ℕ) (row : ℕ → ℕ) (entries : List (ℕ × ℕ)) (prints : P
   }
 
   -- one column more, whose entry is 0
-  pub row-same : row n ≡ 0 → PrintsRow (n + 1) row entries
+  pub row-same : row n ≡ 0 → PrintsRow p (n + 1) row entries
   row-same is = record {
     are = record { rising = prints.are.rising; within = λ k d kl. let at = prints.are.within k d kl in (omega (arith, at.0), at.1, at.2) };
     same = λ j low. elim (nat_cases j n) [
@@ -77,13 +78,28 @@ module _ (n : ℕ) (row : ℕ → ℕ) (entries : List (ℕ × ℕ)) (prints : P
     ];
   }
 
+-- one entry more, whose value is seen by its number
+numbered-push : {T : Type 0} (number : T → ℕ) (entries : List (ℕ × T)) (n : ℕ) (v : T) →
+    numbered number (entries ++ (n, v) ∷ []) ≡ numbered number entries ++ (n, number v) ∷ []
+numbered-push number entries n v = map-append (λ entry. (entry.0, number entry.1)) entries ((n, v) ∷ [])
+
+numbered_rows-push : {T : Type 0} (number : T → ℕ) (rows : List (List (ℕ × T))) (entries : List (ℕ × T)) →
+    numbered_rows number (rows ++ entries ∷ []) ≡ numbered_rows number rows ++ numbered number entries ∷ []
+numbered_rows-push number rows entries = map-append (numbered number) rows (entries ∷ [])
+
+-- the same of entries whose values are seen by their numbers
+pub entry-more : {T : Type 0} (number : T → ℕ) (p n : ℕ) (row : ℕ → ℕ) (entries : List (ℕ × T)) → PrintsRow p n row (numbered number entries) →
+    (v : T) → number v ≡ row n → number v ≢ 0 → number v < p → PrintsRow p (n + 1) row (numbered number (entries ++ (n, v) ∷ []))
+entry-more number p n row entries prints v is some small =
+    subst (PrintsRow p (n + 1) row) (sym (numbered-push number entries n v)) (row-more p n row (numbered number entries) prints (number v) is some small)
+
 -- the next row of a matrix
-pub matrix-push : (m n : ℕ) (matrix : ℕ → ℕ → ℕ) (rows : List (List (ℕ × ℕ))) (entries : List (ℕ × ℕ)) → PrintsMatrix m n matrix rows → PrintsRow n (matrix m) entries →
-    PrintsMatrix (m + 1) n matrix (rows ++ entries ∷ [])
-matrix-push m n matrix rows entries prints next = record {
+pub matrix-push : (p m n : ℕ) (matrix : ℕ → ℕ → ℕ) (rows : List (List (ℕ × ℕ))) (entries : List (ℕ × ℕ)) → PrintsMatrix p m n matrix rows → PrintsRow p n (matrix m) entries →
+    PrintsMatrix p (m + 1) n matrix (rows ++ entries ∷ [])
+matrix-push p m n matrix rows entries prints next = record {
   is = record {
     count = let long : length (rows ++ entries ∷ []) ≡ length rows + 1 = length_push rows entries in omega (arith, long, prints.is.count);
-    entries = All-append (AreEntries n) rows (entries ∷ []) prints.is.entries (all-one (AreEntries n) entries next.are);
+    entries = All-append (AreEntries p n) rows (entries ∷ []) prints.is.entries (all-one (AreEntries p n) entries next.are);
   };
   same = λ i j il jl. elim (nat_cases i m) [
     | inl last ↦
@@ -95,6 +111,14 @@ matrix-push m n matrix rows entries prints next = record {
         ap (λ list. entry_at list j) at ∙ prints.same i j before jl
   ];
 }
+
+-- and of a matrix whose entries are seen by their numbers
+pub rows-push : {T : Type 0} (number : T → ℕ) (p m n : ℕ) (matrix : ℕ → ℕ → ℕ) (rows : List (List (ℕ × T))) (entries : List (ℕ × T)) →
+    PrintsMatrix p m n matrix (numbered_rows number rows) → PrintsRow p n (matrix m) (numbered number entries) →
+    PrintsMatrix p (m + 1) n matrix (numbered_rows number (rows ++ entries ∷ []))
+rows-push number p m n matrix rows entries prints next =
+    subst (PrintsMatrix p (m + 1) n matrix) (sym (numbered_rows-push number rows entries))
+    (matrix-push p m n matrix (numbered_rows number rows) (numbered number entries) prints next)
 
 -- both words for a list that holds a number
 nat_same : (a b : ℕ) → eqb a b ≡ nat_eq a b

@@ -2,7 +2,7 @@
 use Rattle.std.proofs.Common.{◌≡◌, ℕ, zero, suc, ◌<◌, ◌%◌, Bool, true, false, ◌&&◌, ◌||◌, not, eqb, refl, ap, ◌∙◌, subst, arith}
 use Rattle.residue_theory.specs.Sets.{some_below}
 use Rattle.mixed_matrices.specs.Arcs.{has_base, has_match, is_end, is_free, leads_to}
-use Rattle.mixed_matrices.specs.LayeredMatrices.{Layered}
+use Rattle.mixed_matrices.specs.LayeredMatrices.{LayeredMatrix}
 use Rattle.mixed_matrices.specs.Tableaus.{Tableau}
 
 both_same : (a b c d : Bool) → a ≡ b → (a ≡ true → c ≡ d) → (a && c) ≡ (b && d)
@@ -16,7 +16,7 @@ some_same : (n : ℕ) (X Y : ℕ → Bool) → ((j : ℕ) → j < n → X j ≡ 
 some_same zero X Y same = refl
 some_same (suc n) X Y same = either_same (some_below n X) (some_below n Y) (X n) (Y n) (some_same n X Y (λ j jl. same j (omega arith))) (same n (omega arith))
 
-module _ (p : ℕ) (L : Layered) (F G : Tableau)
+module _ (p : ℕ) (L : LayeredMatrix) (F G : Tableau)
     (base : (y : ℕ) → y < L.columns → F.base y ≡ G.base y) (row : (y : ℕ) → y < L.columns → F.base y ≡ true → F.row y ≡ G.row y)
     (low : (y : ℕ) → y < L.columns → F.base y ≡ true → F.row y < L.q_rows)
     (matched : (y : ℕ) → y < L.columns → F.matched y ≡ G.matched y) (mate : (y : ℕ) → y < L.columns → F.matched y ≡ true → F.mate y ≡ G.mate y)

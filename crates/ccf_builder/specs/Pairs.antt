@@ -4,7 +4,8 @@ use Rattle.bipartite_matching.specs.Matchings.{Matching, HasPair}
 use Rattle.cert_text.specs.Readings.{pair_at}
 use Rattle.row_transform.specs.Tableaus.{State, IsBaseColumn}
 
--- each of the first m rows that has a column, with that column, by rising row; Has says of a row and a column that it has it
+-- each of the first m rows that has a column, with that column, by rising row; Has says of a row and a column that
+-- it has it
 pub record ListsPairs (Has : ℕ → ℕ → Type 0) (m : ℕ) (pairs : List (ℕ × ℕ)) : Type 0 where
   pub below : (k : ℕ) → k < length pairs → (pair_at pairs k).0 < m
   pub member : (k : ℕ) → k < length pairs → Has (pair_at pairs k).0 (pair_at pairs k).1

@@ -17,7 +17,8 @@ PlacesColumns v columns = Tabulates (part_in v) v.places columns
 pub record PlacesRows (m : ℕ) (pairs : List (ℕ × ℕ)) (columns rows : List Part) : Type 0 where
   pub count : length rows ≡ m
   pub listed : (k : ℕ) → k < length pairs → slice_get rows (pair_at pairs k).0 ≡ slice_get columns (pair_at pairs k).1
-  pub others : (i : ℕ) → i < m → ((k : ℕ) → k < length pairs → (pair_at pairs k).0 ≡ i → ⊥) → slice_get rows i ≡ Some Last
+  pub others : (i : ℕ) → i < m → ((k : ℕ) → k < length pairs → (pair_at pairs k).0 ≡ i → ⊥) →
+      slice_get rows i ≡ Some Last
 
 -- the list holds, rising, exactly the numbers below n of which P is true
 pub record ListsBelow (P : ℕ → Type 0) (n : ℕ) (list : List ℕ) : Type 0 where
@@ -50,7 +51,8 @@ pub record HasBlock (placing : Placing) (v : Parts) (k : ℕ) (block : CcfBlock)
   pub lower : ListsLower v k block.lower
 
 -- the parts: each column stands in its own, each row of q_rows and t_rows in that of its column, or in the last one
-pub record PrintsParts (v : Parts) (q_rows t_rows : ℕ) (base mates : List (ℕ × ℕ)) (first : CcfPart) (blocks : List CcfBlock) (last : CcfPart) : Type 0 where
+pub record PrintsParts (v : Parts) (q_rows t_rows : ℕ) (base mates : List (ℕ × ℕ))
+    (first : CcfPart) (blocks : List CcfBlock) (last : CcfPart) : Type 0 where
   pub placing : Placing
   pub columns : PlacesColumns v placing.columns
   pub q_are : PlacesRows q_rows base placing.columns placing.q_rows

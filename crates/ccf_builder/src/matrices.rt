@@ -1,25 +1,28 @@
 //! The printed rows of matrices and patterns.
 
 ghost use Rattle.std.specs.Prelude.{◌≡◌, ◌<◌, ◌≤◌, ℕ, IfOk, length};
-ghost use Rattle.residue_field.specs.Modulus.{res_modulus};
 ghost use Rattle.dense_q.specs.Tables.{entry, height};
 ghost use Rattle.sparse_t.specs.Incidences.{touches};
-ghost use Rattle.cert_text.specs.Ranges.{AreRising};
-ghost use Rattle.row_transform.specs.Dense.{state_of};
+ghost use Rattle.cert_text.specs.Contents.{numbered, numbered_rows};
 ghost use Rattle.ccf_builder.specs.Matrices.{PrintsMatrix, PrintsPattern, PrintsRow, PrintsTableau};
 
 use cert_text::Items;
 use dense_q::Mat;
 use out_of_memory::NoMemory;
-use residue_field::{Field, Res};
-use row_transform::{DenseTableau, Tableau};
+use residue_field::Field;
+use row_transform::Tableau;
 use sparse_t::Pattern;
 use std::alloc::Global;
 
-/// The entries of a row that are not 0, by rising column.
-fn entries_of(alloc: Global, matrix: &Mat<Res>, row: usize) -> Result<Items<(usize, Res)>, NoMemory>
+// The entries of a row that are not 0, by rising column.
+fn entries_of<F: Field>(
+    alloc: Global,
+    matrix: &Mat<F>,
+    row: usize,
+) -> Result<Items<(usize, F)>, NoMemory>
     requires { row < height matrix.now }
-    ensures { IfOk result (PrintsRow matrix.now.width (entry matrix.now row)) }
+    ensures { IfOk result (λ entries.
+        PrintsRow F.modulus matrix.now.width (entry matrix.now row) (numbered F.number entries)) }
 {
     let mut entries = Vec::new(alloc);
     for column in 0..matrix.cols() {
@@ -33,9 +36,10 @@ fn entries_of(alloc: Global, matrix: &Mat<Res>, row: usize) -> Result<Items<(usi
     Ok(Items::from_vec(entries))
 }
 
-/// The rows of a matrix.
-fn rows_of(alloc: Global, matrix: &Mat<Res>) -> Result<Items<Items<(usize, Res)>>, NoMemory>
-    ensures { IfOk result (PrintsMatrix (height matrix.now) matrix.now.width (entry matrix.now)) }
+// The rows of a matrix.
+fn rows_of<F: Field>(alloc: Global, matrix: &Mat<F>) -> Result<Items<Items<(usize, F)>>, NoMemory>
+    ensures { IfOk result (λ rows.
+        PrintsMatrix F.modulus (height matrix.now) matrix.now.width (entry matrix.now) (numbered_rows F.number rows)) }
 {
     let mut rows = Vec::with_capacity(alloc, matrix.rows())?;
     for row in 0..matrix.rows() {
@@ -44,7 +48,7 @@ fn rows_of(alloc: Global, matrix: &Mat<Res>) -> Result<Items<Items<(usize, Res)>
     Ok(Items::from_vec(rows))
 }
 
-/// The columns of a row of symbols.
+// The columns of a row of symbols.
 fn columns_of(alloc: Global, row: &[u32]) -> Result<Items<usize>, NoMemory>
     ensures { IfOk result (λ list. list ≡ row.now) }
 {
@@ -68,15 +72,20 @@ pub fn symbols_of(alloc: Global, pattern: &Pattern) -> Result<Items<Items<usize>
 
 /// The printed rows of S, of its inverse U, and of P.
 #[derive(Drop)]
-pub struct PrintedTableau {
-    pub s: Items<Items<(usize, Res)>>,
-    pub u: Items<Items<(usize, Res)>>,
-    pub p: Items<Items<(usize, Res)>>,
+pub struct PrintedTableau<F: Field> {
+    pub s: Items<Items<(usize, F)>>,
+    pub u: Items<Items<(usize, F)>>,
+    pub p: Items<Items<(usize, F)>>,
 }
 
 /// The matrices of a tableau.
-pub fn tableau_of(alloc: Global, tableau: &DenseTableau<Res>) -> Result<PrintedTableau, NoMemory>
-    ensures { IfOk result (λ printed. PrintsTableau (state_of res_modulus tableau.now) printed.s printed.u printed.p) }
+pub fn tableau_of<F: Field, T: Tableau<F>>(
+    alloc: Global,
+    tableau: &T,
+) -> Result<PrintedTableau<F>, NoMemory>
+    ensures { IfOk result (λ printed.
+        PrintsTableau F.modulus (T.state tableau.now) (numbered_rows F.number printed.s)
+        (numbered_rows F.number printed.u) (numbered_rows F.number printed.p)) }
 {
     let parts = tableau.parts()?;
     Ok(PrintedTableau {

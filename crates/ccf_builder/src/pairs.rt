@@ -1,8 +1,6 @@
 //! The lists of the pair.
 
 ghost use Rattle.std.specs.Prelude.{◌≡◌, ◌≤◌, IfOk, length};
-ghost use Rattle.residue_field.specs.Modulus.{res_modulus};
-ghost use Rattle.row_transform.specs.Dense.{state_of};
 ghost use Rattle.row_transform.specs.Tableaus.{IsTableau, IsBaseColumn};
 ghost use Rattle.ccf_builder.specs.Pairs.{AreWithin, IsMate, ListsPair, ListsPairs};
 
@@ -14,30 +12,37 @@ use std::alloc::Global;
 
 /// Each Q row with its base column, and each T row with the column with which it is matched, by rising row.
 #[derive(Drop)]
-pub struct Pair {
+pub struct PairLists {
     pub base: Vec<(usize, usize)>,
     pub mates: Vec<(usize, usize)>,
 }
 
 /// The pair of the engine; there are so many T rows.
-pub fn pair_of(alloc: Global, engine: &Engine, t_rows: usize) -> Result<Pair, NoMemory>
+pub fn pair_of<F: Field, T: Tableau<F>>(
+    alloc: Global,
+    engine: &Engine<F, T>,
+    t_rows: usize,
+) -> Result<PairLists, NoMemory>
     requires { t_rows ≡ length engine.now.matching.pattern.rows }
-    ensures lists { IfOk result (λ pair. ListsPair (state_of res_modulus engine.now.tableau) engine.now.matching t_rows pair.base.items pair.mates.items) }
-    ensures base { IfOk result (λ pair. AreWithin (state_of res_modulus engine.now.tableau).rows (state_of res_modulus engine.now.tableau).columns pair.base.items) }
-    ensures mates { IfOk result (λ pair. AreWithin t_rows (state_of res_modulus engine.now.tableau).columns pair.mates.items) }
+    ensures lists { IfOk result (λ pair.
+        ListsPair (T.state engine.now.tableau) engine.now.matching t_rows pair.base.items pair.mates.items) }
+    ensures base { IfOk result (λ pair.
+        AreWithin (T.state engine.now.tableau).rows (T.state engine.now.tableau).columns pair.base.items) }
+    ensures mates { IfOk result (λ pair. AreWithin t_rows (T.state engine.now.tableau).columns pair.mates.items) }
 {
-    Ok(Pair {
+    Ok(PairLists {
         base: base_pairs(alloc, engine.tableau())?,
         mates: mate_pairs(alloc, engine, t_rows)?,
     })
 }
 
-/// Each row with a base column, and that column, by rising row.
+// Each row with a base column, and that column, by rising row.
 fn base_pairs<F: Field, T: Tableau<F>>(
     alloc: Global,
     tableau: &T,
 ) -> Result<Vec<(usize, usize)>, NoMemory>
-    ensures base { IfOk result (λ pairs. ListsPairs (IsBaseColumn (T.state tableau.now)) (T.state tableau.now).rows pairs.items) }
+    ensures base { IfOk result (λ pairs.
+        ListsPairs (IsBaseColumn (T.state tableau.now)) (T.state tableau.now).rows pairs.items) }
 {
     let mut pairs = Vec::new(alloc);
     for row in 0..tableau.rows() {
@@ -48,10 +53,15 @@ fn base_pairs<F: Field, T: Tableau<F>>(
     Ok(pairs)
 }
 
-/// Each T row that is matched, and its column, by rising row; there are so many T rows.
-fn mate_pairs(alloc: Global, engine: &Engine, rows: usize) -> Result<Vec<(usize, usize)>, NoMemory>
+// Each T row that is matched, and its column, by rising row; there are so many T rows.
+fn mate_pairs<F: Field, T: Tableau<F>>(
+    alloc: Global,
+    engine: &Engine<F, T>,
+    rows: usize,
+) -> Result<Vec<(usize, usize)>, NoMemory>
     requires { rows ≡ length engine.now.matching.pattern.rows }
-    ensures { IfOk result (λ pairs. ListsPairs (IsMate engine.now.matching (state_of res_modulus engine.now.tableau).columns) rows pairs.items) }
+    ensures { IfOk result (λ pairs.
+        ListsPairs (IsMate engine.now.matching (T.state engine.now.tableau).columns) rows pairs.items) }
 {
     let mut pairs = Vec::new(alloc);
     for row in 0..rows {

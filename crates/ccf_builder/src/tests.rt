@@ -1,14 +1,17 @@
+//! The form of one small model.
+
 use super::*;
 use cert_text::Ccf;
 use mixed_layering::layer;
 use mixed_model::Mixed;
-use residue_field::Res;
+use residue_field::{Field, Res};
+use row_transform::DenseTableau;
 use std::alloc::Global;
 use std::process::Abort;
 use std::test::Fail;
 
 // One equation with a constant and a symbol at its one unknown.
-fn split_entry(rt: &impl Abort, alloc: Global) -> Result<Mixed, Fail> {
+fn split_entry(rt: &impl Abort, alloc: Global) -> Result<Mixed<Res>, Fail> {
     let mut model = Mixed::new(alloc)?;
     model.add_unknown("x")?;
     model.add_equation("a")?;
@@ -20,11 +23,11 @@ fn split_entry(rt: &impl Abort, alloc: Global) -> Result<Mixed, Fail> {
 }
 
 // The canonical form of a model.
-fn form_of(alloc: Global, model: &Mixed) -> Result<Ccf, Fail> {
+fn form_of(alloc: Global, model: &Mixed<Res>) -> Result<Ccf<Res>, Fail> {
     // tells a proof that it is a model
     let _equations = model.equations();
     let layered = layer(alloc, model)?;
-    Ok(build(alloc, &layered)?)
+    Ok(build::<Res, DenseTableau<Res>>(alloc, &layered)?)
 }
 
 // It is one block, with an auxiliary column.

@@ -8,8 +8,8 @@ use Rattle.closed_sets.specs.Rules.{KeepsRules as KeepsPlaces}
 use Rattle.linear_algebra.specs.Products.{IsInverse}
 use Rattle.mixed_matrices.specs.Arcs.{is_end, is_free, leads_to}
 use Rattle.mixed_matrices.specs.CheckerRules.{KeepsPartRules, block_of, in_first, in_last}
-use Rattle.mixed_matrices.specs.LayeredMatrices.{Layered}
-use Rattle.mixed_matrices.specs.Models.{Mixed}
+use Rattle.mixed_matrices.specs.LayeredMatrices.{LayeredMatrix}
+use Rattle.mixed_matrices.specs.Models.{MixedMatrix}
 use Rattle.cert_text.specs.Contents.{Contents}
 use Rattle.cert_text.specs.declared.part.CcfBlock.{CcfBlock}
 use Rattle.cert_text.specs.Ranges.{IsCcf}
@@ -18,13 +18,13 @@ use Rattle.cert_text.specs.Right.{HasShape, HasProduct, HasUnitColumns}
 use Rattle.cert_text.specs.Rules.{HasMatching, IsInBlock, KeepsRules}
 
 -- rules 9 to 12, taken together
-pub record HasCheckedParts (p : ℕ) (L : Layered) (c : Contents) : Type 0 where
+pub record HasCheckedParts (p : ℕ) (L : LayeredMatrix) (c : Contents) : Type 0 where
   pub q_rows : StandsOnce L.q_rows (q_row_lists c)
   pub t_rows : StandsOnce L.t_rows (t_row_lists c)
   pub below : ℕ → ℕ → Bool
   pub parts : KeepsPartRules p L (tableau_of c) (parts_of c) below (lower_of c)
 
-pub record KeepsPrintedRules (p : ℕ) (M : Mixed) (L : Layered) (c : Contents) : Type 0 where
+pub record KeepsPrintedRules (p : ℕ) (M : MixedMatrix) (L : LayeredMatrix) (c : Contents) : Type 0 where
   pub shape : HasShape M L c
   pub inverse : IsInverse p L.q_rows (matrix_of c.s) (matrix_of c.u)
   pub product_is : HasProduct p L c
@@ -92,7 +92,7 @@ has-first [] some = absurd (omega arith)
 has-first (x ∷ xs) some = either-first (eqb x x) (has xs x) (eqb_from x x refl)
 
 -- each block has a column, which stands in it alone
-block-member : (p : ℕ) (M : Mixed) (L : Layered) (c : Contents) → IsCcf p c → HasShape M L c → StandsOnce L.columns (column_lists c) → (k : ℕ) → k < length c.blocks →
+block-member : (p : ℕ) (M : MixedMatrix) (L : LayeredMatrix) (c : Contents) → IsCcf p c → HasShape M L c → StandsOnce L.columns (column_lists c) → (k : ℕ) → k < length c.blocks →
     (x : ℕ) × (x < L.columns) × ((parts_of c).column x ≡ suc k)
 block-member p M L c is sizes once k within =
     let block = is.blocks k no_block within in
@@ -102,7 +102,7 @@ block-member p M L c is sizes once k within =
     let at = block-columns c k within in
     (x, low, place-is L.columns (column_lists c) once x (suc k) low at.0 (subst (λ list. has list x ≡ true) (sym at.1) (has-first columns block.some)))
 
-in-block : (L : Layered) (c : Contents) (x k : ℕ) → x < L.columns → (parts_of c).column x ≡ suc k → k < length c.blocks → IsInBlock L c x × (block_of (parts_of c) x ≡ k)
+in-block : (L : LayeredMatrix) (c : Contents) (x k : ℕ) → x < L.columns → (parts_of c).column x ≡ suc k → k < length c.blocks → IsInBlock L c x × (block_of (parts_of c) x ≡ k)
 in-block L c x k low place within = (
   record {
     below = low;
@@ -134,7 +134,7 @@ tails-apart y b first last = both (eqb_true y 0 first) (eqb_true y (b + 1) last)
     both p q = absurd (omega arith)
 
 -- the rules one by one are the rules together
-pub rules-printed : (p : ℕ) (M : Mixed) (L : Layered) (c : Contents) → IsCcf p c → KeepsRules p M L c → KeepsPrintedRules p M L c
+pub rules-printed : (p : ℕ) (M : MixedMatrix) (L : LayeredMatrix) (c : Contents) → IsCcf p c → KeepsRules p M L c → KeepsPrintedRules p M L c
 rules-printed p M L c is K = record {
   shape = K.shape;
   inverse = K.inverse;
@@ -169,7 +169,7 @@ rules-printed p M L c is K = record {
   };
 }
 
-pub printed-rules : (p : ℕ) (M : Mixed) (L : Layered) (c : Contents) → KeepsPrintedRules p M L c → KeepsRules p M L c
+pub printed-rules : (p : ℕ) (M : MixedMatrix) (L : LayeredMatrix) (c : Contents) → KeepsPrintedRules p M L c → KeepsRules p M L c
 printed-rules p M L c K = record {
   shape = K.shape;
   inverse = K.inverse;

@@ -9,9 +9,9 @@ use Rattle.closed_sets.proofs.Covers.{below-chain, chain-below}
 use Rattle.linear_algebra.specs.Bases.{IsBase}
 use Rattle.mixed_matrices.specs.Arcs.{HasNoWalk, is_end, is_free, leads_to}
 use Rattle.mixed_matrices.specs.CheckerRules.{block_of}
-use Rattle.mixed_matrices.specs.LayeredMatrices.{Layered}
+use Rattle.mixed_matrices.specs.LayeredMatrices.{LayeredMatrix}
 use Rattle.mixed_matrices.specs.Layerings.{IsLayeredMatrixOf, Origins, gives_q, has_symbol}
-use Rattle.mixed_matrices.specs.Models.{Mixed}
+use Rattle.mixed_matrices.specs.Models.{MixedMatrix}
 use Rattle.mixed_matrices.specs.Pairs.{IsMatching, pair_size}
 use Rattle.mixed_matrices.specs.StructuralRanks.{IsLayeredRank, IsStructuralRank}
 use Rattle.mixed_matrices.specs.Tableaus.{HasTableau, IsTableau}
@@ -37,7 +37,7 @@ symbol-at : (t : ℕ → ℕ → Bool) (i j k l : ℕ) → i ≡ k → j ≡ l �
 symbol-at t i j k l rows columns h = subst (λ y. t k y ≡ true) columns (subst (λ x. t x j ≡ true) rows h)
 
 -- the base columns are unit columns
-pub printed-base : (p : ℕ) (M : Mixed) (L : Layered) (c : Contents) → IsCcf p c → HasShape M L c → HasUnitColumns p L c → IsBase p (matrix_of c.p) L.q_rows L.columns (has_column c.base) (row_with c.base)
+pub printed-base : (p : ℕ) (M : MixedMatrix) (L : LayeredMatrix) (c : Contents) → IsCcf p c → HasShape M L c → HasUnitColumns p L c → IsBase p (matrix_of c.p) L.q_rows L.columns (has_column c.base) (row_with c.base)
 printed-base p M L c is sizes units = record {
   row_below = λ b bl h. let at = has-found c.base b h in subst (λ i. i < L.q_rows) at.3 (subst (λ m. (pair_at c.base at.0).0 < m) sizes.q_rows ((is.base).within at.0 (0, 0) at.1).0);
   one = λ b bl h. (unit b h).one;
@@ -53,7 +53,7 @@ printed-base p M L c is sizes units = record {
     unit b h = let at = has-found c.base b h in unit-at p L.q_rows (matrix_of c.p) (pair_at c.base at.0).0 (pair_at c.base at.0).1 (row_with c.base b) b at.3 at.2 (units at.0 at.1)
 
 -- the matched columns have rows of their own
-printed-matching : (p : ℕ) (M : Mixed) (L : Layered) (c : Contents) → IsCcf p c → KeepsPrintedRules p M L c → IsMatching L (has_column c.mates) (row_with c.mates)
+printed-matching : (p : ℕ) (M : MixedMatrix) (L : LayeredMatrix) (c : Contents) → IsCcf p c → KeepsPrintedRules p M L c → IsMatching L (has_column c.mates) (row_with c.mates)
 printed-matching p M L c is K = record {
   below = λ j jl h. let at = has-found c.mates j h in subst (λ i. i < L.t_rows) at.3 (subst (λ m. (pair_at c.mates at.0).0 < m) (K.shape).t_rows ((is.mates).within at.0 (0, 0) at.1).0);
   symbol = λ j jl h. let at = has-found c.mates j h in
@@ -65,7 +65,7 @@ printed-matching p M L c is K = record {
       sym x.2 ∙ ap (λ k. (pair_at c.mates k).1) place ∙ y.2;
 }
 
-pub printed-tableau : (p : ℕ) (M : Mixed) (L : Layered) (c : Contents) → IsCcf p c → KeepsPrintedRules p M L c → IsTableau p L (matrix_of c.s) (matrix_of c.u) (tableau_of c)
+pub printed-tableau : (p : ℕ) (M : MixedMatrix) (L : LayeredMatrix) (c : Contents) → IsCcf p c → KeepsPrintedRules p M L c → IsTableau p L (matrix_of c.s) (matrix_of c.u) (tableau_of c)
 printed-tableau p M L c is K = record {
   inverse = K.inverse;
   product = (K.product_is).q;
@@ -78,7 +78,7 @@ printed-tableau p M L c is K = record {
 }
 
 -- the size of the printed pair
-pub printed-size : (p : ℕ) (M : Mixed) (L : Layered) (c : Contents) → IsCcf p c → HasShape M L c → ColumnsDiffer c.base c.mates → pair_size L (has_column c.base) (has_column c.mates) ≡ length c.base + length c.mates
+pub printed-size : (p : ℕ) (M : MixedMatrix) (L : LayeredMatrix) (c : Contents) → IsCcf p c → HasShape M L c → ColumnsDiffer c.base c.mates → pair_size L (has_column c.base) (has_column c.mates) ≡ length c.base + length c.mates
 printed-size p M L c is sizes differ =
     let base : size_on (has_column c.base) L.columns ≡ length c.base = columns_counted L.columns c.base
     (λ k kl. subst (λ n. (pair_at c.base k).1 < n) sizes.columns ((is.base).within k (0, 0) kl).1) differ.in_base in
@@ -89,7 +89,7 @@ printed-size p M L c is sizes differ =
 printed-count : (rank n u s b m : ℕ) → rank + n ≡ u + (b + m) → n ≡ u + s → b + m ≡ rank + s
 printed-count rank n u s b m counted columns = omega arith
 
-printed-rank : (p : ℕ) → IsPrime p → 2 < p → (M : Mixed) (L : Layered) (O : Origins) → IsLayeredMatrixOf M L O → (c : Contents) → IsCcf p c → KeepsPrintedRules p M L c →
+printed-rank : (p : ℕ) → IsPrime p → 2 < p → (M : MixedMatrix) (L : LayeredMatrix) (O : Origins) → IsLayeredMatrixOf M L O → (c : Contents) → IsCcf p c → KeepsPrintedRules p M L c →
     length c.base + length c.mates ≡ c.rank + O.split → IsStructuralRank p M c.rank
 printed-rank p prime big M L O lay c is K size = law-layering p prime M (gives_q M) (has_symbol M) L O lay big c.rank
     (subst (λ r. IsLayeredRank p L r) (printed-size p M L c is K.shape (K.matching).differ ∙ size) (closed-rank p prime L (tableau_of c) tab (least_set p L (tableau_of c)) (least_set-closed p L (tableau_of c) clear)))
@@ -100,7 +100,7 @@ printed-rank p prime big M L O lay c is K size = law-layering p prime M (gives_q
     clear : HasNoWalk p L (tableau_of c)
     clear = checked-clear p L (tableau_of c) (parts_of c) (K.checked).below (lower_of c) (K.checked).parts
 
-printed-pair : (p : ℕ) → IsPrime p → 2 < p → (M : Mixed) (L : Layered) (O : Origins) → IsLayeredMatrixOf M L O → (c : Contents) → IsCcf p c → KeepsPrintedRules p M L c → HasPairAndRank p M L O c
+printed-pair : (p : ℕ) → IsPrime p → 2 < p → (M : MixedMatrix) (L : LayeredMatrix) (O : Origins) → IsLayeredMatrixOf M L O → (c : Contents) → IsCcf p c → KeepsPrintedRules p M L c → HasPairAndRank p M L O c
 printed-pair p prime big M L O lay c is K =
     let size : length c.base + length c.mates ≡ c.rank + O.split = printed-count c.rank L.columns M.columns O.split (length c.base) (length c.mates) K.counted lay.columns in
     record {
@@ -112,7 +112,7 @@ printed-pair p prime big M L O lay c is K =
     }
 
 -- the order of the blocks is that of the chains
-printed-order : (p : ℕ) (M : Mixed) (L : Layered) (c : Contents) → (K : KeepsPrintedRules p M L c) → IsOrderOf c (K.checked).below
+printed-order : (p : ℕ) (M : MixedMatrix) (L : LayeredMatrix) (c : Contents) → (K : KeepsPrintedRules p M L c) → IsOrderOf c (K.checked).below
 printed-order p M L c K = λ k l kl ll. (
   below-chain (K.checked).below (length c.blocks) order (lower_of c) ((K.checked).parts).lists k l kl ll,
   chain-below (K.checked).below (length c.blocks) order (lower_of c) ((K.checked).parts).lists k l kl ll,
@@ -122,7 +122,7 @@ printed-order p M L c K = λ k l kl ll. (
     order = below-order (leads_to p L (tableau_of c)) L.columns (is_free (tableau_of c)) (is_end p L (tableau_of c)) (block_of (parts_of c)) (length c.blocks)
         (checked-listing p L (tableau_of c) (parts_of c) (K.checked).below (lower_of c) (K.checked).parts) (K.checked).below ((K.checked).parts).order
 
-printed-form : (p : ℕ) → IsPrime p → (M : Mixed) (L : Layered) (c : Contents) → IsCcf p c → KeepsPrintedRules p M L c → HasForm p L c
+printed-form : (p : ℕ) → IsPrime p → (M : MixedMatrix) (L : LayeredMatrix) (c : Contents) → IsCcf p c → KeepsPrintedRules p M L c → HasForm p L c
 printed-form p prime M L c is K = record {
   columns = K.columns;
   q_rows = (K.checked).q_rows;
@@ -132,7 +132,7 @@ printed-form p prime M L c is K = record {
       (λ h. none ((printed-order p M L c K k l kl ll).0 h));
 }
 
-printed-ideals : (p : ℕ) → IsPrime p → (M : Mixed) (L : Layered) (c : Contents) → IsCcf p c → KeepsPrintedRules p M L c → HasIdeals p L c
+printed-ideals : (p : ℕ) → IsPrime p → (M : MixedMatrix) (L : LayeredMatrix) (c : Contents) → IsCcf p c → KeepsPrintedRules p M L c → HasIdeals p L c
 printed-ideals p prime M L c is K = record {
   below = (K.checked).below;
   order = printed-order p M L c K;
@@ -145,7 +145,7 @@ printed-ideals p prime M L c is K = record {
     tab : HasTableau p L (tableau_of c)
     tab = tableau p prime L (matrix_of c.s) (matrix_of c.u) (tableau_of c) (printed-tableau p M L c is K)
 
-printed-listing : (p : ℕ) → IsPrime p → (M : Mixed) (L : Layered) (c : Contents) → IsCcf p c → KeepsPrintedRules p M L c → HasCanonicalListing p L c
+printed-listing : (p : ℕ) → IsPrime p → (M : MixedMatrix) (L : LayeredMatrix) (c : Contents) → IsCcf p c → KeepsPrintedRules p M L c → HasCanonicalListing p L c
 printed-listing p prime M L c is K = record {
   parts = checked-canonical p prime L (tableau_of c) tab (parts_of c) (K.checked).below (lower_of c) (K.checked).parts;
   order = λ k l kl ll. (
@@ -161,7 +161,7 @@ printed-listing p prime M L c is K = record {
     tab : HasTableau p L (tableau_of c)
     tab = tableau p prime L (matrix_of c.s) (matrix_of c.u) (tableau_of c) (printed-tableau p M L c is K)
 
-pub rules-right : (p : ℕ) → IsPrime p → 2 < p → (M : Mixed) (L : Layered) (O : Origins) → IsLayeredMatrixOf M L O → (c : Contents) → IsCcf p c → KeepsPrintedRules p M L c → IsRightCcf p M L O c
+pub rules-right : (p : ℕ) → IsPrime p → 2 < p → (M : MixedMatrix) (L : LayeredMatrix) (O : Origins) → IsLayeredMatrixOf M L O → (c : Contents) → IsCcf p c → KeepsPrintedRules p M L c → IsRightCcf p M L O c
 rules-right p prime big M L O lay c is K = record {
   shape = K.shape;
   transform = record { inverse = K.inverse; product_is = K.product_is };

@@ -9,9 +9,9 @@ use Rattle.linear_algebra.specs.Parts.{in_part}
 use Rattle.linear_algebra.specs.Products.{Agree as AreAlike}
 use Rattle.mixed_matrices.specs.CanonicalParts.{AreCanonical, IsBlockBelow, IsLowerBlock}
 use Rattle.mixed_matrices.specs.Forms.{IsForm, Parts}
-use Rattle.mixed_matrices.specs.LayeredMatrices.{AreSameLayers, Layered}
+use Rattle.mixed_matrices.specs.LayeredMatrices.{AreSameLayers, LayeredMatrix}
 use Rattle.mixed_matrices.specs.Layerings.{IsLayeredMatrixOf, Origins, gives_q, has_symbol}
-use Rattle.mixed_matrices.specs.Models.{Mixed, value}
+use Rattle.mixed_matrices.specs.Models.{MixedMatrix, value}
 use Rattle.mixed_matrices.specs.SetFunctions.{IsMinimiser}
 use Rattle.mixed_pairs.proofs.PairRank.{greatest-unique}
 use Rattle.mixed_forms.proofs.CanonicalForm.{canonical-one}
@@ -41,7 +41,7 @@ same-shape a b e u q t n =
     shape e u q t n = record { equations = e; unknowns = u; q_rows = q; t_rows = t; columns = n }
 
 -- lower blocks are told by the columns of the blocks
-moved-below : (p : ℕ) (L : Layered) (G H : Parts) → G.blocks ≡ H.blocks → ((x : ℕ) → x < L.columns → G.column x ≡ H.column x) →
+moved-below : (p : ℕ) (L : LayeredMatrix) (G H : Parts) → G.blocks ≡ H.blocks → ((x : ℕ) → x < L.columns → G.column x ≡ H.column x) →
     (k l : ℕ) → IsBlockBelow p L G k l → IsBlockBelow p L H k l
 moved-below p L G H blocks same k l b = (
   b.0,
@@ -49,7 +49,7 @@ moved-below p L G H blocks same k l b = (
       (ox.0, subst (λ n. k < n) (sym blocks) ox.1, same x ox.0 ∙ ox.2) (oy.0, subst (λ n. l < n) (sym blocks) oy.1, same y oy.0 ∙ oy.2),
 )
 
-moved-lower : (p : ℕ) (L : Layered) (G H : Parts) → G.blocks ≡ H.blocks → ((x : ℕ) → x < L.columns → G.column x ≡ H.column x) →
+moved-lower : (p : ℕ) (L : LayeredMatrix) (G H : Parts) → G.blocks ≡ H.blocks → ((x : ℕ) → x < L.columns → G.column x ≡ H.column x) →
     (k l : ℕ) → IsLowerBlock p L G k l → IsLowerBlock p L H k l
 moved-lower p L G H blocks same k l b = record {
   below = moved-below p L G H blocks same k l b.below;
@@ -84,7 +84,7 @@ lengths xs ys long each = same_lists (map f xs) (map f ys) (length-map xs f ∙ 
 minus : (a b x y : ℕ) → a + x ≡ b + y → x ≡ y → a ≡ b
 minus a b x y e f = omega arith
 
-module _ (p : ℕ) (prime : IsPrime p) (big : 2 < p) (M : Mixed) (L K : Layered) (O N : Origins) (lay : IsLayeredMatrixOf M L O) (other : IsLayeredMatrixOf M K N)
+module _ (p : ℕ) (prime : IsPrime p) (big : 2 < p) (M : MixedMatrix) (L K : LayeredMatrix) (O N : Origins) (lay : IsLayeredMatrixOf M L O) (other : IsLayeredMatrixOf M K N)
     (c d : Contents) (is : IsCcf p c) (so : IsCcf p d) (R : IsRightCcf p M L O c) (Q : IsRightCcf p M K N d) where
   -- ---- one layered matrix
   same : AreSameLayers p L K
@@ -96,7 +96,7 @@ module _ (p : ℕ) (prime : IsPrime p) (big : 2 < p) (M : Mixed) (L K : Layered)
   constants : AreAlike p L.q_rows L.columns K.q L.q
   constants i j il jl = sym (same.q i j il jl)
 
-  in_size : (E : Layered → Type 0) → E K → E (with_entries L K.q K.t)
+  in_size : (E : LayeredMatrix → Type 0) → E K → E (with_entries L K.q K.t)
   in_size E = resized E L K same.q_rows same.t_rows same.columns
 
   into : (X : ℕ → Bool) → IsMinimiser p (with_entries L K.q K.t) X → IsMinimiser p L X

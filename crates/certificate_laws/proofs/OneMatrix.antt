@@ -2,9 +2,9 @@
 use Rattle.std.proofs.Common.{◌≡◌, ◌+◌, ◌-◌, ◌%◌, ◌<◌, ◌∙◌, ℕ, Bool, cond, eqb, inl, inr, ap, sym, subst, arith}
 use Rattle.residue_theory.proofs.SetLaws.{lt_cases}
 use Rattle.residue_theory.specs.Sets.{both}
-use Rattle.mixed_matrices.specs.LayeredMatrices.{AreSameLayers, Layered}
+use Rattle.mixed_matrices.specs.LayeredMatrices.{AreSameLayers, LayeredMatrix}
 use Rattle.mixed_matrices.specs.Layerings.{AreMembers, IsLayering, Origins}
-use Rattle.mixed_matrices.specs.Models.{Mixed}
+use Rattle.mixed_matrices.specs.Models.{MixedMatrix}
 use Rattle.mixed_layering_laws.proofs.Members.{member-at}
 
 -- the members of a set are listed in one way
@@ -16,7 +16,7 @@ one-size : (A : ℕ → Bool) (n : ℕ) (at to : ℕ → ℕ) (m l : ℕ) → Ar
 one-size A n at to m l first second = sym first.count ∙ second.count
 
 -- the same numbers of rows and columns, from the same rows of the model, with the same entries
-pub record AreOneMatrix (L K : Layered) (O N : Origins) : Type 0 where
+pub record AreOneMatrix (L K : LayeredMatrix) (O N : Origins) : Type 0 where
   pub q_rows : L.q_rows ≡ K.q_rows
   pub t_rows : L.t_rows ≡ K.t_rows
   pub columns : L.columns ≡ K.columns
@@ -27,7 +27,7 @@ pub record AreOneMatrix (L K : Layered) (O N : Origins) : Type 0 where
   pub q : (i j : ℕ) → i < L.q_rows → j < L.columns → L.q i j ≡ K.q i j
   pub t : (i j : ℕ) → i < L.t_rows → j < L.columns → L.t i j ≡ K.t i j
 
-module _ (M : Mixed) (A D : ℕ → Bool) (L K : Layered) (O N : Origins) (lay : IsLayering M A D L O) (other : IsLayering M A D K N) where
+module _ (M : MixedMatrix) (A D : ℕ → Bool) (L K : LayeredMatrix) (O N : Origins) (lay : IsLayering M A D L O) (other : IsLayering M A D K N) where
   q_rows-same : L.q_rows ≡ K.q_rows
   q_rows-same = one-size A M.rows O.of_q N.of_q L.q_rows K.q_rows lay.q_rows other.q_rows
 

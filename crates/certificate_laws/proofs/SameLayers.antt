@@ -9,17 +9,17 @@ use Rattle.linear_algebra.specs.Products.{Agree, product}
 use Rattle.linear_algebra_laws.proofs.Kernels.{kernel_of-agree, rank_of-kernel}
 use Rattle.mixed_matrices.specs.CanonicalParts.{AreCanonical, IsBlockBelow, IsHeldWith, IsLowerBlock, IsReadyAt}
 use Rattle.mixed_matrices.specs.Forms.{IsForm, Parts, diagonal_part, part_columns, part_rows, transformed}
-use Rattle.mixed_matrices.specs.LayeredMatrices.{AreSameLayers, Layered}
+use Rattle.mixed_matrices.specs.LayeredMatrices.{AreSameLayers, LayeredMatrix}
 use Rattle.mixed_matrices.specs.SetFunctions.{IsMinimiser, IsRho, gamma, touches}
 use Rattle.mixed_matrices.specs.StructuralRanks.{IsLayeredRank}
 use Rattle.mixed_pairs.proofs.SameEntries.{same-layers}
 
 -- L with other entries
-abbrev pub with_entries : Layered → (ℕ → ℕ → ℕ) → (ℕ → ℕ → Bool) → Layered
+abbrev pub with_entries : LayeredMatrix → (ℕ → ℕ → ℕ) → (ℕ → ℕ → Bool) → LayeredMatrix
 with_entries L q t = record { q_rows = L.q_rows; t_rows = L.t_rows; columns = L.columns; q = q; t = t }
 
 -- what holds of K holds of the entries of K in the sizes of L
-pub resized : (E : Layered → Type 0) (L K : Layered) → L.q_rows ≡ K.q_rows → L.t_rows ≡ K.t_rows → L.columns ≡ K.columns → E K → E (with_entries L K.q K.t)
+pub resized : (E : LayeredMatrix → Type 0) (L K : LayeredMatrix) → L.q_rows ≡ K.q_rows → L.t_rows ≡ K.t_rows → L.columns ≡ K.columns → E K → E (with_entries L K.q K.t)
 resized E L K rows symbols columns h =
     subst (λ m. E (record { q_rows = m; t_rows = L.t_rows; columns = L.columns; q = K.q; t = K.t })) (sym rows)
     (subst (λ m. E (record { q_rows = K.q_rows; t_rows = m; columns = L.columns; q = K.q; t = K.t })) (sym symbols)
@@ -32,12 +32,12 @@ some_same : (n : ℕ) (X Y : ℕ → Bool) → ((j : ℕ) → j < n → X j ≡ 
 some_same zero X Y same = refl
 some_same (suc n) X Y same = either_same (some_below n X) (some_below n Y) (X n) (Y n) (some_same n X Y (λ j jl. same j (omega arith))) (same n (omega arith))
 
-same-gamma : (L : Layered) (q : ℕ → ℕ → ℕ) (t : ℕ → ℕ → Bool) → ((i j : ℕ) → i < L.t_rows → j < L.columns → t i j ≡ L.t i j) →
+same-gamma : (L : LayeredMatrix) (q : ℕ → ℕ → ℕ) (t : ℕ → ℕ → Bool) → ((i j : ℕ) → i < L.t_rows → j < L.columns → t i j ≡ L.t i j) →
     (X : ℕ → Bool) → gamma (with_entries L q t) X ≡ gamma L X
 same-gamma L q t same X = sum_on-same (touches (with_entries L q t) X) (touches L X) L.t_rows (λ _. 1)
     (λ i il. some_same L.columns (both X (t i)) (both X (L.t i)) (λ j jl. ap (λ b. X j && b) (same i j il jl)))
 
-pub same-minimiser : (p : ℕ) (L : Layered) (q : ℕ → ℕ → ℕ) (t : ℕ → ℕ → Bool) → Agree p L.q_rows L.columns L.q q →
+pub same-minimiser : (p : ℕ) (L : LayeredMatrix) (q : ℕ → ℕ → ℕ) (t : ℕ → ℕ → Bool) → Agree p L.q_rows L.columns L.q q →
     ((i j : ℕ) → i < L.t_rows → j < L.columns → t i j ≡ L.t i j) → (X : ℕ → Bool) → IsMinimiser p (with_entries L q t) X → IsMinimiser p L X
 same-minimiser p L q t constants symbols X least Y r s R S =
     omega (arith, least Y r s (across X r R) (across Y s S), same-gamma L q t symbols X, same-gamma L q t symbols Y)
@@ -46,7 +46,7 @@ same-minimiser p L q t constants symbols X least Y r s R S =
     across Z u = rank_of-kernel p L.q_rows L.columns L.q q Z u (kernel_of-agree p L.q_rows L.columns L.q q constants)
 
 -- ---- what the minimisers tell
-module _ (p : ℕ) (L : Layered) (q : ℕ → ℕ → ℕ) (t : ℕ → ℕ → Bool)
+module _ (p : ℕ) (L : LayeredMatrix) (q : ℕ → ℕ → ℕ) (t : ℕ → ℕ → Bool)
     (into : (X : ℕ → Bool) → IsMinimiser p (with_entries L q t) X → IsMinimiser p L X)
     (from : (X : ℕ → Bool) → IsMinimiser p L X → IsMinimiser p (with_entries L q t) X) (G : Parts) where
   same-held : (y x : ℕ) → IsHeldWith p (with_entries L q t) y x → IsHeldWith p L y x
@@ -86,7 +86,7 @@ cond-agree : (p : ℕ) (b : Bool) (x y : ℕ) → x % p ≡ y % p → cond b x 0
 cond-agree p true x y e = e
 cond-agree p false x y e = refl
 
-module _ (p : ℕ) (L : Layered) (q : ℕ → ℕ → ℕ) (t : ℕ → ℕ → Bool) (constants : Agree p L.q_rows L.columns q L.q)
+module _ (p : ℕ) (L : LayeredMatrix) (q : ℕ → ℕ → ℕ) (t : ℕ → ℕ → Bool) (constants : Agree p L.q_rows L.columns q L.q)
     (symbols : (i j : ℕ) → i < L.t_rows → j < L.columns → t i j ≡ L.t i j) (S : ℕ → ℕ → ℕ) (G : Parts) where
   product-same : Agree p L.q_rows L.columns (product L.q_rows S q) (product L.q_rows S L.q)
   product-same i j il jl = agree-sum p everything L.q_rows (λ k. S i k * q k j) (λ k. S i k * L.q k j)

@@ -1,9 +1,9 @@
 -- When two certificates agree, and the law that right ones of one model do.
 use Rattle.std.specs.Prelude.{ℕ, ◌<◌, ◌≡◌, List, length, map}
 use Rattle.residue_theory.specs.Residues.{IsPrime}
-use Rattle.mixed_matrices.specs.LayeredMatrices.{Layered}
+use Rattle.mixed_matrices.specs.LayeredMatrices.{LayeredMatrix}
 use Rattle.mixed_matrices.specs.Layerings.{IsLayeredMatrixOf, Origins}
-use Rattle.mixed_matrices.specs.Models.{Mixed}
+use Rattle.mixed_matrices.specs.Models.{MixedMatrix}
 use Rattle.cert_text.specs.Contents.{Contents}
 use Rattle.cert_text.specs.Ranges.{IsCcf}
 use Rattle.cert_text.specs.Readings.{column_lists, q_row_lists, t_row_lists}
@@ -30,6 +30,6 @@ pub record Agree (c d : Contents) : Type 0 where
 -- right forms of one model agree; p is a prime above 2
 abbrev pub RightFormsAgree : Type 0
 RightFormsAgree =
-    (p : ℕ) → IsPrime p → 2 < p → (M : Mixed) (L K : Layered) (O N : Origins) →
+    (p : ℕ) → IsPrime p → 2 < p → (M : MixedMatrix) (L K : LayeredMatrix) (O N : Origins) →
     IsLayeredMatrixOf M L O → IsLayeredMatrixOf M K N → (c d : Contents) → IsCcf p c → IsCcf p d →
     IsRightCcf p M L O c → IsRightCcf p M K N d → Agree c d

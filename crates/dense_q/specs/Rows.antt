@@ -15,4 +15,5 @@ multiple p k [] = []
 -- `row` has w entries and is the sum of the rows, each times its coefficient
 pub record IsCombined (p : ℕ) (coefficients : List ℕ) (rows : List (List ℕ)) (w : ℕ) (row : List ℕ) : Type 0 where
   pub length_is : length row ≡ w
-  pub sums : (j : ℕ) → j < w → slice_index row j ≡ sum_below (length rows) (λ t. slice_index coefficients t * slice_index (slice_index_or rows t []) j) % p
+  pub sums : (j : ℕ) → j < w → slice_index row j ≡ sum_below (length rows) (λ t.
+      slice_index coefficients t * slice_index (slice_index_or rows t []) j) % p

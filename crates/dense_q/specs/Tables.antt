@@ -1,6 +1,7 @@
 -- A matrix as its rows, and as a function from a row and a column to an entry, both counted from 0.
 use Rattle.std.specs.List.{All, swap}
 use Rattle.std.specs.Prelude.{ℕ, ◌≡◌, ◌<◌, ◌≤◌, ◌%◌, ◌∷◌, ◌++◌, List, [], length, slice_index, slice_index_or, slice_set, replicate}
+use Rattle.limits.specs.Limits.{column_limit}
 use Rattle.linear_algebra.specs.Products.{product}
 
 -- the rows, each a list of numbers, and how many columns there are: a matrix with no rows has columns too
@@ -23,8 +24,8 @@ entry m i j = slice_index (row_at m i) j
 -- each row has an entry for each column, and there are at most 8,192 rows and columns
 pub record IsMatrix (m : Table) : Type 0 where
   pub full : All (λ row. length row ≡ m.width) m.rows
-  pub few : height m ≤ 8192
-  pub narrow : m.width ≤ 8192
+  pub few : height m ≤ column_limit
+  pub narrow : m.width ≤ column_limit
 
 -- each number of the rows is below p
 abbrev pub AreResidues : ℕ → List (List ℕ) → Type 0

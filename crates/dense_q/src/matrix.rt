@@ -1,4 +1,7 @@
+//! Dense matrices over a field.
+
 ghost use Rattle.std.specs.Prelude.{◌≡◌, ℕ, ◌<◌, ◌≤◌, ◌≢◌, map, length, IfOk, OnOk, OnErr};
+ghost use Rattle.limits.specs.Limits.{column_limit};
 ghost use Rattle.linear_algebra.specs.Products.{identity};
 ghost use Rattle.linear_algebra.specs.RowOperations.{IsRowAdded, IsRowScaled};
 ghost use Rattle.dense_q.specs.Rows.{plus_multiple, multiple};
@@ -33,8 +36,8 @@ impl<F: Field> Model for Mat<F> {
 impl<F: Field> Mat<F> {
     /// The matrix of so many rows and columns whose entries are all zero.
     pub fn zeros(alloc: Global, rows: usize, cols: usize) -> Result<Mat<F>, NoMemory>
-        requires rows { rows ≤ 8192 }
-        requires cols { cols ≤ 8192 }
+        requires rows { rows ≤ column_limit }
+        requires cols { cols ≤ column_limit }
         ensures { IfOk result (λ m. m ≡ zero_table rows cols) }
     {
         let mut all = Vec::with_capacity(alloc, rows)?;
@@ -49,7 +52,7 @@ impl<F: Field> Mat<F> {
 
     /// The square matrix with 1 where row and column are the same, and 0 elsewhere.
     pub fn identity(alloc: Global, n: usize) -> Result<Mat<F>, NoMemory>
-        requires { n ≤ 8192 }
+        requires { n ≤ column_limit }
         ensures { IfOk result (IsTableOf n n identity) }
     {
         let mut all = Vec::with_capacity(alloc, n)?;
@@ -155,7 +158,7 @@ impl<F: Field> Mat<F> {
     /// Puts a row below the last one.
     pub fn push_row(&mut self, row: &[F]) -> Result<(), NoMemory>
         requires width { length row.now ≡ self.old.width }
-        requires room { height self.old < 8192 }
+        requires room { height self.old < column_limit }
         ensures ok { OnOk result (self.new ≡ with_last_row self.old (map F.number row.now)) }
         ensures err { OnErr result (self.new ≡ self.old) }
     {
@@ -168,7 +171,8 @@ impl<F: Field> Mat<F> {
     pub fn scale_row(&mut self, i: usize, c: F)
         requires { i < height self.old }
         ensures row { self.new ≡ with_row self.old i (multiple F.modulus (F.number c) (row_at self.old i)) }
-        ensures scaled { IsRowScaled F.modulus (height self.old) self.old.width (entry self.old) (entry self.new) i (F.number c) }
+        ensures scaled { IsRowScaled F.modulus (height self.old) self.old.width (entry self.old)
+            (entry self.new) i (F.number c) }
         ensures size { HasSameSize self.new self.old }
     {
         rows::multiply(&mut self.rows[i], c);
@@ -188,8 +192,10 @@ impl<F: Field> Mat<F> {
         requires target { i < height self.old }
         requires source { j < height self.old }
         requires apart { i ≢ j }
-        ensures row { self.new ≡ with_row self.old i (plus_multiple F.modulus (F.number c) (row_at self.old i) (row_at self.old j)) }
-        ensures added { IsRowAdded F.modulus (height self.old) self.old.width (entry self.old) (entry self.new) i j (F.number c) }
+        ensures row { self.new
+            ≡ with_row self.old i (plus_multiple F.modulus (F.number c) (row_at self.old i) (row_at self.old j)) }
+        ensures added { IsRowAdded F.modulus (height self.old) self.old.width (entry self.old) (entry self.new)
+            i j (F.number c) }
         ensures size { HasSameSize self.new self.old }
     {
         let empty = Vec::new(*self.rows.allocator());

@@ -1,4 +1,4 @@
-// Rows of a matrix, each over slices of their own.
+//! Rows of a matrix, each over slices of their own.
 
 ghost use Rattle.std.specs.Prelude.{◌≡◌, ℕ, ◌<◌, ◌≤◌, map, length, replicate, vec_len, slice_index, slice_index_or, IfOk};
 ghost use Rattle.std.specs.List.{All};
@@ -10,7 +10,8 @@ use std::alloc::{AllocError, Global};
 // Adds `factor` times `source` to `target`.
 pub(crate) fn add_multiple<F: Field>(target: &mut [F], source: &[F], factor: F)
     requires { length target.old ≡ length source.now }
-    ensures { map F.number target.new ≡ plus_multiple F.modulus (F.number factor) (map F.number target.old) (map F.number source.now) }
+    ensures { map F.number target.new ≡ plus_multiple F.modulus (F.number factor) (map F.number target.old)
+        (map F.number source.now) }
 {
     let mut terms = source.iter();
     for x in target.iter_mut() {
@@ -47,7 +48,8 @@ pub(crate) fn combination<F: Field>(
 ) -> Result<Vec<F>, AllocError>
     requires coefficients { length coefficients.now ≡ length rows.now }
     requires full { All (λ row. vec_len row ≡ columns) rows.now }
-    ensures { IfOk result (λ row. IsCombined F.modulus (map F.number coefficients.now) (map (λ row. map F.number row.items) rows.now) columns (map F.number row.items)) }
+    ensures { IfOk result (λ row. IsCombined F.modulus (map F.number coefficients.now)
+        (map (λ row. map F.number row.items) rows.now) columns (map F.number row.items)) }
 {
     let mut sum = zero_row(alloc, columns)?;
     for (row, coefficient) in rows.iter().zip(coefficients) {
@@ -72,7 +74,8 @@ pub(crate) fn column<F: Field>(
     j: usize,
 ) -> Result<Vec<F>, AllocError>
     requires { All (λ row. j < vec_len row) rows.now }
-    ensures { IfOk result (λ column. map F.number column.items ≡ map (λ row. slice_index (map F.number row.items) j) rows.now) }
+    ensures { IfOk result (λ column. map F.number column.items ≡ map (λ row.
+        slice_index (map F.number row.items) j) rows.now) }
 {
     let mut column = Vec::with_capacity(alloc, rows.len())?;
     for row in rows {

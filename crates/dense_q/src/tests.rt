@@ -1,3 +1,5 @@
+//! Tests of dense matrices, over the residues modulo 65,521.
+
 use super::*;
 use residue_field::{Field, Res};
 use std::alloc::Global;

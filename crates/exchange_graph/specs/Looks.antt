@@ -3,7 +3,8 @@ use Rattle.std.specs.Prelude.{ℕ, ◌+◌, ◌<◌, ◌≤◌, ◌≡◌, Bool,
 use Rattle.search_laws.specs.Searches.{State, IsSearch, IsGrown}
 
 -- the place at `head` is being looked at: what it leads to below `from` is reached; s₀ is what was known before
-pub record IsLookingFrom (arc : ℕ → ℕ → Bool) (n : ℕ) (s₀ s : State) (f₀ head filled from place depth : ℕ) : Type 0 where
+pub record IsLookingFrom (arc : ℕ → ℕ → Bool) (n : ℕ) (s₀ s : State)
+    (f₀ head filled from place depth : ℕ) : Type 0 where
   pub search : IsSearch arc n s head filled
   pub grown : IsGrown n s₀ s f₀
   pub looks_at : s.order head ≡ place

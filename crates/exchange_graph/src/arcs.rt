@@ -1,3 +1,5 @@
+//! Directed graphs, as the arcs between numbered places.
+
 ghost use Rattle.std.specs.Prelude.{◌≡◌, ℕ, ◌<◌, ◌≤◌, Bool, IfSome, IfNone};
 ghost use Rattle.number_ranges.specs.Ranges.{HasNone, IsLeast};
 

@@ -1,3 +1,5 @@
+//! Breadth-first search from several places at once, each place looked at once.
+
 ghost use Rattle.std.specs.Prelude.{◌≡◌, ℕ, ◌+◌, ◌<◌, ◌≤◌, Bool, true, false, length, IfOk, IfSome, IfNone, slice_index};
 ghost use Rattle.residue_theory.specs.Sums.{size_on};
 ghost use Rattle.closed_sets.specs.Closed.{IsClosed, IsReachedSet};
@@ -31,7 +33,7 @@ pub struct Scan {
 }
 
 impl Scan {
-    // Room for a search over the places below n.
+    /// Room for a search over the places below n.
     pub fn open(alloc: Global, n: usize) -> Result<Self, AllocError>
         ensures stored { IfOk result (λ s. IsStored s) }
         ensures places { IfOk result (λ s. places s ≡ n) }
@@ -66,14 +68,15 @@ impl Scan {
         })
     }
 
-    // Puts a place that waits at the end of the reached ones.
+    /// Puts a place that waits at the end of the reached ones.
     pub fn put(&mut self, place: usize, from: usize, depth: usize)
         requires stored { IsStored self.old }
         requires place { place < places self.old }
         requires waits { members_of self.old.reached.items place ≡ false }
         requires room { self.old.filled ≤ position_of self.old place }
         requires from { from < places self.old }
-        ensures put { IsPut (state_of self.old) (state_of self.new) (position_of self.old place) self.old.filled from depth }
+        ensures put { IsPut (state_of self.old) (state_of self.new) (position_of self.old place)
+            self.old.filled from depth }
         ensures filled { self.new.filled ≡ self.old.filled + 1 }
         ensures looks { self.new.looks ≡ self.old.looks }
         ensures walk { self.new.walk ≡ self.old.walk }
@@ -95,7 +98,7 @@ impl Scan {
         self.filled = filled + 1;
     }
 
-    // Reaches no place: takes back those that are reached, and goes over no other.
+    /// Reaches no place: takes back those that are reached, and goes over no other.
     pub fn clear(&mut self)
         requires { IsStored self.old }
         ensures reached { (y : ℕ) → y < places self.old → members_of self.new.reached.items y ≡ false }
@@ -114,7 +117,7 @@ impl Scan {
         self.filled = 0;
     }
 
-    // Starts over: reaches the starts alone.
+    /// Starts over: reaches the starts alone.
     pub fn start(&mut self, starts: &[bool])
         requires stored { IsStored self.old }
         requires starts { length starts.now ≡ places self.old }
@@ -134,7 +137,7 @@ impl Scan {
         }
     }
 
-    // The least place from `from` on that waits, or the number of places where none does.
+    /// The least place from `from` on that waits, or the number of places where none does.
     pub fn first_waiting(&mut self, from: usize) -> usize
         requires stored { IsStored self.old }
         requires from { from ≤ places self.old }
@@ -153,7 +156,7 @@ impl Scan {
         self.waiting.first_from(from)
     }
 
-    // Looks at the place at `head` of the order: reaches all that it leads to.
+    /// Looks at the place at `head` of the order: reaches all that it leads to.
     pub fn look<A: Arcs>(&mut self, arcs: &A, head: usize)
         requires stored { IsStored self.old }
         requires places { A.places arcs.now ≡ places self.old }
@@ -180,13 +183,14 @@ impl Scan {
         }
     }
 
-    // Writes down the walk to a place, from its end backwards.
+    /// Writes down the walk to a place, from its end backwards.
     pub fn trace(&mut self, end: usize, depth: usize)
         requires stored { IsStored self.old }
         requires end { end < places self.old }
         requires depth { depth < places self.old }
         ensures last { walk_of self.new depth ≡ end }
-        ensures back { (i : ℕ) → i < depth → walk_of self.new i ≡ slice_index self.old.before.items (walk_of self.new (i + 1)) }
+        ensures back { (i : ℕ) → i < depth → walk_of self.new i
+            ≡ slice_index self.old.before.items (walk_of self.new (i + 1)) }
         ensures kept { self.new ≡ record self.old { walk = self.new.walk } }
         ensures stored { IsStored self.new }
     {
@@ -200,12 +204,13 @@ impl Scan {
         }
     }
 
-    // Reaches all that the starts lead to.
+    /// Reaches all that the starts lead to.
     pub fn reach<A: Arcs>(&mut self, arcs: &A, starts: &[bool])
         requires stored { IsStored self.old }
         requires places { A.places arcs.now ≡ places self.old }
         requires starts { length starts.now ≡ places self.old }
-        ensures reached { IsReachedSet (A.leads arcs.now) (places self.old) (members_of starts.now) (members_of self.new.reached.items) }
+        ensures reached { IsReachedSet (A.leads arcs.now) (places self.old) (members_of starts.now)
+            (members_of self.new.reached.items) }
         ensures looks { self.new.looks ≡ self.old.looks }
         ensures walk { self.new.walk ≡ self.old.walk }
         ensures all_looks { self.new.all_looks
@@ -221,7 +226,7 @@ impl Scan {
         }
     }
 
-    // The least number of arcs from a start to an end.
+    /// The least number of arcs from a start to an end.
     pub fn shortest<A: Arcs, L: Ledger>(
         &mut self,
         arcs: &A,
@@ -233,10 +238,14 @@ impl Scan {
         requires places { A.places arcs.now ≡ places self.old }
         requires starts { length starts.now ≡ places self.old }
         requires ends { length ends.now ≡ places self.old }
-        ensures found { IfSome result (λ k. IsShortest (A.leads arcs.now) (places self.old) (members_of starts.now) (members_of ends.now) (walk_of self.new) k) }
-        ensures closed { IfNone result (IsClosed (A.leads arcs.now) (places self.old) (members_of starts.now) (members_of ends.now) (members_of self.new.reached.items)) }
-        ensures reached { IfNone result (IsReachedSet (A.leads arcs.now) (places self.old) (members_of starts.now) (members_of self.new.reached.items)) }
-        ensures looks { IfNone result (steps.new ≡ steps.old + size_on (members_of self.new.reached.items) (places self.old)) }
+        ensures found { IfSome result (λ k. IsShortest (A.leads arcs.now) (places self.old) (members_of starts.now)
+            (members_of ends.now) (walk_of self.new) k) }
+        ensures closed { IfNone result (IsClosed (A.leads arcs.now) (places self.old) (members_of starts.now)
+            (members_of ends.now) (members_of self.new.reached.items)) }
+        ensures reached { IfNone result (IsReachedSet (A.leads arcs.now) (places self.old) (members_of starts.now)
+            (members_of self.new.reached.items)) }
+        ensures looks { IfNone result (steps.new ≡ steps.old
+            + size_on (members_of self.new.reached.items) (places self.old)) }
         ensures count { steps.new ≤ steps.old + places self.old }
         ensures told { steps.new ≡ steps.old + self.new.looks }
         ensures looked { IfSome result (λ k. AreLookedAt (A.leads arcs.now) (places self.old) (members_of starts.now)

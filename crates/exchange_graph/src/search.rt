@@ -1,3 +1,5 @@
+//! Shortest walks and reached sets, by breadth-first search.
+
 ghost use Rattle.std.specs.Prelude.{◌≡◌, ℕ, ◌+◌, ◌<◌, ◌≤◌, ◌↔◌, Bool, length, IfOk, IfSome, IfNone, IsNone};
 ghost use Rattle.residue_theory.specs.Sums.{size_on};
 ghost use Rattle.closed_sets.specs.Closed.{IsClosed, IsReachedSet, NoEndReached};
@@ -26,7 +28,13 @@ impl Model for Search {
 
     ghost Value = { Found };
 
-    ghost view = { λ s. record { places = places s.scan; marks = s.scan.reached.items; walk = s.scan.walk.items; looks = s.scan.looks; all_looks = s.scan.all_looks } };
+    ghost view = { λ s. record {
+      places = places s.scan;
+      marks = s.scan.reached.items;
+      walk = s.scan.walk.items;
+      looks = s.scan.looks;
+      all_looks = s.scan.all_looks;
+    } };
 
     ghost invariant = { λ s. IsStored s.scan };
 }
@@ -46,9 +54,9 @@ impl Search {
     /// The least number of arcs of a walk from a start to an end, or `None` where none leads from one to the other.
     /// After `Some`, `step` tells such a walk; after `None`, `reached` tells what is reached from the starts.
     ///
-    /// It looks at each place at most once, ticks once for each look, and tells by `looks` how many there were. Where it
-    /// finds an end k arcs away it has looked at each place that is nearer to a start, at none that is farther than k, and
-    /// at no end; where it finds none, at each place that is reached.
+    /// It looks at each place at most once, ticks once for each look, and tells by `looks` how many there were. Where
+    /// it finds an end k arcs away it has looked at each place that is nearer to a start, at none that is farther than
+    /// k, and at no end; where it finds none, at each place that is reached.
     pub fn shortest<A: Arcs, L: Ledger>(
         &mut self,
         arcs: &A,
@@ -59,10 +67,14 @@ impl Search {
         requires places { A.places arcs.now ≡ self.old.places }
         requires starts { length starts.now ≡ self.old.places }
         requires ends { length ends.now ≡ self.old.places }
-        ensures none { IsNone result ↔ NoEndReached (A.leads arcs.now) self.old.places (members_of starts.now) (members_of ends.now) }
-        ensures found { IfSome result (λ k. IsShortest (A.leads arcs.now) self.old.places (members_of starts.now) (members_of ends.now) (step_of self.new) k) }
-        ensures closed { IfNone result (IsClosed (A.leads arcs.now) self.old.places (members_of starts.now) (members_of ends.now) (reached_of self.new)) }
-        ensures reached { IfNone result (IsReachedSet (A.leads arcs.now) self.old.places (members_of starts.now) (reached_of self.new)) }
+        ensures none { IsNone result ↔ NoEndReached (A.leads arcs.now) self.old.places (members_of starts.now)
+            (members_of ends.now) }
+        ensures found { IfSome result (λ k. IsShortest (A.leads arcs.now) self.old.places (members_of starts.now)
+            (members_of ends.now) (step_of self.new) k) }
+        ensures closed { IfNone result (IsClosed (A.leads arcs.now) self.old.places (members_of starts.now)
+            (members_of ends.now) (reached_of self.new)) }
+        ensures reached { IfNone result (IsReachedSet (A.leads arcs.now) self.old.places (members_of starts.now)
+            (reached_of self.new)) }
         ensures looks { IfNone result (steps.new ≡ steps.old + size_on (reached_of self.new) self.old.places) }
         ensures count { steps.new ≤ steps.old + self.old.places }
         ensures told { steps.new ≡ steps.old + self.new.looks }
@@ -81,7 +93,8 @@ impl Search {
     pub fn reach<A: Arcs>(&mut self, arcs: &A, starts: &[bool])
         requires places { A.places arcs.now ≡ self.old.places }
         requires starts { length starts.now ≡ self.old.places }
-        ensures reached { IsReachedSet (A.leads arcs.now) self.old.places (members_of starts.now) (reached_of self.new) }
+        ensures reached { IsReachedSet (A.leads arcs.now) self.old.places (members_of starts.now)
+            (reached_of self.new) }
         ensures looks { self.new.looks ≡ self.old.looks }
         ensures walk { self.new.walk ≡ self.old.walk }
         ensures all_looks { self.new.all_looks
@@ -114,7 +127,8 @@ impl Search {
         self.scan.looks
     }
 
-    /// How many looks there have been since the search was opened, those of `reach` too. At the greatest `u64` it stays.
+    /// How many looks there have been since the search was opened, those of `reach` too. At the greatest `u64` it
+    /// stays.
     pub fn all_looks(&self) -> u64
         ensures { result ≡ self.now.all_looks }
     {

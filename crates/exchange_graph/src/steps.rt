@@ -1,3 +1,5 @@
+//! A count of steps that proofs see and the running program does not keep.
+
 ghost use Rattle.std.specs.Prelude.{◌≡◌, ◌+◌, ℕ, ◌<◌};
 
 use std::marker::Model;

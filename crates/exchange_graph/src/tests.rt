@@ -1,3 +1,5 @@
+//! Tests of searches.
+
 ghost use Rattle.std.specs.Prelude.{◌≡◌, ◌<◌, ℕ, ◌+◌, ◌%◌, nat_eq, true, vec_len, IfOk};
 
 use super::*;

@@ -1,3 +1,5 @@
+//! The list of the unvisited places, with paths halved as it is walked, so that a look skips what is visited.
+
 ghost use Rattle.std.specs.Prelude.{◌≡◌, ◌≢◌, ℕ, ◌<◌, ◌≤◌, vec_len, slice_index, IfOk};
 ghost use Rattle.exchange_graph.specs.Waitings.{IsLeading, Waits, SkipsTo, IsTaken, SameWaiting};
 
@@ -11,7 +13,7 @@ pub struct Waiting {
 }
 
 impl Waiting {
-    // The places below n all wait.
+    /// The places below n all wait.
     pub fn open(alloc: Global, n: usize) -> Result<Self, AllocError>
         ensures places { IfOk result (λ w. vec_len w.ahead ≡ n) }
         ensures leading { IfOk result (λ w. IsLeading w.ahead.items) }
@@ -24,7 +26,7 @@ impl Waiting {
         Ok(Waiting { ahead })
     }
 
-    // One place waits again. Until all do, `ahead` may lead over it.
+    /// One place waits again. Until all do, `ahead` may lead over it.
     pub fn put_back(&mut self, place: usize)
         requires { place < vec_len self.old.ahead }
         ensures places { vec_len self.new.ahead ≡ vec_len self.old.ahead }
@@ -34,7 +36,7 @@ impl Waiting {
         self.ahead[place] = place;
     }
 
-    // One place waits no more.
+    /// One place waits no more.
     pub fn take(&mut self, place: usize)
         requires leading { IsLeading self.old.ahead.items }
         requires place { place < vec_len self.old.ahead }
@@ -46,7 +48,7 @@ impl Waiting {
         self.ahead[place] = place + 1;
     }
 
-    // The least place from `from` on that waits, or the number of places where none does.
+    /// The least place from `from` on that waits, or the number of places where none does.
     pub fn first_from(&mut self, from: usize) -> usize
         requires leading { IsLeading self.old.ahead.items }
         requires from { from ≤ vec_len self.old.ahead }

@@ -7,7 +7,7 @@ use Rattle.residue_theory.specs.Residues.{IsPrime}
 use Rattle.bipartite_matching.specs.Matchings.{Matching}
 use Rattle.row_transform.specs.Tableaus.{State}
 use Rattle.mixed_matrices.specs.Arcs.{HasNoWalk, IsClosedIn, IsReachedFromFree, has_base, has_match, is_end, is_free, leads_to}
-use Rattle.mixed_matrices.specs.LayeredMatrices.{Layered}
+use Rattle.mixed_matrices.specs.LayeredMatrices.{LayeredMatrix}
 use Rattle.mixed_matrices.specs.Tableaus.{Tableau, HasTableau}
 use Rattle.mixed_pairs.proofs.Minimisers.{closed-best, closed-minimiser, least_set, least_set-closed, minimiser-closed}
 use Rattle.mixed_pairs.proofs.PairRank.{closed-rank}
@@ -34,7 +34,7 @@ entries-tableau p q S M agree tableau = record {
 
 module _ (p : ℕ) (prime : IsPrime p) (S : State) (M : Matching) (kept : HasTableau p (layers_of S M) (tableau_of S M)) (clear : HasNoWalk p (layers_of S M) (tableau_of S M))
     (X : ℕ → Bool) (from_free : IsReachedFromFree p (layers_of S M) (tableau_of S M) X) (q : ℕ → ℕ → ℕ) (agree : AreEntries p S q) where
-  abbrev L : Layered
+  abbrev L : LayeredMatrix
   L = layers q S M
 
   abbrev F : Tableau

@@ -7,7 +7,7 @@ use Rattle.bipartite_matching.specs.Matchings.{Matching}
 use Rattle.row_transform.specs.Tableaus.{State}
 use Rattle.exchange_graph.specs.Marks.{members_of}
 use Rattle.mixed_augmentation.specs.Moves.{TakesRow, TakesMate}
-use Rattle.mixed_matrices.specs.LayeredMatrices.{Layered}
+use Rattle.mixed_matrices.specs.LayeredMatrices.{LayeredMatrix}
 use Rattle.independent_matching.specs.declared.marks.Marks.{Marks}
 use Rattle.independent_matching.specs.declared.row.Row.{Row}
 use Rattle.independent_matching.specs.Marks.{AreTouched, IsChangedAt, IsEndMark, IsQMark, IsTMark, row_at}
@@ -16,10 +16,10 @@ use Rattle.independent_matching.specs.Sides.{AreRowsLeft, IsFreeQRow, in_q, laye
 -- ---- a column takes a row
 module _ (p : ℕ) (S S' : State) (M M' : Matching) (v : ℕ) (below : v < S.columns) (layers : layers_of S' M' ≡ layers_of S M) (row : ℕ) where
   same_rows : S'.rows ≡ S.rows
-  same_rows = ap (λ (L : Layered). L.q_rows) layers
+  same_rows = ap (λ (L : LayeredMatrix). L.q_rows) layers
 
   same_columns : S'.columns ≡ S.columns
-  same_columns = ap (λ (L : Layered). L.columns) layers
+  same_columns = ap (λ (L : LayeredMatrix). L.columns) layers
 
   -- a mark that stays right, since the column has the same free Q rows
   kept-mark : (by_q : List (Option ℕ)) (x : ℕ) → ((i : ℕ) → IsFreeQRow p S x i → IsFreeQRow p S' x i) → ((i : ℕ) → IsFreeQRow p S' x i → IsFreeQRow p S x i) → IsQMark p S by_q x → IsQMark p S' by_q x
@@ -83,10 +83,10 @@ module _ (p : ℕ) (S S' : State) (M M' : Matching) (v : ℕ) (below : v < S.col
 -- ---- the marks for T after a walk
 module _ (S S' : State) (M M' : Matching) (layers : layers_of S' M' ≡ layers_of S M) (end : Row) (rows : AreRowsLeft M M' end) where
   same_height : height M'.pattern ≡ height M.pattern
-  same_height = ap (λ (L : Layered). L.t_rows) layers
+  same_height = ap (λ (L : LayeredMatrix). L.t_rows) layers
 
   same_touches : (i x : ℕ) → touches M'.pattern i x ≡ touches M.pattern i x
-  same_touches i x = ap (λ (L : Layered). L.t i x) layers
+  same_touches i x = ap (λ (L : LayeredMatrix). L.t i x) layers
 
   pub left-mark : (by_t : List Bool) (x : ℕ) → IsTMark M by_t x → (in_q end ≡ false → touches M'.pattern (number end) x ≡ false) → IsTMark M' by_t x
   left-mark by_t x mark apart = record {

@@ -5,7 +5,7 @@ use Rattle.residue_theory.specs.Sums.{size_on}
 use Rattle.bipartite_matching.specs.Matchings.{Matching}
 use Rattle.row_transform.specs.Tableaus.{State}
 use Rattle.mixed_matrices.specs.Arcs.{is_free}
-use Rattle.mixed_matrices.specs.LayeredMatrices.{Layered}
+use Rattle.mixed_matrices.specs.LayeredMatrices.{LayeredMatrix}
 use Rattle.mixed_matrices.specs.Pairs.{pair_size}
 use Rattle.mixed_matrices.specs.Tableaus.{Tableau, HasTableau}
 use Rattle.mixed_augmentation.specs.Moves.{Route, IsRoute, IsStage, TakesRow, TakesMate, route}
@@ -45,7 +45,7 @@ module _ (p : ℕ) (S₀ : State) (M₀ : Matching) (tableau : HasTableau p (lay
   abbrev F₀ : Tableau
   F₀ = tableau_of S₀ M₀
 
-  abbrev L₀ : Layered
+  abbrev L₀ : LayeredMatrix
   L₀ = layers_of S₀ M₀
 
   abbrev R : Route
@@ -84,7 +84,7 @@ module _ (p : ℕ) (S₀ : State) (M₀ : Matching) (tableau : HasTableau p (lay
       moving-apart b m = differ (tableau.apart (at i) moving-below (sym (stage_now.same_base i (omega arith)) ∙ b)) (sym (stage_now.same_match i (omega arith)) ∙ m)
 
       moving-columns : S.columns ≡ S₀.columns
-      moving-columns = ap (λ (L : Layered). L.columns) V.layers
+      moving-columns = ap (λ (L : LayeredMatrix). L.columns) V.layers
 
       takes_row : (r : Row) × (next ≡ Some r) × (in_q r ≡ R.in_q i) × (number r ≡ R.row i)
       takes_row = V.some i at_left
@@ -174,7 +174,7 @@ module _ (p : ℕ) (S₀ : State) (M₀ : Matching) (tableau : HasTableau p (lay
     moving-tableau = end-tableau p L₀ F₀ R tableau W (tableau_of S M) stage_end
 
     pub moving-size : size_of S M ≡ size_of S₀ M₀ + 1
-    moving-size = ap (λ (L : Layered). pair_size L S.base (tableau_of S M).matched) V.layers ∙ end-size p L₀ F₀ R tableau W (tableau_of S M) stage_end
+    moving-size = ap (λ (L : LayeredMatrix). pair_size L S.base (tableau_of S M).matched) V.layers ∙ end-size p L₀ F₀ R tableau W (tableau_of S M) stage_end
 
     pub moving-taken : IsFreeTaken S₀.columns F₀ (tableau_of S M) (at 0)
     moving-taken = record {

@@ -1,8 +1,9 @@
 -- An engine before its first search.
-use Rattle.std.proofs.Common.{◌≡◌, ◌<◌, ◌%◌, ◌≤◌, ◌∙◌, ◌⊎◌, ◌&&◌, ℕ, Bool, false, true, not, replicate, Option, None, inl, inr, sym, ap, subst, is_some, slice_index_or, arith}
+use Rattle.std.proofs.Common.{◌≡◌, ◌<◌, ◌%◌, ◌≤◌, ◌∙◌, ◌⊎◌, ◌&&◌, ℕ, Bool, false, true, not, replicate, Option, None, inl, inr, refl, sym, ap, subst, is_some, slice_index_or, arith}
 use Rattle.std.proofs.lemmas.List.{get_or-replicate, get_or_past, length-replicate}
 use Rattle.residue_theory.proofs.SetLaws.{differ, lt_cases}
 use Rattle.residue_theory.proofs.CountLaws.{size-zero}
+use Rattle.dense_q.specs.Tables.{height, entry}
 use Rattle.linear_algebra.specs.Kernels.{SameKernel}
 use Rattle.linear_algebra_laws.proofs.Kernels.{kernel_of-agree}
 use Rattle.sparse_t.specs.Incidences.{Incidence}
@@ -10,7 +11,8 @@ use Rattle.bipartite_matching.specs.Matchings.{Matching, empty_matching}
 use Rattle.row_transform.specs.Tableaus.{State, IsOpened}
 use Rattle.mixed_matrices.specs.Arcs.{is_free}
 use Rattle.mixed_matrices.specs.Tableaus.{HasTableau}
-use Rattle.independent_matching.specs.Engines.{AreEntries}
+use Rattle.mixed_model.specs.Layers.{Layers, layered_matrix_of}
+use Rattle.independent_matching.specs.Engines.{AreEntries, layers}
 use Rattle.independent_matching.specs.Sides.{is_matched, layers_of, size_of, tableau_of}
 
 pub empty-unmatched : (p : Incidence) (y : ℕ) → is_matched (empty_matching p) y ≡ false
@@ -58,3 +60,8 @@ module _ (p m n : ℕ) (q : ℕ → ℕ → ℕ) (S : State) (opened : IsOpened 
 
   pub opened-kernel : SameKernel p S.rows S.columns S.q S.p
   opened-kernel = kernel_of-agree p S.rows S.columns S.q S.p (λ i j il jl. opened-entries i j il jl ∙ ap (λ a. a i j % p) (sym opened.p_is))
+
+-- the matrix of a tableau before any row operation and of the matching of T
+pub opened-layers : (p : ℕ) (L : Layers) (S : State) (M : Matching) → IsOpened p (height L.q) L.q.width (entry L.q) S → M.pattern ≡ L.t →
+    layers (entry L.q) S M ≡ layered_matrix_of L
+opened-layers p L S M opened same = rw (opened.rows_are, opened.columns_are, same) refl

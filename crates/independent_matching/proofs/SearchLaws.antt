@@ -7,7 +7,7 @@ use Rattle.row_transform.specs.Tableaus.{State}
 use Rattle.search_laws.specs.Searches.{IsShortest}
 use Rattle.exchange_graph.specs.Marks.{members_of}
 use Rattle.mixed_matrices.specs.Arcs.{HasNoWalk, IsReachedFromFree, is_end, is_free, leads_to}
-use Rattle.mixed_matrices.specs.LayeredMatrices.{Layered}
+use Rattle.mixed_matrices.specs.LayeredMatrices.{LayeredMatrix}
 use Rattle.mixed_matrices.specs.Tableaus.{Tableau, HasTableau}
 use Rattle.mixed_augmentation.specs.Moves.{IsFreeRow, IsRoute, route}
 use Rattle.mixed_augmentation.proofs.Routes.{shortest-route}
@@ -28,7 +28,7 @@ module _ (p : ℕ) (S : State) (M : Matching) (width : M.pattern.width ≡ S.col
   abbrev F : Tableau
   F = tableau_of S M
 
-  abbrev L : Layered
+  abbrev L : LayeredMatrix
   L = layers_of S M
 
   low : (x : ℕ) → x < n → x < S.columns

@@ -7,7 +7,7 @@ use Rattle.exchange_graph.specs.Counts.{counted_on}
 use Rattle.exchange_graph.specs.Results.{Found}
 use Rattle.row_transform.specs.Tableaus.{State}
 use Rattle.mixed_matrices.specs.Arcs.{HasNoWalk, IsClosedIn, IsReachedFromFree}
-use Rattle.mixed_matrices.specs.LayeredMatrices.{Layered}
+use Rattle.mixed_matrices.specs.LayeredMatrices.{LayeredMatrix}
 use Rattle.mixed_matrices.specs.Pairs.{IsBest, pair_size}
 use Rattle.mixed_matrices.specs.SetFunctions.{IsMinimiser}
 use Rattle.mixed_matrices.specs.StructuralRanks.{IsLayeredRank}
@@ -25,15 +25,16 @@ pub record Standing (A : Type 0) : Type 0 where
   pub searches : ℕ
 
 -- the layered matrix with the entries q in place of those that the tableau keeps
-abbrev pub layers : (ℕ → ℕ → ℕ) → State → Matching → Layered
+abbrev pub layers : (ℕ → ℕ → ℕ) → State → Matching → LayeredMatrix
 layers q S M = record (layers_of S M) { q = q }
 
 -- the entries q are those that the tableau came from, modulo p
 abbrev pub AreEntries : ℕ → State → (ℕ → ℕ → ℕ) → Type 0
 AreEntries p S q = Agree p S.rows S.columns S.q q
 
--- the pair is best, its size is the structural rank, the minimisers are the closed sets, and what is reached is the least one
-pub record IsSolved (p : ℕ) (L : Layered) (F : Tableau) (reached : ℕ → Bool) : Type 0 where
+-- the pair is best, its size is the structural rank, the minimisers are the closed sets, and what is reached is the
+-- least one
+pub record IsSolved (p : ℕ) (L : LayeredMatrix) (F : Tableau) (reached : ℕ → Bool) : Type 0 where
   pub tableau : HasTableau p L F
   pub best : IsBest p L F.base F.matched
   pub rank : IsLayeredRank p L (pair_size L F.base F.matched)
@@ -43,8 +44,8 @@ pub record IsSolved (p : ℕ) (L : Layered) (F : Tableau) (reached : ℕ → Boo
   pub minimiser : IsMinimiser p L reached
   pub least : (Y : ℕ → Bool) → IsMinimiser p L Y → IsWithin L.columns reached Y
 
--- the steps from a pair of size s to one of size m, over n columns: m - s + 1 searches with at most n looks, and after each but the
--- last at most as many pivots as there were base columns, and one
+-- the steps from a pair of size s to one of size m, over n columns: m - s + 1 searches with at most n looks, and after
+-- each but the last at most as many pivots as there were base columns, and one
 abbrev pub AreFewSteps : ℕ → ℕ → ℕ → ℕ → ℕ → Type 0
 AreFewSteps n s m before after = after + (s * n + s * s) ≤ before + (m + 1) * n + m * m
 

@@ -5,7 +5,7 @@ use Rattle.sparse_t.specs.Incidences.{height, touches}
 use Rattle.bipartite_matching.specs.Matchings.{Matching, mate_at}
 use Rattle.row_transform.specs.Tableaus.{State, IsBare, has_entry}
 use Rattle.mixed_matrices.specs.Arcs.{is_free}
-use Rattle.mixed_matrices.specs.LayeredMatrices.{Layered}
+use Rattle.mixed_matrices.specs.LayeredMatrices.{LayeredMatrix}
 use Rattle.mixed_matrices.specs.Pairs.{pair_size}
 use Rattle.mixed_matrices.specs.Tableaus.{Tableau}
 use Rattle.mixed_augmentation.specs.Moves.{TakesRow, TakesMate, Route, IsStage}
@@ -51,7 +51,7 @@ pub record IsFreeTRow (M : Matching) (x row : ℕ) : Type 0 where
   pub loose : HasNoMate M row
 
 -- the layered matrix of Q and T
-abbrev pub layers_of : State → Matching → Layered
+abbrev pub layers_of : State → Matching → LayeredMatrix
 layers_of S M = record {
   q_rows = S.rows;
   t_rows = height M.pattern;
@@ -87,18 +87,20 @@ abbrev pub row_had : Tableau → ℕ → Option Row
 row_had F x = cond (F.base x) (Some (Q (F.row x))) (cond (F.matched x) (Some (T (F.mate x))) None)
 
 -- column x may take the row: a Q row where it has an entry, or a T row that touches it and has no column
-pub record CanTake (p : ℕ) (L : Layered) (F : Tableau) (row : Row) (x : ℕ) : Type 0 where
+pub record CanTake (p : ℕ) (L : LayeredMatrix) (F : Tableau) (row : Row) (x : ℕ) : Type 0 where
   pub of_q : in_q row ≡ true → (number row < L.q_rows) × (F.P (number row) x % p ≢ 0) × (F.base x ≡ false)
-  pub of_t : in_q row ≡ false → (number row < L.t_rows) × (L.t (number row) x ≡ true) × HasNoBase L.columns F.matched F.mate (number row)
+  pub of_t : in_q row ≡ false → (number row < L.t_rows) × (L.t (number row) x ≡ true)
+      × HasNoBase L.columns F.matched F.mate (number row)
 
 -- column x has taken the row, and G is the tableau after that
-pub record Takes (p : ℕ) (L : Layered) (F G : Tableau) (row : Row) (x : ℕ) : Type 0 where
+pub record Takes (p : ℕ) (L : LayeredMatrix) (F G : Tableau) (row : Row) (x : ℕ) : Type 0 where
   pub of_q : in_q row ≡ true → TakesRow p L F G (number row) x
   pub of_t : in_q row ≡ false → TakesMate L F G (number row) x
 
--- the first `left` columns of the route have still to move, and `next` is the row that the last of them takes, if there is one;
--- S₀ and M₀ are from before all moves
-pub record IsMoving (p : ℕ) (S₀ : State) (M₀ : Matching) (R : Route) (S : State) (M : Matching) (next : Option Row) (left : ℕ) : Type 0 where
+-- the first `left` columns of the route have still to move, and `next` is the row that the last of them takes, if there
+-- is one; S₀ and M₀ are from before all moves
+pub record IsMoving (p : ℕ) (S₀ : State) (M₀ : Matching) (R : Route) (S : State) (M : Matching) (next : Option Row)
+    (left : ℕ) : Type 0 where
   pub layers : layers_of S M ≡ layers_of S₀ M₀
   pub width : M.pattern.width ≡ M₀.pattern.width
   pub stage : IsStage p (layers_of S₀ M₀) (tableau_of S₀ M₀) R left (tableau_of S M)
@@ -109,8 +111,8 @@ pub record IsMoving (p : ℕ) (S₀ : State) (M₀ : Matching) (R : Route) (S : 
 abbrev pub AreRowsLeft : Matching → Matching → Row → Type 0
 AreRowsLeft M now given = (row : ℕ) → HasNoMate now row ↔ (HasNoMate M row × (given ≢ T row))
 
--- while the columns of a walk move, with `next` as the row that is taken next: with it taken, the rows without mate are those
--- from before all moves, but for the last row of the walk
+-- while the columns of a walk move, with `next` as the row that is taken next: with it taken, the rows without mate are
+-- those from before all moves, but for the last row of the walk
 abbrev pub AreRowsMoving : Matching → Row → Matching → Option Row → Type 0
 AreRowsMoving M₀ end M next = (row : ℕ) → (HasNoMate M row × (next ≢ Some (T row))) ↔ (HasNoMate M₀ row × (end ≢ T row))
 

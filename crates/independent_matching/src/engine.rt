@@ -1,3 +1,5 @@
+//! The engine.
+
 ghost use Rattle.std.specs.Prelude.{◌≡◌, ◌≤◌, ℕ, ◌+◌, ◌*◌, ◌<◌, ◌%◌, Bool, false, IfOk, IsTrue, IsFalse, is_some, Option};
 ghost use Rattle.residue_theory.specs.Sums.{size_on};
 ghost use Rattle.dense_q.specs.Tables.{entry};
@@ -6,8 +8,6 @@ ghost use Rattle.sparse_t.specs.Incidences.{height};
 ghost use Rattle.bipartite_matching.specs.Matchings.{HasPair, IsMatching, IsRowFree, mate_at};
 ghost use Rattle.mixed_matrices.specs.Arcs.{is_end, is_free, leads_to};
 ghost use Rattle.exchange_graph.specs.Results.{reached_of};
-ghost use Rattle.residue_field.specs.Modulus.{res_modulus};
-ghost use Rattle.row_transform.specs.Dense.{state_of};
 ghost use Rattle.mixed_matrices.specs.Tableaus.{HasTableau};
 ghost use Rattle.mixed_model.specs.Layers.{layered_matrix_of};
 ghost use Rattle.exchange_graph.specs.Counts.{counted_on};
@@ -20,7 +20,7 @@ use bipartite_matching::Match;
 use exchange_graph::{Arcs, Steps};
 use mixed_model::Layered;
 use out_of_memory::NoMemory;
-use residue_field::{Field, Res};
+use residue_field::Field;
 use row_transform::{DenseTableau, Tableau};
 use std::alloc::Global;
 use std::marker::{Brand, Model};
@@ -32,7 +32,7 @@ use std::sync::ledger::{Blank, Ledger};
 /// Its arcs are those from a column x to another column y whose row x could take: P has an entry in x at the row of
 /// the base column y, or the T row matched with y touches x.
 #[derive(Drop)]
-pub struct Engine<F: Field = Res, T: Tableau<F> = DenseTableau<F>> {
+pub struct Engine<F: Field, T: Tableau<F> = DenseTableau<F>> {
     improver: Improver<F, T>,
     searches: usize,
 }
@@ -43,56 +43,73 @@ impl<F: Field, T: Tableau<F>> Model for Engine<F, T> {
 
     ghost Value = { Standing T };
 
-    ghost view = { λ e. record { tableau = e.improver.pair.tableau; matching = e.improver.pair.mates; found = e.improver.search; pivots = e.improver.pivots; looks = e.improver.looks; searches = e.searches } };
+    ghost view = { λ e. record {
+      tableau = e.improver.pair.tableau;
+      matching = e.improver.pair.mates;
+      found = e.improver.search;
+      pivots =
+          e.improver.pivots;
+      looks = e.improver.looks;
+      searches = e.searches;
+    } };
 
-    ghost invariant = { λ e. IsReady F.modulus (T.state e.improver.pair.tableau) e.improver.pair.mates e.improver.search.places e.improver.marks e.improver.size e.improver.pivots e.improver.looks };
+    ghost invariant = { λ e. IsReady F.modulus (T.state e.improver.pair.tableau) e.improver.pair.mates
+        e.improver.search.places e.improver.marks e.improver.size e.improver.pivots e.improver.looks };
 }
 
-impl Engine<Res, DenseTableau<Res>> {
+impl<F: Field, T: Tableau<F>> Engine<F, T> {
     /// The empty pair of a layered matrix. It takes all the memory that the engine will use.
-    pub fn open(alloc: Global, l: &Layered) -> Result<Self, NoMemory>
-        ensures layers { IfOk result (λ e. layers (entry l.now.q) (state_of res_modulus e.tableau) e.matching ≡ layered_matrix_of l.now) }
-        ensures entries { IfOk result (λ e. AreEntries res_modulus (state_of res_modulus e.tableau) (entry l.now.q)) }
-        ensures empty { IfOk result (λ e. size_of (state_of res_modulus e.tableau) e.matching ≡ 0) }
+    pub fn open(alloc: Global, l: &Layered<F>) -> Result<Self, NoMemory>
+        ensures layers { IfOk result (λ e.
+            layers (entry l.now.q) (T.state e.tableau) e.matching ≡ layered_matrix_of l.now) }
+        ensures entries { IfOk result (λ e. AreEntries F.modulus (T.state e.tableau) (entry l.now.q)) }
+        ensures empty { IfOk result (λ e. size_of (T.state e.tableau) e.matching ≡ 0) }
         ensures none_told { IfOk result (λ e. (e.pivots ≡ 0) × (e.looks ≡ 0) × (e.searches ≡ 0)) }
     {
-        let _layers = l.split();
-        let tableau = DenseTableau::open(alloc, &l.q)?;
+        l.are_layers();
+        let tableau = T::open(alloc, &l.q)?;
         let mates = Match::open(alloc, &l.t)?;
         Ok(Engine {
             improver: Improver::open(alloc, tableau, mates)?,
             searches: 0,
         })
     }
-}
 
-impl<F: Field, T: Tableau<F>> Engine<F, T> {
-    /// Searches once for a shortest walk from a free column to an end. Where there is one, the pair grows by a column along
-    /// it, from its end backwards; else the pair is best and stays. A free column that is an end is such a walk, and then no
-    /// column is looked at.
+    /// Searches once for a shortest walk from a free column to an end. Where there is one, the pair grows by a column
+    /// along it, from its end backwards; else the pair is best and stays. A free column that is an end is such a walk,
+    /// and then no column is looked at.
     ///
-    /// A step is a look at a column in the search or a pivot. Where the pair grows there is at most one look for each column,
-    /// and there are at most as many pivots as there were base columns, and one; `looks` rises by the looks of the search,
-    /// and `pivots` by the rest of the steps.
+    /// A step is a look at a column in the search or a pivot. Where the pair grows there is at most one look for each
+    /// column, and there are at most as many pivots as there were base columns, and one; `looks` rises by the looks of
+    /// the search, and `pivots` by the rest of the steps.
     pub fn improve<L: Ledger, M: Ledger>(
         &mut self,
         searches: &mut Steps<M>,
         steps: &mut Steps<L>,
     ) -> bool
-        ensures same { (q : ℕ → ℕ → ℕ) → layers q (T.state self.new.tableau) self.new.matching ≡ layers q (T.state self.old.tableau) self.old.matching }
-        ensures entries { (q : ℕ → ℕ → ℕ) → AreEntries F.modulus (T.state self.old.tableau) q → AreEntries F.modulus (T.state self.new.tableau) q }
-        ensures grown { IsTrue result → size_of (T.state self.new.tableau) self.new.matching ≡ size_of (T.state self.old.tableau) self.old.matching + 1 }
+        ensures same { (q : ℕ → ℕ → ℕ) → layers q (T.state self.new.tableau) self.new.matching
+            ≡ layers q (T.state self.old.tableau) self.old.matching }
+        ensures entries { (q : ℕ → ℕ → ℕ) → AreEntries F.modulus (T.state self.old.tableau) q →
+            AreEntries F.modulus (T.state self.new.tableau) q }
+        ensures grown { IsTrue result → size_of (T.state self.new.tableau) self.new.matching
+            ≡ size_of (T.state self.old.tableau) self.old.matching + 1 }
         ensures few_pivots { IsTrue result → self.new.pivots ≤ self.old.pivots
             + size_on (T.state self.old.tableau).base (T.state self.old.tableau).columns + 1 }
         ensures few_looks { IsTrue result → self.new.looks ≤ self.old.looks + (T.state self.old.tableau).columns }
-        ensures searched { IsTrue result → AreLooksOfSearch self.old.found self.new.found self.old.looks self.new.looks }
+        ensures searched { IsTrue result → AreLooksOfSearch self.old.found self.new.found
+            self.old.looks self.new.looks }
         ensures last { IsFalse result → self.new.found.all_looks
             ≡ counted_on self.old.found.all_looks (size_on (reached_of self.new.found) (T.state self.old.tableau).columns) }
-        ensures solved { IsFalse result → (q : ℕ → ℕ → ℕ) → AreEntries F.modulus (T.state self.new.tableau) q → IsSolved F.modulus (layers q (T.state self.new.tableau) self.new.matching) (tableau_of (T.state self.new.tableau) self.new.matching) (reached_of self.new.found) }
-        ensures kept { IsFalse result → (self.new.tableau ≡ self.old.tableau) × (self.new.matching ≡ self.old.matching) }
+        ensures solved { IsFalse result → (q : ℕ → ℕ → ℕ) → AreEntries F.modulus (T.state self.new.tableau) q →
+            IsSolved F.modulus (layers q (T.state self.new.tableau) self.new.matching)
+            (tableau_of (T.state self.new.tableau) self.new.matching) (reached_of self.new.found) }
+        ensures kept { IsFalse result → (self.new.tableau ≡ self.old.tableau)
+            × (self.new.matching ≡ self.old.matching) }
         ensures none_told { IsFalse result → (self.new.pivots ≡ self.old.pivots) × (self.new.looks ≡ self.old.looks) }
-        ensures looks { IsFalse result → steps.new ≡ steps.old + size_on (reached_of self.new.found) (T.state self.old.tableau).columns }
-        ensures told { IsTrue result → steps.new + (self.old.pivots + self.old.looks) ≡ steps.old + (self.new.pivots + self.new.looks) }
+        ensures looks { IsFalse result → steps.new ≡ steps.old
+            + size_on (reached_of self.new.found) (T.state self.old.tableau).columns }
+        ensures told { IsTrue result → steps.new + (self.old.pivots + self.old.looks) ≡ steps.old
+            + (self.new.pivots + self.new.looks) }
         ensures few { IsFalse result → steps.new ≤ steps.old + (T.state self.old.tableau).columns }
         ensures searches { searches.new ≡ searches.old + 1 }
         ensures same_searches { self.new.searches ≡ self.old.searches }
@@ -102,18 +119,26 @@ impl<F: Field, T: Tableau<F>> Engine<F, T> {
 
     /// Ends with a best pair: it improves the pair until a search finds no walk.
     ///
-    /// From a pair of s columns to one of m, over n columns, `searches` tells m - s + 1 afterwards, and there are at most as
-    /// many steps as `AreFewSteps` says: from the empty pair (m + 1) n + m m. These are the pivots and the looks that `pivots`
-    /// and `looks` rise by, and a look at each column of the least minimiser.
+    /// From a pair of s columns to one of m, over n columns, `searches` tells m - s + 1 afterwards, and there are at
+    /// most as many steps as `AreFewSteps` says: from the empty pair (m + 1) n + m m. These are the pivots and the
+    /// looks that `pivots` and `looks` rise by, and a look at each column of the least minimiser.
     pub fn run<L: Ledger>(&mut self, steps: &mut Steps<L>)
-        ensures same { (q : ℕ → ℕ → ℕ) → layers q (T.state self.new.tableau) self.new.matching ≡ layers q (T.state self.old.tableau) self.old.matching }
-        ensures entries { (q : ℕ → ℕ → ℕ) → AreEntries F.modulus (T.state self.old.tableau) q → AreEntries F.modulus (T.state self.new.tableau) q }
-        ensures solved { (q : ℕ → ℕ → ℕ) → AreEntries F.modulus (T.state self.new.tableau) q → IsSolved F.modulus (layers q (T.state self.new.tableau) self.new.matching) (tableau_of (T.state self.new.tableau) self.new.matching) (reached_of self.new.found) }
-        ensures steps { AreFewSteps (T.state self.old.tableau).columns (size_of (T.state self.old.tableau) self.old.matching) (size_of (T.state self.new.tableau) self.new.matching) steps.old steps.new }
-        ensures told { steps.new + (self.old.pivots + self.old.looks) ≡ steps.old + (self.new.pivots + self.new.looks) + size_on (reached_of self.new.found) (T.state self.old.tableau).columns }
+        ensures same { (q : ℕ → ℕ → ℕ) → layers q (T.state self.new.tableau) self.new.matching
+            ≡ layers q (T.state self.old.tableau) self.old.matching }
+        ensures entries { (q : ℕ → ℕ → ℕ) → AreEntries F.modulus (T.state self.old.tableau) q →
+            AreEntries F.modulus (T.state self.new.tableau) q }
+        ensures solved { (q : ℕ → ℕ → ℕ) → AreEntries F.modulus (T.state self.new.tableau) q →
+            IsSolved F.modulus (layers q (T.state self.new.tableau) self.new.matching)
+            (tableau_of (T.state self.new.tableau) self.new.matching) (reached_of self.new.found) }
+        ensures steps { AreFewSteps (T.state self.old.tableau).columns
+            (size_of (T.state self.old.tableau) self.old.matching)
+            (size_of (T.state self.new.tableau) self.new.matching) steps.old steps.new }
+        ensures told { steps.new + (self.old.pivots + self.old.looks) ≡ steps.old + (self.new.pivots + self.new.looks)
+            + size_on (reached_of self.new.found) (T.state self.old.tableau).columns }
         ensures few_pivots { AreFewPivots (size_of (T.state self.old.tableau) self.old.matching)
             (size_of (T.state self.new.tableau) self.new.matching) self.old.pivots self.new.pivots }
-        ensures few_looks { AreFewLooks (T.state self.old.tableau).columns (size_of (T.state self.old.tableau) self.old.matching)
+        ensures few_looks { AreFewLooks (T.state self.old.tableau).columns
+            (size_of (T.state self.old.tableau) self.old.matching)
             (size_of (T.state self.new.tableau) self.new.matching) self.old.looks self.new.looks }
         ensures looked { AreLooksOfSearches self.old.found self.new.found self.old.looks self.new.looks
             (size_on (reached_of self.new.found) (T.state self.old.tableau).columns) }
@@ -128,14 +153,22 @@ impl<F: Field, T: Tableau<F>> Engine<F, T> {
         requires name { blank.name ≡ M.name }
         requires parts { blank.parts ≡ M.parts }
         requires some { 0 < blank.parts }
-        ensures same { (q : ℕ → ℕ → ℕ) → layers q (T.state self.new.tableau) self.new.matching ≡ layers q (T.state self.old.tableau) self.old.matching }
-        ensures entries { (q : ℕ → ℕ → ℕ) → AreEntries F.modulus (T.state self.old.tableau) q → AreEntries F.modulus (T.state self.new.tableau) q }
-        ensures solved { (q : ℕ → ℕ → ℕ) → AreEntries F.modulus (T.state self.new.tableau) q → IsSolved F.modulus (layers q (T.state self.new.tableau) self.new.matching) (tableau_of (T.state self.new.tableau) self.new.matching) (reached_of self.new.found) }
-        ensures steps { AreFewSteps (T.state self.old.tableau).columns (size_of (T.state self.old.tableau) self.old.matching) (size_of (T.state self.new.tableau) self.new.matching) steps.old steps.new }
-        ensures told { steps.new + (self.old.pivots + self.old.looks) ≡ steps.old + (self.new.pivots + self.new.looks) + size_on (reached_of self.new.found) (T.state self.old.tableau).columns }
+        ensures same { (q : ℕ → ℕ → ℕ) → layers q (T.state self.new.tableau) self.new.matching
+            ≡ layers q (T.state self.old.tableau) self.old.matching }
+        ensures entries { (q : ℕ → ℕ → ℕ) → AreEntries F.modulus (T.state self.old.tableau) q →
+            AreEntries F.modulus (T.state self.new.tableau) q }
+        ensures solved { (q : ℕ → ℕ → ℕ) → AreEntries F.modulus (T.state self.new.tableau) q →
+            IsSolved F.modulus (layers q (T.state self.new.tableau) self.new.matching)
+            (tableau_of (T.state self.new.tableau) self.new.matching) (reached_of self.new.found) }
+        ensures steps { AreFewSteps (T.state self.old.tableau).columns
+            (size_of (T.state self.old.tableau) self.old.matching)
+            (size_of (T.state self.new.tableau) self.new.matching) steps.old steps.new }
+        ensures told { steps.new + (self.old.pivots + self.old.looks) ≡ steps.old + (self.new.pivots + self.new.looks)
+            + size_on (reached_of self.new.found) (T.state self.old.tableau).columns }
         ensures few_pivots { AreFewPivots (size_of (T.state self.old.tableau) self.old.matching)
             (size_of (T.state self.new.tableau) self.new.matching) self.old.pivots self.new.pivots }
-        ensures few_looks { AreFewLooks (T.state self.old.tableau).columns (size_of (T.state self.old.tableau) self.old.matching)
+        ensures few_looks { AreFewLooks (T.state self.old.tableau).columns
+            (size_of (T.state self.old.tableau) self.old.matching)
             (size_of (T.state self.new.tableau) self.new.matching) self.old.looks self.new.looks }
         ensures looked { AreLooksOfSearches self.old.found self.new.found self.old.looks self.new.looks
             (size_on (reached_of self.new.found) (T.state self.old.tableau).columns) }
@@ -151,14 +184,22 @@ impl<F: Field, T: Tableau<F>> Engine<F, T> {
         searches: &mut Steps<M>,
         steps: &mut Steps<L>,
     )
-        ensures same { (q : ℕ → ℕ → ℕ) → layers q (T.state self.new.tableau) self.new.matching ≡ layers q (T.state self.old.tableau) self.old.matching }
-        ensures entries { (q : ℕ → ℕ → ℕ) → AreEntries F.modulus (T.state self.old.tableau) q → AreEntries F.modulus (T.state self.new.tableau) q }
-        ensures solved { (q : ℕ → ℕ → ℕ) → AreEntries F.modulus (T.state self.new.tableau) q → IsSolved F.modulus (layers q (T.state self.new.tableau) self.new.matching) (tableau_of (T.state self.new.tableau) self.new.matching) (reached_of self.new.found) }
-        ensures steps { AreFewSteps (T.state self.old.tableau).columns (size_of (T.state self.old.tableau) self.old.matching) (size_of (T.state self.new.tableau) self.new.matching) steps.old steps.new }
-        ensures told { steps.new + (self.old.pivots + self.old.looks) ≡ steps.old + (self.new.pivots + self.new.looks) + size_on (reached_of self.new.found) (T.state self.old.tableau).columns }
+        ensures same { (q : ℕ → ℕ → ℕ) → layers q (T.state self.new.tableau) self.new.matching
+            ≡ layers q (T.state self.old.tableau) self.old.matching }
+        ensures entries { (q : ℕ → ℕ → ℕ) → AreEntries F.modulus (T.state self.old.tableau) q →
+            AreEntries F.modulus (T.state self.new.tableau) q }
+        ensures solved { (q : ℕ → ℕ → ℕ) → AreEntries F.modulus (T.state self.new.tableau) q →
+            IsSolved F.modulus (layers q (T.state self.new.tableau) self.new.matching)
+            (tableau_of (T.state self.new.tableau) self.new.matching) (reached_of self.new.found) }
+        ensures steps { AreFewSteps (T.state self.old.tableau).columns
+            (size_of (T.state self.old.tableau) self.old.matching)
+            (size_of (T.state self.new.tableau) self.new.matching) steps.old steps.new }
+        ensures told { steps.new + (self.old.pivots + self.old.looks) ≡ steps.old + (self.new.pivots + self.new.looks)
+            + size_on (reached_of self.new.found) (T.state self.old.tableau).columns }
         ensures few_pivots { AreFewPivots (size_of (T.state self.old.tableau) self.old.matching)
             (size_of (T.state self.new.tableau) self.new.matching) self.old.pivots self.new.pivots }
-        ensures few_looks { AreFewLooks (T.state self.old.tableau).columns (size_of (T.state self.old.tableau) self.old.matching)
+        ensures few_looks { AreFewLooks (T.state self.old.tableau).columns
+            (size_of (T.state self.old.tableau) self.old.matching)
             (size_of (T.state self.new.tableau) self.new.matching) self.old.looks self.new.looks }
         ensures looked { AreLooksOfSearches self.old.found self.new.found self.old.looks self.new.looks
             (size_on (reached_of self.new.found) (T.state self.old.tableau).columns) }
@@ -173,26 +214,30 @@ impl<F: Field, T: Tableau<F>> Engine<F, T> {
     /// How many columns the pair has.
     pub fn size(&self) -> usize
         ensures size { result ≡ size_of (T.state self.now.tableau) self.now.matching }
-        ensures pair { (q : ℕ → ℕ → ℕ) → AreEntries F.modulus (T.state self.now.tableau) q → HasTableau F.modulus (layers q (T.state self.now.tableau) self.now.matching) (tableau_of (T.state self.now.tableau) self.now.matching) }
+        ensures pair { (q : ℕ → ℕ → ℕ) → AreEntries F.modulus (T.state self.now.tableau) q →
+            HasTableau F.modulus (layers q (T.state self.now.tableau) self.now.matching)
+            (tableau_of (T.state self.now.tableau) self.now.matching) }
     {
         self.improver.size
     }
 
-    /// How many pivots there have been since the engine was opened. A run or an improvement that makes the pair larger adds
-    /// to it the steps that it took but for the looks: those that `looks` tells, and those of a run's last search.
+    /// How many pivots there have been since the engine was opened. A run or an improvement that makes the pair larger
+    /// adds to it the steps that it took but for the looks: those that `looks` tells, and those of a run's last search.
     pub fn pivots(&self) -> usize
         ensures pivots { result ≡ self.now.pivots }
-        ensures few { result ≤ size_of (T.state self.now.tableau) self.now.matching * size_of (T.state self.now.tableau) self.now.matching }
+        ensures few { result ≤ size_of (T.state self.now.tableau) self.now.matching * size_of (T.state self.now.tableau)
+            self.now.matching }
     {
         self.improver.pivots
     }
 
-    /// How many looks there have been since the engine was opened in the searches that found a walk: for each of these what
-    /// `Search::looks` told of it. A search that finds none, as a run's last one, looks once at each column of
+    /// How many looks there have been since the engine was opened in the searches that found a walk: for each of these
+    /// what `Search::looks` told of it. A search that finds none, as a run's last one, looks once at each column of
     /// `least_minimiser`: these looks are not counted here.
     pub fn looks(&self) -> usize
         ensures looks { result ≡ self.now.looks }
-        ensures few { result ≤ size_of (T.state self.now.tableau) self.now.matching * (T.state self.now.tableau).columns }
+        ensures few { result ≤ size_of (T.state self.now.tableau) self.now.matching *
+            (T.state self.now.tableau).columns }
     {
         self.improver.looks
     }
@@ -243,7 +288,8 @@ impl<F: Field, T: Tableau<F>> Engine<F, T> {
     /// is not matched.
     pub fn end(&self, col: usize) -> bool
         requires { col < (T.state self.now.tableau).columns }
-        ensures { result ≡ is_end F.modulus (layers_of (T.state self.now.tableau) self.now.matching) (tableau_of (T.state self.now.tableau) self.now.matching) col }
+        ensures { result ≡ is_end F.modulus (layers_of (T.state self.now.tableau) self.now.matching)
+            (tableau_of (T.state self.now.tableau) self.now.matching) col }
     {
         self.improver.marks.ends[col]
     }
@@ -267,7 +313,8 @@ impl<F: Field, T: Tableau<F>> Engine<F, T> {
 impl<F: Field, T: Tableau<F>> Arcs for Engine<F, T> {
     ghost places = { λ e. (T.state e.tableau).columns };
 
-    ghost leads = { λ e. leads_to F.modulus (layers_of (T.state e.tableau) e.matching) (tableau_of (T.state e.tableau) e.matching) };
+    ghost leads = { λ e. leads_to F.modulus (layers_of (T.state e.tableau) e.matching)
+        (tableau_of (T.state e.tableau) e.matching) };
 
     fn arc(&self, x: usize, y: usize) -> bool {
         self.improver.pair.arc(x, y)

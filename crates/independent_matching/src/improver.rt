@@ -1,4 +1,7 @@
+//! A pair that grows column by column, along shortest walks of its exchange graph.
+
 ghost use Rattle.std.specs.Prelude.{◌≡◌, ℕ, ◌+◌, ◌*◌, ◌<◌, ◌≤◌, Bool, true, false, suc, cond, IfOk, IsTrue, IsFalse};
+ghost use Rattle.limits.specs.Limits.{column_limit};
 ghost use Rattle.linear_algebra.specs.Kernels.{SameKernel};
 ghost use Rattle.residue_theory.specs.Sums.{size_on};
 ghost use Rattle.exchange_graph.specs.Counts.{counted_on};
@@ -24,8 +27,8 @@ use std::alloc::Global;
 use std::marker::PhantomData;
 use std::sync::ledger::Ledger;
 
-// A pair and its size, a search for walks in it, and marks of its free columns and its ends. All pivots are counted, and
-// the looks of the searches that found a walk.
+// A pair and its size, a search for walks in it, and marks of its free columns and its ends. All pivots are counted,
+// and the looks of the searches that found a walk.
 #[derive(Drop)]
 pub struct Improver<F: Field, T: Tableau<F>> {
     pub pair: Pair<F, T>,
@@ -37,13 +40,15 @@ pub struct Improver<F: Field, T: Tableau<F>> {
 }
 
 impl<F: Field, T: Tableau<F>> Improver<F, T> {
-    // Over a tableau and a matching with no base column and no matched one.
+    /// Over a tableau and a matching with no base column and no matched one.
     pub fn open(alloc: Global, tableau: T, mates: Match) -> Result<Self, NoMemory>
         requires width { mates.pattern.width ≡ (T.state tableau).columns }
-        requires kernel { SameKernel F.modulus (T.state tableau).rows (T.state tableau).columns (T.state tableau).q (T.state tableau).p }
+        requires kernel { SameKernel F.modulus (T.state tableau).rows (T.state tableau).columns (T.state tableau).q
+            (T.state tableau).p }
         requires no_base { (y : ℕ) → (T.state tableau).base y ≡ false }
         requires unmatched { (y : ℕ) → is_matched mates y ≡ false }
-        ensures ready { IfOk result (λ e. IsReady F.modulus (T.state e.pair.tableau) e.pair.mates e.search.places e.marks e.size e.pivots e.looks) }
+        ensures ready { IfOk result (λ e.
+            IsReady F.modulus (T.state e.pair.tableau) e.pair.mates e.search.places e.marks e.size e.pivots e.looks) }
         ensures tableau { IfOk result (λ e. e.pair.tableau ≡ tableau) }
         ensures mates { IfOk result (λ e. e.pair.mates ≡ mates) }
         ensures none_told { IfOk result (λ e. (e.pivots ≡ 0) × (e.looks ≡ 0)) }
@@ -70,17 +75,27 @@ impl<F: Field, T: Tableau<F>> Improver<F, T> {
         requires width { self.old.pair.mates.pattern.width ≡ (T.state self.old.pair.tableau).columns }
         requires places { self.old.search.places ≡ (T.state self.old.pair.tableau).columns }
         requires last { last < self.old.search.places }
-        requires few { self.old.pivots ≤ size_of (T.state self.old.pair.tableau) self.old.pair.mates * size_of (T.state self.old.pair.tableau) self.old.pair.mates }
+        requires few { self.old.pivots ≤ size_of (T.state self.old.pair.tableau) self.old.pair.mates * size_of
+            (T.state self.old.pair.tableau) self.old.pair.mates }
         requires marks { AreMarksOfQ F.modulus (T.state self.old.pair.tableau) self.old.marks }
-        requires pair { HasTableau F.modulus (layers_of (T.state self.old.pair.tableau) self.old.pair.mates) (tableau_of (T.state self.old.pair.tableau) self.old.pair.mates) }
-        requires route { IsRoute F.modulus (layers_of (T.state self.old.pair.tableau) self.old.pair.mates) (tableau_of (T.state self.old.pair.tableau) self.old.pair.mates) (route (tableau_of (T.state self.old.pair.tableau) self.old.pair.mates) (step_of self.old.search) last (in_q end) (number end)) }
-        ensures layers { layers_of (T.state self.new.pair.tableau) self.new.pair.mates ≡ layers_of (T.state self.old.pair.tableau) self.old.pair.mates }
+        requires pair { HasTableau F.modulus (layers_of (T.state self.old.pair.tableau) self.old.pair.mates)
+            (tableau_of (T.state self.old.pair.tableau) self.old.pair.mates) }
+        requires route { IsRoute F.modulus (layers_of (T.state self.old.pair.tableau) self.old.pair.mates)
+            (tableau_of (T.state self.old.pair.tableau) self.old.pair.mates)
+            (route (tableau_of (T.state self.old.pair.tableau) self.old.pair.mates) (step_of self.old.search) last
+            (in_q end) (number end)) }
+        ensures layers { layers_of (T.state self.new.pair.tableau) self.new.pair.mates
+            ≡ layers_of (T.state self.old.pair.tableau) self.old.pair.mates }
         ensures width { self.new.pair.mates.pattern.width ≡ self.old.pair.mates.pattern.width }
-        ensures pair { HasTableau F.modulus (layers_of (T.state self.old.pair.tableau) self.old.pair.mates) (tableau_of (T.state self.new.pair.tableau) self.new.pair.mates) }
-        ensures size { size_of (T.state self.new.pair.tableau) self.new.pair.mates ≡ size_of (T.state self.old.pair.tableau) self.old.pair.mates + 1 }
-        ensures steps { steps.new ≤ steps.old + size_on (T.state self.old.pair.tableau).base (T.state self.old.pair.tableau).columns + 1 }
+        ensures pair { HasTableau F.modulus (layers_of (T.state self.old.pair.tableau) self.old.pair.mates)
+            (tableau_of (T.state self.new.pair.tableau) self.new.pair.mates) }
+        ensures size { size_of (T.state self.new.pair.tableau) self.new.pair.mates
+            ≡ size_of (T.state self.old.pair.tableau) self.old.pair.mates + 1 }
+        ensures steps { steps.new ≤ steps.old + size_on (T.state self.old.pair.tableau).base
+            (T.state self.old.pair.tableau).columns + 1 }
         ensures pivots { steps.new + self.old.pivots ≡ steps.old + self.new.pivots }
-        ensures few { self.new.pivots ≤ size_of (T.state self.new.pair.tableau) self.new.pair.mates * size_of (T.state self.new.pair.tableau) self.new.pair.mates }
+        ensures few { self.new.pivots ≤ size_of (T.state self.new.pair.tableau) self.new.pair.mates * size_of
+            (T.state self.new.pair.tableau) self.new.pair.mates }
         ensures search { self.new.search ≡ self.old.search }
         ensures free { self.new.marks.free ≡ self.old.marks.free }
         ensures by_t { self.new.marks.by_t ≡ self.old.marks.by_t }
@@ -88,8 +103,10 @@ impl<F: Field, T: Tableau<F>> Improver<F, T> {
         ensures count { self.new.size ≡ self.old.size }
         ensures marks { AreMarksOfQ F.modulus (T.state self.new.pair.tableau) self.new.marks }
         ensures rows { AreRowsLeft self.old.pair.mates self.new.pair.mates end }
-        ensures taken { IsFreeTaken (T.state self.old.pair.tableau).columns (tableau_of (T.state self.old.pair.tableau) self.old.pair.mates) (tableau_of (T.state self.new.pair.tableau) self.new.pair.mates) (step_of self.old.search 0) }
-        ensures narrow { (T.state self.old.pair.tableau).columns ≤ 8192 }
+        ensures taken { IsFreeTaken (T.state self.old.pair.tableau).columns
+            (tableau_of (T.state self.old.pair.tableau) self.old.pair.mates)
+            (tableau_of (T.state self.new.pair.tableau) self.new.pair.mates) (step_of self.old.search 0) }
+        ensures narrow { (T.state self.old.pair.tableau).columns ≤ column_limit }
     {
         // there are at most 8,192 columns, so that the sum below fits
         let _columns = self.pair.tableau.columns();
@@ -106,12 +123,16 @@ impl<F: Field, T: Tableau<F>> Improver<F, T> {
     // Moves column x to the row, out of the T row that it has.
     fn take<L: Ledger>(&mut self, row: Row, x: usize, steps: &mut Steps<L>)
         requires width { self.old.pair.mates.pattern.width ≡ (T.state self.old.pair.tableau).columns }
-        requires few { self.old.pivots ≤ 16384 * 8192 }
+        requires few { self.old.pivots ≤ 16384 * column_limit }
         requires x { x < (T.state self.old.pair.tableau).columns }
-        requires can { CanTake F.modulus (layers_of (T.state self.old.pair.tableau) self.old.pair.mates) (tableau_of (T.state self.old.pair.tableau) self.old.pair.mates) row x }
+        requires can { CanTake F.modulus (layers_of (T.state self.old.pair.tableau) self.old.pair.mates)
+            (tableau_of (T.state self.old.pair.tableau) self.old.pair.mates) row x }
         requires marks { AreMarksOfQ F.modulus (T.state self.old.pair.tableau) self.old.marks }
-        ensures takes { Takes F.modulus (layers_of (T.state self.old.pair.tableau) self.old.pair.mates) (tableau_of (T.state self.old.pair.tableau) self.old.pair.mates) (tableau_of (T.state self.new.pair.tableau) self.new.pair.mates) row x }
-        ensures layers { layers_of (T.state self.new.pair.tableau) self.new.pair.mates ≡ layers_of (T.state self.old.pair.tableau) self.old.pair.mates }
+        ensures takes { Takes F.modulus (layers_of (T.state self.old.pair.tableau) self.old.pair.mates)
+            (tableau_of (T.state self.old.pair.tableau) self.old.pair.mates)
+            (tableau_of (T.state self.new.pair.tableau) self.new.pair.mates) row x }
+        ensures layers { layers_of (T.state self.new.pair.tableau) self.new.pair.mates
+            ≡ layers_of (T.state self.old.pair.tableau) self.old.pair.mates }
         ensures pattern { self.new.pair.mates.pattern ≡ self.old.pair.mates.pattern }
         ensures steps { steps.new ≡ steps.old + cond (in_q row) 1 0 }
         ensures pivots { self.new.pivots ≡ self.old.pivots + cond (in_q row) 1 0 }
@@ -131,12 +152,16 @@ impl<F: Field, T: Tableau<F>> Improver<F, T> {
     // Moves column x to the Q row, and looks anew at the columns that the pivot touches.
     fn pivot<L: Ledger>(&mut self, row: usize, x: usize, steps: &mut Steps<L>)
         requires width { self.old.pair.mates.pattern.width ≡ (T.state self.old.pair.tableau).columns }
-        requires few { self.old.pivots ≤ 16384 * 8192 }
+        requires few { self.old.pivots ≤ 16384 * column_limit }
         requires x { x < (T.state self.old.pair.tableau).columns }
-        requires can { CanTake F.modulus (layers_of (T.state self.old.pair.tableau) self.old.pair.mates) (tableau_of (T.state self.old.pair.tableau) self.old.pair.mates) (Row.Q row) x }
+        requires can { CanTake F.modulus (layers_of (T.state self.old.pair.tableau) self.old.pair.mates)
+            (tableau_of (T.state self.old.pair.tableau) self.old.pair.mates) (Row.Q row) x }
         requires marks { AreMarksOfQ F.modulus (T.state self.old.pair.tableau) self.old.marks }
-        ensures takes { Takes F.modulus (layers_of (T.state self.old.pair.tableau) self.old.pair.mates) (tableau_of (T.state self.old.pair.tableau) self.old.pair.mates) (tableau_of (T.state self.new.pair.tableau) self.new.pair.mates) (Row.Q row) x }
-        ensures layers { layers_of (T.state self.new.pair.tableau) self.new.pair.mates ≡ layers_of (T.state self.old.pair.tableau) self.old.pair.mates }
+        ensures takes { Takes F.modulus (layers_of (T.state self.old.pair.tableau) self.old.pair.mates)
+            (tableau_of (T.state self.old.pair.tableau) self.old.pair.mates)
+            (tableau_of (T.state self.new.pair.tableau) self.new.pair.mates) (Row.Q row) x }
+        ensures layers { layers_of (T.state self.new.pair.tableau) self.new.pair.mates
+            ≡ layers_of (T.state self.old.pair.tableau) self.old.pair.mates }
         ensures pattern { self.new.pair.mates.pattern ≡ self.old.pair.mates.pattern }
         ensures steps { steps.new ≡ steps.old + 1 }
         ensures pivots { self.new.pivots ≡ self.old.pivots + 1 }
@@ -156,18 +181,25 @@ impl<F: Field, T: Tableau<F>> Improver<F, T> {
     // Gives the free column x a row that it may take and that no column has.
     fn give<L: Ledger>(&mut self, x: usize, row: Row, steps: &mut Steps<L>)
         requires width { self.old.pair.mates.pattern.width ≡ (T.state self.old.pair.tableau).columns }
-        requires few { self.old.pivots ≤ size_of (T.state self.old.pair.tableau) self.old.pair.mates * size_of (T.state self.old.pair.tableau) self.old.pair.mates }
+        requires few { self.old.pivots ≤ size_of (T.state self.old.pair.tableau) self.old.pair.mates * size_of
+            (T.state self.old.pair.tableau) self.old.pair.mates }
         requires x { x < (T.state self.old.pair.tableau).columns }
         requires marks { AreMarksOfQ F.modulus (T.state self.old.pair.tableau) self.old.marks }
-        requires pair { HasTableau F.modulus (layers_of (T.state self.old.pair.tableau) self.old.pair.mates) (tableau_of (T.state self.old.pair.tableau) self.old.pair.mates) }
+        requires pair { HasTableau F.modulus (layers_of (T.state self.old.pair.tableau) self.old.pair.mates)
+            (tableau_of (T.state self.old.pair.tableau) self.old.pair.mates) }
         requires free { is_free (tableau_of (T.state self.old.pair.tableau) self.old.pair.mates) x ≡ true }
-        requires row { IsFreeRow F.modulus (layers_of (T.state self.old.pair.tableau) self.old.pair.mates) (tableau_of (T.state self.old.pair.tableau) self.old.pair.mates) x (in_q row) (number row) }
-        ensures layers { layers_of (T.state self.new.pair.tableau) self.new.pair.mates ≡ layers_of (T.state self.old.pair.tableau) self.old.pair.mates }
+        requires row { IsFreeRow F.modulus (layers_of (T.state self.old.pair.tableau) self.old.pair.mates)
+            (tableau_of (T.state self.old.pair.tableau) self.old.pair.mates) x (in_q row) (number row) }
+        ensures layers { layers_of (T.state self.new.pair.tableau) self.new.pair.mates
+            ≡ layers_of (T.state self.old.pair.tableau) self.old.pair.mates }
         ensures width { self.new.pair.mates.pattern.width ≡ self.old.pair.mates.pattern.width }
-        ensures pair { HasTableau F.modulus (layers_of (T.state self.old.pair.tableau) self.old.pair.mates) (tableau_of (T.state self.new.pair.tableau) self.new.pair.mates) }
-        ensures size { size_of (T.state self.new.pair.tableau) self.new.pair.mates ≡ size_of (T.state self.old.pair.tableau) self.old.pair.mates + 1 }
+        ensures pair { HasTableau F.modulus (layers_of (T.state self.old.pair.tableau) self.old.pair.mates)
+            (tableau_of (T.state self.new.pair.tableau) self.new.pair.mates) }
+        ensures size { size_of (T.state self.new.pair.tableau) self.new.pair.mates
+            ≡ size_of (T.state self.old.pair.tableau) self.old.pair.mates + 1 }
         ensures pivots { steps.new + self.old.pivots ≡ steps.old + self.new.pivots }
-        ensures few { self.new.pivots ≤ size_of (T.state self.new.pair.tableau) self.new.pair.mates * size_of (T.state self.new.pair.tableau) self.new.pair.mates }
+        ensures few { self.new.pivots ≤ size_of (T.state self.new.pair.tableau) self.new.pair.mates * size_of
+            (T.state self.new.pair.tableau) self.new.pair.mates }
         ensures steps { steps.new ≤ steps.old + 1 }
         ensures search { self.new.search ≡ self.old.search }
         ensures free { self.new.marks.free ≡ self.old.marks.free }
@@ -176,8 +208,10 @@ impl<F: Field, T: Tableau<F>> Improver<F, T> {
         ensures count { self.new.size ≡ self.old.size }
         ensures marks { AreMarksOfQ F.modulus (T.state self.new.pair.tableau) self.new.marks }
         ensures rows { AreRowsLeft self.old.pair.mates self.new.pair.mates row }
-        ensures taken { IsFreeTaken (T.state self.old.pair.tableau).columns (tableau_of (T.state self.old.pair.tableau) self.old.pair.mates) (tableau_of (T.state self.new.pair.tableau) self.new.pair.mates) x }
-        ensures narrow { (T.state self.old.pair.tableau).columns ≤ 8192 }
+        ensures taken { IsFreeTaken (T.state self.old.pair.tableau).columns
+            (tableau_of (T.state self.old.pair.tableau) self.old.pair.mates)
+            (tableau_of (T.state self.new.pair.tableau) self.new.pair.mates) x }
+        ensures narrow { (T.state self.old.pair.tableau).columns ≤ column_limit }
     {
         // there are at most 8,192 columns, so that the size fits
         let _columns = self.pair.tableau.columns();
@@ -186,13 +220,17 @@ impl<F: Field, T: Tableau<F>> Improver<F, T> {
 
     // Makes the pair larger by the free column x, which is an end.
     fn grow<L: Ledger>(&mut self, x: usize, steps: &mut Steps<L>)
-        requires ready { IsReady F.modulus (T.state self.old.pair.tableau) self.old.pair.mates self.old.search.places self.old.marks self.old.size self.old.pivots self.old.looks }
+        requires ready { IsReady F.modulus (T.state self.old.pair.tableau) self.old.pair.mates self.old.search.places
+            self.old.marks self.old.size self.old.pivots self.old.looks }
         requires x { x < (T.state self.old.pair.tableau).columns }
         requires free { members_of self.old.marks.free.items x ≡ true }
         requires end { members_of self.old.marks.ends.items x ≡ true }
-        ensures ready { IsReady F.modulus (T.state self.new.pair.tableau) self.new.pair.mates self.new.search.places self.new.marks self.new.size self.new.pivots self.new.looks }
-        ensures layers { layers_of (T.state self.new.pair.tableau) self.new.pair.mates ≡ layers_of (T.state self.old.pair.tableau) self.old.pair.mates }
-        ensures size { size_of (T.state self.new.pair.tableau) self.new.pair.mates ≡ size_of (T.state self.old.pair.tableau) self.old.pair.mates + 1 }
+        ensures ready { IsReady F.modulus (T.state self.new.pair.tableau) self.new.pair.mates self.new.search.places
+            self.new.marks self.new.size self.new.pivots self.new.looks }
+        ensures layers { layers_of (T.state self.new.pair.tableau) self.new.pair.mates
+            ≡ layers_of (T.state self.old.pair.tableau) self.old.pair.mates }
+        ensures size { size_of (T.state self.new.pair.tableau) self.new.pair.mates
+            ≡ size_of (T.state self.old.pair.tableau) self.old.pair.mates + 1 }
         ensures told { steps.new + (self.old.pivots + self.old.looks) ≡ steps.old + (self.new.pivots + self.new.looks) }
         ensures steps { steps.new ≤ steps.old + 1 }
         ensures search { self.new.search ≡ self.old.search }
@@ -206,10 +244,14 @@ impl<F: Field, T: Tableau<F>> Improver<F, T> {
 
     // Makes the pair larger along a shortest walk, or finds that it is best.
     fn improve_along<L: Ledger>(&mut self, steps: &mut Steps<L>) -> bool
-        requires ready { IsReady F.modulus (T.state self.old.pair.tableau) self.old.pair.mates self.old.search.places self.old.marks self.old.size self.old.pivots self.old.looks }
-        ensures ready { IsReady F.modulus (T.state self.new.pair.tableau) self.new.pair.mates self.new.search.places self.new.marks self.new.size self.new.pivots self.new.looks }
-        ensures layers { layers_of (T.state self.new.pair.tableau) self.new.pair.mates ≡ layers_of (T.state self.old.pair.tableau) self.old.pair.mates }
-        ensures size { IsTrue result → size_of (T.state self.new.pair.tableau) self.new.pair.mates ≡ size_of (T.state self.old.pair.tableau) self.old.pair.mates + 1 }
+        requires ready { IsReady F.modulus (T.state self.old.pair.tableau) self.old.pair.mates self.old.search.places
+            self.old.marks self.old.size self.old.pivots self.old.looks }
+        ensures ready { IsReady F.modulus (T.state self.new.pair.tableau) self.new.pair.mates self.new.search.places
+            self.new.marks self.new.size self.new.pivots self.new.looks }
+        ensures layers { layers_of (T.state self.new.pair.tableau) self.new.pair.mates
+            ≡ layers_of (T.state self.old.pair.tableau) self.old.pair.mates }
+        ensures size { IsTrue result → size_of (T.state self.new.pair.tableau) self.new.pair.mates
+            ≡ size_of (T.state self.old.pair.tableau) self.old.pair.mates + 1 }
         ensures few_pivots { IsTrue result → self.new.pivots ≤ self.old.pivots
             + size_on (T.state self.old.pair.tableau).base (T.state self.old.pair.tableau).columns + 1 }
         ensures few_looks { IsTrue result → self.new.looks ≤ self.old.looks + (T.state self.old.pair.tableau).columns }
@@ -219,10 +261,16 @@ impl<F: Field, T: Tableau<F>> Improver<F, T> {
             ≡ size_on (reached_of self.new.search) (T.state self.old.pair.tableau).columns }
         ensures pair { IsFalse result → self.new.pair ≡ self.old.pair }
         ensures none_told { IsFalse result → (self.new.pivots ≡ self.old.pivots) × (self.new.looks ≡ self.old.looks) }
-        ensures no_walk { IsFalse result → HasNoWalk F.modulus (layers_of (T.state self.new.pair.tableau) self.new.pair.mates) (tableau_of (T.state self.new.pair.tableau) self.new.pair.mates) }
-        ensures reached { IsFalse result → IsReachedFromFree F.modulus (layers_of (T.state self.new.pair.tableau) self.new.pair.mates) (tableau_of (T.state self.new.pair.tableau) self.new.pair.mates) (reached_of self.new.search) }
-        ensures told { IsTrue result → steps.new + (self.old.pivots + self.old.looks) ≡ steps.old + (self.new.pivots + self.new.looks) }
-        ensures looks { IsFalse result → steps.new ≡ steps.old + size_on (reached_of self.new.search) (T.state self.old.pair.tableau).columns }
+        ensures no_walk { IsFalse result → HasNoWalk F.modulus
+            (layers_of (T.state self.new.pair.tableau) self.new.pair.mates)
+            (tableau_of (T.state self.new.pair.tableau) self.new.pair.mates) }
+        ensures reached { IsFalse result → IsReachedFromFree F.modulus
+            (layers_of (T.state self.new.pair.tableau) self.new.pair.mates)
+            (tableau_of (T.state self.new.pair.tableau) self.new.pair.mates) (reached_of self.new.search) }
+        ensures told { IsTrue result → steps.new + (self.old.pivots + self.old.looks) ≡ steps.old
+            + (self.new.pivots + self.new.looks) }
+        ensures looks { IsFalse result → steps.new ≡ steps.old
+            + size_on (reached_of self.new.search) (T.state self.old.pair.tableau).columns }
         ensures few { IsFalse result → steps.new ≤ steps.old + (T.state self.old.pair.tableau).columns }
     {
         match self
@@ -242,28 +290,40 @@ impl<F: Field, T: Tableau<F>> Improver<F, T> {
         }
     }
 
-    // Makes the pair larger by one column, or finds that it is best. No column is looked at where a free one is an end.
+    /// Makes the pair larger by one column, or finds that it is best. No column is looked at where a free one is an
+    /// end.
     pub fn improve<L: Ledger, M: Ledger>(
         &mut self,
         searches: &mut Steps<M>,
         steps: &mut Steps<L>,
     ) -> bool
-        requires ready { IsReady F.modulus (T.state self.old.pair.tableau) self.old.pair.mates self.old.search.places self.old.marks self.old.size self.old.pivots self.old.looks }
-        ensures ready { IsReady F.modulus (T.state self.new.pair.tableau) self.new.pair.mates self.new.search.places self.new.marks self.new.size self.new.pivots self.new.looks }
-        ensures layers { layers_of (T.state self.new.pair.tableau) self.new.pair.mates ≡ layers_of (T.state self.old.pair.tableau) self.old.pair.mates }
-        ensures size { IsTrue result → size_of (T.state self.new.pair.tableau) self.new.pair.mates ≡ size_of (T.state self.old.pair.tableau) self.old.pair.mates + 1 }
+        requires ready { IsReady F.modulus (T.state self.old.pair.tableau) self.old.pair.mates self.old.search.places
+            self.old.marks self.old.size self.old.pivots self.old.looks }
+        ensures ready { IsReady F.modulus (T.state self.new.pair.tableau) self.new.pair.mates self.new.search.places
+            self.new.marks self.new.size self.new.pivots self.new.looks }
+        ensures layers { layers_of (T.state self.new.pair.tableau) self.new.pair.mates
+            ≡ layers_of (T.state self.old.pair.tableau) self.old.pair.mates }
+        ensures size { IsTrue result → size_of (T.state self.new.pair.tableau) self.new.pair.mates
+            ≡ size_of (T.state self.old.pair.tableau) self.old.pair.mates + 1 }
         ensures few_pivots { IsTrue result → self.new.pivots ≤ self.old.pivots
             + size_on (T.state self.old.pair.tableau).base (T.state self.old.pair.tableau).columns + 1 }
         ensures few_looks { IsTrue result → self.new.looks ≤ self.old.looks + (T.state self.old.pair.tableau).columns }
-        ensures searched { IsTrue result → AreLooksOfSearch self.old.search self.new.search self.old.looks self.new.looks }
+        ensures searched { IsTrue result → AreLooksOfSearch self.old.search self.new.search
+            self.old.looks self.new.looks }
         ensures last { IsFalse result → self.new.search.all_looks ≡ counted_on self.old.search.all_looks
             (size_on (reached_of self.new.search) (T.state self.old.pair.tableau).columns) }
         ensures pair { IsFalse result → self.new.pair ≡ self.old.pair }
         ensures none_told { IsFalse result → (self.new.pivots ≡ self.old.pivots) × (self.new.looks ≡ self.old.looks) }
-        ensures no_walk { IsFalse result → HasNoWalk F.modulus (layers_of (T.state self.new.pair.tableau) self.new.pair.mates) (tableau_of (T.state self.new.pair.tableau) self.new.pair.mates) }
-        ensures reached { IsFalse result → IsReachedFromFree F.modulus (layers_of (T.state self.new.pair.tableau) self.new.pair.mates) (tableau_of (T.state self.new.pair.tableau) self.new.pair.mates) (reached_of self.new.search) }
-        ensures told { IsTrue result → steps.new + (self.old.pivots + self.old.looks) ≡ steps.old + (self.new.pivots + self.new.looks) }
-        ensures looks { IsFalse result → steps.new ≡ steps.old + size_on (reached_of self.new.search) (T.state self.old.pair.tableau).columns }
+        ensures no_walk { IsFalse result → HasNoWalk F.modulus
+            (layers_of (T.state self.new.pair.tableau) self.new.pair.mates)
+            (tableau_of (T.state self.new.pair.tableau) self.new.pair.mates) }
+        ensures reached { IsFalse result → IsReachedFromFree F.modulus
+            (layers_of (T.state self.new.pair.tableau) self.new.pair.mates)
+            (tableau_of (T.state self.new.pair.tableau) self.new.pair.mates) (reached_of self.new.search) }
+        ensures told { IsTrue result → steps.new + (self.old.pivots + self.old.looks) ≡ steps.old
+            + (self.new.pivots + self.new.looks) }
+        ensures looks { IsFalse result → steps.new ≡ steps.old
+            + size_on (reached_of self.new.search) (T.state self.old.pair.tableau).columns }
         ensures few { IsFalse result → steps.new ≤ steps.old + (T.state self.old.pair.tableau).columns }
         ensures searches { searches.new ≡ searches.old + 1 }
     {
@@ -277,19 +337,27 @@ impl<F: Field, T: Tableau<F>> Improver<F, T> {
         }
     }
 
-    // Ends with a best pair, and tells how many searches that took.
+    /// Ends with a best pair, and tells how many searches that took.
     pub fn run<L: Ledger, M: Ledger>(
         &mut self,
         searches: &mut Steps<M>,
         steps: &mut Steps<L>,
     ) -> usize
-        requires ready { IsReady F.modulus (T.state self.old.pair.tableau) self.old.pair.mates self.old.search.places self.old.marks self.old.size self.old.pivots self.old.looks }
-        ensures ready { IsReady F.modulus (T.state self.new.pair.tableau) self.new.pair.mates self.new.search.places self.new.marks self.new.size self.new.pivots self.new.looks }
-        ensures layers { layers_of (T.state self.new.pair.tableau) self.new.pair.mates ≡ layers_of (T.state self.old.pair.tableau) self.old.pair.mates }
-        ensures no_walk { HasNoWalk F.modulus (layers_of (T.state self.new.pair.tableau) self.new.pair.mates) (tableau_of (T.state self.new.pair.tableau) self.new.pair.mates) }
-        ensures reached { IsReachedFromFree F.modulus (layers_of (T.state self.new.pair.tableau) self.new.pair.mates) (tableau_of (T.state self.new.pair.tableau) self.new.pair.mates) (reached_of self.new.search) }
-        ensures steps { AreFewSteps (T.state self.old.pair.tableau).columns (size_of (T.state self.old.pair.tableau) self.old.pair.mates) (size_of (T.state self.new.pair.tableau) self.new.pair.mates) steps.old steps.new }
-        ensures told { steps.new + (self.old.pivots + self.old.looks) ≡ steps.old + (self.new.pivots + self.new.looks) + size_on (reached_of self.new.search) (T.state self.old.pair.tableau).columns }
+        requires ready { IsReady F.modulus (T.state self.old.pair.tableau) self.old.pair.mates self.old.search.places
+            self.old.marks self.old.size self.old.pivots self.old.looks }
+        ensures ready { IsReady F.modulus (T.state self.new.pair.tableau) self.new.pair.mates self.new.search.places
+            self.new.marks self.new.size self.new.pivots self.new.looks }
+        ensures layers { layers_of (T.state self.new.pair.tableau) self.new.pair.mates
+            ≡ layers_of (T.state self.old.pair.tableau) self.old.pair.mates }
+        ensures no_walk { HasNoWalk F.modulus (layers_of (T.state self.new.pair.tableau) self.new.pair.mates)
+            (tableau_of (T.state self.new.pair.tableau) self.new.pair.mates) }
+        ensures reached { IsReachedFromFree F.modulus (layers_of (T.state self.new.pair.tableau) self.new.pair.mates)
+            (tableau_of (T.state self.new.pair.tableau) self.new.pair.mates) (reached_of self.new.search) }
+        ensures steps { AreFewSteps (T.state self.old.pair.tableau).columns
+            (size_of (T.state self.old.pair.tableau) self.old.pair.mates)
+            (size_of (T.state self.new.pair.tableau) self.new.pair.mates) steps.old steps.new }
+        ensures told { steps.new + (self.old.pivots + self.old.looks) ≡ steps.old + (self.new.pivots + self.new.looks)
+            + size_on (reached_of self.new.search) (T.state self.old.pair.tableau).columns }
         ensures few_pivots { AreFewPivots (size_of (T.state self.old.pair.tableau) self.old.pair.mates)
             (size_of (T.state self.new.pair.tableau) self.new.pair.mates) self.old.pivots self.new.pivots }
         ensures few_looks { AreFewLooks (T.state self.old.pair.tableau).columns

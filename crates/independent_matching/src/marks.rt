@@ -1,3 +1,5 @@
+//! What makes a column free or an end, kept up to date from walk to walk.
+
 ghost use Rattle.std.specs.Prelude.{◌≡◌, ◌≢◌, ℕ, ◌<◌, Bool, true, false, Some, IfOk, IfSome, is_some, length};
 ghost use Rattle.sparse_t.specs.Incidences.{height, touches};
 ghost use Rattle.exchange_graph.specs.Marks.{members_of};
@@ -13,9 +15,9 @@ use residue_field::Field;
 use row_transform::Tableau;
 use std::alloc::Global;
 
-// Marks of the free columns and of the ends, and what makes a column an end: whether a T row does that no column has, and
-// the Q row that does, if there is one. `touched` are the columns that a pivot may change. No column before `first` is free
-// and an end.
+// Marks of the free columns and of the ends, and what makes a column an end: whether a T row does that no column has,
+// and the Q row that does, if there is one. `touched` are the columns that a pivot may change. No column before `first`
+// is free and an end.
 #[derive(Drop)]
 pub struct Marks {
     pub free: Vec<bool>,
@@ -42,7 +44,7 @@ impl Marks {
         })
     }
 
-    // The marks of a pair that has no column.
+    /// The marks of a pair that has no column.
     pub fn open<F: Field, T: Tableau<F>>(alloc: Global, pair: &Pair<F, T>) -> Result<Self, NoMemory>
         requires width { pair.now.mates.pattern.width ≡ (T.state pair.now.tableau).columns }
         requires free { (x : ℕ) → is_free (tableau_of (T.state pair.now.tableau) pair.now.mates) x ≡ true }
@@ -88,8 +90,8 @@ impl Marks {
         self.mark_end(x, end);
     }
 
-    // Looks for a Q row that no column has and where P has an entry in x: first at the one that is told, then at those from
-    // `from` on.
+    // Looks for a Q row that no column has and where P has an entry in x: first at the one that is told, then at those
+    // from `from` on.
     fn find_q_row<F: Field, T: Tableau<F>>(&mut self, pair: &Pair<F, T>, x: usize, from: usize)
         requires sized { IsKept (T.state pair.now.tableau).columns self.old }
         requires x { x < (T.state pair.now.tableau).columns }
@@ -109,13 +111,15 @@ impl Marks {
         self.mark_end(x, end);
     }
 
-    // A row that x may take and that no column has; one of T comes first, since it needs no pivot.
+    /// A row that x may take and that no column has; one of T comes first, since it needs no pivot.
     pub fn free_row<F: Field, T: Tableau<F>>(&self, pair: &Pair<F, T>, x: usize) -> Option<Row>
         requires width { pair.now.mates.pattern.width ≡ (T.state pair.now.tableau).columns }
         requires x { x < (T.state pair.now.tableau).columns }
         requires marks { AreMarks F.modulus (T.state pair.now.tableau) pair.now.mates self.now }
-        ensures free { IfSome result (λ row. IsFreeRow F.modulus (layers_of (T.state pair.now.tableau) pair.now.mates) (tableau_of (T.state pair.now.tableau) pair.now.mates) x (in_q row) (number row)) }
-        ensures end { is_some result ≡ is_end F.modulus (layers_of (T.state pair.now.tableau) pair.now.mates) (tableau_of (T.state pair.now.tableau) pair.now.mates) x }
+        ensures free { IfSome result (λ row. IsFreeRow F.modulus (layers_of (T.state pair.now.tableau) pair.now.mates)
+            (tableau_of (T.state pair.now.tableau) pair.now.mates) x (in_q row) (number row)) }
+        ensures end { is_some result ≡ is_end F.modulus (layers_of (T.state pair.now.tableau) pair.now.mates)
+            (tableau_of (T.state pair.now.tableau) pair.now.mates) x }
     {
         match (pair.free_t_row(x), self.by_q[x]) {
             (Some(row), _) => Some(Row::T(row)),
@@ -124,7 +128,8 @@ impl Marks {
         }
     }
 
-    // A free column that is an end: a walk of one column. The columns that were passed over before are not looked at again.
+    /// A free column that is an end: a walk of one column. The columns that were passed over before are not looked at
+    /// again.
     pub fn free_end(&mut self) -> Option<usize>
         requires sized { IsKept (length self.old.free.items) self.old }
         ensures below { IfSome result (λ x. x < length self.old.free.items) }
@@ -143,7 +148,7 @@ impl Marks {
         None
     }
 
-    // Before a pivot at a Q row: notes the columns in which P has an entry there, since it changes no other ones.
+    /// Before a pivot at a Q row: notes the columns in which P has an entry there, since it changes no other ones.
     pub fn touch<F: Field, T: Tableau<F>>(&mut self, pair: &Pair<F, T>, row: usize)
         requires row { row < (T.state pair.now.tableau).rows }
         requires sized { IsKept (T.state pair.now.tableau).columns self.old }
@@ -156,10 +161,12 @@ impl Marks {
         }
     }
 
-    // After the pivot: looks anew at the columns that it touched. Rows from `row` on are looked at first.
+    /// After the pivot: looks anew at the columns that it touched. Rows from `row` on are looked at first.
     pub fn settle<F: Field, T: Tableau<F>>(&mut self, pair: &Pair<F, T>, row: usize)
         requires sized { IsKept (T.state pair.now.tableau).columns self.old }
-        requires others { (x : ℕ) → x < (T.state pair.now.tableau).columns → members_of self.old.touched.items x ≡ false → IsQMark F.modulus (T.state pair.now.tableau) self.old.by_q.items x }
+        requires others { (x : ℕ) → x < (T.state pair.now.tableau).columns →
+            members_of self.old.touched.items x ≡ false →
+            IsQMark F.modulus (T.state pair.now.tableau) self.old.by_q.items x }
         requires ends { (x : ℕ) → x < (T.state pair.now.tableau).columns → IsEndMark self.old x }
         ensures marks { AreMarksOfQ F.modulus (T.state pair.now.tableau) self.new }
         ensures by_t { self.new.by_t ≡ self.old.by_t }
@@ -172,15 +179,18 @@ impl Marks {
         }
     }
 
-    // After a walk from the column `first`, which took the row `end`.
+    /// After a walk from the column `first`, which took the row `end`.
     pub fn close<F: Field, T: Tableau<F>>(&mut self, pair: &Pair<F, T>, first: usize, end: Row)
         requires width { pair.now.mates.pattern.width ≡ (T.state pair.now.tableau).columns }
         requires first { first < (T.state pair.now.tableau).columns }
         requires row { in_q end ≡ false → number end < height pair.now.mates.pattern }
         requires of_q { AreMarksOfQ F.modulus (T.state pair.now.tableau) self.old }
-        requires by_t { (x : ℕ) → x < (T.state pair.now.tableau).columns → (in_q end ≡ false → touches pair.now.mates.pattern (number end) x ≡ false) → IsTMark pair.now.mates self.old.by_t.items x }
+        requires by_t { (x : ℕ) → x < (T.state pair.now.tableau).columns →
+            (in_q end ≡ false → touches pair.now.mates.pattern (number end) x ≡ false) →
+            IsTMark pair.now.mates self.old.by_t.items x }
         requires taken { is_free (tableau_of (T.state pair.now.tableau) pair.now.mates) first ≡ false }
-        requires free { (x : ℕ) → x < (T.state pair.now.tableau).columns → x ≢ first → members_of self.old.free.items x ≡ is_free (tableau_of (T.state pair.now.tableau) pair.now.mates) x }
+        requires free { (x : ℕ) → x < (T.state pair.now.tableau).columns → x ≢ first →
+            members_of self.old.free.items x ≡ is_free (tableau_of (T.state pair.now.tableau) pair.now.mates) x }
         ensures { AreMarks F.modulus (T.state pair.now.tableau) pair.now.mates self.new }
     {
         self.free[first] = false;
@@ -194,7 +204,8 @@ impl Marks {
         requires row { row < height pair.now.mates.pattern }
         requires width { pair.now.mates.pattern.width ≡ (T.state pair.now.tableau).columns }
         requires of_q { AreMarksOfQ F.modulus (T.state pair.now.tableau) self.old }
-        requires others { (x : ℕ) → x < pair.now.mates.pattern.width → touches pair.now.mates.pattern row x ≡ false → IsTMark pair.now.mates self.old.by_t.items x }
+        requires others { (x : ℕ) → x < pair.now.mates.pattern.width → touches pair.now.mates.pattern row x ≡ false →
+            IsTMark pair.now.mates self.old.by_t.items x }
         ensures of_q { AreMarksOfQ F.modulus (T.state pair.now.tableau) self.new }
         ensures by_t { (x : ℕ) → x < pair.now.mates.pattern.width → IsTMark pair.now.mates self.new.by_t.items x }
         ensures free { self.new.free ≡ self.old.free }

@@ -1,3 +1,5 @@
+//! A pair: independent columns of Q and matched columns of T, as the arcs of its exchange graph.
+
 ghost use Rattle.std.specs.Prelude.{◌≡◌, ℕ, ◌+◌, ◌<◌, ◌≤◌, ◌%◌, ◌⊎◌, ◌&&◌, Bool, true, false, cond, min, not, eqb, Option, Some, IfSome, IfNone, IsTrue, IsFalse};
 ghost use Rattle.sparse_t.specs.Incidences.{touches};
 ghost use Rattle.bipartite_matching.specs.Matchings.{HasPair, IsMatching};
@@ -26,7 +28,8 @@ pub struct Pair<F: Field, T: Tableau<F>> {
 impl<F: Field, T: Tableau<F>> Arcs for Pair<F, T> {
     ghost places = { λ s. min (T.state s.tableau).columns s.mates.pattern.width };
 
-    ghost leads = { λ s. leads_to F.modulus (layers_of (T.state s.tableau) s.mates) (tableau_of (T.state s.tableau) s.mates) };
+    ghost leads = { λ s. leads_to F.modulus (layers_of (T.state s.tableau) s.mates)
+        (tableau_of (T.state s.tableau) s.mates) };
 
     #[tactic(auto, unfolding(mixed_matrices::specs::Arcs::leads_to))]
     fn arc(&self, x: usize, y: usize) -> bool {
@@ -41,7 +44,7 @@ impl<F: Field, T: Tableau<F>> Arcs for Pair<F, T> {
 }
 
 impl<F: Field, T: Tableau<F>> Pair<F, T> {
-    // Whether P has an entry there that is not zero.
+    /// Whether P has an entry there that is not zero.
     pub fn has_entry(&self, row: usize, x: usize) -> bool
         requires row { row < (T.state self.now.tableau).rows }
         requires x { x < (T.state self.now.tableau).columns }
@@ -53,7 +56,8 @@ impl<F: Field, T: Tableau<F>> Pair<F, T> {
     fn leads_in_q(&self, x: usize, y: usize) -> bool
         requires x { x < (T.state self.now.tableau).columns }
         requires y { y < (T.state self.now.tableau).columns }
-        ensures { result ≡ (T.state self.now.tableau).base y && has_entry F.modulus (T.state self.now.tableau) ((T.state self.now.tableau).row y) x }
+        ensures { result ≡ (T.state self.now.tableau).base y
+            && has_entry F.modulus (T.state self.now.tableau) ((T.state self.now.tableau).row y) x }
     {
         match self.tableau.row_of(y) {
             None => false,
@@ -87,8 +91,8 @@ impl<F: Field, T: Tableau<F>> Pair<F, T> {
         if least < end { Some(least) } else { None }
     }
 
-    // The least other column from `from` on and below `end` to which x leads by its Q row. It goes over the rows where P
-    // has an entry in x.
+    // The least other column from `from` on and below `end` to which x leads by its Q row. It goes over the rows where
+    // P has an entry in x.
     fn next_in_q(&self, x: usize, from: usize, end: usize) -> Option<usize>
         requires x { x < (T.state self.now.tableau).columns }
         requires end { end ≤ (T.state self.now.tableau).columns }
@@ -106,7 +110,7 @@ impl<F: Field, T: Tableau<F>> Pair<F, T> {
         if least < end { Some(least) } else { None }
     }
 
-    // The row that column x has.
+    /// The row that column x has.
     pub fn row_of(&self, x: usize) -> Option<Row>
         requires tableau { x < (T.state self.now.tableau).columns }
         requires mates { x < self.now.mates.pattern.width }
@@ -119,7 +123,7 @@ impl<F: Field, T: Tableau<F>> Pair<F, T> {
         }
     }
 
-    // Whether column x has no row.
+    /// Whether column x has no row.
     #[tactic(auto, unfolding(mixed_matrices::specs::Arcs::is_free))]
     pub fn is_free(&self, x: usize) -> bool
         requires tableau { x < (T.state self.now.tableau).columns }
@@ -132,7 +136,8 @@ impl<F: Field, T: Tableau<F>> Pair<F, T> {
     // Takes column x out of the matching.
     fn leave(&mut self, x: usize)
         requires { x < self.old.mates.pattern.width }
-        ensures unlinked { IsUnlinked self.old.mates.pattern.width (is_matched self.old.mates) (mate_of self.old.mates) (is_matched self.new.mates) (mate_of self.new.mates) x }
+        ensures unlinked { IsUnlinked self.old.mates.pattern.width (is_matched self.old.mates) (mate_of self.old.mates)
+            (is_matched self.new.mates) (mate_of self.new.mates) x }
         ensures kept { (row col : ℕ) → HasPair self.new.mates row col → HasPair self.old.mates row col }
         ensures matching { IsMatching self.old.mates }
         ensures pattern { self.new.mates.pattern ≡ self.old.mates.pattern }
@@ -143,13 +148,17 @@ impl<F: Field, T: Tableau<F>> Pair<F, T> {
         }
     }
 
-    // Moves column x to the row, out of the T row that it has.
+    /// Moves column x to the row, out of the T row that it has.
     pub fn take<L: Ledger>(&mut self, row: Row, x: usize, steps: &mut Steps<L>)
         requires width { self.old.mates.pattern.width ≡ (T.state self.old.tableau).columns }
         requires x { x < (T.state self.old.tableau).columns }
-        requires can { CanTake F.modulus (layers_of (T.state self.old.tableau) self.old.mates) (tableau_of (T.state self.old.tableau) self.old.mates) row x }
-        ensures takes { Takes F.modulus (layers_of (T.state self.old.tableau) self.old.mates) (tableau_of (T.state self.old.tableau) self.old.mates) (tableau_of (T.state self.new.tableau) self.new.mates) row x }
-        ensures layers { layers_of (T.state self.new.tableau) self.new.mates ≡ layers_of (T.state self.old.tableau) self.old.mates }
+        requires can { CanTake F.modulus (layers_of (T.state self.old.tableau) self.old.mates)
+            (tableau_of (T.state self.old.tableau) self.old.mates) row x }
+        ensures takes { Takes F.modulus (layers_of (T.state self.old.tableau) self.old.mates)
+            (tableau_of (T.state self.old.tableau) self.old.mates)
+            (tableau_of (T.state self.new.tableau) self.new.mates) row x }
+        ensures layers { layers_of (T.state self.new.tableau) self.new.mates
+            ≡ layers_of (T.state self.old.tableau) self.old.mates }
         ensures pattern { self.new.mates.pattern ≡ self.old.mates.pattern }
         ensures steps { steps.new ≡ steps.old + cond (in_q row) 1 0 }
     {
@@ -163,7 +172,7 @@ impl<F: Field, T: Tableau<F>> Pair<F, T> {
         }
     }
 
-    // A T row that touches x and that no column has.
+    /// A T row that touches x and that no column has.
     pub fn free_t_row(&self, x: usize) -> Option<usize>
         requires { x < self.now.mates.pattern.width }
         ensures some { IfSome result (IsFreeTRow self.now.mates x) }
@@ -178,7 +187,7 @@ impl<F: Field, T: Tableau<F>> Pair<F, T> {
         None
     }
 
-    // Whether it is a Q row that no column has and where P has an entry in x.
+    /// Whether it is a Q row that no column has and where P has an entry in x.
     pub fn is_free_q_row(&self, row: usize, x: usize) -> bool
         requires { x < (T.state self.now.tableau).columns }
         ensures yes { IsTrue result → IsFreeQRow F.modulus (T.state self.now.tableau) x row }
@@ -191,7 +200,8 @@ impl<F: Field, T: Tableau<F>> Pair<F, T> {
     fn free_q_row_from(&self, x: usize, from: usize) -> Option<usize>
         requires x { x < (T.state self.now.tableau).columns }
         ensures some { IfSome result (IsFreeQRow F.modulus (T.state self.now.tableau) x) }
-        ensures none { IfNone result ((row : ℕ) → from ≤ row → IsFreeQRow F.modulus (T.state self.now.tableau) x row → ⊥) }
+        ensures none { IfNone result ((row : ℕ) → from ≤ row →
+            IsFreeQRow F.modulus (T.state self.now.tableau) x row → ⊥) }
     {
         // there are at most 8,192 rows, so that the sum below fits
         let _rows = self.tableau.rows();
@@ -205,7 +215,7 @@ impl<F: Field, T: Tableau<F>> Pair<F, T> {
         None
     }
 
-    // A Q row that no column has and where P has an entry in x. Those from `from` on are looked at first.
+    /// A Q row that no column has and where P has an entry in x. Those from `from` on are looked at first.
     pub fn free_q_row(&self, x: usize, from: usize) -> Option<usize>
         requires x { x < (T.state self.now.tableau).columns }
         ensures some { IfSome result (IsFreeQRow F.modulus (T.state self.now.tableau) x) }

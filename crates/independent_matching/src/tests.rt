@@ -1,9 +1,11 @@
+//! What the engine tells of small matrices.
+
 ghost use Rattle.std.specs.Prelude.{◌≡◌, ◌<◌, IfOk};
 
 use super::*;
 use dense_q::Mat;
 use mixed_model::{Layered, Origin};
-use residue_field::Res;
+use residue_field::{Field, Res};
 use row_transform::Tableau;
 use sparse_t::Pattern;
 use std::alloc::Global;
@@ -31,7 +33,12 @@ fn constants(alloc: Global, columns: usize, rows: &[&[u64]]) -> Result<Mat<Res>,
 }
 
 // An engine that has run on the layered matrix of q and t.
-fn solved<L: Ledger>(alloc: Global, q: Mat<Res>, t: Pattern, blank: Blank) -> Result<Engine, Fail>
+fn solved<L: Ledger>(
+    alloc: Global,
+    q: Mat<Res>,
+    t: Pattern,
+    blank: Blank,
+) -> Result<Engine<Res>, Fail>
     requires columns { t.width ≡ q.width }
     requires name { blank.name ≡ L.name }
     requires parts { blank.parts ≡ L.parts }
@@ -48,7 +55,7 @@ fn solved<L: Ledger>(alloc: Global, q: Mat<Res>, t: Pattern, blank: Blank) -> Re
 
 // What an engine tells of each column: `q` or `t` where it is in the pair and `.` where it is free, then `-` where it
 // is in the least minimiser and `!` where it is an end.
-fn told(alloc: Global, engine: &Engine) -> Result<String, Fail> {
+fn told(alloc: Global, engine: &Engine<Res>) -> Result<String, Fail> {
     let mut text = String::new(alloc);
     for col in 0..engine.tableau().columns() {
         if engine.in_q(col) {

@@ -1,9 +1,8 @@
--- Numbers, and their residues.
+-- Numbers, and their residues modulo p.
 use Rattle.std.specs.Prelude.{ℕ, ◌+◌, ◌*◌, ◌%◌, ◌^◌, Bool, true, false, not, ◌&&◌, ◌||◌, List, ◌++◌, length, codes, nat_eq, nat_le, nat_lt, if◌then◌else◌, Option, Some, None, Result, Ok, Err}
 use Rattle.std.specs.Char.{is_ascii_digit}
 use Rattle.std.specs.List.{list_all, position_or_len, before_first, after_first, range_with_len}
 use Rattle.std.specs.Str.Parse.{digits_value, starts_with_minus, without_leading_sign}
-use Rattle.residue_field.specs.Modulus.{res_modulus}
 use Rattle.refusals.specs.declared.Why.{Why}
 use Rattle.refusals.specs.declared.Why.TheVariants.{BadNumber, Vanish}
 use Rattle.line_lexer.specs.declared.numbers.Ratio.{Ratio}
@@ -45,26 +44,27 @@ fraction_of text =
     else (if has_byte is_point text then decimal_of (before_first is_point text) (after_first is_point text)
     else quotient_of text (codes "1"))
 
--- whether the modulus divides the denominator of a fraction, or its numerator though that is not 0
-abbrev pub vanishes : Ratio → Bool
-vanishes fraction =
-    nat_eq (fraction.denominator % res_modulus) 0
-    || (not (nat_eq fraction.numerator 0) && nat_eq (fraction.numerator % res_modulus) 0)
+-- whether p divides the denominator of a fraction, or its numerator though that is not 0
+abbrev pub vanishes : ℕ → Ratio → Bool
+vanishes p fraction =
+    nat_eq (fraction.denominator % p) 0
+    || (not (nat_eq fraction.numerator 0) && nat_eq (fraction.numerator % p) 0)
 
--- whether r is this fraction modulo the modulus, or its negative
-abbrev pub is_residue : Bool → Ratio → ℕ → Bool
-is_residue false fraction r = nat_eq ((r * fraction.denominator) % res_modulus) (fraction.numerator % res_modulus)
-is_residue true fraction r = nat_eq ((r * fraction.denominator + fraction.numerator) % res_modulus) 0
+-- whether r is this fraction modulo p, or its negative
+abbrev pub is_residue : ℕ → Bool → Ratio → ℕ → Bool
+is_residue p false fraction r = nat_eq ((r * fraction.denominator) % p) (fraction.numerator % p)
+is_residue p true fraction r = nat_eq ((r * fraction.denominator + fraction.numerator) % p) 0
 
--- The residue of a fraction that does not vanish, or of its negative: the one number below the modulus that is it.
-unfoldable pub fraction_residue : Bool → Ratio → ℕ
-fraction_residue negative fraction = position_or_len (is_residue negative fraction) (range_with_len 0 res_modulus)
+-- The residue of a fraction that does not vanish, or of its negative: the one number below p that is it.
+unfoldable pub fraction_residue : ℕ → Bool → Ratio → ℕ
+fraction_residue p negative fraction = position_or_len (is_residue p negative fraction) (range_with_len 0 p)
 
 -- what reading a fraction answers, where there is one
-abbrev pub residue_of : Bool → Option Ratio → Result ℕ Why
-residue_of negative None = Err BadNumber
-residue_of negative (Some fraction) = if vanishes fraction then Err Vanish else Ok (fraction_residue negative fraction)
+abbrev pub residue_of : ℕ → Bool → Option Ratio → Result ℕ Why
+residue_of p negative None = Err BadNumber
+residue_of p negative (Some fraction) =
+    if vanishes p fraction then Err Vanish else Ok (fraction_residue p negative fraction)
 
 -- The residue of the number that a text is, or why there is none.
-abbrev pub number_of : List ℕ → Result ℕ Why
-number_of text = residue_of (starts_with_minus text) (fraction_of (without_leading_sign text))
+abbrev pub number_of : ℕ → List ℕ → Result ℕ Why
+number_of p text = residue_of p (starts_with_minus text) (fraction_of (without_leading_sign text))

@@ -1,5 +1,8 @@
+//! Texts cut into lines, and lines into tokens.
+
 ghost use Rattle.std.specs.Prelude.{◌≡◌, ◌≤◌, ℕ, true, false, length, position, MatchResult};
 ghost use Rattle.std.specs.List.{enumerate_from, list_all};
+ghost use Rattle.limits.specs.Limits.{input_limit};
 ghost use Rattle.line_lexer.specs.Lines.{lines_of};
 ghost use Rattle.line_lexer.specs.Tokens.{is_text_byte, is_comment_sign, is_clean, tokens_of, uncommented};
 
@@ -11,7 +14,7 @@ use std::str;
 /// The lines of a text, numbered from 1: the bytes are cut at each line feed, and what follows the last one is
 /// a line if it is not empty. One carriage return at the end of a line is dropped.
 pub fn lines(bytes: &[u8]) -> Lines<'_>
-    requires { length bytes.now ≤ 8388608 }
+    requires { length bytes.now ≤ input_limit }
     ensures { result ≡ enumerate_from 1 (lines_of bytes.now) }
 {
     Lines::new(bytes)

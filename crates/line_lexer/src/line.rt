@@ -1,7 +1,10 @@
+//! Lines of a text, with their numbers.
+
 ghost use Rattle.std.specs.Prelude.{◌≡◌, ◌∷◌, ◌+◌, ◌<◌, ◌≤◌, ◌^◌, length, position};
 ghost use Rattle.std.specs.Iterator.{YieldsFirstBy, item_count};
 ghost use Rattle.std.specs.List.{enumerate_from};
 ghost use Rattle.std.specs.Str.Lines.{strip_carriage_return};
+ghost use Rattle.limits.specs.Limits.{input_limit};
 ghost use Rattle.line_lexer.specs.Lines.{is_line_feed, cut_at_feeds, lines_of};
 
 use std::marker::Model;
@@ -34,7 +37,7 @@ impl<'a> Model for Lines<'a> {
 
 impl<'a> Lines<'a> {
     pub(crate) fn new(bytes: &'a [u8]) -> Self
-        requires { length bytes.now ≤ 8388608 }
+        requires { length bytes.now ≤ input_limit }
         ensures { result ≡ enumerate_from 1 (lines_of bytes.now) }
     {
         Lines {

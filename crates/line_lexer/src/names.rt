@@ -1,3 +1,5 @@
+//! Names, by their bytes.
+
 ghost use Rattle.std.specs.Prelude.{◌≡◌, true, false, not, MatchResult};
 ghost use Rattle.std.specs.List.{list_all};
 ghost use Rattle.line_lexer.specs.Names.{begins_name, continues_name, is_name, is_short_name};

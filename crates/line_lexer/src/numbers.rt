@@ -1,28 +1,32 @@
-ghost use Rattle.std.specs.Prelude.{◌≡◌, ◌≤◌, ◌+◌, ◌<◌, ℕ, ◌^◌, Some, length};
+//! Numbers, and the values of a field that they are.
+
+ghost use Rattle.std.specs.Prelude.{◌≡◌, ◌≤◌, ◌+◌, ◌<◌, ℕ, ◌^◌, Some, Ok, Err, MatchResult, length};
 ghost use Rattle.std.specs.Char.{is_ascii_digit};
 ghost use Rattle.std.specs.List.{list_all};
 ghost use Rattle.std.specs.Str.Parse.{starts_with_minus, without_leading_sign};
 ghost use Rattle.line_lexer.specs.Numbers.{is_numeral, numeral_of, quotient_of, decimal_of, fraction_of, residue_of, number_of};
 
 use refusals::Why;
-use residue_field::Res;
+use residue_field::Field;
 
 const MOST_DIGITS: usize = 18;
 
-/// A whole number over another.
+// A whole number over another.
 #[derive(Clone, Copy)]
 struct Ratio {
     numerator: u64,
     denominator: u64,
 }
 
-/// The residue of a number: a sign or none, and then 1 to 18 digits, or two such numerals with a `/` between them,
-/// or two with a `.` between them and at most 18 digits together.
+/// The value of a number in the field: a sign or none, and then 1 to 18 digits, or two such numerals with a `/` between
+/// them, or two with a `.` between them and at most 18 digits together.
 ///
 /// Any other text is `Why::BadNumber`. A number is `Why::Vanish` where the modulus divides its denominator, or divides
 /// its numerator though that is not 0.
-pub fn number(text: &str) -> Result<Res, Why>
-    ensures { result ≡ number_of text.now }
+pub fn number<F: Field>(text: &str) -> Result<F, Why>
+    ensures { MatchResult result
+        (λ value. number_of F.modulus text.now ≡ Ok (F.number value))
+        (λ why. number_of F.modulus text.now ≡ Err why) }
 {
     let (negative, unsigned) = split_sign(text);
     match fraction(unsigned) {
@@ -108,8 +112,10 @@ fn are_digits(bytes: &[u8]) -> bool
     bytes.iter().all(|byte| byte.is_ascii_digit())
 }
 
-fn residue(negative: bool, fraction: Ratio) -> Result<Res, Why>
-    ensures { result ≡ residue_of negative (Some fraction) }
+fn residue<F: Field>(negative: bool, fraction: Ratio) -> Result<F, Why>
+    ensures { MatchResult result
+        (λ value. residue_of F.modulus negative (Some fraction) ≡ Ok (F.number value))
+        (λ why. residue_of F.modulus negative (Some fraction) ≡ Err why) }
 {
-    Res::from_fraction(negative, fraction.numerator, fraction.denominator).or(Err(Why::Vanish))
+    F::from_fraction(negative, fraction.numerator, fraction.denominator).or(Err(Why::Vanish))
 }

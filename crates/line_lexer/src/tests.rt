@@ -1,6 +1,8 @@
+//! Lines, tokens, names and numbers at a few texts.
+
 use super::*;
 use refusals::Why;
-use residue_field::Res;
+use residue_field::{Field, Res};
 use std::test::Fail;
 
 #[test]
@@ -80,7 +82,7 @@ fn numbers_are_told(rt: HostRuntime) {
         ("000000000000000001", 1),
         ("00000000000000000.1", 58_969),
     ] {
-        assert_eq!(rt; number(text), Ok(Res::of(residue)), "{text}");
+        assert_eq!(rt; number::<Res>(text), Ok(Res::of(residue)), "{text}");
     }
     for text in [
         "",
@@ -96,9 +98,9 @@ fn numbers_are_told(rt: HostRuntime) {
         "0000000000000000001",
         "0000000000.000000001",
     ] {
-        assert_eq!(rt; number(text), Err(Why::BadNumber), "{text}");
+        assert_eq!(rt; number::<Res>(text), Err(Why::BadNumber), "{text}");
     }
     for text in ["65521", "-65521", "1/65521", "0/65521", "1/0", "6552.1"] {
-        assert_eq!(rt; number(text), Err(Why::Vanish), "{text}");
+        assert_eq!(rt; number::<Res>(text), Err(Why::Vanish), "{text}");
     }
 }

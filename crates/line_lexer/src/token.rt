@@ -1,3 +1,5 @@
+//! The tokens of a line.
+
 ghost use Rattle.std.specs.Prelude.{◌≡◌, ◌∷◌, [], ℕ, ◌+◌, ◌<◌, ◌≤◌, ◌^◌, length, not, position, MatchOption};
 ghost use Rattle.std.specs.Iterator.{YieldsFirstBy, item_count};
 ghost use Rattle.std.specs.Str.{IsAscii};
@@ -64,7 +66,9 @@ impl<'a> Iterator for Tokens<'a> {
 // How many blanks stand before the first token, that token, and what follows it.
 fn cut_token(text: &str) -> Option<(usize, &str, &str)>
     requires { IsAscii text.now }
-    ensures { MatchOption result ((i : ℕ) → tokens_from i text.now ≡ []) (λ cut. CutsToken text.now cut.0 cut.1.now cut.2.now) }
+    ensures { MatchOption result
+        ((i : ℕ) → tokens_from i text.now ≡ [])
+        (λ cut. CutsToken text.now cut.0 cut.1.now cut.2.now) }
 {
     let skipped = first_of_token(text)?;
     let (_blanks, text) = text.split_at(skipped);

@@ -11,3 +11,11 @@ pub record IsBase (p : ℕ) (a : ℕ → ℕ → ℕ) (m n : ℕ) (B : ℕ → B
 -- row i is the row of no column of B
 abbrev pub HasNoBase : ℕ → (ℕ → Bool) → (ℕ → ℕ) → ℕ → Type 0
 HasNoBase n B row i = (b : ℕ) → b < n → B b ≡ true → row b ≢ i
+
+-- column v is now the base column of row r; the column that was it before is none now, and all others stay.
+-- There are n columns; B and row are the base before, C and now the base after
+pub record IsBaseTaken (n : ℕ) (B : ℕ → Bool) (row : ℕ → ℕ) (C : ℕ → Bool) (now : ℕ → ℕ) (r v : ℕ) : Type 0 where
+  pub member : C v ≡ true
+  pub at_row : now v ≡ r
+  pub only : (y : ℕ) → y < n → y ≢ v → C y ≡ true → (B y ≡ true) × (row y ≢ r) × (now y ≡ row y)
+  pub kept : (y : ℕ) → y < n → y ≢ v → B y ≡ true → row y ≢ r → C y ≡ true

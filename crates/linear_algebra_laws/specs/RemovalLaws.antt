@@ -34,8 +34,8 @@ RankFallsWithoutRow =
     IsRank p a m n X r → IsRank p (without_row e a) (m - 1) n X s →
     (s + 1 ≡ r) ↔ Combines p a m n X (λ i. identity i e)
 
--- in a tableau P = S * a, S invertible, let the base B be within X, and the columns of X be zero in P at each row without base:
--- without row e of a the rank of X stays exactly where column e of S is not zero at some row without base
+-- in a tableau P = S * a, S invertible, let the base B be within X, and the columns of X be zero in P at each row
+-- without base: without row e of a the rank of X stays exactly where column e of S is not zero at some row without base
 abbrev pub TableauTellsTheRowsThatMayGo : Type 0
 TableauTellsTheRowsThatMayGo =
     (p : ℕ) → IsPrime p → (a S U P : ℕ → ℕ → ℕ) (m n : ℕ) (B X : ℕ → Bool) (row : ℕ → ℕ) (e r s : ℕ) → e < m →

@@ -21,7 +21,8 @@ pub fn tableau_tells_the_span()
     ensures { TableauTellsTheSpan }
 {}
 
-/// In a tableau a set that is zero at each row without base in the set has as many columns in its rank as it has base columns.
+/// In a tableau a set that is zero at each row without base in the set has as many columns in its rank as it has base
+/// columns.
 pub fn tableau_tells_the_rank()
     ensures { TableauTellsTheRank }
 {}

@@ -26,7 +26,8 @@ pub fn column_parts_have_their_rank()
     ensures { ColumnPartsHaveTheirRank }
 {}
 
-/// Of one matrix above another, independent columns are at most the rank of the first and the rows of the second that are not zero on them.
+/// Of one matrix above another, independent columns are at most the rank of the first and the rows of the second that
+/// are not zero on them.
 pub fn stacked_columns_are_at_most_rank_and_rows()
     ensures { StackedColumnsAreAtMostRankAndRows }
 {}

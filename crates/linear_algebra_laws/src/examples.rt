@@ -21,7 +21,8 @@ pub fn rank_at_examples()
     ensures fails { IsRank 65521 all_ones 2 2 everything 2 → ⊥ }
 {}
 
-/// Column 1 of all ones is a combination of column 0, and that of the identity matrix is not; likewise for columns beside the matrix.
+/// Column 1 of all ones is a combination of column 0, and that of the identity matrix is not; likewise for columns
+/// beside the matrix.
 pub fn combinations_at_examples()
     ensures holds { IsCombination 65521 all_ones 2 2 (only 0) 1 }
     ensures fails { IsCombination 65521 identity 2 2 (only 0) 1 → ⊥ }

@@ -43,25 +43,25 @@ symbol_there true false was fresh = refl
 symbol_there false true was fresh = fresh refl
 symbol_there false false was fresh = refl
 
-module _ (before : List (List (List ℕ))) (name : List ℕ) (items : List (List ℕ)) (line : ℕ) (old : MixedModel) (old_lines : List ℕ) (item : List ℕ) (at_line : IsWithin before (so_far name items) line old old_lines) where
+module _ (p : ℕ) (before : List (List (List ℕ))) (name : List ℕ) (items : List (List ℕ)) (line : ℕ) (old : MixedModel) (old_lines : List ℕ) (item : List ℕ) (at_line : IsWithin p before (so_far name items) line old old_lines) where
   -- an item whose unknown can't be marked
-  pub unmarked_item : (why : Why) → term_rule item ≡ None → UnmarkedFrom (position (bytes_eq (unknown_of item)) old.unknowns) line old old_lines why → item_rule before (so_far name items) item ≡ Some why
+  pub unmarked_item : (why : Why) → term_rule p item ≡ None → UnmarkedFrom (position (bytes_eq (unknown_of item)) old.unknowns) line old old_lines why → item_rule p before (so_far name items) item ≡ Some why
   unmarked_item why kept told =
-      first_kept (term_rule item) (place_rule before (so_far name items) (unknown_of item)) kept
-      ∙ unmarked_rule before name items line old old_lines item at_line why told
+      first_kept (term_rule p item) (place_rule before (so_far name items) (unknown_of item)) kept
+      ∙ unmarked_rule p before name items line old old_lines item at_line why told
 
-  gives_last : IsModelOf (equations_in before ++ record { name = name; items = items } ∷ []) (unknowns_in (before ++ so_far name items ∷ [])) old
-  gives_last = subst (λ list. IsModelOf list (unknowns_in (before ++ so_far name items ∷ [])) old) (equation_last before name items) at_line.read.gives
+  gives_last : IsModelOf p (equations_in before ++ record { name = name; items = items } ∷ []) (unknowns_in (before ++ so_far name items ∷ [])) old
+  gives_last = subst (λ list. IsModelOf p list (unknowns_in (before ++ so_far name items ∷ [])) old) (equation_last before name items) at_line.read.gives
 
   only_last : NamesOnly (equations_in before ++ record { name = name; items = items } ∷ []) (unknowns_in (before ++ so_far name items ∷ []))
   only_last = subst (λ list. NamesOnly list (unknowns_in (before ++ so_far name items ∷ []))) (equation_last before name items) (lines_name_only (before ++ so_far name items ∷ []))
 
-  module _ (new : MixedModel) (new_lines : List ℕ) (j : ℕ) (marks : Marks before name items line old new new_lines item j) where
+  module _ (new : MixedModel) (new_lines : List ℕ) (j : ℕ) (marks : Marks p before name items line old new new_lines item j) where
     -- a marked item keeps its rule
-    pub marked_item : term_rule item ≡ None → item_rule before (so_far name items) item ≡ None
+    pub marked_item : term_rule p item ≡ None → item_rule p before (so_far name items) item ≡ None
     marked_item kept =
-        first_kept (term_rule item) (place_rule before (so_far name items) (unknown_of item)) kept
-        ∙ marked_rule before name items line old old_lines item at_line new new_lines j marks
+        first_kept (term_rule p item) (place_rule before (so_far name items) (unknown_of item)) kept
+        ∙ marked_rule p before name items line old old_lines item at_line new new_lines j marks
 
     constants_stay : (i c : ℕ) → constant_of new i c ≡ constant_of old i c
     constants_stay i c = ap (λ rows. constant_of (record { equations = old.equations; unknowns = old.unknowns; rows = rows }) i c) marks.rows
@@ -72,21 +72,21 @@ module _ (before : List (List (List ℕ))) (name : List ℕ) (items : List (List
     -- nothing stands at its place
     pub no_constant : constant_of new (length (equations_in before)) j ≡ None
     no_constant = constants_stay (length (equations_in before)) j
-        ∙ constant_of-fresh (equations_in before) (unknowns_in (before ++ so_far name items ∷ [])) name items item old new j gives_last only_last marks.fresh marks.is_model marks.equations marks.unknowns marks.within marks.place
+        ∙ constant_of-fresh p (equations_in before) (unknowns_in (before ++ so_far name items ∷ [])) name items item old new j gives_last only_last marks.fresh marks.is_model marks.equations marks.unknowns marks.within marks.place
 
     pub no_symbol : symbol_of new (length (equations_in before)) j ≡ false
     no_symbol = symbols_stay (length (equations_in before)) j
-        ∙ symbol_of-fresh (equations_in before) (unknowns_in (before ++ so_far name items ∷ [])) name items item old new j gives_last only_last marks.fresh marks.is_model marks.equations marks.unknowns marks.within marks.place
+        ∙ symbol_of-fresh p (equations_in before) (unknowns_in (before ++ so_far name items ∷ [])) name items item old new j gives_last only_last marks.fresh marks.is_model marks.equations marks.unknowns marks.within marks.place
 
-    grown : (last : MixedModel) → IsModel last → last.equations ≡ new.equations → last.unknowns ≡ new.unknowns
-        → ((i c : ℕ) → constant_at last i c ≡ cond (eqb (length (equations_in before)) i && eqb j c) (item_constant item) (constant_at old i c))
+    grown : (last : MixedModel) → IsModel p last → last.equations ≡ new.equations → last.unknowns ≡ new.unknowns
+        → ((i c : ℕ) → constant_at last i c ≡ cond (eqb (length (equations_in before)) i && eqb j c) (item_constant p item) (constant_at old i c))
         → ((i c : ℕ) → symbol_of last i c ≡ cond (eqb (length (equations_in before)) i && eqb j c) (item_symbol item) (symbol_of old i c))
-        → IsWithin before (so_far name (items ++ item ∷ [])) line last new_lines
+        → IsWithin p before (so_far name (items ++ item ∷ [])) line last new_lines
     grown last is equations unknowns constants symbols =
-        let gives : LinesGive (before ++ so_far name (items ++ item ∷ []) ∷ []) last =
-        subst (λ list. IsModelOf list (unknowns_in (before ++ so_far name (items ++ item ∷ []) ∷ [])) last) (sym (equation_last before name (items ++ item ∷ [])))
-        (subst (λ names. IsModelOf (equations_in before ++ record { name = name; items = items ++ item ∷ [] } ∷ []) names last) (sym (item_seen before name items item))
-        (IsModelOf-item (equations_in before) (unknowns_in (before ++ so_far name items ∷ [])) name items item old last j gives_last only_last marks.fresh is (equations ∙ marks.equations) (unknowns ∙ marks.unknowns)
+        let gives : LinesGive p (before ++ so_far name (items ++ item ∷ []) ∷ []) last =
+        subst (λ list. IsModelOf p list (unknowns_in (before ++ so_far name (items ++ item ∷ []) ∷ [])) last) (sym (equation_last before name (items ++ item ∷ [])))
+        (subst (λ names. IsModelOf p (equations_in before ++ record { name = name; items = items ++ item ∷ [] } ∷ []) names last) (sym (item_seen before name items item))
+        (IsModelOf-item p (equations_in before) (unknowns_in (before ++ so_far name items ∷ [])) name items item old last j gives_last only_last marks.fresh is (equations ∙ marks.equations) (unknowns ∙ marks.unknowns)
         (subst (λ names. j < length names) (sym unknowns) marks.within) (ap (λ names. get_or names j []) unknowns ∙ marks.place) constants symbols)) in
         record {
           read = record { gives = gives; lengths = marks.lengths ∙ ap length (sym unknowns); earlier = marks.earlier };
@@ -94,12 +94,12 @@ module _ (before : List (List (List ℕ))) (name : List ℕ) (items : List (List
         }
 
     -- an item whose value is put at its place
-    pub grown_by_value : (last : MixedModel) → PutsValue new last (length (equations_in before)) j (item_constant item) (item_symbol item) → IsWithin before (so_far name (items ++ item ∷ [])) line last new_lines
+    pub grown_by_value : (last : MixedModel) → PutsValue p new last (length (equations_in before)) j (item_constant p item) (item_symbol item) → IsWithin p before (so_far name (items ++ item ∷ [])) line last new_lines
     grown_by_value last puts = grown last (puts.is_model marks.is_model) puts.equations puts.unknowns
         (λ i c. ap (λ o. unwrap_or o 0) (puts.constants i c)
-        ∙ constant_there (item_constant item) (eqb (length (equations_in before)) i && eqb j c) (constant_of new i c)
+        ∙ constant_there (item_constant p item) (eqb (length (equations_in before)) i && eqb j c) (constant_of new i c)
         (λ here. at_place (constant_of new) (length (equations_in before)) i j c here ∙ no_constant)
-        ∙ ap (λ o. cond (eqb (length (equations_in before)) i && eqb j c) (item_constant item) (unwrap_or o 0)) (constants_stay i c))
+        ∙ ap (λ o. cond (eqb (length (equations_in before)) i && eqb j c) (item_constant p item) (unwrap_or o 0)) (constants_stay i c))
         (λ i c. puts.symbols i c
         ∙ symbol_there (item_symbol item) (eqb (length (equations_in before)) i && eqb j c) (symbol_of new i c)
         (λ here. at_place (symbol_of new) (length (equations_in before)) i j c here ∙ no_symbol)

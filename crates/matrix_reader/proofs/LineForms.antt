@@ -37,11 +37,11 @@ no_equation before [] = equations_in-push before (codes "unknown" ∷ []) ∙ ap
 no_equation before (name ∷ names) = equations_in-push before (codes "unknown" ∷ name ∷ names) ∙ append-nil (equations_in before)
 
 -- a line that gives no equation and names no unknown
-pub LinesGive-blank : (before : List (List (List ℕ))) (words : List (List ℕ)) (model : MixedModel) → equation_of words ≡ [] → names_in words ≡ [] → LinesGive before model → LinesGive (before ++ words ∷ []) model
-LinesGive-blank before words model no_equation no_name gives =
-    subst (λ list. IsModelOf list (unknowns_in (before ++ words ∷ [])) model)
+pub LinesGive-blank : (p : ℕ) (before : List (List (List ℕ))) (words : List (List ℕ)) (model : MixedModel) → equation_of words ≡ [] → names_in words ≡ [] → LinesGive p before model → LinesGive p (before ++ words ∷ []) model
+LinesGive-blank p before words model no_equation no_name gives =
+    subst (λ list. IsModelOf p list (unknowns_in (before ++ words ∷ [])) model)
     (sym (equations_in-push before words ∙ ap (λ more. equations_in before ++ more) no_equation ∙ append-nil (equations_in before)))
-    (subst (λ unknowns. IsModelOf (equations_in before) unknowns model)
+    (subst (λ unknowns. IsModelOf p (equations_in before) unknowns model)
     (sym (unknowns_in-push before words ∙ ap (fold see (unknowns_in before)) no_name))
     gives)
 

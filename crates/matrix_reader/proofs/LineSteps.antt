@@ -23,80 +23,80 @@ abbrev pub words : List (ℕ × List ℕ) → List (List ℕ)
 words tokens = map (λ token. token.1) tokens
 
 -- within an equation line, after some of its items
-pub record ItemsSoFar (before : List (List (List ℕ))) (name : List ℕ) (all seen left : List (List ℕ)) (line : ℕ) (model : MixedModel) (lines : List ℕ) : Type 0 where
-  pub within : IsWithin before (so_far name seen) line model lines
-  pub rule : each_rule (item_rule before) (so_far name []) all ≡ each_rule (item_rule before) (so_far name seen) left
+pub record ItemsSoFar (p : ℕ) (before : List (List (List ℕ))) (name : List ℕ) (all seen left : List (List ℕ)) (line : ℕ) (model : MixedModel) (lines : List ℕ) : Type 0 where
+  pub within : IsWithin p before (so_far name seen) line model lines
+  pub rule : each_rule (item_rule p before) (so_far name []) all ≡ each_rule (item_rule p before) (so_far name seen) left
 
-pub ItemsSoFar-more : (before : List (List (List ℕ))) (name : List ℕ) (all seen left : List (List ℕ)) (item : List ℕ) (line : ℕ) (old new : MixedModel) (lines new_lines : List ℕ) → ItemsSoFar before name all seen (item ∷ left) line old lines
-    → item_rule before (so_far name seen) item ≡ None → IsWithin before (so_far name (seen ++ item ∷ [])) line new new_lines → ItemsSoFar before name all (seen ++ item ∷ []) left line new new_lines
-ItemsSoFar-more before name all seen left item line old new lines new_lines progress kept after = record {
+pub ItemsSoFar-more : (p : ℕ) (before : List (List (List ℕ))) (name : List ℕ) (all seen left : List (List ℕ)) (item : List ℕ) (line : ℕ) (old new : MixedModel) (lines new_lines : List ℕ) → ItemsSoFar p before name all seen (item ∷ left) line old lines
+    → item_rule p before (so_far name seen) item ≡ None → IsWithin p before (so_far name (seen ++ item ∷ [])) line new new_lines → ItemsSoFar p before name all (seen ++ item ∷ []) left line new new_lines
+ItemsSoFar-more p before name all seen left item line old new lines new_lines progress kept after = record {
   within = after;
-  rule = each_more (item_rule before) (so_far name []) (so_far name seen) all left item progress.rule kept;
+  rule = each_more (item_rule p before) (so_far name []) (so_far name seen) all left item progress.rule kept;
 }
 
-pub ItemsSoFar-broken : (before : List (List (List ℕ))) (name : List ℕ) (all seen left : List (List ℕ)) (item : List ℕ) (line : ℕ) (old : MixedModel) (lines : List ℕ) → ItemsSoFar before name all seen (item ∷ left) line old lines
-    → (Left Right : Type 0) (fault : LineFault) → AnswersRule (item_rule before (so_far name seen) item) Left (Err fault) → AnswersRule (each_rule (item_rule before) (so_far name []) all) Right (Err fault)
-ItemsSoFar-broken before name all seen left item line old lines progress Left Right fault answer =
-    answers_fault_same (item_rule before (so_far name seen) item) (each_rule (item_rule before) (so_far name []) all) Left Right fault
-    (λ why broken. each_broken (item_rule before) (so_far name []) (so_far name seen) all left item why progress.rule broken) answer
+pub ItemsSoFar-broken : (p : ℕ) (before : List (List (List ℕ))) (name : List ℕ) (all seen left : List (List ℕ)) (item : List ℕ) (line : ℕ) (old : MixedModel) (lines : List ℕ) → ItemsSoFar p before name all seen (item ∷ left) line old lines
+    → (Left Right : Type 0) (fault : LineFault) → AnswersRule (item_rule p before (so_far name seen) item) Left (Err fault) → AnswersRule (each_rule (item_rule p before) (so_far name []) all) Right (Err fault)
+ItemsSoFar-broken p before name all seen left item line old lines progress Left Right fault answer =
+    answers_fault_same (item_rule p before (so_far name seen) item) (each_rule (item_rule p before) (so_far name []) all) Left Right fault
+    (λ why broken. each_broken (item_rule p before) (so_far name []) (so_far name seen) all left item why progress.rule broken) answer
 
-pub ItemsSoFar-all : (before : List (List (List ℕ))) (name : List ℕ) (all seen : List (List ℕ)) (line : ℕ) (model : MixedModel) (lines : List ℕ) → all ≡ seen ++ [] → ItemsSoFar before name all seen [] line model lines
-    → (each_rule (item_rule before) (so_far name []) all ≡ None) × IsWithin before (so_far name all) line model lines
-ItemsSoFar-all before name all seen line model lines whole progress =
-    (progress.rule, subst (λ items. IsWithin before (so_far name items) line model lines) (sym (whole ∙ append-nil seen)) progress.within)
+pub ItemsSoFar-all : (p : ℕ) (before : List (List (List ℕ))) (name : List ℕ) (all seen : List (List ℕ)) (line : ℕ) (model : MixedModel) (lines : List ℕ) → all ≡ seen ++ [] → ItemsSoFar p before name all seen [] line model lines
+    → (each_rule (item_rule p before) (so_far name []) all ≡ None) × IsWithin p before (so_far name all) line model lines
+ItemsSoFar-all p before name all seen line model lines whole progress =
+    (progress.rule, subst (λ items. IsWithin p before (so_far name items) line model lines) (sym (whole ∙ append-nil seen)) progress.within)
 
 -- within an `unknown` line, after some names and some more
-pub record NamesSoFar (before : List (List (List ℕ))) (names all seen left : List (List ℕ)) (line : ℕ) (model : MixedModel) (lines : List ℕ) : Type 0 where
-  pub read : IsRead (before ++ (codes "unknown" ∷ names ++ seen) ∷ []) (line + 1) model lines
+pub record NamesSoFar (p : ℕ) (before : List (List (List ℕ))) (names all seen left : List (List ℕ)) (line : ℕ) (model : MixedModel) (lines : List ℕ) : Type 0 where
+  pub read : IsRead p (before ++ (codes "unknown" ∷ names ++ seen) ∷ []) (line + 1) model lines
   pub rule : each_rule (unknown_rule before) (codes "unknown" ∷ names) all ≡ each_rule (unknown_rule before) (codes "unknown" ∷ names ++ seen) left
 
-pub NamesSoFar-none : (before : List (List (List ℕ))) (names all : List (List ℕ)) (line : ℕ) (model : MixedModel) (lines : List ℕ) → IsRead (before ++ (codes "unknown" ∷ names) ∷ []) (line + 1) model lines → NamesSoFar before names all [] all line model lines
-NamesSoFar-none before names all line model lines read = record {
-  read = subst (λ mine. IsRead (before ++ (codes "unknown" ∷ mine) ∷ []) (line + 1) model lines) (sym (append-nil names)) read;
+pub NamesSoFar-none : (p : ℕ) (before : List (List (List ℕ))) (names all : List (List ℕ)) (line : ℕ) (model : MixedModel) (lines : List ℕ) → IsRead p (before ++ (codes "unknown" ∷ names) ∷ []) (line + 1) model lines → NamesSoFar p before names all [] all line model lines
+NamesSoFar-none p before names all line model lines read = record {
+  read = subst (λ mine. IsRead p (before ++ (codes "unknown" ∷ mine) ∷ []) (line + 1) model lines) (sym (append-nil names)) read;
   rule = ap (λ mine. each_rule (unknown_rule before) (codes "unknown" ∷ mine) all) (sym (append-nil names));
 }
 
-pub NamesSoFar-more : (before : List (List (List ℕ))) (names all seen left : List (List ℕ)) (name : List ℕ) (line : ℕ) (old new : MixedModel) (lines new_lines : List ℕ) → NamesSoFar before names all seen (name ∷ left) line old lines
-    → unknown_rule before (codes "unknown" ∷ names ++ seen) name ≡ None → IsRead (before ++ (codes "unknown" ∷ (names ++ seen) ++ name ∷ []) ∷ []) (line + 1) new new_lines → NamesSoFar before names all (seen ++ name ∷ []) left line new new_lines
-NamesSoFar-more before names all seen left name line old new lines new_lines progress kept after =
+pub NamesSoFar-more : (p : ℕ) (before : List (List (List ℕ))) (names all seen left : List (List ℕ)) (name : List ℕ) (line : ℕ) (old new : MixedModel) (lines new_lines : List ℕ) → NamesSoFar p before names all seen (name ∷ left) line old lines
+    → unknown_rule before (codes "unknown" ∷ names ++ seen) name ≡ None → IsRead p (before ++ (codes "unknown" ∷ (names ++ seen) ++ name ∷ []) ∷ []) (line + 1) new new_lines → NamesSoFar p before names all (seen ++ name ∷ []) left line new new_lines
+NamesSoFar-more p before names all seen left name line old new lines new_lines progress kept after =
     let joined = append_assoc names seen (name ∷ []) in
     record {
-      read = subst (λ mine. IsRead (before ++ (codes "unknown" ∷ mine) ∷ []) (line + 1) new new_lines) joined after;
+      read = subst (λ mine. IsRead p (before ++ (codes "unknown" ∷ mine) ∷ []) (line + 1) new new_lines) joined after;
       rule = each_more (unknown_rule before) (codes "unknown" ∷ names) (codes "unknown" ∷ names ++ seen) all left name progress.rule kept
           ∙ ap (λ mine. each_rule (unknown_rule before) (codes "unknown" ∷ mine) left) joined;
     }
 
-pub NamesSoFar-broken : (before : List (List (List ℕ))) (names all seen left : List (List ℕ)) (name : List ℕ) (line : ℕ) (old : MixedModel) (lines : List ℕ) → NamesSoFar before names all seen (name ∷ left) line old lines
+pub NamesSoFar-broken : (p : ℕ) (before : List (List (List ℕ))) (names all seen left : List (List ℕ)) (name : List ℕ) (line : ℕ) (old : MixedModel) (lines : List ℕ) → NamesSoFar p before names all seen (name ∷ left) line old lines
     → (Left Right : Type 0) (fault : LineFault) → AnswersRule (unknown_rule before (codes "unknown" ∷ names ++ seen) name) Left (Err fault) → AnswersRule (each_rule (unknown_rule before) (codes "unknown" ∷ names) all) Right (Err fault)
-NamesSoFar-broken before names all seen left name line old lines progress Left Right fault answer =
+NamesSoFar-broken p before names all seen left name line old lines progress Left Right fault answer =
     answers_fault_same (unknown_rule before (codes "unknown" ∷ names ++ seen) name) (each_rule (unknown_rule before) (codes "unknown" ∷ names) all) Left Right fault
     (λ why broken. each_broken (unknown_rule before) (codes "unknown" ∷ names) (codes "unknown" ∷ names ++ seen) all left name why progress.rule broken) answer
 
-pub NamesSoFar-all : (before : List (List (List ℕ))) (names all seen : List (List ℕ)) (line : ℕ) (model : MixedModel) (lines : List ℕ) → all ≡ seen ++ [] → NamesSoFar before names all seen [] line model lines
-    → (each_rule (unknown_rule before) (codes "unknown" ∷ names) all ≡ None) × IsRead (before ++ (codes "unknown" ∷ names ++ all) ∷ []) (line + 1) model lines
-NamesSoFar-all before names all seen line model lines whole progress =
-    (progress.rule, subst (λ mine. IsRead (before ++ (codes "unknown" ∷ names ++ mine) ∷ []) (line + 1) model lines) (sym (whole ∙ append-nil seen)) progress.read)
+pub NamesSoFar-all : (p : ℕ) (before : List (List (List ℕ))) (names all seen : List (List ℕ)) (line : ℕ) (model : MixedModel) (lines : List ℕ) → all ≡ seen ++ [] → NamesSoFar p before names all seen [] line model lines
+    → (each_rule (unknown_rule before) (codes "unknown" ∷ names) all ≡ None) × IsRead p (before ++ (codes "unknown" ∷ names ++ all) ∷ []) (line + 1) model lines
+NamesSoFar-all p before names all seen line model lines whole progress =
+    (progress.rule, subst (λ mine. IsRead p (before ++ (codes "unknown" ∷ names ++ mine) ∷ []) (line + 1) model lines) (sym (whole ∙ append-nil seen)) progress.read)
 
 -- a line that gives nothing
-pub IsRead-blank : (before : List (List (List ℕ))) (line_words : List (List ℕ)) (line : ℕ) (model : MixedModel) (lines : List ℕ) → equation_of line_words ≡ [] → names_in line_words ≡ [] → IsRead before line model lines → IsRead (before ++ line_words ∷ []) (line + 1) model lines
-IsRead-blank before line_words line model lines no_equation no_name read = record {
-  gives = LinesGive-blank before line_words model no_equation no_name read.gives;
+pub IsRead-blank : (p : ℕ) (before : List (List (List ℕ))) (line_words : List (List ℕ)) (line : ℕ) (model : MixedModel) (lines : List ℕ) → equation_of line_words ≡ [] → names_in line_words ≡ [] → IsRead p before line model lines → IsRead p (before ++ line_words ∷ []) (line + 1) model lines
+IsRead-blank p before line_words line model lines no_equation no_name read = record {
+  gives = LinesGive-blank p before line_words model no_equation no_name read.gives;
   lengths = read.lengths;
   earlier = λ j. omega (arith, read.earlier j);
 }
 
 -- one name more of an `unknown` line
-module _ (before : List (List (List ℕ))) (names : List (List ℕ)) (name : List ℕ) (line : ℕ) (old : MixedModel) (old_lines : List ℕ) (read : IsRead (before ++ (codes "unknown" ∷ names) ∷ []) (line + 1) old old_lines) where
-  given : (new : MixedModel) → IsModel new → new.equations ≡ old.equations → new.rows ≡ old.rows → new.unknowns ≡ see old.unknowns name → LinesGive (before ++ (codes "unknown" ∷ names ++ name ∷ []) ∷ []) new
+module _ (p : ℕ) (before : List (List (List ℕ))) (names : List (List ℕ)) (name : List ℕ) (line : ℕ) (old : MixedModel) (old_lines : List ℕ) (read : IsRead p (before ++ (codes "unknown" ∷ names) ∷ []) (line + 1) old old_lines) where
+  given : (new : MixedModel) → IsModel p new → new.equations ≡ old.equations → new.rows ≡ old.rows → new.unknowns ≡ see old.unknowns name → LinesGive p (before ++ (codes "unknown" ∷ names ++ name ∷ []) ∷ []) new
   given new is equations rows seen =
       let lines = before ++ (codes "unknown" ∷ names) ∷ [] in
-      subst (λ list. IsModelOf list (unknowns_in (before ++ (codes "unknown" ∷ names ++ name ∷ []) ∷ [])) new) (no_equation before names ∙ sym (no_equation before (names ++ name ∷ [])))
-      (subst (λ unknowns. IsModelOf (equations_in lines) unknowns new) (sym (name_seen before names name))
-      (IsModelOf-unknown (equations_in lines) (unknowns_in lines) name old new read.gives (lines_name_only lines) seen is equations rows))
+      subst (λ list. IsModelOf p list (unknowns_in (before ++ (codes "unknown" ∷ names ++ name ∷ []) ∷ [])) new) (no_equation before names ∙ sym (no_equation before (names ++ name ∷ [])))
+      (subst (λ unknowns. IsModelOf p (equations_in lines) unknowns new) (sym (name_seen before names name))
+      (IsModelOf-unknown p (equations_in lines) (unknowns_in lines) name old new read.gives (lines_name_only lines) seen is equations rows))
 
   pub record Sees (new : MixedModel) (new_lines : List ℕ) : Type 0 where
     pub kept : room_rule (unknowns_in (before ++ (codes "unknown" ∷ names) ∷ [])) name ≡ None
-    pub after : IsRead (before ++ (codes "unknown" ∷ names ++ name ∷ []) ∷ []) (line + 1) new new_lines
+    pub after : IsRead p (before ++ (codes "unknown" ∷ names ++ name ∷ []) ∷ []) (line + 1) new new_lines
 
   sees_known : has_name old.unknowns name ≡ true → Sees old old_lines
   sees_known there = record {
@@ -104,7 +104,7 @@ module _ (before : List (List (List ℕ))) (names : List (List ℕ)) (name : Lis
     after = record { gives = given old read.gives.is_model refl refl (sym (ap (λ b. cond b old.unknowns (old.unknowns ++ name ∷ [])) there)); lengths = read.lengths; earlier = read.earlier };
   }
 
-  sees_new : has_name old.unknowns name ≡ false → length old.unknowns < 4096 → IsModel (with_unknown old name) → Sees (with_unknown old name) (old_lines ++ line ∷ [])
+  sees_new : has_name old.unknowns name ≡ false → length old.unknowns < 4096 → IsModel p (with_unknown old name) → Sees (with_unknown old name) (old_lines ++ line ∷ [])
   sees_new absent room is = record {
     kept = ap (λ unknowns. room_rule unknowns name) (sym read.gives.unknowns_are) ∙ rw (absent, lt-ltb (length old.unknowns) 4096 room) refl;
     after = record {
@@ -120,14 +120,14 @@ module _ (before : List (List (List ℕ))) (names : List (List ℕ)) (name : Lis
     };
   }
 
-  sees : (new : MixedModel) (new_lines : List ℕ) → SeenFrom (position (bytes_eq name) old.unknowns) line old new old_lines new_lines name → Sees new new_lines
+  sees : (new : MixedModel) (new_lines : List ℕ) → SeenFrom p (position (bytes_eq name) old.unknowns) line old new old_lines new_lines name → Sees new new_lines
   sees new new_lines seen = by (position (bytes_eq name) old.unknowns) refl seen
     where
-      by : (o : Option ℕ) → position (bytes_eq name) old.unknowns ≡ o → SeenFrom o line old new old_lines new_lines name → Sees new new_lines
+      by : (o : Option ℕ) → position (bytes_eq name) old.unknowns ≡ o → SeenFrom p o line old new old_lines new_lines name → Sees new new_lines
       by (Some k) e s = subst (λ model. Sees model new_lines) (sym s.0) (subst (λ lines. Sees old lines) (sym s.1) (sees_known (has_name-Some old.unknowns name k e).2))
       by None e s =
           subst (λ model. Sees model new_lines) (sym s.1)
-          (subst (λ lines. Sees (with_unknown old name) lines) (sym s.3) (sees_new (has_name-None old.unknowns name e) s.0 (subst IsModel s.1 s.2)))
+          (subst (λ lines. Sees (with_unknown old name) lines) (sym s.3) (sees_new (has_name-None old.unknowns name e) s.0 (subst (IsModel p) s.1 s.2)))
 
   unseen_rule : (why : Why) → UnseenFrom (position (bytes_eq name) old.unknowns) old why → room_rule (unknowns_in (before ++ (codes "unknown" ∷ names) ∷ [])) name ≡ Some why
   unseen_rule why told = by (position (bytes_eq name) old.unknowns) refl told
@@ -139,9 +139,9 @@ module _ (before : List (List (List ℕ))) (names : List (List ℕ)) (name : Lis
 
   -- what seeing a name answers, from where it stood
   pub sees_answer : (new : MixedModel) (new_lines : List ℕ) (result : Result (Unit {0}) LineFault) → name_rule name ≡ None
-      → OnOk result (SeenFrom (position (bytes_eq name) old.unknowns) line old new old_lines new_lines name)
+      → OnOk result (SeenFrom p (position (bytes_eq name) old.unknowns) line old new old_lines new_lines name)
       → IfErr result (λ fault. OnBroken fault (UnseenFrom (position (bytes_eq name) old.unknowns) old))
-      → AnswersRule (unknown_rule before (codes "unknown" ∷ names) name) (IsRead (before ++ (codes "unknown" ∷ names ++ name ∷ []) ∷ []) (line + 1) new new_lines) result
+      → AnswersRule (unknown_rule before (codes "unknown" ∷ names) name) (IsRead p (before ++ (codes "unknown" ∷ names ++ name ∷ []) ∷ []) (line + 1) new new_lines) result
   sees_answer new new_lines (Ok done) right seen unseen =
       let all = sees new new_lines seen in
       (first_kept (name_rule name) _ right ∙ all.kept, all.after)
@@ -149,27 +149,27 @@ module _ (before : List (List (List ℕ))) (names : List (List ℕ)) (name : Lis
   sees_answer new new_lines (Err NoMemory) right seen unseen = tt
 
 -- an equation line, from its name and its items
-pub equation_answer : (before : List (List (List ℕ))) (all items : List (List ℕ)) (name : List ℕ) (line : ℕ) (new : MixedModel) (new_lines : List ℕ) (result : Result (Unit {0}) LineFault) → all ≡ name ∷ items → equation_rule before name ≡ None
-    → AnswersRule (each_rule (item_rule before) (so_far name []) items) (IsWithin before (so_far name items) line new new_lines) result
-    → AnswersRule (equation_line_rule before all) (IsRead (before ++ (codes "eq" ∷ all) ∷ []) (line + 1) new new_lines) result
-equation_answer before all items name line new new_lines result split kept answer =
-    subst (λ line_words. AnswersRule (equation_line_rule before line_words) (IsRead (before ++ (codes "eq" ∷ line_words) ∷ []) (line + 1) new new_lines) result) (sym split)
-    (answers_same (each_rule (item_rule before) (so_far name []) items) (equation_line_rule before (name ∷ items)) (IsWithin before (so_far name items) line new new_lines) (IsRead (before ++ so_far name items ∷ []) (line + 1) new new_lines) result
-    (first_kept (equation_rule before name) (each_rule (item_rule before) (so_far name []) items) kept) (λ within. within.read) answer)
+pub equation_answer : (p : ℕ) (before : List (List (List ℕ))) (all items : List (List ℕ)) (name : List ℕ) (line : ℕ) (new : MixedModel) (new_lines : List ℕ) (result : Result (Unit {0}) LineFault) → all ≡ name ∷ items → equation_rule before name ≡ None
+    → AnswersRule (each_rule (item_rule p before) (so_far name []) items) (IsWithin p before (so_far name items) line new new_lines) result
+    → AnswersRule (equation_line_rule p before all) (IsRead p (before ++ (codes "eq" ∷ all) ∷ []) (line + 1) new new_lines) result
+equation_answer p before all items name line new new_lines result split kept answer =
+    subst (λ line_words. AnswersRule (equation_line_rule p before line_words) (IsRead p (before ++ (codes "eq" ∷ line_words) ∷ []) (line + 1) new new_lines) result) (sym split)
+    (answers_same (each_rule (item_rule p before) (so_far name []) items) (equation_line_rule p before (name ∷ items)) (IsWithin p before (so_far name items) line new new_lines) (IsRead p (before ++ so_far name items ∷ []) (line + 1) new new_lines) result
+    (first_kept (equation_rule before name) (each_rule (item_rule p before) (so_far name []) items) kept) (λ within. within.read) answer)
 
-pub equation_fault : (before : List (List (List ℕ))) (all items : List (List ℕ)) (name : List ℕ) (line : ℕ) (old new : MixedModel) (lines : List ℕ) (fault : LineFault) (Left : Type 0) → all ≡ name ∷ items → IsRead before line old lines
-    → AddsEquation line old new lines name (Err fault) → AnswersRule (equation_line_rule before all) Left (Err fault)
-equation_fault before all items name line old new lines (Broken why) Left split read added =
-    ap (equation_line_rule before) split ∙ first_broken (equation_rule before name) (each_rule (item_rule before) (so_far name []) items) why (added before read)
-equation_fault before all items name line old new lines NoMemory Left split read added = tt
+pub equation_fault : (p : ℕ) (before : List (List (List ℕ))) (all items : List (List ℕ)) (name : List ℕ) (line : ℕ) (old new : MixedModel) (lines : List ℕ) (fault : LineFault) (Left : Type 0) → all ≡ name ∷ items → IsRead p before line old lines
+    → AddsEquation p line old new lines name (Err fault) → AnswersRule (equation_line_rule p before all) Left (Err fault)
+equation_fault p before all items name line old new lines (Broken why) Left split read added =
+    ap (equation_line_rule p before) split ∙ first_broken (equation_rule before name) (each_rule (item_rule p before) (so_far name []) items) why (added before read)
+equation_fault p before all items name line old new lines NoMemory Left split read added = tt
 
 -- an `unknown` line, from its first name and the others
-pub unknowns_answer : (before : List (List (List ℕ))) (all more : List (List ℕ)) (name : List ℕ) (line : ℕ) (new : MixedModel) (new_lines : List ℕ) (result : Result (Unit {0}) LineFault) → all ≡ name ∷ more → unknown_rule before (codes "unknown" ∷ []) name ≡ None
-    → AnswersRule (each_rule (unknown_rule before) (codes "unknown" ∷ name ∷ []) more) (IsRead (before ++ (codes "unknown" ∷ name ∷ more) ∷ []) (line + 1) new new_lines) result
-    → AnswersRule (unknown_line_rule before all) (IsRead (before ++ (codes "unknown" ∷ all) ∷ []) (line + 1) new new_lines) result
-unknowns_answer before all more name line new new_lines result split kept answer =
-    subst (λ line_words. AnswersRule (unknown_line_rule before line_words) (IsRead (before ++ (codes "unknown" ∷ line_words) ∷ []) (line + 1) new new_lines) result) (sym split)
-    (answers_same (each_rule (unknown_rule before) (codes "unknown" ∷ name ∷ []) more) (unknown_line_rule before (name ∷ more)) (IsRead (before ++ (codes "unknown" ∷ name ∷ more) ∷ []) (line + 1) new new_lines) (IsRead (before ++ (codes "unknown" ∷ name ∷ more) ∷ []) (line + 1) new new_lines) result
+pub unknowns_answer : (p : ℕ) (before : List (List (List ℕ))) (all more : List (List ℕ)) (name : List ℕ) (line : ℕ) (new : MixedModel) (new_lines : List ℕ) (result : Result (Unit {0}) LineFault) → all ≡ name ∷ more → unknown_rule before (codes "unknown" ∷ []) name ≡ None
+    → AnswersRule (each_rule (unknown_rule before) (codes "unknown" ∷ name ∷ []) more) (IsRead p (before ++ (codes "unknown" ∷ name ∷ more) ∷ []) (line + 1) new new_lines) result
+    → AnswersRule (unknown_line_rule before all) (IsRead p (before ++ (codes "unknown" ∷ all) ∷ []) (line + 1) new new_lines) result
+unknowns_answer p before all more name line new new_lines result split kept answer =
+    subst (λ line_words. AnswersRule (unknown_line_rule before line_words) (IsRead p (before ++ (codes "unknown" ∷ line_words) ∷ []) (line + 1) new new_lines) result) (sym split)
+    (answers_same (each_rule (unknown_rule before) (codes "unknown" ∷ name ∷ []) more) (unknown_line_rule before (name ∷ more)) (IsRead p (before ++ (codes "unknown" ∷ name ∷ more) ∷ []) (line + 1) new new_lines) (IsRead p (before ++ (codes "unknown" ∷ name ∷ more) ∷ []) (line + 1) new new_lines) result
     (first_kept (unknown_rule before (codes "unknown" ∷ []) name) (each_rule (unknown_rule before) (codes "unknown" ∷ name ∷ []) more) kept) (λ read. read) answer)
 
 pub unknowns_broken : (before : List (List (List ℕ))) (all more : List (List ℕ)) (name : List ℕ) (Left Right : Type 0) (fault : LineFault) → all ≡ name ∷ more
@@ -179,5 +179,5 @@ unknowns_broken before all more name Left Right fault split answer =
     (λ why broken. ap (unknown_line_rule before) split ∙ first_broken (unknown_rule before (codes "unknown" ∷ []) name) (each_rule (unknown_rule before) (codes "unknown" ∷ name ∷ []) more) why broken) answer
 
 -- an `unknown` line begins with no name
-pub IsRead-unknown : (before : List (List (List ℕ))) (line : ℕ) (model : MixedModel) (lines : List ℕ) → IsRead before line model lines → IsRead (before ++ (codes "unknown" ∷ []) ∷ []) (line + 1) model lines
-IsRead-unknown before line model lines read = IsRead-blank before (codes "unknown" ∷ []) line model lines refl refl read
+pub IsRead-unknown : (p : ℕ) (before : List (List (List ℕ))) (line : ℕ) (model : MixedModel) (lines : List ℕ) → IsRead p before line model lines → IsRead p (before ++ (codes "unknown" ∷ []) ∷ []) (line + 1) model lines
+IsRead-unknown p before line model lines read = IsRead-blank p before (codes "unknown" ∷ []) line model lines refl refl read

@@ -16,10 +16,10 @@ use Rattle.matrix_reader.specs.ReaderStates.{IsRead, ReadsLine}
 use Rattle.matrix_reader.specs.declared.fault.LineFault.TheVariants.{Broken}
 
 -- between the first n lines and the others
-pub record ListProgress (lines : List (List ℕ)) (n : ℕ) (left : List (ℕ × List ℕ)) (model : MixedModel) (last_lines : List ℕ) : Type 0 where
+pub record ListProgress (p : ℕ) (lines : List (List ℕ)) (n : ℕ) (left : List (ℕ × List ℕ)) (model : MixedModel) (last_lines : List ℕ) : Type 0 where
   pub rest : left ≡ enumerate_from (n + 1) (drop n lines)
-  pub kept : KeepBefore n lines
-  pub read : IsRead (map words_of (take n lines)) (n + 1) model last_lines
+  pub kept : KeepBefore p n lines
+  pub read : IsRead p (map words_of (take n lines)) (n + 1) model last_lines
 
 -- the next line, and those after it
 pub record NextLine (lines : List (List ℕ)) (n number : ℕ) (line : List ℕ) (rest : List (ℕ × List ℕ)) : Type 0 where
@@ -51,44 +51,44 @@ words_more : (lines : List (List ℕ)) (n : ℕ) (line : List ℕ) → n < lengt
 words_more lines n line within here =
     ap (map words_of) (take_more lines n [] within ∙ ap (λ l. take n lines ++ l ∷ []) here) ∙ map-append words_of (take n lines) (line ∷ [])
 
-module _ (text : List ℕ) (n : ℕ) (left : List (ℕ × List ℕ)) (model : MixedModel) (last_lines : List ℕ) (progress : ListProgress (lines_of text) n left model last_lines) where
+module _ (p : ℕ) (text : List ℕ) (n : ℕ) (left : List (ℕ × List ℕ)) (model : MixedModel) (last_lines : List ℕ) (progress : ListProgress p (lines_of text) n left model last_lines) where
   abbrev lines : List (List ℕ)
   lines = lines_of text
 
-  read_next : (number : ℕ) → number ≡ n + 1 → IsRead (map words_of (take n lines)) number model last_lines
-  read_next number counted = subst (λ m. IsRead (map words_of (take n lines)) m model last_lines) (sym counted) progress.read
+  read_next : (number : ℕ) → number ≡ n + 1 → IsRead p (map words_of (take n lines)) number model last_lines
+  read_next number counted = subst (λ m. IsRead p (map words_of (take n lines)) m model last_lines) (sym counted) progress.read
 
   -- after one line more
-  pub ListProgress-more : (number : ℕ) (line : List ℕ) (rest : List (ℕ × List ℕ)) (new : MixedModel) (new_lines : List ℕ) → left ≡ (number, line) ∷ rest → ReadsLine number model new last_lines new_lines line (Ok tt) → ListProgress (lines_of text) (n + 1) rest new new_lines
+  pub ListProgress-more : (number : ℕ) (line : List ℕ) (rest : List (ℕ × List ℕ)) (new : MixedModel) (new_lines : List ℕ) → left ≡ (number, line) ∷ rest → ReadsLine p number model new last_lines new_lines line (Ok tt) → ListProgress p (lines_of text) (n + 1) rest new new_lines
   ListProgress-more number line rest new new_lines next reads =
       let at = next_line lines n number line rest (sym progress.rest ∙ next) in
       let read = reads (map words_of (take n lines)) (read_next number at.counted) in
       record {
         rest = at.after;
-        kept = below_more (λ k. rule_at lines k ≡ None) n progress.kept (ap (line_rule (map words_of (take n lines))) at.here ∙ read.0);
+        kept = below_more (λ k. rule_at p lines k ≡ None) n progress.kept (ap (line_rule p (map words_of (take n lines))) at.here ∙ read.0);
         read =
-            subst (λ m. IsRead (map words_of (take (n + 1) lines)) (m + 1) new new_lines) at.counted
-            (subst (λ all. IsRead all (number + 1) new new_lines) (sym (words_more lines n line at.within at.here)) read.1);
+            subst (λ m. IsRead p (map words_of (take (n + 1) lines)) (m + 1) new new_lines) at.counted
+            (subst (λ all. IsRead p all (number + 1) new new_lines) (sym (words_more lines n line at.within at.here)) read.1);
       }
 
   -- at the first line that breaks a rule
-  pub IsRefusal-here : (number : ℕ) (line : List ℕ) (rest : List (ℕ × List ℕ)) (why : Why) (new : MixedModel) (new_lines : List ℕ) → left ≡ (number, line) ∷ rest → ReadsLine number model new last_lines new_lines line (Err (Broken why)) → IsRefusal text (Refused (record { place = Line number; why = why }))
+  pub IsRefusal-here : (number : ℕ) (line : List ℕ) (rest : List (ℕ × List ℕ)) (why : Why) (new : MixedModel) (new_lines : List ℕ) → left ≡ (number, line) ∷ rest → ReadsLine p number model new last_lines new_lines line (Err (Broken why)) → IsRefusal p text (Refused (record { place = Line number; why = why }))
   IsRefusal-here number line rest why new new_lines next reads =
       let at = next_line lines n number line rest (sym progress.rest ∙ next) in
       let read = reads (map words_of (take n lines)) (read_next number at.counted) in (
         n,
         why,
         ap (λ k. record { place = Line k; why = why }) at.counted,
-        record { within = at.within; before = progress.kept; here = ap (line_rule (map words_of (take n lines))) at.here ∙ read },
+        record { within = at.within; before = progress.kept; here = ap (line_rule p (map words_of (take n lines))) at.here ∙ read },
       )
 
   -- at the end
-  pub ListProgress-end : left ≡ [] → GivesModel text model
+  pub ListProgress-end : left ≡ [] → GivesModel p text model
   ListProgress-end none =
       let all : length lines ≤ n = end (sym progress.rest ∙ none) in
       record {
         kept = λ k within. progress.kept k (omega arith);
-        given = subst (λ front. LinesGive (map words_of front) model) (take_all n lines all) progress.read.gives;
+        given = subst (λ front. LinesGive p (map words_of front) model) (take_all n lines all) progress.read.gives;
       }
     where
       end : enumerate_from (n + 1) (drop n lines) ≡ [] → length lines ≤ n

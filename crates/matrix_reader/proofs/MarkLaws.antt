@@ -55,29 +55,29 @@ known_within (Some k) old new unknown j found known = omega (arith, found.0, fou
 known_within None old new unknown j found known = absurd (known found.0)
 
 -- one past the last column is that of a new unknown, which may stand anywhere
-pub marked_new : (o : Option ℕ) (old new : MixedModel) (unknown : List ℕ) (j line : ℕ) (lines new_lines : List ℕ) → FoundOrAdded o old new unknown j → IsModel new → j ≡ length old.unknowns → new_lines ≡ lines ++ line ∷ [] → MarkedFrom o line old new lines new_lines unknown j
-marked_new (Some k) old new unknown j line lines new_lines found is last pushed = absurd (omega (arith, found.0, found.1, last))
-marked_new None old new unknown j line lines new_lines found is last pushed = (found.0, found.1, found.2, is, pushed)
+pub marked_new : (p : ℕ) (o : Option ℕ) (old new : MixedModel) (unknown : List ℕ) (j line : ℕ) (lines new_lines : List ℕ) → FoundOrAdded o old new unknown j → IsModel p new → j ≡ length old.unknowns → new_lines ≡ lines ++ line ∷ [] → MarkedFrom p o line old new lines new_lines unknown j
+marked_new p (Some k) old new unknown j line lines new_lines found is last pushed = absurd (omega (arith, found.0, found.1, last))
+marked_new p None old new unknown j line lines new_lines found is last pushed = (found.0, found.1, found.2, is, pushed)
 
-pub seen_new : (o : Option ℕ) (old new : MixedModel) (unknown : List ℕ) (j line : ℕ) (lines new_lines : List ℕ) → FoundOrAdded o old new unknown j → IsModel new → j ≡ length old.unknowns → new_lines ≡ lines ++ line ∷ [] → SeenFrom o line old new lines new_lines unknown
-seen_new (Some k) old new unknown j line lines new_lines found is last pushed = absurd (omega (arith, found.0, found.1, last))
-seen_new None old new unknown j line lines new_lines found is last pushed = (found.1, found.2, is, pushed)
+pub seen_new : (p : ℕ) (o : Option ℕ) (old new : MixedModel) (unknown : List ℕ) (j line : ℕ) (lines new_lines : List ℕ) → FoundOrAdded o old new unknown j → IsModel p new → j ≡ length old.unknowns → new_lines ≡ lines ++ line ∷ [] → SeenFrom p o line old new lines new_lines unknown
+seen_new p (Some k) old new unknown j line lines new_lines found is last pushed = absurd (omega (arith, found.0, found.1, last))
+seen_new p None old new unknown j line lines new_lines found is last pushed = (found.1, found.2, is, pushed)
 
 -- an earlier column is that of a known one, which may not have stood in the line
-pub marked_known : (o : Option ℕ) (old new : MixedModel) (unknown : List ℕ) (j line : ℕ) (lines new_lines : List ℕ) → FoundOrAdded o old new unknown j → j ≢ length old.unknowns → new_lines ≡ set lines j line → get_or lines j 0 ≢ line → MarkedFrom o line old new lines new_lines unknown j
-marked_known (Some k) old new unknown j line lines new_lines found known marked elsewhere =
+pub marked_known : (p : ℕ) (o : Option ℕ) (old new : MixedModel) (unknown : List ℕ) (j line : ℕ) (lines new_lines : List ℕ) → FoundOrAdded o old new unknown j → j ≢ length old.unknowns → new_lines ≡ set lines j line → get_or lines j 0 ≢ line → MarkedFrom p o line old new lines new_lines unknown j
+marked_known p (Some k) old new unknown j line lines new_lines found known marked elsewhere =
     (found.0, found.2, subst (λ i. new_lines ≡ set lines i line) found.0 marked, subst (λ i. get_or lines i 0 ≢ line) found.0 elsewhere)
-marked_known None old new unknown j line lines new_lines found known marked elsewhere = absurd (known found.0)
+marked_known p None old new unknown j line lines new_lines found known marked elsewhere = absurd (known found.0)
 
-pub seen_known : (o : Option ℕ) (old new : MixedModel) (unknown : List ℕ) (j line : ℕ) (lines : List ℕ) → FoundOrAdded o old new unknown j → j ≢ length old.unknowns → SeenFrom o line old new lines lines unknown
-seen_known (Some k) old new unknown j line lines found known = (found.2, refl)
-seen_known None old new unknown j line lines found known = absurd (known found.0)
+pub seen_known : (p : ℕ) (o : Option ℕ) (old new : MixedModel) (unknown : List ℕ) (j line : ℕ) (lines : List ℕ) → FoundOrAdded o old new unknown j → j ≢ length old.unknowns → SeenFrom p o line old new lines lines unknown
+seen_known p (Some k) old new unknown j line lines found known = (found.2, refl)
+seen_known p None old new unknown j line lines found known = absurd (known found.0)
 
 -- what is known after an unknown is marked
-pub record Marks (before : List (List (List ℕ))) (name : List ℕ) (items : List (List ℕ)) (line : ℕ) (old new : MixedModel) (new_lines : List ℕ) (item : List ℕ) (j : ℕ) : Type 0 where
+pub record Marks (p : ℕ) (before : List (List (List ℕ))) (name : List ℕ) (items : List (List ℕ)) (line : ℕ) (old new : MixedModel) (new_lines : List ℕ) (item : List ℕ) (j : ℕ) : Type 0 where
   pub fresh : has_name (map unknown_of items) (unknown_of item) ≡ false
   pub room : (has_name old.unknowns (unknown_of item) || ltb (length old.unknowns) 4096) ≡ true
-  pub is_model : IsModel new
+  pub is_model : IsModel p new
   pub equations : new.equations ≡ old.equations
   pub rows : new.rows ≡ old.rows
   pub unknowns : new.unknowns ≡ see old.unknowns (unknown_of item)
@@ -110,7 +110,7 @@ has_name-push_other items item name differs = has_name-push items item name ∙ 
     by true = refl
     by false = refl
 
-module _ (before : List (List (List ℕ))) (name : List ℕ) (items : List (List ℕ)) (line : ℕ) (old : MixedModel) (old_lines : List ℕ) (item : List ℕ) (at_line : IsWithin before (so_far name items) line old old_lines) where
+module _ (p : ℕ) (before : List (List (List ℕ))) (name : List ℕ) (items : List (List ℕ)) (line : ℕ) (old : MixedModel) (old_lines : List ℕ) (item : List ℕ) (at_line : IsWithin p before (so_far name items) line old old_lines) where
   -- an unknown that is not there stands in no item of the line
   fresh_new : has_name old.unknowns (unknown_of item) ≡ false → has_name (map unknown_of items) (unknown_of item) ≡ false
   fresh_new absent =
@@ -121,7 +121,7 @@ module _ (before : List (List (List ℕ))) (name : List ℕ) (items : List (List
       ∙ absent-unseen all (unknown_of item) (length (equations_in before)) unseen
 
   -- an unknown that was there
-  marks_known : (k : ℕ) → position (bytes_eq (unknown_of item)) old.unknowns ≡ Some k → get_or old_lines k 0 ≢ line → Marks before name items line old old (set old_lines k line) item k
+  marks_known : (k : ℕ) → position (bytes_eq (unknown_of item)) old.unknowns ≡ Some k → get_or old_lines k 0 ≢ line → Marks p before name items line old old (set old_lines k line) item k
   marks_known k found elsewhere =
       let at = has_name-Some old.unknowns (unknown_of item) k found in
       let counted : k < length old_lines = omega (arith, at.0, at_line.read.lengths) in
@@ -152,7 +152,7 @@ module _ (before : List (List (List ℕ))) (name : List ℕ) (items : List (List
       }
 
   -- a new unknown
-  marks_new : position (bytes_eq (unknown_of item)) old.unknowns ≡ None → length old.unknowns < 4096 → IsModel (with_unknown old (unknown_of item)) → Marks before name items line old (with_unknown old (unknown_of item)) (old_lines ++ line ∷ []) item (length old.unknowns)
+  marks_new : position (bytes_eq (unknown_of item)) old.unknowns ≡ None → length old.unknowns < 4096 → IsModel p (with_unknown old (unknown_of item)) → Marks p before name items line old (with_unknown old (unknown_of item)) (old_lines ++ line ∷ []) item (length old.unknowns)
   marks_new none room is =
       let absent = has_name-None old.unknowns (unknown_of item) none in
       record {
@@ -187,21 +187,21 @@ module _ (before : List (List (List ℕ))) (name : List ℕ) (items : List (List
             (cases_lt m (length old.unknowns));
       }
 
-  pub Marks-from_mark : (new : MixedModel) (new_lines : List ℕ) (j : ℕ) → MarkedFrom (position (bytes_eq (unknown_of item)) old.unknowns) line old new old_lines new_lines (unknown_of item) j → Marks before name items line old new new_lines item j
+  pub Marks-from_mark : (new : MixedModel) (new_lines : List ℕ) (j : ℕ) → MarkedFrom p (position (bytes_eq (unknown_of item)) old.unknowns) line old new old_lines new_lines (unknown_of item) j → Marks p before name items line old new new_lines item j
   Marks-from_mark new new_lines j marked = by (position (bytes_eq (unknown_of item)) old.unknowns) refl marked
     where
-      by : (o : Option ℕ) → position (bytes_eq (unknown_of item)) old.unknowns ≡ o → MarkedFrom o line old new old_lines new_lines (unknown_of item) j → Marks before name items line old new new_lines item j
+      by : (o : Option ℕ) → position (bytes_eq (unknown_of item)) old.unknowns ≡ o → MarkedFrom p o line old new old_lines new_lines (unknown_of item) j → Marks p before name items line old new new_lines item j
       by (Some k) e m =
-          subst (λ i. Marks before name items line old new new_lines item i) (sym m.0)
-          (subst (λ n. Marks before name items line old n new_lines item k) (sym m.1)
-          (subst (λ lines. Marks before name items line old old lines item k) (sym m.2) (marks_known k e m.3)))
+          subst (λ i. Marks p before name items line old new new_lines item i) (sym m.0)
+          (subst (λ n. Marks p before name items line old n new_lines item k) (sym m.1)
+          (subst (λ lines. Marks p before name items line old old lines item k) (sym m.2) (marks_known k e m.3)))
       by None e m =
-          subst (λ i. Marks before name items line old new new_lines item i) (sym m.0)
-          (subst (λ n. Marks before name items line old n new_lines item (length old.unknowns)) (sym m.2)
-          (subst (λ lines. Marks before name items line old (with_unknown old (unknown_of item)) lines item (length old.unknowns)) (sym m.4) (marks_new e m.1 (subst IsModel m.2 m.3))))
+          subst (λ i. Marks p before name items line old new new_lines item i) (sym m.0)
+          (subst (λ n. Marks p before name items line old n new_lines item (length old.unknowns)) (sym m.2)
+          (subst (λ lines. Marks p before name items line old (with_unknown old (unknown_of item)) lines item (length old.unknowns)) (sym m.4) (marks_new e m.1 (subst (IsModel p) m.2 m.3))))
 
   -- a marked item keeps the rule of its place
-  pub marked_rule : (new : MixedModel) (new_lines : List ℕ) (j : ℕ) → Marks before name items line old new new_lines item j → place_rule before (so_far name items) (unknown_of item) ≡ None
+  pub marked_rule : (new : MixedModel) (new_lines : List ℕ) (j : ℕ) → Marks p before name items line old new new_lines item j → place_rule before (so_far name items) (unknown_of item) ≡ None
   marked_rule new new_lines j marks =
       ap (λ b. cond b (Some StandsTwice) (room_rule (unknowns_in (before ++ so_far name items ∷ [])) (unknown_of item))) marks.fresh
       ∙ ap (λ names. room_rule names (unknown_of item)) (sym at_line.read.gives.unknowns_are)

@@ -3,7 +3,7 @@ use Rattle.std.proofs.Common.{◌≡◌, ◌≢◌, ℕ, ◌<◌, ◌≤◌, Boo
 use Rattle.std.specs.Str.{bytes_eq}
 use Rattle.std.proofs.lemmas.Bool.{cases_lt, eqb-false}
 use Rattle.std.proofs.lemmas.List.{map-append, get_or_append_left, get_or_push, get_or_past, length-map}
-use Rattle.mixed_model.specs.declared.entry.Entry.{Entry}
+use Rattle.mixed_model.specs.Entries.{RowEntry}
 use Rattle.mixed_model.specs.Names.{see, has_name}
 use Rattle.mixed_model.specs.Models.{MixedModel, IsModel, row_of, constant_of, constant_at, symbol_of, with_equation}
 use Rattle.mixed_model.specs.Rows.{entry_in, constant_at_place, constant_in, symbol_in, IsFilled}
@@ -15,15 +15,15 @@ use Rattle.matrix_reader.proofs.SaidLaws.{Reading, constants, symbols, items_at-
 use Rattle.matrix_reader.proofs.SeenLaws.{names_apart}
 
 -- a place past the last row or the last column has no entry
-entry-beyond : (model : MixedModel) → IsModel model → (i j : ℕ) → length model.unknowns ≤ j → entry_in (row_of model i) j ≡ None
-entry-beyond model is i j beyond = ⊎_elim
+entry-beyond : (p : ℕ) (model : MixedModel) → IsModel p model → (i j : ℕ) → length model.unknowns ≤ j → entry_in (row_of model i) j ≡ None
+entry-beyond p model is i j beyond = ⊎_elim
     (λ within. entry_in-None (row_of model i) j (λ k d at same. let below = (is.rows i [] within).1 k d at in omega (arith, below, same)))
     (λ past. ap (λ row. entry_in row j) (get_or_past model.rows i [] past))
     (cases_lt i (length model.rows))
 
 -- a constant that is 0 is none
-no_zero : (entry : Entry) → IsFilled entry → unwrap_or entry.constant 0 ≡ 0 → entry.constant ≡ None
-no_zero entry filled zero_there = by entry.constant refl
+no_zero : (p : ℕ) (entry : RowEntry) → IsFilled p entry → unwrap_or entry.constant 0 ≡ 0 → entry.constant ≡ None
+no_zero p entry filled zero_there = by entry.constant refl
   where
     by : (found : Option ℕ) → entry.constant ≡ found → entry.constant ≡ None
     by None e = e
@@ -31,15 +31,15 @@ no_zero entry filled zero_there = by entry.constant refl
         let same : constant ≡ 0 = sym (ap (λ o. unwrap_or o 0) e) ∙ zero_there in
         absurd (omega (arith, filled.positive constant e, same))
 
-pub constant_of-None : (model : MixedModel) → IsModel model → (i j : ℕ) → constant_at model i j ≡ 0 → constant_of model i j ≡ None
-constant_of-None model is i j zero_there = by (entry_in (row_of model i) j) refl
+pub constant_of-None : (p : ℕ) (model : MixedModel) → IsModel p model → (i j : ℕ) → constant_at model i j ≡ 0 → constant_of model i j ≡ None
+constant_of-None p model is i j zero_there = by (entry_in (row_of model i) j) refl
   where
-    by : (found : Option Entry) → entry_in (row_of model i) j ≡ found → constant_of model i j ≡ None
+    by : (found : Option RowEntry) → entry_in (row_of model i) j ≡ found → constant_of model i j ≡ None
     by None e = ap constant_at_place e
     by (Some entry) e = ⊎_elim
         (λ within.
-        let filled = entry_in-filled 0 (row_of model i) (is.rows i [] within).0 j entry e in
-        ap constant_at_place e ∙ no_zero entry filled (sym (ap (λ o. unwrap_or (constant_at_place o) 0) e) ∙ zero_there))
+        let filled = entry_in-filled p 0 (row_of model i) (is.rows i [] within).0 j entry e in
+        ap constant_at_place e ∙ no_zero p entry filled (sym (ap (λ o. unwrap_or (constant_at_place o) 0) e) ∙ zero_there))
         (λ past. ap (λ row. constant_in row j) (get_or_past model.rows i [] past))
         (cases_lt i (length model.rows))
 
@@ -75,12 +75,12 @@ places-equation reading list model name counted places i j at col = ⊎_elim
     ∙ ap (λ items. reading.says items (get_or model.unknowns j [])) (sym (items_at-last list (record { name = name; items = [] }) i is_last)))
     (cases_lt i (length list))
 
-pub IsModelOf-equation : (list : List Equation) (unknowns : List (List ℕ)) (model : MixedModel) (name : List ℕ) → IsModelOf list unknowns model → IsModel (with_equation model name) → IsModelOf (list ++ record { name = name; items = [] } ∷ []) unknowns (with_equation model name)
-IsModelOf-equation list unknowns model name gives is = record {
+pub IsModelOf-equation : (p : ℕ) (list : List Equation) (unknowns : List (List ℕ)) (model : MixedModel) (name : List ℕ) → IsModelOf p list unknowns model → IsModel p (with_equation model name) → IsModelOf p (list ++ record { name = name; items = [] } ∷ []) unknowns (with_equation model name)
+IsModelOf-equation p list unknowns model name gives is = record {
   is_model = is;
   equations_are = ap (λ names. names ++ name ∷ []) gives.equations_are ∙ sym (map-append (λ e. e.name) list (record { name = name; items = [] } ∷ []));
   unknowns_are = gives.unknowns_are;
-  constants_are = places-equation constants list model name rows_counted gives.constants_are;
+  constants_are = places-equation (constants p) list model name rows_counted gives.constants_are;
   symbols_are = places-equation symbols list model name rows_counted gives.symbols_are;
 }
   where
@@ -88,8 +88,8 @@ IsModelOf-equation list unknowns model name gives is = record {
     rows_counted = gives.is_model.one_row_each ∙ ap length gives.equations_are ∙ length-map list (λ (e : Equation). e.name)
 
 -- a name is seen by a model
-module _ (list : List Equation) (unknowns : List (List ℕ)) (name : List ℕ) (old new : MixedModel)
-    (gives : IsModelOf list unknowns old)
+module _ (p : ℕ) (list : List Equation) (unknowns : List (List ℕ)) (name : List ℕ) (old new : MixedModel)
+    (gives : IsModelOf p list unknowns old)
     (only : NamesOnly list unknowns)
     (seen : new.unknowns ≡ see old.unknowns name) where
   -- a column that was there before is the same
@@ -104,7 +104,7 @@ module _ (list : List Equation) (unknowns : List (List ℕ)) (name : List ℕ) (
   said_before : {A : Type 0} (reading : Reading A) → PlacesAre reading list old → (i c : ℕ) → i < length list → c < length new.unknowns → reading.tells (row_of old i) c ≡ reading.says (items_at list i) (get_or new.unknowns c [])
   said_before reading places i c at col = ⊎_elim
       (λ before. places i c at before ∙ ap (reading.says (items_at list i)) (sym (stays c before)))
-      (λ beyond. reading.empty (row_of old i) c (entry-beyond old gives.is_model i c beyond) ∙ sym (by (has_name old.unknowns name) refl beyond))
+      (λ beyond. reading.empty (row_of old i) c (entry-beyond p old gives.is_model i c beyond) ∙ sym (by (has_name old.unknowns name) refl beyond))
       (cases_lt c (length old.unknowns))
     where
       by : (b : Bool) → has_name old.unknowns name ≡ b → length old.unknowns ≤ c → reading.says (items_at list i) (get_or new.unknowns c []) ≡ reading.nothing
@@ -119,20 +119,20 @@ module _ (list : List Equation) (unknowns : List (List ℕ)) (name : List ℕ) (
           ∙ reading.absent (items_at list i) name (NamesOnly-at list unknowns only i name unseen)
 
   -- an unknown, and nothing else
-  pub IsModelOf-unknown : IsModel new → new.equations ≡ old.equations → new.rows ≡ old.rows → IsModelOf list (see unknowns name) new
+  pub IsModelOf-unknown : IsModel p new → new.equations ≡ old.equations → new.rows ≡ old.rows → IsModelOf p list (see unknowns name) new
   IsModelOf-unknown is equations rows = record {
     is_model = is;
     equations_are = equations ∙ gives.equations_are;
     unknowns_are = seen ∙ ap (λ names. see names name) gives.unknowns_are;
-    constants_are = λ i c at col. ap (λ all. unwrap_or (constant_in (get_or all i []) c) 0) rows ∙ said_before constants gives.constants_are i c at col;
+    constants_are = λ i c at col. ap (λ all. unwrap_or (constant_in (get_or all i []) c) 0) rows ∙ said_before (constants p) gives.constants_are i c at col;
     symbols_are = λ i c at col. ap (λ all. symbol_in (get_or all i []) c) rows ∙ said_before symbols gives.symbols_are i c at col;
   }
 
-module _ (list : List Equation) (unknowns : List (List ℕ)) (name : List ℕ) (items : List (List ℕ)) (item : List ℕ) (old new : MixedModel) (j : ℕ)
-    (gives : IsModelOf (list ++ record { name = name; items = items } ∷ []) unknowns old)
+module _ (p : ℕ) (list : List Equation) (unknowns : List (List ℕ)) (name : List ℕ) (items : List (List ℕ)) (item : List ℕ) (old new : MixedModel) (j : ℕ)
+    (gives : IsModelOf p (list ++ record { name = name; items = items } ∷ []) unknowns old)
     (only : NamesOnly (list ++ record { name = name; items = items } ∷ []) unknowns)
     (fresh : has_name (map unknown_of items) (unknown_of item) ≡ false)
-    (is : IsModel new)
+    (is : IsModel p new)
     (equations : new.equations ≡ old.equations)
     (seen : new.unknowns ≡ see old.unknowns (unknown_of item))
     (within : j < length new.unknowns)
@@ -145,7 +145,7 @@ module _ (list : List Equation) (unknowns : List (List ℕ)) (name : List ℕ) (
 
   -- before the item
   said_now : {A : Type 0} (reading : Reading A) → PlacesAre reading (list ++ so_far ∷ []) old → (i c : ℕ) → i < length (list ++ so_far ∷ []) → c < length new.unknowns → reading.tells (row_of old i) c ≡ reading.says (items_at (list ++ so_far ∷ []) i) (get_or new.unknowns c [])
-  said_now reading places i c at col = said_before (list ++ so_far ∷ []) unknowns (unknown_of item) old new gives only seen reading places i c at col
+  said_now reading places i c at col = said_before p (list ++ so_far ∷ []) unknowns (unknown_of item) old new gives only seen reading places i c at col
 
   -- after the item, where what it gives stands at its place
   said_after : {A : Type 0} (reading : Reading A) → PlacesAre reading (list ++ so_far ∷ []) old → (i c : ℕ) → i < length (list ++ so_far ∷ []) → c < length new.unknowns
@@ -183,14 +183,14 @@ module _ (list : List Equation) (unknowns : List (List ℕ)) (name : List ℕ) (
       told i c ∙ said_after reading places i c here col
 
   -- an item whose constant and symbol stand at its place
-  pub IsModelOf-item : ((i c : ℕ) → constant_at new i c ≡ cond (eqb (length list) i && eqb j c) (item_constant item) (constant_at old i c))
+  pub IsModelOf-item : ((i c : ℕ) → constant_at new i c ≡ cond (eqb (length list) i && eqb j c) (item_constant p item) (constant_at old i c))
       → ((i c : ℕ) → symbol_of new i c ≡ cond (eqb (length list) i && eqb j c) (item_symbol item) (symbol_of old i c))
-      → IsModelOf (list ++ with_item ∷ []) (see unknowns (unknown_of item)) new
+      → IsModelOf p (list ++ with_item ∷ []) (see unknowns (unknown_of item)) new
   IsModelOf-item constants_now symbols_now = record {
     is_model = is;
     equations_are = equations ∙ gives.equations_are ∙ map-append (λ e. e.name) list (so_far ∷ []) ∙ sym (map-append (λ e. e.name) list (with_item ∷ []));
     unknowns_are = seen ∙ ap (λ names. see names (unknown_of item)) gives.unknowns_are;
-    constants_are = after_item constants gives.constants_are constants_now;
+    constants_are = after_item (constants p) gives.constants_are constants_now;
     symbols_are = after_item symbols gives.symbols_are symbols_now;
   }
 
@@ -203,7 +203,7 @@ module _ (list : List Equation) (unknowns : List (List ℕ)) (name : List ℕ) (
       ∙ reading.absent items (unknown_of item) fresh
 
   pub constant_of-fresh : constant_of old (length list) j ≡ None
-  constant_of-fresh = constant_of-None old gives.is_model (length list) j (tells_nothing constants gives.constants_are)
+  constant_of-fresh = constant_of-None p old gives.is_model (length list) j (tells_nothing (constants p) gives.constants_are)
 
   pub symbol_of-fresh : symbol_of old (length list) j ≡ false
   symbol_of-fresh = tells_nothing symbols gives.symbols_are

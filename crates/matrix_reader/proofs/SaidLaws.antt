@@ -6,7 +6,7 @@ use Rattle.std.proofs.lemmas.List.{map-append, get_or_append_left, get_or_push, 
 use Rattle.std.proofs.lemmas.List.Folds.{list_any-append}
 use Rattle.std.proofs.lemmas.List.Sums.{sum_by-append}
 use Rattle.std.proofs.lemmas.Slice.Eq.{bytes_eq-Decides}
-use Rattle.mixed_model.specs.declared.entry.Entry.{Entry}
+use Rattle.mixed_model.specs.Entries.{RowEntry}
 use Rattle.mixed_model.specs.Names.{has_name}
 use Rattle.mixed_model.specs.Rows.{entry_in, constant_at_place, symbol_at_place, constant_in, symbol_in}
 use Rattle.matrix_reader.specs.Items.{unknown_of, item_constant, item_symbol}
@@ -15,20 +15,20 @@ use Rattle.matrix_reader.specs.Models.{said_of, symbol_said, items_at}
 use Rattle.matrix_reader.proofs.SeenLaws.{has_name-unseen}
 
 -- one item more
-pub said_of-push : (items : List (List ℕ)) (item unknown : List ℕ) → said_of (items ++ item ∷ []) unknown ≡ said_of items unknown + cond (bytes_eq unknown (unknown_of item)) (item_constant item) 0
-said_of-push items item unknown =
-    sum_by-append (λ other. cond (bytes_eq unknown (unknown_of other)) (item_constant other) 0) items (item ∷ [])
-    ∙ ap (λ n. said_of items unknown + n) (omega arith)
+pub said_of-push : (p : ℕ) (items : List (List ℕ)) (item unknown : List ℕ) → said_of p (items ++ item ∷ []) unknown ≡ said_of p items unknown + cond (bytes_eq unknown (unknown_of item)) (item_constant p item) 0
+said_of-push p items item unknown =
+    sum_by-append (λ other. cond (bytes_eq unknown (unknown_of other)) (item_constant p other) 0) items (item ∷ [])
+    ∙ ap (λ n. said_of p items unknown + n) (omega arith)
 
 -- nothing is said of an unknown that no item names
-pub said_of-absent : (items : List (List ℕ)) (unknown : List ℕ) → has_name (map unknown_of items) unknown ≡ false → said_of items unknown ≡ 0
-said_of-absent items unknown absent = from items 0 absent
+pub said_of-absent : (p : ℕ) (items : List (List ℕ)) (unknown : List ℕ) → has_name (map unknown_of items) unknown ≡ false → said_of p items unknown ≡ 0
+said_of-absent p items unknown absent = from items 0 absent
   where
-    from : (items : List (List ℕ)) (n : ℕ) → has_name (map unknown_of items) unknown ≡ false → fold (λ a item. a + cond (bytes_eq unknown (unknown_of item)) (item_constant item) 0) n items ≡ n
+    from : (items : List (List ℕ)) (n : ℕ) → has_name (map unknown_of items) unknown ≡ false → fold (λ a item. a + cond (bytes_eq unknown (unknown_of item)) (item_constant p item) 0) n items ≡ n
     from [] n absent = refl
     from (item ∷ items) n absent = by (bytes_eq unknown (unknown_of item)) refl absent (λ m rest. from items m rest)
       where
-        by : (b : Bool) → bytes_eq unknown (unknown_of item) ≡ b → (b || has_name (map unknown_of items) unknown) ≡ false → ((m : ℕ) → has_name (map unknown_of items) unknown ≡ false → fold (λ a item. a + cond (bytes_eq unknown (unknown_of item)) (item_constant item) 0) m items ≡ m) → fold (λ a item. a + cond (bytes_eq unknown (unknown_of item)) (item_constant item) 0) n (item ∷ items) ≡ n
+        by : (b : Bool) → bytes_eq unknown (unknown_of item) ≡ b → (b || has_name (map unknown_of items) unknown) ≡ false → ((m : ℕ) → has_name (map unknown_of items) unknown ≡ false → fold (λ a item. a + cond (bytes_eq unknown (unknown_of item)) (item_constant p item) 0) m items ≡ m) → fold (λ a item. a + cond (bytes_eq unknown (unknown_of item)) (item_constant p item) 0) n (item ∷ items) ≡ n
         by true e none more = let f : ⊥ = cc in absurd f
         by false e none more = rw e (more (n + 0) none ∙ omega arith)
 
@@ -47,11 +47,11 @@ symbol_said-absent (item ∷ items) unknown absent = by (bytes_eq unknown (unkno
 -- What a row tells of its columns, and items say of unknowns: nothing where no item names one, and what an item gives
 -- where that is the first to name it.
 pub record Reading (A : Type 0) : Type 0 where
-  pub tells : List Entry → ℕ → A
+  pub tells : List RowEntry → ℕ → A
   pub says : List (List ℕ) → List ℕ → A
   pub gives : List ℕ → A
   pub nothing : A
-  pub empty : (row : List Entry) (j : ℕ) → entry_in row j ≡ None → tells row j ≡ nothing
+  pub empty : (row : List RowEntry) (j : ℕ) → entry_in row j ≡ None → tells row j ≡ nothing
   pub absent : (items : List (List ℕ)) (unknown : List ℕ) → has_name (map unknown_of items) unknown ≡ false → says items unknown ≡ nothing
   pub named : (items : List (List ℕ)) (item : List ℕ) → has_name (map unknown_of items) (unknown_of item) ≡ false → says (items ++ item ∷ []) (unknown_of item) ≡ gives item
   pub other : (items : List (List ℕ)) (item unknown : List ℕ) → bytes_eq unknown (unknown_of item) ≡ false → says (items ++ item ∷ []) unknown ≡ says items unknown
@@ -59,18 +59,18 @@ pub record Reading (A : Type 0) : Type 0 where
 pub same_name : (item : List ℕ) → bytes_eq (unknown_of item) (unknown_of item) ≡ true
 same_name item = (bytes_eq-Decides (unknown_of item) (unknown_of item)).1 refl
 
-abbrev pub constants : Reading ℕ
-constants = record {
+abbrev pub constants : (p : ℕ) → Reading ℕ
+constants p = record {
   tells = λ row j. unwrap_or (constant_in row j) 0;
-  says = said_of;
-  gives = item_constant;
+  says = said_of p;
+  gives = item_constant p;
   nothing = 0;
   empty = λ row j none. ap (λ o. unwrap_or (constant_at_place o) 0) none;
-  absent = said_of-absent;
+  absent = said_of-absent p;
   named = λ items item fresh.
-      said_of-push items item (unknown_of item)
-      ∙ rw (same_name item) (ap (λ n. n + item_constant item) (said_of-absent items (unknown_of item) fresh) ∙ omega arith);
-  other = λ items item unknown apart. said_of-push items item unknown ∙ rw apart (omega arith);
+      said_of-push p items item (unknown_of item)
+      ∙ rw (same_name item) (ap (λ n. n + item_constant p item) (said_of-absent p items (unknown_of item) fresh) ∙ omega arith);
+  other = λ items item unknown apart. said_of-push p items item unknown ∙ rw apart (omega arith);
 }
 
 pub or_nothing : (a : Bool) → (a || false) ≡ a

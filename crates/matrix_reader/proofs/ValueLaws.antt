@@ -34,19 +34,19 @@ adds_symbol_false value none = false_from_ne_true (adds_symbol value) (λ adds.
 no_symbol : (value : List ℕ) → adds_symbol value ≡ false → number_text value ≡ value
 no_symbol value none = ap (λ b. cond b (take (length value - 2) value) value) none
 
-module _ (value : List ℕ) (lone : is_symbol value ≡ false) where
-  rule_here : (text : List ℕ) (read : Result ℕ Why) → number_text value ≡ text → number_of text ≡ read → value_rule value ≡ result_err read
-  rule_here text read number is = rw lone (ap result_err (ap number_of number ∙ is))
+module _ (p : ℕ) (value : List ℕ) (lone : is_symbol value ≡ false) where
+  rule_here : (text : List ℕ) (read : Result ℕ Why) → number_text value ≡ text → number_of p text ≡ read → value_rule p value ≡ result_err read
+  rule_here text read number is = rw lone (ap result_err (ap (number_of p) number ∙ is))
 
-  constant_here : (text : List ℕ) (constant : ℕ) → number_text value ≡ text → number_of text ≡ Ok constant → constant ≡ value_constant value
-  constant_here text constant number is = rw lone (sym (ap (λ read. result_unwrap_or read 0) (ap number_of number ∙ is)))
+  constant_here : (text : List ℕ) (constant : ℕ) → number_text value ≡ text → number_of p text ≡ Ok constant → constant ≡ value_constant p value
+  constant_here text constant number is = rw lone (sym (ap (λ read. result_unwrap_or read 0) (ap (number_of p) number ∙ is)))
 
   symbol_here : (adds : Bool) → adds_symbol value ≡ adds → adds ≡ value_symbol value
   symbol_here adds e = rw (lone, e) refl
 
   -- a number and a symbol
-  pub read_before : (text : List ℕ) (constant : ℕ) → value ≡ text ++ codes "+?" → number_of text ≡ Ok constant
-      → (value_rule value ≡ None) × (constant ≡ value_constant value) × (true ≡ value_symbol value)
+  pub read_before : (text : List ℕ) (constant : ℕ) → value ≡ text ++ codes "+?" → number_of p text ≡ Ok constant
+      → (value_rule p value ≡ None) × (constant ≡ value_constant p value) × (true ≡ value_symbol value)
   read_before text constant split is = (
     rule_here text (Ok constant) (number_before value text split) is,
     constant_here text constant (number_before value text split) is,
@@ -54,12 +54,12 @@ module _ (value : List ℕ) (lone : is_symbol value ≡ false) where
   )
 
   -- what stands before a symbol is no number
-  pub broken_before : (text : List ℕ) (why : Why) → value ≡ text ++ codes "+?" → number_of text ≡ Err why → value_rule value ≡ Some why
+  pub broken_before : (text : List ℕ) (why : Why) → value ≡ text ++ codes "+?" → number_of p text ≡ Err why → value_rule p value ≡ Some why
   broken_before text why split is = rule_here text (Err why) (number_before value text split) is
 
   -- a number without a symbol
-  pub read_alone : (constant : ℕ) → ((front : List ℕ) → value ≢ front ++ codes "+?") → number_of value ≡ Ok constant
-      → (value_rule value ≡ None) × (constant ≡ value_constant value) × (false ≡ value_symbol value)
+  pub read_alone : (constant : ℕ) → ((front : List ℕ) → value ≢ front ++ codes "+?") → number_of p value ≡ Ok constant
+      → (value_rule p value ≡ None) × (constant ≡ value_constant p value) × (false ≡ value_symbol value)
   read_alone constant none is =
       let plain = adds_symbol_false value none in (
         rule_here value (Ok constant) (no_symbol value plain) is,
@@ -68,9 +68,9 @@ module _ (value : List ℕ) (lone : is_symbol value ≡ false) where
       )
 
   -- no number, and no symbol
-  pub broken_alone : (why : Why) → ((front : List ℕ) → value ≢ front ++ codes "+?") → number_of value ≡ Err why → value_rule value ≡ Some why
+  pub broken_alone : (why : Why) → ((front : List ℕ) → value ≢ front ++ codes "+?") → number_of p value ≡ Err why → value_rule p value ≡ Some why
   broken_alone why none is = rule_here value (Err why) (no_symbol value (adds_symbol_false value none)) is
 
 -- a symbol alone
-pub read_symbol : (value : List ℕ) (constant : ℕ) → is_symbol value ≡ true → constant ≡ 0 → (value_rule value ≡ None) × (constant ≡ value_constant value) × (true ≡ value_symbol value)
-read_symbol value constant alone none = (rw alone refl, rw alone none, rw alone refl)
+pub read_symbol : (p : ℕ) (value : List ℕ) (constant : ℕ) → is_symbol value ≡ true → constant ≡ 0 → (value_rule p value ≡ None) × (constant ≡ value_constant p value) × (true ≡ value_symbol value)
+read_symbol p value constant alone none = (rw alone refl, rw alone none, rw alone refl)

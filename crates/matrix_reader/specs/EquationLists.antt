@@ -14,7 +14,8 @@ pub record Equation : Type 0 where
 abbrev pub equation_of : List (List ℕ) → List Equation
 equation_of [] = []
 equation_of (word ∷ []) = []
-equation_of (word ∷ name ∷ items) = if bytes_eq word (codes "eq") then record { name = name; items = items } ∷ [] else []
+equation_of (word ∷ name ∷ items) =
+    if bytes_eq word (codes "eq") then record { name = name; items = items } ∷ [] else []
 
 -- the names of unknowns that stand in a line, in order
 abbrev pub names_in : List (List ℕ) → List (List ℕ)

@@ -32,16 +32,16 @@ abbrev pub number_text : List ℕ → List ℕ
 number_text value = if adds_symbol value then take (length value - 2) value else value
 
 -- the constant of a value, perhaps 0: that of its number, and 0 for a symbol alone
-abbrev pub value_constant : List ℕ → ℕ
-value_constant value = if is_symbol value then 0 else result_unwrap_or (number_of (number_text value)) 0
+abbrev pub value_constant : ℕ → List ℕ → ℕ
+value_constant p value = if is_symbol value then 0 else result_unwrap_or (number_of p (number_text value)) 0
 
 -- whether a value has a symbol
 abbrev pub value_symbol : List ℕ → Bool
 value_symbol value = is_symbol value || adds_symbol value
 
 -- the constant that an item gives, perhaps 0
-abbrev pub item_constant : List ℕ → ℕ
-item_constant item = value_constant (value_of item)
+abbrev pub item_constant : ℕ → List ℕ → ℕ
+item_constant p item = value_constant p (value_of item)
 
 -- whether it gives a symbol
 abbrev pub item_symbol : List ℕ → Bool

@@ -14,8 +14,8 @@ use Rattle.matrix_reader.specs.EquationLists.{Equation, equations_in, unknowns_i
 use Rattle.matrix_reader.specs.Rules.{line_rule}
 
 -- what some items say of an unknown: the sum of their constants there
-abbrev pub said_of : List (List ℕ) → List ℕ → ℕ
-said_of items unknown = sum_by (λ item. if bytes_eq unknown (unknown_of item) then item_constant item else 0) items
+abbrev pub said_of : ℕ → List (List ℕ) → List ℕ → ℕ
+said_of p items unknown = sum_by (λ item. if bytes_eq unknown (unknown_of item) then item_constant p item else 0) items
 
 -- whether some items say that a symbol stands at an unknown
 abbrev pub symbol_said : List (List ℕ) → List ℕ → Bool
@@ -25,41 +25,42 @@ symbol_said items unknown = list_any (λ item. bytes_eq unknown (unknown_of item
 abbrev pub items_at : List Equation → ℕ → List (List ℕ)
 items_at equations i = slice_index_or (map (λ equation. equation.items) equations) i []
 
--- The model of some equations and unknowns: their names, and at each place what the equation's items say of the unknown.
-pub record IsModelOf (list : List Equation) (unknowns : List (List ℕ)) (model : MixedModel) : Type 0 where
-  pub is_model : IsModel model
+-- The model of some equations and unknowns: their names, and at each place what the equation's items say of the
+-- unknown.
+pub record IsModelOf (p : ℕ) (list : List Equation) (unknowns : List (List ℕ)) (model : MixedModel) : Type 0 where
+  pub is_model : IsModel p model
   pub equations_are : model.equations ≡ map (λ equation. equation.name) list
   pub unknowns_are : model.unknowns ≡ unknowns
   pub constants_are : (i j : ℕ) → i < length list → j < length model.unknowns
-      → constant_at model i j ≡ said_of (items_at list i) (slice_index_or model.unknowns j [])
+      → constant_at model i j ≡ said_of p (items_at list i) (slice_index_or model.unknowns j [])
   pub symbols_are : (i j : ℕ) → i < length list → j < length model.unknowns
       → symbol_of model i j ≡ symbol_said (items_at list i) (slice_index_or model.unknowns j [])
 
 -- the model that lines give by their words
-abbrev pub LinesGive : List (List (List ℕ)) → MixedModel → Type 0
-LinesGive lines model = IsModelOf (equations_in lines) (unknowns_in lines) model
+abbrev pub LinesGive : ℕ → List (List (List ℕ)) → MixedModel → Type 0
+LinesGive p lines model = IsModelOf p (equations_in lines) (unknowns_in lines) model
 
 -- what the rules say of line k, counted from 0: why it breaks one, if it does
-abbrev pub rule_at : List (List ℕ) → ℕ → Option Why
-rule_at lines k = line_rule (map words_of (take k lines)) (slice_index_or lines k [])
+abbrev pub rule_at : ℕ → List (List ℕ) → ℕ → Option Why
+rule_at p lines k = line_rule p (map words_of (take k lines)) (slice_index_or lines k [])
 
 -- the first n lines keep all rules
-abbrev pub KeepBefore : ℕ → List (List ℕ) → Type 0
-KeepBefore n lines = (k : ℕ) → k < n → rule_at lines k ≡ None
+abbrev pub KeepBefore : ℕ → ℕ → List (List ℕ) → Type 0
+KeepBefore p n lines = (k : ℕ) → k < n → rule_at p lines k ≡ None
 
 -- A text gives a model: each line keeps the rules, and the model is that of the lines.
-pub record GivesModel (text : List ℕ) (model : MixedModel) : Type 0 where
-  pub kept : KeepBefore (length (lines_of text)) (lines_of text)
-  pub given : LinesGive (map words_of (lines_of text)) model
+pub record GivesModel (p : ℕ) (text : List ℕ) (model : MixedModel) : Type 0 where
+  pub kept : KeepBefore p (length (lines_of text)) (lines_of text)
+  pub given : LinesGive p (map words_of (lines_of text)) model
 
 -- The first broken rule of a text: line n, counted from 0, is the first that breaks one, and this is why.
-pub record IsFirstBroken (text : List ℕ) (n : ℕ) (why : Why) : Type 0 where
+pub record IsFirstBroken (p : ℕ) (text : List ℕ) (n : ℕ) (why : Why) : Type 0 where
   pub within : n < length (lines_of text)
-  pub before : KeepBefore n (lines_of text)
-  pub here : rule_at (lines_of text) n ≡ Some why
+  pub before : KeepBefore p n (lines_of text)
+  pub here : rule_at p (lines_of text) n ≡ Some why
 
 -- Why a text is not read: its first broken rule and the line of it, counted from 1, or memory ran out.
-abbrev pub IsRefusal : List ℕ → ReadModel → Type 0
-IsRefusal text (Refused refused) =
-    (n : ℕ) × (why : Why) × (refused ≡ record { place = Line (n + 1); why = why }) × IsFirstBroken text n why
-IsRefusal text NoMemory = Unit {0}
+abbrev pub IsRefusal : ℕ → List ℕ → ReadModel → Type 0
+IsRefusal p text (Refused refused) =
+    (n : ℕ) × (why : Why) × (refused ≡ record { place = Line (n + 1); why = why }) × IsFirstBroken p text n why
+IsRefusal p text NoMemory = Unit {0}

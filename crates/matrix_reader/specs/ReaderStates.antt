@@ -1,5 +1,6 @@
 -- What the reader knows between two lines, and within one.
 use Rattle.std.specs.Prelude.{◌≡◌, ◌≢◌, ℕ, ◌+◌, ◌<◌, ◌≤◌, Bool, not, ◌&&◌, ◌||◌, if◌then◌else◌, List, [], ◌∷◌, ◌++◌, length, codes, nat_eq, slice_index, slice_index_or, slice_set, Option, Some, None, Result, Ok, Err}
+use Rattle.limits.specs.Limits.{equation_limit}
 use Rattle.refusals.specs.declared.Why.{Why}
 use Rattle.refusals.specs.declared.Why.TheVariants.{Twice, TooMany}
 use Rattle.line_lexer.specs.Tokens.{words_of}
@@ -12,8 +13,9 @@ use Rattle.matrix_reader.specs.declared.fault.LineFault.{LineFault}
 use Rattle.matrix_reader.specs.declared.fault.LineFault.TheVariants.{Broken, NoMemory}
 
 -- lines are read: the model is theirs, and the unknowns last stood in lines with a lower number than the next
-pub record IsRead (lines : List (List (List ℕ))) (next : ℕ) (model : MixedModel) (last_lines : List ℕ) : Type 0 where
-  pub gives : LinesGive lines model
+pub record IsRead
+    (p : ℕ) (lines : List (List (List ℕ))) (next : ℕ) (model : MixedModel) (last_lines : List ℕ) : Type 0 where
+  pub gives : LinesGive p lines model
   pub lengths : length last_lines ≡ length model.unknowns
   pub earlier : (j : ℕ) → slice_index last_lines j < next
 
@@ -22,8 +24,10 @@ abbrev pub so_far : List ℕ → List (List ℕ) → List (List ℕ)
 so_far name items = codes "eq" ∷ name ∷ items
 
 -- Within an equation line: it is read so far, and the unknowns that stand in it so far are those whose last line it is.
-pub record IsWithin (before : List (List (List ℕ))) (words : List (List ℕ)) (line : ℕ) (model : MixedModel) (last_lines : List ℕ) : Type 0 where
-  pub read : IsRead (before ++ words ∷ []) (line + 1) model last_lines
+pub record IsWithin
+    (p : ℕ) (before : List (List (List ℕ))) (words : List (List ℕ)) (line : ℕ) (model : MixedModel)
+    (last_lines : List ℕ) : Type 0 where
+  pub read : IsRead p (before ++ words ∷ []) (line + 1) model last_lines
   pub marks : (j : ℕ) → j < length model.unknowns
       → nat_eq (slice_index last_lines j) line ≡ has_name (names_in words) (slice_index_or model.unknowns j [])
 
@@ -39,31 +43,35 @@ OnBroken (Broken why) P = P why
 OnBroken NoMemory P = Unit {0}
 
 -- the column of an unknown after it is marked in a line, and what the marking leaves: by where the unknown stood
-abbrev pub MarkedFrom : Option ℕ → ℕ → MixedModel → MixedModel → List ℕ → List ℕ → List ℕ → ℕ → Type 0
-MarkedFrom (Some k) line old new old_lines new_lines unknown j =
+abbrev pub MarkedFrom : ℕ → Option ℕ → ℕ → MixedModel → MixedModel → List ℕ → List ℕ → List ℕ → ℕ → Type 0
+MarkedFrom p (Some k) line old new old_lines new_lines unknown j =
     (j ≡ k) × (new ≡ old) × (new_lines ≡ slice_set old_lines k line) × (slice_index old_lines k ≢ line)
-MarkedFrom None line old new old_lines new_lines unknown j =
-    (j ≡ length old.unknowns) × (length old.unknowns < 4096) × (new ≡ with_unknown old unknown) × IsModel new × (new_lines ≡ old_lines ++ line ∷ [])
+MarkedFrom p None line old new old_lines new_lines unknown j =
+    (j ≡ length old.unknowns) × (length old.unknowns < equation_limit)
+    × (new ≡ with_unknown old unknown) × IsModel p new
+    × (new_lines ≡ old_lines ++ line ∷ [])
 
 -- why it can't be marked
 abbrev pub UnmarkedFrom : Option ℕ → ℕ → MixedModel → List ℕ → Why → Type 0
 UnmarkedFrom (Some k) line old old_lines why = (why ≡ Twice) × (slice_index old_lines k ≡ line)
-UnmarkedFrom None line old old_lines why = (why ≡ TooMany) × (4096 ≤ length old.unknowns)
+UnmarkedFrom None line old old_lines why = (why ≡ TooMany) × (equation_limit ≤ length old.unknowns)
 
 -- what is left after an unknown stood in a line that marks none: by where the unknown stood
-abbrev pub SeenFrom : Option ℕ → ℕ → MixedModel → MixedModel → List ℕ → List ℕ → List ℕ → Type 0
-SeenFrom (Some k) line old new old_lines new_lines unknown = (new ≡ old) × (new_lines ≡ old_lines)
-SeenFrom None line old new old_lines new_lines unknown =
-    (length old.unknowns < 4096) × (new ≡ with_unknown old unknown) × IsModel new × (new_lines ≡ old_lines ++ line ∷ [])
+abbrev pub SeenFrom : ℕ → Option ℕ → ℕ → MixedModel → MixedModel → List ℕ → List ℕ → List ℕ → Type 0
+SeenFrom p (Some k) line old new old_lines new_lines unknown = (new ≡ old) × (new_lines ≡ old_lines)
+SeenFrom p None line old new old_lines new_lines unknown =
+    (length old.unknowns < equation_limit) × (new ≡ with_unknown old unknown) × IsModel p new
+    × (new_lines ≡ old_lines ++ line ∷ [])
 
 -- why it can't stand there
 abbrev pub UnseenFrom : Option ℕ → MixedModel → Why → Type 0
 UnseenFrom (Some k) old why = ⊥
-UnseenFrom None old why = (why ≡ TooMany) × (4096 ≤ length old.unknowns)
+UnseenFrom None old why = (why ≡ TooMany) × (equation_limit ≤ length old.unknowns)
 
--- What putting a value at the place (i, j) leaves: its constant stands there, unless it is 0, and a symbol, if it has one.
-pub record PutsValue (old new : MixedModel) (i j constant : ℕ) (symbol : Bool) : Type 0 where
-  pub is_model : IsModel old → IsModel new
+-- What putting a value at the place (i, j) leaves: its constant stands there, unless it is 0, and a symbol, if it has
+-- one.
+pub record PutsValue (p : ℕ) (old new : MixedModel) (i j constant : ℕ) (symbol : Bool) : Type 0 where
+  pub is_model : IsModel p old → IsModel p new
   pub equations : new.equations ≡ old.equations
   pub unknowns : new.unknowns ≡ old.unknowns
   pub constants : (k c : ℕ) → constant_of new k c
@@ -71,54 +79,69 @@ pub record PutsValue (old new : MixedModel) (i j constant : ℕ) (symbol : Bool)
   pub symbols : (k c : ℕ) → symbol_of new k c ≡ (symbol && (nat_eq i k && nat_eq j c) || symbol_of old k c)
 
 -- What reading an item answers and leaves, wherever in an equation line the reader is.
-abbrev pub ReadsItem : ℕ → ℕ → MixedModel → MixedModel → List ℕ → List ℕ → List ℕ → Result (Unit {0}) LineFault → Type 0
-ReadsItem line i old new old_lines new_lines item result =
+abbrev pub ReadsItem : ℕ → ℕ → ℕ → MixedModel → MixedModel → List ℕ → List ℕ → List ℕ
+    → Result (Unit {0}) LineFault → Type 0
+ReadsItem p line i old new old_lines new_lines item result =
     (before : List (List (List ℕ))) (name : List ℕ) (items : List (List ℕ)) → i ≡ length (equations_in before)
-    → IsWithin before (so_far name items) line old old_lines
-    → AnswersRule (item_rule before (so_far name items) item) (IsWithin before (so_far name (items ++ item ∷ [])) line new new_lines) result
+    → IsWithin p before (so_far name items) line old old_lines
+    → AnswersRule (item_rule p before (so_far name items) item)
+    (IsWithin p before (so_far name (items ++ item ∷ [])) line new new_lines) result
 
 -- and of all items of an equation line
-abbrev pub ReadsItems : ℕ → ℕ → MixedModel → MixedModel → List ℕ → List ℕ → List (List ℕ) → Result (Unit {0}) LineFault → Type 0
-ReadsItems line i old new old_lines new_lines items result =
+abbrev pub ReadsItems : ℕ → ℕ → ℕ → MixedModel → MixedModel → List ℕ → List ℕ → List (List ℕ)
+    → Result (Unit {0}) LineFault → Type 0
+ReadsItems p line i old new old_lines new_lines items result =
     (before : List (List (List ℕ))) (name : List ℕ) → i ≡ length (equations_in before)
-    → IsWithin before (so_far name []) line old old_lines
-    → AnswersRule (each_rule (item_rule before) (so_far name []) items) (IsWithin before (so_far name items) line new new_lines) result
+    → IsWithin p before (so_far name []) line old old_lines
+    → AnswersRule (each_rule (item_rule p before) (so_far name []) items)
+    (IsWithin p before (so_far name items) line new new_lines) result
 
 -- What adding an equation answers and leaves, wherever between two lines the reader is: its number among the others.
-abbrev pub AddsEquation : ℕ → MixedModel → MixedModel → List ℕ → List ℕ → Result ℕ LineFault → Type 0
-AddsEquation line old new lines name (Ok i) =
-    (before : List (List (List ℕ))) → IsRead before line old lines
-    → (equation_rule before name ≡ None) × (i ≡ length (equations_in before)) × IsWithin before (so_far name []) line new lines
-AddsEquation line old new lines name (Err (Broken why)) =
-    (before : List (List (List ℕ))) → IsRead before line old lines → equation_rule before name ≡ Some why
-AddsEquation line old new lines name (Err NoMemory) = Unit {0}
+abbrev pub AddsEquation : ℕ → ℕ → MixedModel → MixedModel → List ℕ → List ℕ → Result ℕ LineFault → Type 0
+AddsEquation p line old new lines name (Ok i) =
+    (before : List (List (List ℕ))) → IsRead p before line old lines
+    → (equation_rule before name ≡ None) × (i ≡ length (equations_in before))
+    × IsWithin p before (so_far name []) line new lines
+AddsEquation p line old new lines name (Err (Broken why)) =
+    (before : List (List (List ℕ))) → IsRead p before line old lines → equation_rule before name ≡ Some why
+AddsEquation p line old new lines name (Err NoMemory) = Unit {0}
 
 -- What reading an equation line answers and leaves, by the words after its first one.
-abbrev pub ReadsEquation : ℕ → MixedModel → MixedModel → List ℕ → List ℕ → List (List ℕ) → Result (Unit {0}) LineFault → Type 0
-ReadsEquation line old new old_lines new_lines words result =
-    (before : List (List (List ℕ))) → IsRead before line old old_lines
-    → AnswersRule (equation_line_rule before words) (IsRead (before ++ (codes "eq" ∷ words) ∷ []) (line + 1) new new_lines) result
+abbrev pub ReadsEquation : ℕ → ℕ → MixedModel → MixedModel → List ℕ → List ℕ → List (List ℕ)
+    → Result (Unit {0}) LineFault → Type 0
+ReadsEquation p line old new old_lines new_lines words result =
+    (before : List (List (List ℕ))) → IsRead p before line old old_lines
+    → AnswersRule (equation_line_rule p before words)
+    (IsRead p (before ++ (codes "eq" ∷ words) ∷ []) (line + 1) new new_lines) result
 
 -- What seeing one more name of an `unknown` line answers and leaves, wherever in the line the reader is.
-abbrev pub SeesUnknown : ℕ → MixedModel → MixedModel → List ℕ → List ℕ → List ℕ → Result (Unit {0}) LineFault → Type 0
-SeesUnknown line old new old_lines new_lines name result =
-    (before : List (List (List ℕ))) (names : List (List ℕ)) → IsRead (before ++ (codes "unknown" ∷ names) ∷ []) (line + 1) old old_lines
-    → AnswersRule (unknown_rule before (codes "unknown" ∷ names) name) (IsRead (before ++ (codes "unknown" ∷ names ++ name ∷ []) ∷ []) (line + 1) new new_lines) result
+abbrev pub SeesUnknown : ℕ → ℕ → MixedModel → MixedModel → List ℕ → List ℕ → List ℕ
+    → Result (Unit {0}) LineFault → Type 0
+SeesUnknown p line old new old_lines new_lines name result =
+    (before : List (List (List ℕ))) (names : List (List ℕ))
+    → IsRead p (before ++ (codes "unknown" ∷ names) ∷ []) (line + 1) old old_lines
+    → AnswersRule (unknown_rule before (codes "unknown" ∷ names) name)
+    (IsRead p (before ++ (codes "unknown" ∷ names ++ name ∷ []) ∷ []) (line + 1) new new_lines) result
 
 -- and some names
-abbrev pub SeesUnknowns : ℕ → MixedModel → MixedModel → List ℕ → List ℕ → List (List ℕ) → Result (Unit {0}) LineFault → Type 0
-SeesUnknowns line old new old_lines new_lines more result =
-    (before : List (List (List ℕ))) (names : List (List ℕ)) → IsRead (before ++ (codes "unknown" ∷ names) ∷ []) (line + 1) old old_lines
-    → AnswersRule (each_rule (unknown_rule before) (codes "unknown" ∷ names) more) (IsRead (before ++ (codes "unknown" ∷ names ++ more) ∷ []) (line + 1) new new_lines) result
+abbrev pub SeesUnknowns : ℕ → ℕ → MixedModel → MixedModel → List ℕ → List ℕ → List (List ℕ)
+    → Result (Unit {0}) LineFault → Type 0
+SeesUnknowns p line old new old_lines new_lines more result =
+    (before : List (List (List ℕ))) (names : List (List ℕ))
+    → IsRead p (before ++ (codes "unknown" ∷ names) ∷ []) (line + 1) old old_lines
+    → AnswersRule (each_rule (unknown_rule before) (codes "unknown" ∷ names) more)
+    (IsRead p (before ++ (codes "unknown" ∷ names ++ more) ∷ []) (line + 1) new new_lines) result
 
 -- What reading an `unknown` line answers and leaves, by the words after its first one.
-abbrev pub ReadsUnknowns : ℕ → MixedModel → MixedModel → List ℕ → List ℕ → List (List ℕ) → Result (Unit {0}) LineFault → Type 0
-ReadsUnknowns line old new old_lines new_lines words result =
-    (before : List (List (List ℕ))) → IsRead before line old old_lines
-    → AnswersRule (unknown_line_rule before words) (IsRead (before ++ (codes "unknown" ∷ words) ∷ []) (line + 1) new new_lines) result
+abbrev pub ReadsUnknowns : ℕ → ℕ → MixedModel → MixedModel → List ℕ → List ℕ → List (List ℕ)
+    → Result (Unit {0}) LineFault → Type 0
+ReadsUnknowns p line old new old_lines new_lines words result =
+    (before : List (List (List ℕ))) → IsRead p before line old old_lines
+    → AnswersRule (unknown_line_rule before words)
+    (IsRead p (before ++ (codes "unknown" ∷ words) ∷ []) (line + 1) new new_lines) result
 
 -- What reading a line answers and leaves.
-abbrev pub ReadsLine : ℕ → MixedModel → MixedModel → List ℕ → List ℕ → List ℕ → Result (Unit {0}) LineFault → Type 0
-ReadsLine number old new old_lines new_lines line result =
-    (before : List (List (List ℕ))) → IsRead before number old old_lines
-    → AnswersRule (line_rule before line) (IsRead (before ++ words_of line ∷ []) (number + 1) new new_lines) result
+abbrev pub ReadsLine : ℕ → ℕ → MixedModel → MixedModel → List ℕ → List ℕ → List ℕ → Result (Unit {0}) LineFault → Type 0
+ReadsLine p number old new old_lines new_lines line result =
+    (before : List (List (List ℕ))) → IsRead p before number old old_lines
+    → AnswersRule (line_rule p before line) (IsRead p (before ++ words_of line ∷ []) (number + 1) new new_lines) result

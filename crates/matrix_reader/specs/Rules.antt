@@ -4,6 +4,7 @@ use Rattle.std.specs.Prelude.{ℕ, ◌||◌, List, [], ◌∷◌, ◌++◌, leng
 use Rattle.std.specs.Option.{option_or}
 use Rattle.std.specs.Result.{result_err}
 use Rattle.std.specs.Str.{bytes_eq}
+use Rattle.limits.specs.Limits.{equation_limit}
 use Rattle.refusals.specs.declared.Why.{Why}
 use Rattle.refusals.specs.declared.Why.TheVariants.{BadByte, BadWord, BadShape, BadName, Twice, TooMany}
 use Rattle.line_lexer.specs.Names.{is_name}
@@ -23,42 +24,45 @@ name_rule name = if is_name name then None else Some BadName
 
 -- an unknown is there, or is one of the first 4,096
 abbrev pub room_rule : List (List ℕ) → List ℕ → Option Why
-room_rule unknowns unknown = if has_name unknowns unknown || nat_lt (length unknowns) 4096 then None else Some TooMany
+room_rule unknowns unknown = if has_name unknowns unknown || nat_lt (length unknowns) equation_limit
+    then None else Some TooMany
 
 -- the name of an equation: it is new, and one of the first 4,096
 abbrev pub new_equation_rule : List (List ℕ) → List ℕ → Option Why
 new_equation_rule equations name =
-    if has_name equations name then Some Twice else (if nat_lt (length equations) 4096 then None else Some TooMany)
+    if has_name equations name then Some Twice else (if nat_lt (length equations) equation_limit then None
+    else Some TooMany)
 
 abbrev pub equation_rule : List (List (List ℕ)) → List ℕ → Option Why
 equation_rule before name = option_or (name_rule name) (new_equation_rule (equation_names before) name)
 
 -- a value: a symbol, or a number, which a symbol may follow
-abbrev pub value_rule : List ℕ → Option Why
-value_rule value = if is_symbol value then None else result_err (number_of (number_text value))
+abbrev pub value_rule : ℕ → List ℕ → Option Why
+value_rule p value = if is_symbol value then None else result_err (number_of p (number_text value))
 
 -- an item by itself
-abbrev pub term_rule : List ℕ → Option Why
-term_rule item =
-    if has_equals_sign item then option_or (name_rule (unknown_of item)) (value_rule (value_of item)) else Some BadShape
+abbrev pub term_rule : ℕ → List ℕ → Option Why
+term_rule p item =
+    if has_equals_sign item then option_or (name_rule (unknown_of item)) (value_rule p (value_of item))
+    else Some BadShape
 
 -- the unknown of an item: it does not stand earlier in the line
 abbrev pub place_rule : List (List (List ℕ)) → List (List ℕ) → List ℕ → Option Why
 place_rule before earlier unknown =
     if has_name (names_in earlier) unknown then Some Twice else room_rule (unknowns_in (before ++ earlier ∷ [])) unknown
 
-abbrev pub item_rule : List (List (List ℕ)) → List (List ℕ) → List ℕ → Option Why
-item_rule before earlier item = option_or (term_rule item) (place_rule before earlier (unknown_of item))
+abbrev pub item_rule : ℕ → List (List (List ℕ)) → List (List ℕ) → List ℕ → Option Why
+item_rule p before earlier item = option_or (term_rule p item) (place_rule before earlier (unknown_of item))
 
 -- a name in an `unknown` line
 abbrev pub unknown_rule : List (List (List ℕ)) → List (List ℕ) → List ℕ → Option Why
 unknown_rule before earlier name = option_or (name_rule name) (room_rule (unknowns_in (before ++ earlier ∷ [])) name)
 
 -- an `eq` line, by the words after its first one
-abbrev pub equation_line_rule : List (List (List ℕ)) → List (List ℕ) → Option Why
-equation_line_rule before [] = Some BadShape
-equation_line_rule before (name ∷ items) =
-    option_or (equation_rule before name) (each_rule (item_rule before) (codes "eq" ∷ name ∷ []) items)
+abbrev pub equation_line_rule : ℕ → List (List (List ℕ)) → List (List ℕ) → Option Why
+equation_line_rule p before [] = Some BadShape
+equation_line_rule p before (name ∷ items) =
+    option_or (equation_rule before name) (each_rule (item_rule p before) (codes "eq" ∷ name ∷ []) items)
 
 -- an `unknown` line, by the words after its first one
 abbrev pub unknown_line_rule : List (List (List ℕ)) → List (List ℕ) → Option Why
@@ -66,12 +70,12 @@ unknown_line_rule before [] = Some BadShape
 unknown_line_rule before (name ∷ names) = each_rule (unknown_rule before) (codes "unknown" ∷ []) (name ∷ names)
 
 -- a line, by its words
-abbrev pub words_rule : List (List (List ℕ)) → List (List ℕ) → Option Why
-words_rule before [] = None
-words_rule before (word ∷ words) =
-    if bytes_eq word (codes "eq") then equation_line_rule before words
+abbrev pub words_rule : ℕ → List (List (List ℕ)) → List (List ℕ) → Option Why
+words_rule p before [] = None
+words_rule p before (word ∷ words) =
+    if bytes_eq word (codes "eq") then equation_line_rule p before words
     else (if bytes_eq word (codes "unknown") then unknown_line_rule before words else Some BadWord)
 
 -- A line, given the words of the lines before it.
-abbrev pub line_rule : List (List (List ℕ)) → List ℕ → Option Why
-line_rule before line = if is_clean line then words_rule before (words_of line) else Some BadByte
+abbrev pub line_rule : ℕ → List (List (List ℕ)) → List ℕ → Option Why
+line_rule p before line = if is_clean line then words_rule p before (words_of line) else Some BadByte

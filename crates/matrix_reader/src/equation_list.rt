@@ -1,4 +1,7 @@
+//! The model of an equation list.
+
 ghost use Rattle.std.specs.Prelude.{◌≤◌, length, IfOk, IfErr};
+ghost use Rattle.limits.specs.Limits.{input_limit};
 ghost use Rattle.matrix_reader.specs.Models.{GivesModel, IsRefusal};
 
 use crate::fault::LineFault;
@@ -6,6 +9,7 @@ use crate::reader::Reader;
 use line_lexer::lines;
 use mixed_model::Mixed;
 use refusals::{Place, ReadModel, Refused};
+use residue_field::Field;
 use std::alloc::Global;
 
 /// The model of an equation list. A line `eq NAME ITEM ..` gives an equation, and each item `UNKNOWN=VALUE` gives it
@@ -18,10 +22,10 @@ use std::alloc::Global;
 /// in an `eq` line the equation's name (`BadName`, `Twice`, `TooMany`) and then each item, which is `BadShape`
 /// without an `=`, by its name (`BadName`), its value (`BadNumber`, `Vanish`) and its unknown (`Twice` in one line,
 /// `TooMany`); in an `unknown` line each name (`BadName`, `TooMany`).
-pub fn read(alloc: Global, bytes: &[u8]) -> Result<Mixed, ReadModel>
-    requires { length bytes.now ≤ 8388608 }
-    ensures model { IfOk result (λ m. GivesModel bytes.now m) }
-    ensures refused { IfErr result (λ why. IsRefusal bytes.now why) }
+pub fn read<F: Field>(alloc: Global, bytes: &[u8]) -> Result<Mixed<F>, ReadModel>
+    requires { length bytes.now ≤ input_limit }
+    ensures model { IfOk result (λ m. GivesModel F.modulus bytes.now m) }
+    ensures refused { IfErr result (λ why. IsRefusal F.modulus bytes.now why) }
 {
     let Ok(mut reader) = Reader::new(alloc) else {
         return Err(ReadModel::NoMemory);

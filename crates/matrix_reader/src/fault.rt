@@ -1,3 +1,5 @@
+//! Why a line is not read.
+
 use mixed_model::AddError;
 use refusals::Why;
 use std::alloc::AllocFailed;

@@ -1,3 +1,5 @@
+//! The items of an equation line, and their values.
+
 ghost use Rattle.std.specs.Prelude.{◌≡◌, true, Some, None, MatchResult};
 ghost use Rattle.line_lexer.specs.Names.{is_name};
 ghost use Rattle.matrix_reader.specs.Items.{unknown_of, item_constant, item_symbol, value_constant, value_symbol};
@@ -5,27 +7,31 @@ ghost use Rattle.matrix_reader.specs.Rules.{term_rule, value_rule};
 
 use line_lexer::{name, number};
 use refusals::Why;
-use residue_field::Res;
+use residue_field::Field;
 
 /// What stands at a place: a constant, perhaps 0, and perhaps a symbol.
 #[derive(Clone, Copy)]
-pub(crate) struct Value {
-    pub constant: Res,
+pub(crate) struct Value<F: Field> {
+    pub constant: F,
     pub symbol: bool,
 }
 
 /// What an item says: the value of its equation at an unknown.
 #[derive(Clone, Copy)]
-pub(crate) struct Term<'a> {
+pub(crate) struct Term<'a, F: Field> {
     pub unknown: &'a str,
-    pub value: Value,
+    pub value: Value<F>,
 }
 
 /// An item `UNKNOWN=VALUE`, cut at its first `=`.
-pub(crate) fn read_term(item: &str) -> Result<Term<'_>, Why>
+pub(crate) fn read_term<F: Field>(item: &str) -> Result<Term<'_, F>, Why>
     ensures { MatchResult result
-        (λ term. (term_rule item.now ≡ None) × (is_name term.unknown.now ≡ true) × (term.unknown.now ≡ unknown_of item.now) × (term.value.constant ≡ item_constant item.now) × (term.value.symbol ≡ item_symbol item.now))
-        (λ why. term_rule item.now ≡ Some why) }
+        (λ term. (term_rule F.modulus item.now ≡ None)
+        × (is_name term.unknown.now ≡ true)
+        × (term.unknown.now ≡ unknown_of item.now)
+        × (F.number term.value.constant ≡ item_constant F.modulus item.now)
+        × (term.value.symbol ≡ item_symbol item.now))
+        (λ why. term_rule F.modulus item.now ≡ Some why) }
 {
     let Some((unknown, value)) = item.split_once('=') else {
         return Err(Why::BadShape);
@@ -35,14 +41,16 @@ pub(crate) fn read_term(item: &str) -> Result<Term<'_>, Why>
     Ok(Term { unknown, value })
 }
 
-/// A number, `?`, or a number followed by `+?`.
-fn read_value(text: &str) -> Result<Value, Why>
+// A number, `?`, or a number followed by `+?`.
+fn read_value<F: Field>(text: &str) -> Result<Value<F>, Why>
     ensures { MatchResult result
-        (λ value. (value_rule text.now ≡ None) × (value.constant ≡ value_constant text.now) × (value.symbol ≡ value_symbol text.now))
-        (λ why. value_rule text.now ≡ Some why) }
+        (λ value. (value_rule F.modulus text.now ≡ None)
+        × (F.number value.constant ≡ value_constant F.modulus text.now)
+        × (value.symbol ≡ value_symbol text.now))
+        (λ why. value_rule F.modulus text.now ≡ Some why) }
 {
     if text == "?" {
-        let constant = Res::of(0);
+        let constant = F::zero();
         return Ok(Value {
             constant,
             symbol: true,

@@ -1,3 +1,5 @@
+//! The reader of equation lists: the model so far, line by line.
+
 ghost use Rattle.std.specs.Prelude.{◌≡◌, ◌<◌, ℕ, [], length, map, vec_len, position, IsTrue, IfOk, IfErr, OnOk};
 ghost use Rattle.std.specs.Str.{bytes_eq};
 ghost use Rattle.mixed_model.specs.Names.{is_label};
@@ -10,20 +12,21 @@ use crate::place::put_value;
 use line_lexer::{Line, Tokens, name, tokens};
 use mixed_model::{Mixed, NoMemory};
 use refusals::Why;
+use residue_field::Field;
 use std::alloc::Global;
 
 /// The model that the lines so far give, and for each unknown the number of a line: the last equation line in which it
 /// stood, or the line that named it first.
 #[derive(Drop)]
-pub(crate) struct Reader {
-    pub model: Mixed,
+pub(crate) struct Reader<F: Field> {
+    pub model: Mixed<F>,
     pub last_lines: Vec<u32>,
 }
 
-impl Reader {
-    pub(crate) fn new(alloc: Global) -> Result<Reader, NoMemory>
+impl<F: Field> Reader<F> {
+    pub(crate) fn new(alloc: Global) -> Result<Reader<F>, NoMemory>
         ensures lengths { IfOk result (λ r. vec_len r.last_lines ≡ length r.model.unknowns) }
-        ensures model { IfOk result (λ r. (r.model ≡ empty_model) × IsModel r.model) }
+        ensures model { IfOk result (λ r. (r.model ≡ empty_model) × IsModel F.modulus r.model) }
         ensures lines { IfOk result (λ r. r.last_lines.items ≡ []) }
     {
         Ok(Reader {
@@ -35,7 +38,9 @@ impl Reader {
     pub(crate) fn read_line(&mut self, line: Line<'_>) -> Result<(), LineFault>
         requires { vec_len self.old.last_lines ≡ length self.old.model.unknowns }
         ensures lengths { OnOk result (vec_len self.new.last_lines ≡ length self.new.model.unknowns) }
-        ensures read { ReadsLine line.entry.number self.old.model self.new.model self.old.last_lines.items self.new.last_lines.items line.entry.bytes.now result }
+        ensures read { ReadsLine F.modulus line.entry.number
+            self.old.model self.new.model
+            self.old.last_lines.items self.new.last_lines.items line.entry.bytes.now result }
     {
         let mut words = match tokens(line) {
             Ok(words) => words,
@@ -57,7 +62,9 @@ impl Reader {
     fn read_equation(&mut self, line: u32, mut words: Tokens<'_>) -> Result<(), LineFault>
         requires { vec_len self.old.last_lines ≡ length self.old.model.unknowns }
         ensures lengths { OnOk result (vec_len self.new.last_lines ≡ length self.new.model.unknowns) }
-        ensures read { ReadsEquation line self.old.model self.new.model self.old.last_lines.items self.new.last_lines.items (map (λ word. word.1) words.entry) result }
+        ensures read { ReadsEquation F.modulus line
+            self.old.model self.new.model self.old.last_lines.items self.new.last_lines.items
+            (map (λ word. word.1) words.entry) result }
     {
         let Some(equation) = words.next() else {
             return Err(LineFault::Broken(Why::BadShape));
@@ -72,7 +79,8 @@ impl Reader {
         ensures within { IfOk result (λ i. i < length self.new.model.equations) }
         ensures lengths { OnOk result (vec_len self.new.last_lines ≡ length self.new.model.unknowns) }
         ensures lines { OnOk result (self.new.last_lines.items ≡ self.old.last_lines.items) }
-        ensures added { (line : ℕ) → AddsEquation line self.old.model self.new.model self.old.last_lines.items equation.now result }
+        ensures added { (line : ℕ) → AddsEquation F.modulus line
+            self.old.model self.new.model self.old.last_lines.items equation.now result }
     {
         name(equation)?;
         Ok(self.model.add_equation(equation)?)
@@ -83,7 +91,9 @@ impl Reader {
         requires lengths { vec_len self.old.last_lines ≡ length self.old.model.unknowns }
         requires equation { i < length self.old.model.equations }
         ensures lengths { OnOk result (vec_len self.new.last_lines ≡ length self.new.model.unknowns) }
-        ensures read { ReadsItems line i self.old.model self.new.model self.old.last_lines.items self.new.last_lines.items (map (λ item. item.1) items.entry) result }
+        ensures read { ReadsItems F.modulus line i
+            self.old.model self.new.model self.old.last_lines.items self.new.last_lines.items
+            (map (λ item. item.1) items.entry) result }
     {
         for item in items {
             self.read_item(line, i, item.text)?;
@@ -98,7 +108,8 @@ impl Reader {
         requires equation { i < length self.old.model.equations }
         ensures lengths { OnOk result (vec_len self.new.last_lines ≡ length self.new.model.unknowns) }
         ensures equations { OnOk result (self.new.model.equations ≡ self.old.model.equations) }
-        ensures read { ReadsItem line i self.old.model self.new.model self.old.last_lines.items self.new.last_lines.items item.now result }
+        ensures read { ReadsItem F.modulus line i
+            self.old.model self.new.model self.old.last_lines.items self.new.last_lines.items item.now result }
     {
         let term = match read_term(item) {
             Ok(term) => term,
@@ -116,8 +127,12 @@ impl Reader {
         ensures within { IfOk result (λ j. j < length self.new.model.unknowns) }
         ensures lengths { OnOk result (vec_len self.new.last_lines ≡ length self.new.model.unknowns) }
         ensures equations { OnOk result (self.new.model.equations ≡ self.old.model.equations) }
-        ensures marked { IfOk result (λ j. MarkedFrom (position (bytes_eq unknown.now) self.old.model.unknowns) line self.old.model self.new.model self.old.last_lines.items self.new.last_lines.items unknown.now j) }
-        ensures unmarked { IfErr result (λ fault. OnBroken fault (UnmarkedFrom (position (bytes_eq unknown.now) self.old.model.unknowns) line self.old.model self.old.last_lines.items)) }
+        ensures marked { IfOk result (λ j.
+            MarkedFrom F.modulus (position (bytes_eq unknown.now) self.old.model.unknowns) line
+            self.old.model self.new.model self.old.last_lines.items self.new.last_lines.items unknown.now j) }
+        ensures unmarked { IfErr result (λ fault. OnBroken fault
+            (UnmarkedFrom (position (bytes_eq unknown.now) self.old.model.unknowns) line self.old.model
+            self.old.last_lines.items)) }
     {
         let known = self.last_lines.len();
         let j = self.model.find_or_add_unknown(unknown)?;
@@ -136,7 +151,9 @@ impl Reader {
     fn read_unknowns(&mut self, line: u32, mut words: Tokens<'_>) -> Result<(), LineFault>
         requires { vec_len self.old.last_lines ≡ length self.old.model.unknowns }
         ensures lengths { OnOk result (vec_len self.new.last_lines ≡ length self.new.model.unknowns) }
-        ensures read { ReadsUnknowns line self.old.model self.new.model self.old.last_lines.items self.new.last_lines.items (map (λ word. word.1) words.entry) result }
+        ensures read { ReadsUnknowns F.modulus line
+            self.old.model self.new.model self.old.last_lines.items self.new.last_lines.items
+            (map (λ word. word.1) words.entry) result }
     {
         let Some(first) = words.next() else {
             return Err(LineFault::Broken(Why::BadShape));
@@ -148,7 +165,9 @@ impl Reader {
     fn see_unknowns(&mut self, line: u32, unknowns: Tokens<'_>) -> Result<(), LineFault>
         requires { vec_len self.old.last_lines ≡ length self.old.model.unknowns }
         ensures lengths { OnOk result (vec_len self.new.last_lines ≡ length self.new.model.unknowns) }
-        ensures seen { SeesUnknowns line self.old.model self.new.model self.old.last_lines.items self.new.last_lines.items (map (λ unknown. unknown.1) unknowns.entry) result }
+        ensures seen { SeesUnknowns F.modulus line
+            self.old.model self.new.model self.old.last_lines.items self.new.last_lines.items
+            (map (λ unknown. unknown.1) unknowns.entry) result }
     {
         for unknown in unknowns {
             self.see_unknown(line, unknown.text)?;
@@ -160,7 +179,8 @@ impl Reader {
     fn see_unknown(&mut self, line: u32, unknown: &str) -> Result<(), LineFault>
         requires { vec_len self.old.last_lines ≡ length self.old.model.unknowns }
         ensures lengths { OnOk result (vec_len self.new.last_lines ≡ length self.new.model.unknowns) }
-        ensures seen { SeesUnknown line self.old.model self.new.model self.old.last_lines.items self.new.last_lines.items unknown.now result }
+        ensures seen { SeesUnknown F.modulus line
+            self.old.model self.new.model self.old.last_lines.items self.new.last_lines.items unknown.now result }
     {
         name(unknown)?;
         self.see(line, unknown)
@@ -171,8 +191,10 @@ impl Reader {
         requires lengths { vec_len self.old.last_lines ≡ length self.old.model.unknowns }
         requires label { IsTrue (is_label unknown.now) }
         ensures lengths { OnOk result (vec_len self.new.last_lines ≡ length self.new.model.unknowns) }
-        ensures seen { OnOk result (SeenFrom (position (bytes_eq unknown.now) self.old.model.unknowns) line self.old.model self.new.model self.old.last_lines.items self.new.last_lines.items unknown.now) }
-        ensures unseen { IfErr result (λ fault. OnBroken fault (UnseenFrom (position (bytes_eq unknown.now) self.old.model.unknowns) self.old.model)) }
+        ensures seen { OnOk result (SeenFrom F.modulus (position (bytes_eq unknown.now) self.old.model.unknowns) line
+            self.old.model self.new.model self.old.last_lines.items self.new.last_lines.items unknown.now) }
+        ensures unseen { IfErr result (λ fault. OnBroken fault
+            (UnseenFrom (position (bytes_eq unknown.now) self.old.model.unknowns) self.old.model)) }
     {
         let j = self.model.find_or_add_unknown(unknown)?;
         if j == self.last_lines.len() {

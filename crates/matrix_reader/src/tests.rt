@@ -1,12 +1,16 @@
+//! Small lists, and what is read from them.
+
 use super::*;
+use mixed_model::Mixed;
 use refusals::{Place, ReadModel, Refused, Why};
+use residue_field::{Field, Res};
 use std::test::Fail;
 
 #[test]
 fn reads_a_small_list(rt: HostRuntime) -> Result<(), Fail> {
     let text =
         b"# one\xff\nunknown w\neq mass y=3 x=007\r\n\n\teq heat x=65522 w=1/3 z=0 # two\neq none\nunknown z u";
-    let model = read(rt.alloc(), text)?;
+    let model: Mixed<Res> = read(rt.alloc(), text)?;
     assert_eq!(rt; (model.equations(), model.unknowns()), (3, 5));
     assert_eq!(rt; model.equation_name(1), "heat");
     for (j, name) in [(0, "w"), (1, "y"), (2, "x"), (3, "z"), (4, "u")] {
@@ -26,7 +30,7 @@ fn reads_a_small_list(rt: HostRuntime) -> Result<(), Fail> {
 
 #[test]
 fn reads_symbols(rt: HostRuntime) -> Result<(), Fail> {
-    let model = read(
+    let model: Mixed<Res> = read(
         rt.alloc(),
         b"eq a x=? y=1+? z=0+? u=-1/3+? v=2 w=0\neq b y=? x=5",
     )?;
@@ -82,7 +86,7 @@ fn the_first_broken_rule_is_the_answer(rt: HostRuntime) -> Result<(), Fail> {
         assert!(rt; text.len() < 99);
         let place = Place::Line(line);
         let refused = ReadModel::Refused(Refused { place, why });
-        match read(rt.alloc(), text.as_bytes()) {
+        match read::<Res>(rt.alloc(), text.as_bytes()) {
             Ok(_) => assert!(rt; false, "{text}"),
             Err(error) => assert_eq!(rt; error, refused, "{text}"),
         }
@@ -92,7 +96,7 @@ fn the_first_broken_rule_is_the_answer(rt: HostRuntime) -> Result<(), Fail> {
 
 #[test]
 fn an_empty_text_gives_an_empty_model(rt: HostRuntime) -> Result<(), Fail> {
-    let model = read(rt.alloc(), b"")?;
+    let model: Mixed<Res> = read(rt.alloc(), b"")?;
     assert_eq!(rt; (model.equations(), model.unknowns()), (0, 0));
     Ok(())
 }

@@ -50,4 +50,5 @@ leads_in strict k l = nat_eq k l || strict k l
 abbrev pub IsLed : (ℕ → ℕ → Bool) → (ℕ → ℕ → Bool) → ℕ → ℕ → ℕ → Type 0
 IsLed before now n own other =
     (((other ≡ own) ⊎ (before own other ≡ true)) × (now ≡ before))
-    ⊎ ((other ≢ own) × ((joined : ℕ → ℕ → Bool) × IsJoined before joined (before other) n own × IsBitSet joined now n own other))
+    ⊎ ((other ≢ own) × ((joined : ℕ → ℕ → Bool) × IsJoined before joined (before other) n own
+    × IsBitSet joined now n own other))

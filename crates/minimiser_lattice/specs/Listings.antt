@@ -17,10 +17,14 @@ pub record IsOpened (l : Listing) (n : ℕ) : Type 0 where
   pub size : l.between.size ≡ n
 
 -- the components that a start leads to, those that lead to an end, and the others
-pub record IsMarked (n : ℕ) (number : ℕ → ℕ) (count : ℕ) (strict : ℕ → ℕ → Bool) (starts ends first last middle : ℕ → Bool) : Type 0 where
-  pub first_some : (k : ℕ) → k < count → first k ≡ true → (s : ℕ) × (s < n) × (starts s ≡ true) × (leads_in strict (number s) k ≡ true)
-  pub first_none : (k s : ℕ) → k < count → first k ≡ false → s < n → starts s ≡ true → leads_in strict (number s) k ≡ false
-  pub last_some : (k : ℕ) → k < count → last k ≡ true → (e : ℕ) × (e < n) × (ends e ≡ true) × (leads_in strict k (number e) ≡ true)
+pub record IsMarked (n : ℕ) (number : ℕ → ℕ) (count : ℕ) (strict : ℕ → ℕ → Bool)
+    (starts ends first last middle : ℕ → Bool) : Type 0 where
+  pub first_some : (k : ℕ) → k < count → first k ≡ true → (s : ℕ) × (s < n) × (starts s ≡ true)
+      × (leads_in strict (number s) k ≡ true)
+  pub first_none : (k s : ℕ) → k < count → first k ≡ false → s < n → starts s ≡ true →
+      leads_in strict (number s) k ≡ false
+  pub last_some : (k : ℕ) → k < count → last k ≡ true → (e : ℕ) × (e < n) × (ends e ≡ true)
+      × (leads_in strict k (number e) ≡ true)
   pub last_none : (k e : ℕ) → k < count → last k ≡ false → e < n → ends e ≡ true → leads_in strict k (number e) ≡ false
   pub others : (k : ℕ) → k < count → middle k ≡ (not (first k) && not (last k))
 
@@ -30,11 +34,13 @@ IsWaiting middle placed l = (middle l ≡ true) × (placed l ≡ false)
 
 -- component k of the middle waits, and all that it leads to have been placed
 abbrev pub IsReadyAt : (ℕ → ℕ → Bool) → (ℕ → Bool) → (ℕ → Bool) → ℕ → Type 0
-IsReadyAt strict middle placed k = IsWaiting middle placed k × ((l : ℕ) → l < k → strict k l ≡ true → middle l ≡ true → placed l ≡ true)
+IsReadyAt strict middle placed k = IsWaiting middle placed k
+    × ((l : ℕ) → l < k → strict k l ≡ true → middle l ≡ true → placed l ≡ true)
 
 -- of each component, what is told of those below its watch
 abbrev pub IsWatched : ℕ → (ℕ → ℕ → Bool) → (ℕ → Bool) → (ℕ → Bool) → (ℕ → ℕ) → Type 0
-IsWatched n strict middle placed watch = (k l : ℕ) → k < n → l < watch k → strict k l ≡ true → middle l ≡ true → placed l ≡ true
+IsWatched n strict middle placed watch = (k l : ℕ) → k < n → l < watch k → strict k l ≡ true →
+    middle l ≡ true → placed l ≡ true
 
 -- the components that are placed have their places
 pub record HasPlaces (count : ℕ) (middle placed : ℕ → Bool) (rank listed : ℕ → ℕ) (blocks : ℕ) : Type 0 where
@@ -46,7 +52,8 @@ pub record HasPlaces (count : ℕ) (middle placed : ℕ → Bool) (rank listed :
 
 -- in row l, of the components from `from` on: a bit is set for what one of them leads to that l leads to
 pub record IsBetweenFrom (n : ℕ) (strict between : ℕ → ℕ → Bool) (l from : ℕ) : Type 0 where
-  pub some : (y : ℕ) → y < n → between l y ≡ true → (m : ℕ) × (from ≤ m) × (m < l) × (strict l m ≡ true) × (strict m y ≡ true)
+  pub some : (y : ℕ) → y < n → between l y ≡ true → (m : ℕ) × (from ≤ m) × (m < l) × (strict l m ≡ true)
+      × (strict m y ≡ true)
   pub made : (m y : ℕ) → from ≤ m → m < l → y < n → strict l m ≡ true → strict m y ≡ true → between l y ≡ true
 
 -- between l y says that a third component stands between l and y

@@ -4,9 +4,10 @@ use Rattle.std.specs.Prelude.{ℕ, ◌+◌, ◌-◌, ◌<◌, ◌≤◌, ◌≡�
 use Rattle.residue_theory.specs.Sums.{size_on}
 use Rattle.closed_sets.specs.Walks.{Reaches}
 
--- `stack` holds the places that are seen and not done, from 0 to `height` - 1, and `position` tells where; the g-th group
--- begins at `base g`; `path` tells the positions of the places some of whose arcs are left, and `next` the first of these;
--- a place that is done has its component's number, and `strict k l` says that component k leads to the other one l
+-- `stack` holds the places that are seen and not done, from 0 to `height` - 1, and `position` tells where; the g-th
+-- group begins at `base g`; `path` tells the positions of the places some of whose arcs are left, and `next` the first
+-- of these; a place that is done has its component's number, and `strict k l` says that component k leads to the other
+-- one l
 pub record State : Type 0 where
   pub seen : ℕ → Bool
   pub done : ℕ → Bool
@@ -23,25 +24,31 @@ pub record State : Type 0 where
   pub count : ℕ
 
 -- the components that are closed: what their places lead to has a number that is no greater
-pub record IsTold (arc : ℕ → ℕ → Bool) (n : ℕ) (done : ℕ → Bool) (number : ℕ → ℕ) (count : ℕ) (strict : ℕ → ℕ → Bool) : Type 0 where
+pub record IsTold (arc : ℕ → ℕ → Bool) (n : ℕ) (done : ℕ → Bool) (number : ℕ → ℕ) (count : ℕ)
+    (strict : ℕ → ℕ → Bool) : Type 0 where
   pub below : (x : ℕ) → x < n → done x ≡ true → number x < count
   pub member : (k : ℕ) → k < count → (x : ℕ) × (x < n) × (done x ≡ true) × (number x ≡ k)
-  pub leads : (x y : ℕ) → x < n → y < n → done x ≡ true → arc x y ≡ true → (done y ≡ true) × ((number y ≡ number x) ⊎ (strict (number x) (number y) ≡ true))
+  pub leads : (x y : ℕ) → x < n → y < n → done x ≡ true → arc x y ≡ true → (done y ≡ true)
+      × ((number y ≡ number x) ⊎ (strict (number x) (number y) ≡ true))
   pub same : (x y : ℕ) → x < n → y < n → done x ≡ true → done y ≡ true → number x ≡ number y → Reaches arc n x y
-  pub tells : (x y : ℕ) → x < n → y < n → done x ≡ true → done y ≡ true → strict (number x) (number y) ≡ true → Reaches arc n x y
+  pub tells : (x y : ℕ) → x < n → y < n → done x ≡ true → done y ≡ true →
+      strict (number x) (number y) ≡ true → Reaches arc n x y
   pub falls : (k l : ℕ) → k < count → l < n → strict k l ≡ true → l < k
   pub lower : (k l m : ℕ) → k < count → l < n → m < n → strict k l ≡ true → strict l m ≡ true → strict k m ≡ true
   pub empty : (k l : ℕ) → count ≤ k → l < n → strict k l ≡ false
 
 -- the same while the component with the number `count` is closed: its places are done, and its row is being made
-pub record IsClosing (arc : ℕ → ℕ → Bool) (n : ℕ) (done : ℕ → Bool) (number : ℕ → ℕ) (count : ℕ) (strict : ℕ → ℕ → Bool) : Type 0 where
+pub record IsClosing (arc : ℕ → ℕ → Bool) (n : ℕ) (done : ℕ → Bool) (number : ℕ → ℕ) (count : ℕ)
+    (strict : ℕ → ℕ → Bool) : Type 0 where
   pub small : count < n
   pub within : (x : ℕ) → x < n → done x ≡ true → number x ≤ count
   pub member : (k : ℕ) → k ≤ count → (x : ℕ) × (x < n) × (done x ≡ true) × (number x ≡ k)
-  pub leads : (x y : ℕ) → x < n → y < n → done x ≡ true → number x < count → arc x y ≡ true → (number y ≡ number x) ⊎ (strict (number x) (number y) ≡ true)
+  pub leads : (x y : ℕ) → x < n → y < n → done x ≡ true → number x < count → arc x y ≡ true → (number y ≡ number x)
+      ⊎ (strict (number x) (number y) ≡ true)
   pub stays : (x y : ℕ) → x < n → y < n → done x ≡ true → arc x y ≡ true → done y ≡ true
   pub same : (x y : ℕ) → x < n → y < n → done x ≡ true → done y ≡ true → number x ≡ number y → Reaches arc n x y
-  pub tells : (x y : ℕ) → x < n → y < n → done x ≡ true → done y ≡ true → strict (number x) (number y) ≡ true → Reaches arc n x y
+  pub tells : (x y : ℕ) → x < n → y < n → done x ≡ true → done y ≡ true →
+      strict (number x) (number y) ≡ true → Reaches arc n x y
   pub falls : (k l : ℕ) → k ≤ count → l < n → strict k l ≡ true → l < k
   pub lower : (k l m : ℕ) → k ≤ count → l < n → m < n → strict k l ≡ true → strict l m ≡ true → strict k m ≡ true
   pub empty : (k l : ℕ) → count < k → l < n → strict k l ≡ false
@@ -55,7 +62,8 @@ IsToldOf s y = (s.number y ≡ s.count) ⊎ (s.strict s.count (s.number y) ≡ t
 
 -- y is done, or stands in no lower group than position i
 abbrev pub IsHandled : State → ℕ → ℕ → Type 0
-IsHandled s i y = (s.done y ≡ true) ⊎ ((s.seen y ≡ true) × ((g : ℕ) → g < s.groups → s.base g ≤ i → s.base g ≤ s.position y))
+IsHandled s i y = (s.done y ≡ true) ⊎ ((s.seen y ≡ true)
+    × ((g : ℕ) → g < s.groups → s.base g ≤ i → s.base g ≤ s.position y))
 
 pub record IsGoing (arc : ℕ → ℕ → Bool) (n : ℕ) (s : State) : Type 0 where
   pub told : IsTold arc n s.done s.number s.count s.strict
@@ -63,10 +71,12 @@ pub record IsGoing (arc : ℕ → ℕ → Bool) (n : ℕ) (s : State) : Type 0 w
   pub stack_seen : (i : ℕ) → i < s.height → s.seen (s.stack i) ≡ true
   pub stack_waits : (i : ℕ) → i < s.height → s.done (s.stack i) ≡ false
   pub placed : (i : ℕ) → i < s.height → s.position (s.stack i) ≡ i
-  pub on_stack : (y : ℕ) → y < n → s.seen y ≡ true → s.done y ≡ false → (s.position y < s.height) × (s.stack (s.position y) ≡ y)
+  pub on_stack : (y : ℕ) → y < n → s.seen y ≡ true → s.done y ≡ false → (s.position y < s.height)
+      × (s.stack (s.position y) ≡ y)
   pub done_seen : (y : ℕ) → y < n → s.done y ≡ true → s.seen y ≡ true
   pub along : (i j : ℕ) → i ≤ j → j < s.height → Reaches arc n (s.stack i) (s.stack j)
-  pub back : (i j : ℕ) → i ≤ j → j < s.height → ((g : ℕ) → g < s.groups → i < s.base g → s.base g ≤ j → ⊥) → Reaches arc n (s.stack j) (s.stack i)
+  pub back : (i j : ℕ) → i ≤ j → j < s.height → ((g : ℕ) → g < s.groups → i < s.base g → s.base g ≤ j → ⊥) →
+      Reaches arc n (s.stack j) (s.stack i)
   pub explored : (i y : ℕ) → i < s.height → y < n → y < s.next (s.stack i) → arc (s.stack i) y ≡ true → IsHandled s i y
   pub base_below : (g : ℕ) → g < s.groups → s.base g < s.height
   pub base_rises : (g h : ℕ) → g < h → h < s.groups → s.base g < s.base h
@@ -79,7 +89,17 @@ pub record IsGoing (arc : ℕ → ℕ → Bool) (n : ℕ) (s : State) : Type 0 w
 
 -- a place that was not seen is put on the stack, as a group of its own, and on the path
 pub record IsEntered (s t : State) (place : ℕ) : Type 0 where
-  pub kept : t ≡ record s { seen = t.seen; position = t.position; next = t.next; stack = t.stack; base = t.base; path = t.path; height = s.height + 1; groups = s.groups + 1; depth = s.depth + 1 }
+  pub kept : t ≡ record s {
+    seen = t.seen;
+    position = t.position;
+    next = t.next;
+    stack = t.stack;
+    base = t.base;
+    path = t.path;
+    height = s.height + 1;
+    groups = s.groups + 1;
+    depth = s.depth + 1;
+  }
   pub seen : t.seen place ≡ true
   pub seen_others : (y : ℕ) → y ≢ place → t.seen y ≡ s.seen y
   pub position : t.position place ≡ s.height
@@ -131,4 +151,5 @@ pub record IsQuotient (arc : ℕ → ℕ → Bool) (n : ℕ) (number : ℕ → �
   pub numbering : IsNumbering n number count strict
   pub same : (x y : ℕ) → x < n → y < n → number x ≡ number y → Reaches arc n x y
   pub tells : (x y : ℕ) → x < n → y < n → strict (number x) (number y) ≡ true → Reaches arc n x y
-  pub made : (x y : ℕ) → x < n → y < n → Reaches arc n x y → (number y ≡ number x) ⊎ (strict (number x) (number y) ≡ true)
+  pub made : (x y : ℕ) → x < n → y < n → Reaches arc n x y → (number y ≡ number x)
+      ⊎ (strict (number x) (number y) ≡ true)

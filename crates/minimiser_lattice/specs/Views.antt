@@ -8,7 +8,8 @@ use Rattle.minimiser_lattice.specs.Parts.{Parts}
 use Rattle.minimiser_lattice.specs.declared.components.Components.{Components}
 use Rattle.minimiser_lattice.specs.declared.listing.Listing.{Listing}
 
-abbrev pub parts_from : ℕ → (ℕ → ℕ) → (ℕ → Bool) → (ℕ → Bool) → (ℕ → ℕ) → (ℕ → ℕ) → ℕ → (ℕ → ℕ → Bool) → (ℕ → ℕ → Bool) → Parts
+abbrev pub parts_from : ℕ → (ℕ → ℕ) → (ℕ → Bool) → (ℕ → Bool) → (ℕ → ℕ) → (ℕ → ℕ) → ℕ → (ℕ → ℕ → Bool) →
+    (ℕ → ℕ → Bool) → Parts
 parts_from n number first last rank listed blocks strict between = record {
   places = n;
   first = λ x. first (number x);
@@ -16,12 +17,13 @@ parts_from n number first last rank listed blocks strict between = record {
   block = λ x. rank (number x);
   blocks = blocks;
   below = λ k l. strict (listed l) (listed k);
-  covers = λ l k. (nat_lt k blocks && nat_lt l blocks) && (strict (listed l) (listed k) && not (between (listed l) (listed k)));
+  covers = λ l k. (nat_lt k blocks && nat_lt l blocks)
+      && (strict (listed l) (listed k) && not (between (listed l) (listed k)));
 }
 
--- what a lattice keeps: how many places there are, the number of each place's component; of each component whether it is
--- of the first part or the last, and its block; the component of each block and how many blocks there are; and two tables
--- of bits: which component leads to which, and between which a third one stands
+-- what a lattice keeps: how many places there are, the number of each place's component; of each component whether it
+-- is of the first part or the last, and its block; the component of each block and how many blocks there are; and two
+-- tables of bits: which component leads to which, and between which a third one stands
 pub record Kept : Type 0 where
   pub places : ℕ
   pub number : List ℕ
@@ -48,7 +50,8 @@ kept_of c l = record {
 
 -- the parts that these tell
 abbrev pub parts_in : Kept → Parts
-parts_in v = parts_from v.places (λ x. slice_index v.number x) (members_of v.first) (members_of v.last) (λ k. slice_index v.rank k) (λ j. slice_index v.listed j) v.blocks (bit_in v.strict) (bit_in v.between)
+parts_in v = parts_from v.places (λ x. slice_index v.number x) (members_of v.first) (members_of v.last)
+    (λ k. slice_index v.rank k) (λ j. slice_index v.listed j) v.blocks (bit_in v.strict) (bit_in v.between)
 
 -- all that is read stands in the arrays
 pub record IsKept (c : Components) (l : Listing) : Type 0 where

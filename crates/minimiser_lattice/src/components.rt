@@ -1,3 +1,5 @@
+//! Strongly connected components and what each leads to: the path-based algorithm of Gabow (2000).
+
 ghost use Rattle.std.specs.Prelude.{◌≡◌, ◌≢◌, ℕ, ◌+◌, ◌-◌, ◌<◌, ◌≤◌, Bool, true, false, IfOk, IfSome, IfNone, slice_index};
 ghost use Rattle.exchange_graph.specs.Marks.{members_of};
 ghost use Rattle.bit_table.specs.Bits.{bit_in};
@@ -11,9 +13,9 @@ use std::alloc::Global;
 
 // The components of arcs, each a greatest set of places that reach each other, found along a path. The places that are
 // seen and not done stand on `stack`, in groups of places that reach each other, each of which leads to the next one;
-// `base` tells where each group begins. `path` tells the positions of the places some of whose arcs are left, and `next`
-// of each place the first of these. An arc back to a lower group makes one group of all above it. Where a group is
-// finished, it is a component: its places are done, and its row of `strict` tells to which others it leads.
+// `base` tells where each group begins. `path` tells the positions of the places some of whose arcs are left, and
+// `next` of each place the first of these. An arc back to a lower group makes one group of all above it. Where a group
+// is finished, it is a component: its places are done, and its row of `strict` tells to which others it leads.
 #[derive(Drop)]
 pub struct Components {
     pub seen: Vec<bool>,
@@ -32,7 +34,7 @@ pub struct Components {
 }
 
 impl Components {
-    // Room for the components of the places below n.
+    /// Room for the components of the places below n.
     pub fn open(alloc: Global, n: usize) -> Result<Self, NoMemory>
         ensures stored { IfOk result (λ c. IsStored c) }
         ensures places { IfOk result (λ c. places c ≡ n) }
@@ -55,7 +57,7 @@ impl Components {
         })
     }
 
-    // Whether component k is l, or leads to it.
+    /// Whether component k is l, or leads to it.
     pub fn leads(&self, k: usize, l: usize) -> bool
         requires stored { IsStored self.now }
         requires k { k < places self.now }
@@ -112,7 +114,8 @@ impl Components {
         requires some { 0 < self.old.groups }
         requires fits { self.old.groups ≤ places self.old }
         requires first { slice_index self.old.base.items 0 ≡ 0 }
-        requires rises { (g h : ℕ) → g < h → h < self.old.groups → slice_index self.old.base.items g < slice_index self.old.base.items h }
+        requires rises { (g h : ℕ) → g < h → h < self.old.groups →
+            slice_index self.old.base.items g < slice_index self.old.base.items h }
         ensures merged { IsMerged (state_of self.old) self.new.groups at }
         ensures kept { self.new ≡ record self.old { groups = self.new.groups } }
         ensures stored { IsStored self.new }
@@ -130,7 +133,8 @@ impl Components {
         requires going { IsGoing (A.leads arcs.now) (places self.old) (state_of self.old) }
         requires some { 0 < self.old.depth }
         ensures going { IsGoing (A.leads arcs.now) (places self.old) (state_of self.new) }
-        ensures found { IfSome result (λ to. (to < places self.old) × ((state_of self.new).seen to ≡ false) × (A.leads arcs.now (last_of (state_of self.new)) to ≡ true)) }
+        ensures found { IfSome result (λ to. (to < places self.old) × ((state_of self.new).seen to ≡ false)
+            × (A.leads arcs.now (last_of (state_of self.new)) to ≡ true)) }
         ensures finished { IfNone result (IsFinished (places self.old) (state_of self.new)) }
         ensures seen { self.new.seen ≡ self.old.seen }
         ensures depth { self.new.depth ≡ self.old.depth }
@@ -197,8 +201,10 @@ impl Components {
         requires done { (state_of self.old).done place ≡ true }
         requires number { (state_of self.old).number place ≡ self.old.count }
         ensures closing { Closes (A.leads arcs.now) (places self.old) (state_of self.new) }
-        ensures told { (y : ℕ) → y < places self.old → A.leads arcs.now place y ≡ true → IsToldOf (state_of self.new) y }
-        ensures row { (l : ℕ) → l < places self.old → bit_in self.old.strict self.old.count l ≡ true → bit_in self.new.strict self.old.count l ≡ true }
+        ensures told { (y : ℕ) → y < places self.old → A.leads arcs.now place y ≡ true →
+            IsToldOf (state_of self.new) y }
+        ensures row { (l : ℕ) → l < places self.old → bit_in self.old.strict self.old.count l ≡ true →
+            bit_in self.new.strict self.old.count l ≡ true }
         ensures kept { self.new ≡ record self.old { strict = self.new.strict } }
         ensures stored { IsStored self.new }
     {
@@ -218,7 +224,8 @@ impl Components {
         requires going { IsGoing (A.leads arcs.now) (places self.old) (state_of self.old) }
         requires some { 0 < self.old.depth }
         requires finished { IsFinished (places self.old) (state_of self.old) }
-        requires begins { (state_of self.old).base (self.old.groups - 1) ≡ (state_of self.old).path (self.old.depth - 1) }
+        requires begins { (state_of self.old).base (self.old.groups - 1)
+            ≡ (state_of self.old).path (self.old.depth - 1) }
         ensures going { IsGoing (A.leads arcs.now) (places self.old) (state_of self.new) }
         ensures depth { self.new.depth + 1 ≡ self.old.depth }
         ensures seen { self.new.seen ≡ self.old.seen }
@@ -274,11 +281,12 @@ impl Components {
         }
     }
 
-    // Finds the components of the arcs.
+    /// Finds the components of the arcs.
     pub fn fill<A: Arcs>(&mut self, arcs: &A)
         requires stored { IsStored self.old }
         requires places { A.places arcs.now ≡ places self.old }
-        ensures quotient { IsQuotient (A.leads arcs.now) (places self.old) (number_of self.new) self.new.count (bit_in self.new.strict) }
+        ensures quotient { IsQuotient (A.leads arcs.now) (places self.old) (number_of self.new) self.new.count
+            (bit_in self.new.strict) }
         ensures stored { IsStored self.new }
         ensures places { places self.new ≡ places self.old }
     {

@@ -1,3 +1,5 @@
+//! The parts of a directed graph: what is reached from its starts, what reaches its ends, and the blocks between.
+
 ghost use Rattle.std.specs.Prelude.{◌≡◌, ℕ, ◌<◌, Bool, length, IfOk};
 ghost use Rattle.exchange_graph.specs.Marks.{members_of};
 ghost use Rattle.closed_sets.specs.Closed.{NoEndReached};
@@ -21,8 +23,8 @@ pub enum Part {
     Last,
 }
 
-/// The parts of arcs and their order, in memory that is taken once. It can be filled again and again; what it tells before
-/// the first time is of no arcs at all.
+/// The parts of arcs and their order, in memory that is taken once. It can be filled again and again; what it tells
+/// before the first time is of no arcs at all.
 #[derive(Drop)]
 pub struct Lattice {
     components: Components,
@@ -53,15 +55,20 @@ impl Lattice {
     /// Finds the parts of the arcs: the first one is what is reached from the starts, the last one what reaches an end,
     /// and two other places share a block where each reaches the other. Blocks are numbered so that each stands after
     /// those below it, which are those that it reaches; where several could stand next, the one with the least place
-    /// does. A place of both the first part and the last, where an end is reached from a start, is told as of the first.
+    /// does. A place of both the first part and the last, where an end is reached from a start, is told as of the
+    /// first.
     ///
     /// It asks for each arc twice, and once more for each arc along which it first comes to a place.
     pub fn fill<A: Arcs>(&mut self, arcs: &A, starts: &[bool], ends: &[bool])
         requires places { A.places arcs.now ≡ self.old.places }
         requires starts { length starts.now ≡ self.old.places }
         requires ends { length ends.now ≡ self.old.places }
-        ensures lattice { IsLattice (A.leads arcs.now) self.old.places (members_of starts.now) (members_of ends.now) (parts_in self.new) }
-        ensures rules { NoEndReached (A.leads arcs.now) self.old.places (members_of starts.now) (members_of ends.now) → KeepsRules (A.leads arcs.now) self.old.places (members_of starts.now) (members_of ends.now) (parts_in self.new).first (parts_in self.new).last (parts_in self.new).block (parts_in self.new).blocks (parts_in self.new).covers }
+        ensures lattice { IsLattice (A.leads arcs.now) self.old.places (members_of starts.now) (members_of ends.now)
+            (parts_in self.new) }
+        ensures rules { NoEndReached (A.leads arcs.now) self.old.places (members_of starts.now) (members_of ends.now) →
+            KeepsRules (A.leads arcs.now) self.old.places (members_of starts.now) (members_of ends.now)
+            (parts_in self.new).first (parts_in self.new).last (parts_in self.new).block (parts_in self.new).blocks
+            (parts_in self.new).covers }
         ensures places { self.new.places ≡ self.old.places }
     {
         self.components.fill(arcs);

@@ -1,5 +1,5 @@
-//! The blocks of arcs, their order and their listing, in memory that is taken once (Murota, chapter 2: decompositions by
-//! minimisers).
+//! The blocks of arcs, their order and their listing, in memory that is taken once (Murota, chapter 2: decompositions
+//! by minimisers).
 #![tactic(auto)]
 
 mod components;

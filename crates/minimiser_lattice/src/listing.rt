@@ -1,3 +1,5 @@
+//! The least topological order of the components, and the transitive reduction of their order.
+
 ghost use Rattle.std.specs.Prelude.{◌≡◌, ◌≢◌, ℕ, ◌+◌, ◌<◌, ◌≤◌, Bool, true, false, not, ◌&&◌, length, vec_len, IfOk, IfSome, IfNone, slice_index};
 ghost use Rattle.exchange_graph.specs.Marks.{members_of};
 ghost use Rattle.closed_sets.specs.Tables.{Tells};
@@ -12,8 +14,8 @@ use bit_table::BitTable;
 use out_of_memory::NoMemory;
 use std::alloc::Global;
 
-// The listing of components, each item of an array standing for a component or for a block. `watch` tells of a component
-// below which number nothing holds it back: what is placed stays so, and no number is looked at twice.
+// The listing of components, each item of an array standing for a component or for a block. `watch` tells of a
+// component below which number nothing holds it back: what is placed stays so, and no number is looked at twice.
 #[derive(Drop)]
 pub struct Listing {
     pub first: Vec<bool>,
@@ -33,8 +35,10 @@ fn start_leads(components: &Components, starts: &[bool], k: usize) -> bool
     requires starts { length starts.now ≡ places components.now }
     requires k { k < places components.now }
     requires numbers { (x : ℕ) → x < places components.now → number_of components.now x < places components.now }
-    ensures some { result ≡ true → (s : ℕ) × (s < places components.now) × (members_of starts.now s ≡ true) × (leads_in (bit_in components.now.strict) (number_of components.now s) k ≡ true) }
-    ensures none { result ≡ false → (s : ℕ) → s < places components.now → members_of starts.now s ≡ true → leads_in (bit_in components.now.strict) (number_of components.now s) k ≡ false }
+    ensures some { result ≡ true → (s : ℕ) × (s < places components.now) × (members_of starts.now s ≡ true)
+        × (leads_in (bit_in components.now.strict) (number_of components.now s) k ≡ true) }
+    ensures none { result ≡ false → (s : ℕ) → s < places components.now → members_of starts.now s ≡ true →
+        leads_in (bit_in components.now.strict) (number_of components.now s) k ≡ false }
 {
     for (place, is_start) in starts.iter().enumerate() {
         if *is_start {
@@ -53,8 +57,10 @@ fn leads_to_end(components: &Components, ends: &[bool], k: usize) -> bool
     requires ends { length ends.now ≡ places components.now }
     requires k { k < places components.now }
     requires numbers { (x : ℕ) → x < places components.now → number_of components.now x < places components.now }
-    ensures some { result ≡ true → (e : ℕ) × (e < places components.now) × (members_of ends.now e ≡ true) × (leads_in (bit_in components.now.strict) k (number_of components.now e) ≡ true) }
-    ensures none { result ≡ false → (e : ℕ) → e < places components.now → members_of ends.now e ≡ true → leads_in (bit_in components.now.strict) k (number_of components.now e) ≡ false }
+    ensures some { result ≡ true → (e : ℕ) × (e < places components.now) × (members_of ends.now e ≡ true)
+        × (leads_in (bit_in components.now.strict) k (number_of components.now e) ≡ true) }
+    ensures none { result ≡ false → (e : ℕ) → e < places components.now → members_of ends.now e ≡ true →
+        leads_in (bit_in components.now.strict) k (number_of components.now e) ≡ false }
 {
     for (place, is_end) in ends.iter().enumerate() {
         if *is_end {
@@ -68,7 +74,7 @@ fn leads_to_end(components: &Components, ends: &[bool], k: usize) -> bool
 }
 
 impl Listing {
-    // Room for n components.
+    /// Room for n components.
     pub fn open(alloc: Global, n: usize) -> Result<Self, NoMemory>
         ensures opened { IfOk result (λ l. IsOpened l n) }
         ensures blocks { IfOk result (λ l. l.blocks ≡ 0) }
@@ -87,7 +93,7 @@ impl Listing {
         })
     }
 
-    // Marks what a start leads to, what leads to an end, and the others, none of which is placed.
+    /// Marks what a start leads to, what leads to an end, and the others, none of which is placed.
     pub fn mark(&mut self, components: &Components, starts: &[bool], ends: &[bool])
         requires opened { IsOpened self.old (places components.now) }
         requires stored { IsStored components.now }
@@ -95,7 +101,9 @@ impl Listing {
         requires ends { length ends.now ≡ places components.now }
         requires numbers { (x : ℕ) → x < places components.now → number_of components.now x < places components.now }
         requires count { components.now.count ≤ places components.now }
-        ensures marked { IsMarked (places components.now) (number_of components.now) components.now.count (bit_in components.now.strict) (members_of starts.now) (members_of ends.now) (members_of self.new.first.items) (members_of self.new.last.items) (members_of self.new.middle.items) }
+        ensures marked { IsMarked (places components.now) (number_of components.now) components.now.count
+            (bit_in components.now.strict) (members_of starts.now) (members_of ends.now)
+            (members_of self.new.first.items) (members_of self.new.last.items) (members_of self.new.middle.items) }
         ensures none { (k : ℕ) → k < components.now.count → members_of self.new.placed.items k ≡ false }
         ensures watch { (k : ℕ) → k < components.now.count → slice_index self.new.watch.items k ≡ 0 }
         ensures blocks { self.new.blocks ≡ 0 }
@@ -123,9 +131,12 @@ impl Listing {
         ensures watch { slice_index self.new.watch.items k ≡ 0 }
         ensures first_others { (j : ℕ) → j ≢ k → members_of self.new.first.items j ≡ members_of self.old.first.items j }
         ensures last_others { (j : ℕ) → j ≢ k → members_of self.new.last.items j ≡ members_of self.old.last.items j }
-        ensures middle_others { (j : ℕ) → j ≢ k → members_of self.new.middle.items j ≡ members_of self.old.middle.items j }
-        ensures placed_others { (j : ℕ) → j ≢ k → members_of self.new.placed.items j ≡ members_of self.old.placed.items j }
-        ensures watch_others { (j : ℕ) → j ≢ k → slice_index self.new.watch.items j ≡ slice_index self.old.watch.items j }
+        ensures middle_others { (j : ℕ) → j ≢ k → members_of self.new.middle.items j
+            ≡ members_of self.old.middle.items j }
+        ensures placed_others { (j : ℕ) → j ≢ k → members_of self.new.placed.items j
+            ≡ members_of self.old.placed.items j }
+        ensures watch_others { (j : ℕ) → j ≢ k → slice_index self.new.watch.items j
+            ≡ slice_index self.old.watch.items j }
         ensures blocks { self.new.blocks ≡ self.old.blocks }
         ensures opened { (n : ℕ) → IsOpened self.old n → IsOpened self.new n }
     {
@@ -143,7 +154,8 @@ impl Listing {
         requires stored { IsStored components.now }
         requires k { k < places components.now }
         requires l { l < places components.now }
-        ensures { result ≡ (members_of self.now.middle.items l && (not (members_of self.now.placed.items l) && bit_in components.now.strict k l)) }
+        ensures { result ≡ (members_of self.now.middle.items l
+            && (not (members_of self.now.placed.items l) && bit_in components.now.strict k l)) }
     {
         self.middle[l] && !self.placed[l] && components.strict.get(k, l)
     }
@@ -154,10 +166,14 @@ impl Listing {
         requires stored { IsStored components.now }
         requires k { k < components.now.count }
         requires count { components.now.count ≤ places components.now }
-        requires watched { IsWatched components.now.count (bit_in components.now.strict) (members_of self.old.middle.items) (members_of self.old.placed.items) (watch_of self.old) }
-        ensures ready { result ≡ true → IsReadyAt (bit_in components.now.strict) (members_of self.old.middle.items) (members_of self.old.placed.items) k }
-        ensures held { result ≡ false → IsReadyAt (bit_in components.now.strict) (members_of self.old.middle.items) (members_of self.old.placed.items) k → ⊥ }
-        ensures watched { IsWatched components.now.count (bit_in components.now.strict) (members_of self.old.middle.items) (members_of self.old.placed.items) (watch_of self.new) }
+        requires watched { IsWatched components.now.count (bit_in components.now.strict)
+            (members_of self.old.middle.items) (members_of self.old.placed.items) (watch_of self.old) }
+        ensures ready { result ≡ true → IsReadyAt (bit_in components.now.strict) (members_of self.old.middle.items)
+            (members_of self.old.placed.items) k }
+        ensures held { result ≡ false → IsReadyAt (bit_in components.now.strict) (members_of self.old.middle.items)
+            (members_of self.old.placed.items) k → ⊥ }
+        ensures watched { IsWatched components.now.count (bit_in components.now.strict)
+            (members_of self.old.middle.items) (members_of self.old.placed.items) (watch_of self.new) }
         ensures kept { self.new ≡ record self.old { watch = self.new.watch } }
         ensures opened { IsOpened self.new (places components.now) }
     {
@@ -178,12 +194,19 @@ impl Listing {
         requires stored { IsStored components.now }
         requires numbers { (x : ℕ) → x < places components.now → number_of components.now x < components.now.count }
         requires count { components.now.count ≤ places components.now }
-        requires watched { IsWatched components.now.count (bit_in components.now.strict) (members_of self.old.middle.items) (members_of self.old.placed.items) (watch_of self.old) }
+        requires watched { IsWatched components.now.count (bit_in components.now.strict)
+            (members_of self.old.middle.items) (members_of self.old.placed.items) (watch_of self.old) }
         ensures below { IfSome result (λ x. x < places components.now) }
-        ensures ready { IfSome result (λ x. IsReadyAt (bit_in components.now.strict) (members_of self.old.middle.items) (members_of self.old.placed.items) (number_of components.now x)) }
-        ensures least { IfSome result (λ x. (j : ℕ) → j < x → IsReadyAt (bit_in components.now.strict) (members_of self.old.middle.items) (members_of self.old.placed.items) (number_of components.now j) → ⊥) }
-        ensures none { IfNone result ((j : ℕ) → j < places components.now → IsReadyAt (bit_in components.now.strict) (members_of self.old.middle.items) (members_of self.old.placed.items) (number_of components.now j) → ⊥) }
-        ensures watched { IsWatched components.now.count (bit_in components.now.strict) (members_of self.old.middle.items) (members_of self.old.placed.items) (watch_of self.new) }
+        ensures ready { IfSome result (λ x. IsReadyAt (bit_in components.now.strict) (members_of self.old.middle.items)
+            (members_of self.old.placed.items) (number_of components.now x)) }
+        ensures least { IfSome result (λ x. (j : ℕ) → j < x →
+            IsReadyAt (bit_in components.now.strict) (members_of self.old.middle.items)
+            (members_of self.old.placed.items) (number_of components.now j) → ⊥) }
+        ensures none { IfNone result ((j : ℕ) → j < places components.now →
+            IsReadyAt (bit_in components.now.strict) (members_of self.old.middle.items)
+            (members_of self.old.placed.items) (number_of components.now j) → ⊥) }
+        ensures watched { IsWatched components.now.count (bit_in components.now.strict)
+            (members_of self.old.middle.items) (members_of self.old.placed.items) (watch_of self.new) }
         ensures kept { self.new ≡ record self.old { watch = self.new.watch } }
         ensures opened { IsOpened self.new (places components.now) }
     {
@@ -202,13 +225,21 @@ impl Listing {
         requires rank { k < vec_len self.old.rank }
         requires listed { self.old.blocks < vec_len self.old.listed }
         ensures placed { members_of self.new.placed.items k ≡ true }
-        ensures placed_others { (l : ℕ) → l ≢ k → members_of self.new.placed.items l ≡ members_of self.old.placed.items l }
+        ensures placed_others { (l : ℕ) → l ≢ k → members_of self.new.placed.items l
+            ≡ members_of self.old.placed.items l }
         ensures rank { slice_index self.new.rank.items k ≡ self.old.blocks }
         ensures rank_others { (l : ℕ) → l ≢ k → slice_index self.new.rank.items l ≡ slice_index self.old.rank.items l }
         ensures listed { slice_index self.new.listed.items self.old.blocks ≡ k }
-        ensures listed_others { (j : ℕ) → j ≢ self.old.blocks → slice_index self.new.listed.items j ≡ slice_index self.old.listed.items j }
-        ensures kept { self.new ≡ record self.old { placed = self.new.placed; rank = self.new.rank; listed = self.new.listed; blocks = self.old.blocks + 1 } }
-        ensures lengths { (vec_len self.new.placed ≡ vec_len self.old.placed) × (vec_len self.new.rank ≡ vec_len self.old.rank) × (vec_len self.new.listed ≡ vec_len self.old.listed) }
+        ensures listed_others { (j : ℕ) → j ≢ self.old.blocks →
+            slice_index self.new.listed.items j ≡ slice_index self.old.listed.items j }
+        ensures kept { self.new ≡ record self.old {
+          placed = self.new.placed;
+          rank = self.new.rank;
+          listed = self.new.listed;
+          blocks = self.old.blocks + 1;
+        } }
+        ensures lengths { (vec_len self.new.placed ≡ vec_len self.old.placed)
+            × (vec_len self.new.rank ≡ vec_len self.old.rank) × (vec_len self.new.listed ≡ vec_len self.old.listed) }
     {
         self.placed[k] = true;
         self.rank[k] = self.blocks;
@@ -216,18 +247,32 @@ impl Listing {
         self.blocks += 1;
     }
 
-    // Lists the components of the middle: at each place the one with the least place of those that are ready.
+    /// Lists the components of the middle: at each place the one with the least place of those that are ready.
     pub fn list(&mut self, components: &Components)
         requires opened { IsOpened self.old (places components.now) }
         requires stored { IsStored components.now }
-        requires numbering { IsNumbering (places components.now) (number_of components.now) components.now.count (bit_in components.now.strict) }
+        requires numbering { IsNumbering (places components.now) (number_of components.now) components.now.count
+            (bit_in components.now.strict) }
         requires none { (k : ℕ) → k < components.now.count → members_of self.old.placed.items k ≡ false }
         requires watch { (k : ℕ) → k < components.now.count → slice_index self.old.watch.items k ≡ 0 }
         requires blocks { self.old.blocks ≡ 0 }
-        ensures listing { (arc : ℕ → ℕ → Bool) (starts ends : ℕ → Bool) → Tells arc (places components.now) starts ends (table_of (bit_in components.now.strict) (number_of components.now)) (λ x. members_of self.old.middle.items (number_of components.now x)) → IsListing arc (places components.now) starts ends (λ x. slice_index self.new.rank.items (number_of components.now x)) self.new.blocks }
-        ensures has { HasPlaces components.now.count (members_of self.old.middle.items) (members_of self.new.placed.items) (λ k. slice_index self.new.rank.items k) (λ j. slice_index self.new.listed.items j) self.new.blocks }
+        ensures listing { (arc : ℕ → ℕ → Bool) (starts ends : ℕ → Bool) →
+            Tells arc (places components.now) starts ends
+            (table_of (bit_in components.now.strict) (number_of components.now))
+            (λ x. members_of self.old.middle.items (number_of components.now x)) →
+            IsListing arc (places components.now) starts ends (λ x.
+            slice_index self.new.rank.items (number_of components.now x)) self.new.blocks }
+        ensures has { HasPlaces components.now.count (members_of self.old.middle.items)
+            (members_of self.new.placed.items) (λ k. slice_index self.new.rank.items k)
+            (λ j. slice_index self.new.listed.items j) self.new.blocks }
         ensures fits { self.new.blocks ≤ places components.now }
-        ensures kept { self.new ≡ record self.old { placed = self.new.placed; watch = self.new.watch; rank = self.new.rank; listed = self.new.listed; blocks = self.new.blocks } }
+        ensures kept { self.new ≡ record self.old {
+          placed = self.new.placed;
+          watch = self.new.watch;
+          rank = self.new.rank;
+          listed = self.new.listed;
+          blocks = self.new.blocks;
+        } }
         ensures opened { IsOpened self.new (places components.now) }
     {
         while let Some(place) = self.least_ready(components) {
@@ -240,11 +285,14 @@ impl Listing {
     fn cover_row(&mut self, components: &Components, l: usize)
         requires opened { IsOpened self.old (places components.now) }
         requires stored { IsStored components.now }
-        requires numbering { IsNumbering (places components.now) (number_of components.now) components.now.count (bit_in components.now.strict) }
+        requires numbering { IsNumbering (places components.now) (number_of components.now) components.now.count
+            (bit_in components.now.strict) }
         requires l { l < components.now.count }
         requires empty { (y : ℕ) → y < places components.now → bit_in self.old.between l y ≡ false }
-        ensures row { IsBetweenFrom (places components.now) (bit_in components.now.strict) (bit_in self.new.between) l 0 }
-        ensures others { (k y : ℕ) → y < places components.now → k ≢ l → bit_in self.new.between k y ≡ bit_in self.old.between k y }
+        ensures row { IsBetweenFrom (places components.now) (bit_in components.now.strict)
+            (bit_in self.new.between) l 0 }
+        ensures others { (k y : ℕ) → y < places components.now → k ≢ l →
+            bit_in self.new.between k y ≡ bit_in self.old.between k y }
         ensures kept { self.new ≡ record self.old { between = self.new.between } }
         ensures opened { IsOpened self.new (places components.now) }
     {
@@ -257,12 +305,14 @@ impl Listing {
         }
     }
 
-    // Finds between which components a third one stands.
+    /// Finds between which components a third one stands.
     pub fn cover(&mut self, components: &Components)
         requires opened { IsOpened self.old (places components.now) }
         requires stored { IsStored components.now }
-        requires numbering { IsNumbering (places components.now) (number_of components.now) components.now.count (bit_in components.now.strict) }
-        ensures between { IsBetween (places components.now) components.now.count (bit_in components.now.strict) (bit_in self.new.between) }
+        requires numbering { IsNumbering (places components.now) (number_of components.now) components.now.count
+            (bit_in components.now.strict) }
+        ensures between { IsBetween (places components.now) components.now.count (bit_in components.now.strict)
+            (bit_in self.new.between) }
         ensures kept { self.new ≡ record self.old { between = self.new.between } }
         ensures opened { IsOpened self.new (places components.now) }
     {

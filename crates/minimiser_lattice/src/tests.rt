@@ -1,3 +1,5 @@
+//! Tests of the parts of directed graphs.
+
 ghost use Rattle.std.specs.Prelude.{◌≡◌, ◌<◌, ℕ, ◌+◌, ◌^◌, ◌/◌, ◌&&◌, nat_eq, nat_lt, bit_and, true, vec_len, slice_index, IfOk};
 
 use super::Part::{Block, First, Last};
@@ -277,7 +279,8 @@ fn four_places(rt: HostRuntime) -> Result<(), Fail> {
     check(rt.alloc(), &rt, 4, &cases)
 }
 
-// Two rows of three places, each of which leads to the right and down; then three rings of two, each leading to the next.
+// Two rows of three places, each of which leads to the right and down; then three rings of two, each leading to the
+// next.
 #[test]
 fn six_places(rt: HostRuntime) -> Result<(), Fail> {
     let grid = [(0, 1), (1, 2), (3, 4), (4, 5), (0, 3), (1, 4), (2, 5)];

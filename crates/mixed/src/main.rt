@@ -21,7 +21,7 @@ fn main(rt: HostRuntime) -> ExitCode {
     ExitCode::from(status.number())
 }
 
-/// The words of the command line: no status but `Memory`, and `Usage` where the system does not give them as text.
+// The words of the command line: no status but `Memory`, and `Usage` where the system does not give them as text.
 fn words(rt: &(impl Env + AllocGlobal)) -> Result<Vec<String>, Status> {
     match env::args(rt) {
         Ok(args) => match args.collect(rt.alloc()) {

@@ -1,7 +1,7 @@
 -- How many pivots a route has.
 use Rattle.std.proofs.Common.{ℕ, suc, ◌+◌, ◌≤◌, Bool, cond, arith}
 use Rattle.residue_theory.specs.Sums.{size_on}
-use Rattle.mixed_matrices.specs.LayeredMatrices.{Layered}
+use Rattle.mixed_matrices.specs.LayeredMatrices.{LayeredMatrix}
 use Rattle.mixed_matrices.specs.Tableaus.{Tableau}
 use Rattle.residue_theory.proofs.CountLaws.{size-injection}
 use Rattle.mixed_augmentation.specs.Moves.{Route, IsRoute}
@@ -10,7 +10,7 @@ at_most_one : (b : Bool) → cond b 1 0 ≤ 1
 at_most_one b = grind arith
 
 -- a route has at most one pivot more than there are base columns
-pub route-pivots : (p : ℕ) (L : Layered) (F : Tableau) (R : Route) → IsRoute p L F R → size_on R.in_q (suc R.last) ≤ size_on F.base L.columns + 1
+pub route-pivots : (p : ℕ) (L : LayeredMatrix) (F : Tableau) (R : Route) → IsRoute p L F R → size_on R.in_q (suc R.last) ≤ size_on F.base L.columns + 1
 route-pivots p L F R W = omega (arith, at_most_one (R.in_q R.last), inner)
   where
     inner : size_on R.in_q R.last ≤ size_on F.base L.columns

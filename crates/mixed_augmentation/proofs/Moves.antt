@@ -2,18 +2,18 @@
 use Rattle.std.proofs.Common.{◌≡◌, ℕ, zero, suc, ◌+◌, ◌%◌, ◌<◌, ◌≤◌, ◌≢◌, Bool, true, false, ◌||◌, ◌⊎◌, inl, inr, refl, ap, sym, subst, ◌∙◌, arith}
 use Rattle.std.proofs.lemmas.Bool.Decides.{nat_tests}
 use Rattle.residue_theory.specs.Sets.{with_one, either}
-use Rattle.linear_algebra.specs.Bases.{IsBase}
+use Rattle.linear_algebra.specs.Bases.{IsBaseTaken, IsBase}
 use Rattle.linear_algebra.specs.RowOperations.{IsPivoted}
 use Rattle.linear_algebra.specs.Kernels.{SameKernel}
 use Rattle.linear_algebra_laws.proofs.Kernels.{kernel-trans}
 use Rattle.residue_theory.proofs.SumLaws.{nat_cases, sum_on-same}
 use Rattle.residue_theory.proofs.CountLaws.{sum-with_one}
-use Rattle.mixed_matrices.specs.LayeredMatrices.{Layered}
+use Rattle.mixed_matrices.specs.LayeredMatrices.{LayeredMatrix}
 use Rattle.mixed_matrices.specs.Pairs.{IsMatching, pair_size}
 use Rattle.mixed_matrices.specs.Tableaus.{Tableau, HasTableau}
 use Rattle.residue_theory.proofs.SetLaws.{differ, either-first, either-second, with_one-new}
 use Rattle.residue_theory.proofs.CountLaws.{size-either}
-use Rattle.mixed_augmentation.specs.Moves.{IsBaseTaken, IsUnlinked, IsLinked, TakesRow, TakesMate, Route, IsRoute, IsStage}
+use Rattle.mixed_augmentation.specs.Moves.{IsUnlinked, IsLinked, TakesRow, TakesMate, Route, IsRoute, IsStage}
 
 pub test_cases : (b : Bool) → (b ≡ true) ⊎ (b ≡ false)
 test_cases true = inl refl
@@ -56,7 +56,7 @@ base-taken p m n F G r v rl base pivoted taken = record { row_below = row_below;
         both_cases (inr ne) (inl s) = let old = taken.only c cl ne ch in absurd (old.1 (sym old.2 ∙ e ∙ ap (λ x. G.row x) s ∙ taken.at_row))
         both_cases (inr ne) (inr other) = let oc = taken.only c cl ne ch in let od = taken.only d dl other dh in base.distinct c d cl dl oc.0 od.0 (sym oc.2 ∙ e ∙ od.2)
 
-pub matching-unlinked : (L : Layered) (F G : Tableau) (v : ℕ) → IsMatching L F.matched F.mate → IsUnlinked L.columns F.matched F.mate G.matched G.mate v → IsMatching L G.matched G.mate
+pub matching-unlinked : (L : LayeredMatrix) (F G : Tableau) (v : ℕ) → IsMatching L F.matched F.mate → IsUnlinked L.columns F.matched F.mate G.matched G.mate v → IsMatching L G.matched G.mate
 matching-unlinked L F G v M U = record {
   below = λ j jl jh. subst (λ x. x < L.t_rows) (sym (U.mates j jl (other j jh))) (M.below j jl (old j jl jh));
   symbol = λ j jl jh. ap (λ x. L.t x j) (U.mates j jl (other j jh)) ∙ M.symbol j jl (old j jl jh);
@@ -69,7 +69,7 @@ matching-unlinked L F G v M U = record {
     old : (j : ℕ) → j < L.columns → G.matched j ≡ true → F.matched j ≡ true
     old j jl jh = sym (U.tests j jl (other j jh)) ∙ jh
 
-pub matching-linked : (L : Layered) (F G : Tableau) (t v : ℕ) → IsMatching L F.matched F.mate → IsLinked L.columns F.matched F.mate G.matched G.mate t v → t < L.t_rows → L.t t v ≡ true →
+pub matching-linked : (L : LayeredMatrix) (F G : Tableau) (t v : ℕ) → IsMatching L F.matched F.mate → IsLinked L.columns F.matched F.mate G.matched G.mate t v → t < L.t_rows → L.t t v ≡ true →
     ((y : ℕ) → y < L.columns → F.matched y ≡ true → F.mate y ≢ t) → IsMatching L G.matched G.mate
 matching-linked L F G t v M K tl touches free = record { below = below; symbol = symbol; distinct = distinct }
   where
@@ -97,7 +97,7 @@ matching-linked L F G t v M K tl touches free = record { below = below; symbol =
         both_cases (inr ne) (inl s) = absurd (free c cl (old c cl ne ch) (sym (K.mates c cl ne) ∙ e ∙ ap (λ x. G.mate x) s ∙ K.partner))
         both_cases (inr ne) (inr other) = M.distinct c d cl dl (old c cl ne ch) (old d dl other dh) (sym (K.mates c cl ne) ∙ e ∙ K.mates d dl other)
 
-module _ (p : ℕ) (L : Layered) (F : Tableau) (R : Route) (T : HasTableau p L F) (W : IsRoute p L F R) where
+module _ (p : ℕ) (L : LayeredMatrix) (F : Tableau) (R : Route) (T : HasTableau p L F) (W : IsRoute p L F R) where
   apart_at : (y : ℕ) → y < L.columns → F.base y ≡ true → F.matched y ≡ true → ⊥
   apart_at y yl b j = differ (T.apart y yl b) j
 

@@ -2,7 +2,7 @@
 use Rattle.std.proofs.Common.{◌≡◌, ℕ, suc, ◌%◌, ◌<◌, ◌≤◌, ◌≢◌, Bool, true, false, cond, ltb, ◌⊎◌, inl, inr, refl, ap, sym, subst, ◌∙◌, arith}
 use Rattle.std.proofs.lemmas.Bool.Decides.{nat_tests}
 use Rattle.residue_theory.proofs.SumLaws.{nat_cases}
-use Rattle.mixed_matrices.specs.LayeredMatrices.{Layered}
+use Rattle.mixed_matrices.specs.LayeredMatrices.{LayeredMatrix}
 use Rattle.mixed_matrices.specs.Arcs.{has_base, has_match, is_end, is_free, leads_to}
 use Rattle.mixed_matrices.specs.Tableaus.{Tableau, HasTableau}
 use Rattle.linear_algebra.specs.Bases.{HasNoBase}
@@ -27,7 +27,7 @@ last_test : (k : ℕ) → ltb k k ≡ false
 last_test k = grind (arith, nat_tests)
 
 -- ---- ends and free rows
-module _ (p : ℕ) (L : Layered) (F : Tableau) where
+module _ (p : ℕ) (L : LayeredMatrix) (F : Tableau) where
   bare-row : (i : ℕ) → HasNoBase L.columns F.base F.row i → has_base L F i ≡ false
   bare-row i none = not_true (has_base L F i) (λ h. let (y, yl, b, e) = base_found L F i h in none y yl b e)
 
@@ -44,7 +44,7 @@ module _ (p : ℕ) (L : Layered) (F : Tableau) where
     | inr (i, il, s, none) ↦ (false, i, record { of_q = λ e. absurd (differ refl e); of_t = λ _. (il, s, no_match L F i none) })
   ]
 
-module _ (p : ℕ) (L : Layered) (F : Tableau) (T : HasTableau p L F)
+module _ (p : ℕ) (L : LayeredMatrix) (F : Tableau) (T : HasTableau p L F)
     (at : ℕ → ℕ) (k : ℕ) (W : IsShortest (leads_to p L F) L.columns (is_free F) (is_end p L F) at k) (by : Bool) (place : ℕ) (E : IsFreeRow p L F (at k) by place) where
   abbrev R : Route
   R = route F at k by place

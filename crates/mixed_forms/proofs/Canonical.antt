@@ -10,13 +10,13 @@ use Rattle.mixed_matrices.specs.Arcs.{HasNoWalk, IsClosedIn, IsOfMiddle, Reaches
 use Rattle.mixed_matrices.specs.CanonicalParts.{AreCanonical, IsBlockBelow, IsHeldWith, IsLeastColumn, IsLowerBlock, IsOfBlock, IsReadyAt}
 use Rattle.mixed_matrices.specs.CheckerRules.{IsListingIn, KeepsPartRules, block_of}
 use Rattle.mixed_matrices.specs.Forms.{Parts}
-use Rattle.mixed_matrices.specs.LayeredMatrices.{Layered}
+use Rattle.mixed_matrices.specs.LayeredMatrices.{LayeredMatrix}
 use Rattle.mixed_matrices.specs.SetFunctions.{IsMinimiser}
 use Rattle.mixed_matrices.specs.Tableaus.{HasTableau, Tableau}
 use Rattle.mixed_pairs.proofs.Minimisers.{closed-minimiser, least_set, least_set-closed, minimiser-closed}
 use Rattle.mixed_forms.proofs.CheckedParts.{block-held, checked-clear, checked-listing, first-from, from-first, last-to, middle-of_block, of_block-middle, of_block-number, to-last}
 
-module _ (p : ℕ) (prime : IsPrime p) (L : Layered) (F : Tableau) (tab : HasTableau p L F) (G : Parts) (below lower : ℕ → ℕ → Bool) (K : KeepsPartRules p L F G below lower) where
+module _ (p : ℕ) (prime : IsPrime p) (L : LayeredMatrix) (F : Tableau) (tab : HasTableau p L F) (G : Parts) (below lower : ℕ → ℕ → Bool) (K : KeepsPartRules p L F G below lower) where
   clear : HasNoWalk p L F
   clear = checked-clear p L F G below lower K
 

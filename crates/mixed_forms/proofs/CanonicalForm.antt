@@ -6,7 +6,7 @@ use Rattle.closed_sets.specs.Blocks.{IsListing}
 use Rattle.mixed_matrices.specs.Arcs.{HasNoWalk, is_end, is_free, leads_to}
 use Rattle.mixed_matrices.specs.CanonicalParts.{AreCanonical, AreRightParts}
 use Rattle.mixed_matrices.specs.Forms.{Parts}
-use Rattle.mixed_matrices.specs.LayeredMatrices.{Layered}
+use Rattle.mixed_matrices.specs.LayeredMatrices.{LayeredMatrix}
 use Rattle.mixed_matrices.specs.Pairs.{IsBest}
 use Rattle.mixed_matrices.specs.Tableaus.{HasTableau, IsTableau, Tableau}
 use Rattle.mixed_pairs.proofs.BestPairs.{Optimal, optimal}
@@ -19,14 +19,14 @@ use Rattle.mixed_forms.proofs.OneListing.{same-blocks, same-column}
 use Rattle.mixed_forms.proofs.RightParts.{kept-right}
 
 -- a tableau whose pair is best
-pub record BestTableau (p : ℕ) (L : Layered) : Type 0 where
+pub record BestTableau (p : ℕ) (L : LayeredMatrix) : Type 0 where
   pub S : ℕ → ℕ → ℕ
   pub U : ℕ → ℕ → ℕ
   pub F : Tableau
   pub is_tableau : IsTableau p L S U F
   pub clear : HasNoWalk p L F
 
-pub best_tableau : (p : ℕ) → IsPrime p → (L : Layered) → BestTableau p L
+pub best_tableau : (p : ℕ) → IsPrime p → (L : LayeredMatrix) → BestTableau p L
 best_tableau p prime L = go (optimal p prime L)
   where
     go : Optimal p L → BestTableau p L
@@ -46,7 +46,7 @@ best_tableau p prime L = go (optimal p prime L)
               (tableau p prime L S U (record { P = P; base = O.I; row = row; matched = O.J; mate = O.mate }) tab) best;
         }
 
-pub canonical_form : (p : ℕ) → IsPrime p → (L : Layered) → (S : ℕ → ℕ → ℕ) × (G : Parts) × (below : ℕ → ℕ → Bool) × (lower : ℕ → ℕ → Bool) × AreRightParts p L S G below lower
+pub canonical_form : (p : ℕ) → IsPrime p → (L : LayeredMatrix) → (S : ℕ → ℕ → ℕ) × (G : Parts) × (below : ℕ → ℕ → Bool) × (lower : ℕ → ℕ → Bool) × AreRightParts p L S G below lower
 canonical_form p prime L = go (best_tableau p prime L)
   where
     go : BestTableau p L → (S : ℕ → ℕ → ℕ) × (G : Parts) × (below : ℕ → ℕ → Bool) × (lower : ℕ → ℕ → Bool) × AreRightParts p L S G below lower
@@ -67,7 +67,7 @@ canonical_form p prime L = go (best_tableau p prime L)
         )
 
 -- canonical parts are one
-module _ (p : ℕ) (prime : IsPrime p) (L : Layered) (G H : Parts) (C : AreCanonical p L G) (D : AreCanonical p L H) where
+module _ (p : ℕ) (prime : IsPrime p) (L : LayeredMatrix) (G H : Parts) (C : AreCanonical p L G) (D : AreCanonical p L H) where
   one-choice : BestTableau p L → (G.blocks ≡ H.blocks) × ((x : ℕ) → x < L.columns → G.column x ≡ H.column x)
   one-choice T = let has : HasTableau p L T.F = tableau p prime L T.S T.U T.F T.is_tableau in
       (same-blocks p prime L T.F has T.clear G H C D, same-column p prime L T.F has T.clear G H C D)

@@ -13,7 +13,7 @@ use Rattle.mixed_matrices.specs.Arcs.{IsFromFree, ReachesEnd, has_base, has_matc
 use Rattle.mixed_matrices.specs.CanonicalParts.{IsOfBlock}
 use Rattle.mixed_matrices.specs.CheckerRules.{KeepsPartRules, block_of}
 use Rattle.mixed_matrices.specs.Forms.{IsEmptyAt, IsForm, IsOrdered, Parts, diagonal_part, part_columns, part_rows, transformed}
-use Rattle.mixed_matrices.specs.LayeredMatrices.{Layered}
+use Rattle.mixed_matrices.specs.LayeredMatrices.{LayeredMatrix}
 use Rattle.mixed_matrices.specs.Pairs.{pair_size}
 use Rattle.mixed_matrices.specs.StructuralRanks.{IsLayeredRank}
 use Rattle.mixed_matrices.specs.Tableaus.{IsTableau, Tableau}
@@ -24,7 +24,7 @@ use Rattle.mixed_forms.proofs.CheckedParts.{block-held, end-last, entry-falls, f
 zero_or : (x : ℕ) → (x ≡ 0) ⊎ (0 < x)
 zero_or x = grind arith
 
-module _ (p : ℕ) (prime : IsPrime p) (L : Layered) (S U : ℕ → ℕ → ℕ) (F : Tableau) (tab : IsTableau p L S U F) (G : Parts) (below lower : ℕ → ℕ → Bool)
+module _ (p : ℕ) (prime : IsPrime p) (L : LayeredMatrix) (S U : ℕ → ℕ → ℕ) (F : Tableau) (tab : IsTableau p L S U F) (G : Parts) (below lower : ℕ → ℕ → Bool)
     (K : KeepsPartRules p L F G below lower) where
   abbrev C : ℕ → ℕ → Bool
   C k = in_part G.column k

@@ -10,11 +10,11 @@ use Rattle.mixed_matrices.specs.Arcs.{HasNoWalk, IsFromFree, IsOfMiddle, Reaches
 use Rattle.mixed_matrices.specs.CanonicalParts.{IsOfBlock}
 use Rattle.mixed_matrices.specs.CheckerRules.{IsListingIn, KeepsPartRules, block_of, in_first, in_last}
 use Rattle.mixed_matrices.specs.Forms.{Parts}
-use Rattle.mixed_matrices.specs.LayeredMatrices.{Layered}
+use Rattle.mixed_matrices.specs.LayeredMatrices.{LayeredMatrix}
 use Rattle.mixed_matrices.specs.Tableaus.{Tableau}
 use Rattle.mixed_pairs.proofs.ArcFacts.{free-holds, leads-q, leads-t}
 
-module _ (p : ℕ) (L : Layered) (F : Tableau) (G : Parts) (below lower : ℕ → ℕ → Bool) (K : KeepsPartRules p L F G below lower) where
+module _ (p : ℕ) (L : LayeredMatrix) (F : Tableau) (G : Parts) (below lower : ℕ → ℕ → Bool) (K : KeepsPartRules p L F G below lower) where
   -- no end is reached from a free column
   pub checked-clear : HasNoWalk p L F
   checked-clear = rules-clear (leads_to p L F) L.columns (is_free F) (is_end p L F) (in_first G) (in_last G) (block_of G) G.blocks lower K.rules

@@ -15,11 +15,11 @@ use Rattle.linear_algebra_laws.proofs.Kernels.{kernel_of-agree, rank_of-kernel}
 use Rattle.linear_algebra_laws.proofs.Ranks.{rank_exists}
 use Rattle.linear_algebra_laws.proofs.Triangular.{triangular-rank}
 use Rattle.mixed_matrices.specs.Forms.{IsTriangular, Parts, diagonal_part, part_columns, part_rows}
-use Rattle.mixed_matrices.specs.LayeredMatrices.{Layered, layered_value}
+use Rattle.mixed_matrices.specs.LayeredMatrices.{LayeredMatrix, layered_value}
 use Rattle.mixed_matrices.specs.Models.{numbers}
 use Rattle.mixed_matrices.specs.StructuralRanks.{IsLayeredRank}
 
-module _ (p : ℕ) (prime : IsPrime p) (P : Layered) (G : Parts) (tri : IsTriangular p P G) where
+module _ (p : ℕ) (prime : IsPrime p) (P : LayeredMatrix) (G : Parts) (tri : IsTriangular p P G) where
   -- the rank of diagonal part h
   abbrev pub part_rank : ℕ → ℕ
   part_rank h = cond (leb h G.blocks) (part_rows P G h) (part_columns P G h)

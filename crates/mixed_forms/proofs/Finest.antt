@@ -4,11 +4,11 @@ use Rattle.residue_theory.proofs.SumLaws.{nat_cases}
 use Rattle.residue_theory.specs.Residues.{IsPrime}
 use Rattle.mixed_matrices.specs.CanonicalParts.{AreCanonical}
 use Rattle.mixed_matrices.specs.Forms.{IsAsFine, IsForm, Parts}
-use Rattle.mixed_matrices.specs.LayeredMatrices.{Layered}
+use Rattle.mixed_matrices.specs.LayeredMatrices.{LayeredMatrix}
 use Rattle.mixed_matrices.specs.SetFunctions.{IsMinimiser}
 use Rattle.mixed_forms.proofs.FirstParts.{first_parts-minimiser}
 
-module _ (p : ℕ) (prime : IsPrime p) (L : Layered) (A : Parts) (C : AreCanonical p L A) where
+module _ (p : ℕ) (prime : IsPrime p) (L : LayeredMatrix) (A : Parts) (C : AreCanonical p L A) where
   -- a minimiser holds all columns of a part or none
   pub minimiser-union : (X : ℕ → Bool) → IsMinimiser p L X → (x y : ℕ) → x < L.columns → y < L.columns → A.column x ≡ A.column y → X x ≡ X y
   minimiser-union X least x y xl yl q = go (nat_cases (A.column x) 0) (nat_cases (A.column x) (A.blocks + 1))

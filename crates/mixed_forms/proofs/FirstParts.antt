@@ -16,7 +16,7 @@ use Rattle.linear_algebra_laws.proofs.RankLaws.{rank-rows}
 use Rattle.linear_algebra_laws.proofs.Ranks.{rank_exists}
 use Rattle.linear_algebra_laws.proofs.Stacked.{above-kernel}
 use Rattle.mixed_matrices.specs.Forms.{IsTriangular, Parts, part_columns, part_rows, transformed}
-use Rattle.mixed_matrices.specs.LayeredMatrices.{Layered, layered_value}
+use Rattle.mixed_matrices.specs.LayeredMatrices.{LayeredMatrix, layered_value}
 use Rattle.mixed_matrices.specs.Models.{numbers}
 use Rattle.mixed_matrices.specs.Pairs.{pair_size}
 use Rattle.mixed_matrices.specs.SetFunctions.{IsMinimiser, IsRho, gamma, touches}
@@ -33,7 +33,7 @@ leb_is x k h = grind (arith, nat_tests)
 leb_not : (x k : ℕ) → leb x k ≡ false → k < x
 leb_not x k h = grind (arith, nat_tests)
 
-module _ (p : ℕ) (prime : IsPrime p) (L : Layered) (S U : ℕ → ℕ → ℕ) (inv : IsInverse p L.q_rows S U) (G : Parts) (tri : IsTriangular p (transformed S L) G) where
+module _ (p : ℕ) (prime : IsPrime p) (L : LayeredMatrix) (S U : ℕ → ℕ → ℕ) (inv : IsInverse p L.q_rows S U) (G : Parts) (tri : IsTriangular p (transformed S L) G) where
   kernel : SameKernel p L.q_rows L.columns L.q (product L.q_rows S L.q)
   kernel = product-kernel p prime L.q_rows L.columns S U L.q (product L.q_rows S L.q) inv (λ i j _ _. refl)
 

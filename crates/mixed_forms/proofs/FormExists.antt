@@ -12,11 +12,11 @@ use Rattle.closed_sets.specs.Orders.{IsCover}
 use Rattle.mixed_matrices.specs.Arcs.{HasNoWalk, IsFromFree, IsOfMiddle, IsReachedFromFree, ReachesEnd, ReachesIn, has_base, has_match, is_end, is_free, leads_to}
 use Rattle.mixed_matrices.specs.CheckerRules.{HasRows, IsListingIn, KeepsPartRules, block_of, in_first, in_last}
 use Rattle.mixed_matrices.specs.Forms.{Parts}
-use Rattle.mixed_matrices.specs.LayeredMatrices.{Layered}
+use Rattle.mixed_matrices.specs.LayeredMatrices.{LayeredMatrix}
 use Rattle.mixed_matrices.specs.Tableaus.{Tableau}
 use Rattle.mixed_pairs.proofs.ArcFacts.{base_found, base_holds, match_found, match_holds}
 
-module _ (p : ℕ) (L : Layered) (F : Tableau) (base : (b c : ℕ) → b < L.columns → c < L.columns → F.base b ≡ true → F.base c ≡ true → F.row b ≡ F.row c → b ≡ c)
+module _ (p : ℕ) (L : LayeredMatrix) (F : Tableau) (base : (b c : ℕ) → b < L.columns → c < L.columns → F.base b ≡ true → F.base c ≡ true → F.row b ≡ F.row c → b ≡ c)
     (match : (b c : ℕ) → b < L.columns → c < L.columns → F.matched b ≡ true → F.matched c ≡ true → F.mate b ≡ F.mate c → b ≡ c)
     (clear : HasNoWalk p L F) (blocks : ℕ) (block : ℕ → ℕ) (listing : IsListing (leads_to p L F) L.columns (is_free F) (is_end p L F) block blocks) where
   first : ℕ → Bool

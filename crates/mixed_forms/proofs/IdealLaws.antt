@@ -9,13 +9,13 @@ use Rattle.mixed_matrices.specs.Arcs.{IsFromFree, IsOfMiddle, ReachesIn, is_end,
 use Rattle.mixed_matrices.specs.CanonicalParts.{IsIdealOf, IsOfBlock}
 use Rattle.mixed_matrices.specs.CheckerRules.{IsListingIn, KeepsPartRules, block_of}
 use Rattle.mixed_matrices.specs.Forms.{Parts}
-use Rattle.mixed_matrices.specs.LayeredMatrices.{Layered}
+use Rattle.mixed_matrices.specs.LayeredMatrices.{LayeredMatrix}
 use Rattle.mixed_matrices.specs.SetFunctions.{IsMinimiser}
 use Rattle.mixed_matrices.specs.Tableaus.{HasTableau, Tableau}
 use Rattle.mixed_forms.proofs.Canonical.{checked-closed, checked-minimiser, holds-first, holds-no_last}
 use Rattle.mixed_forms.proofs.CheckedParts.{block-held, checked-clear, checked-listing, first-from, from-first, middle-of_block, of_block-middle, of_block-number, place}
 
-module _ (p : ℕ) (prime : IsPrime p) (L : Layered) (F : Tableau) (tab : HasTableau p L F) (G : Parts) (below lower : ℕ → ℕ → Bool) (K : KeepsPartRules p L F G below lower) where
+module _ (p : ℕ) (prime : IsPrime p) (L : LayeredMatrix) (F : Tableau) (tab : HasTableau p L F) (G : Parts) (below lower : ℕ → ℕ → Bool) (K : KeepsPartRules p L F G below lower) where
   listing : IsListingIn p L F G
   listing = checked-listing p L F G below lower K
 

@@ -10,12 +10,12 @@ use Rattle.mixed_matrices.specs.Arcs.{HasNoWalk, IsClosedIn, IsFromFree, IsOfMid
 use Rattle.mixed_matrices.specs.CanonicalParts.{AreCanonical, IsBlockBelow, IsHeldWith, IsLeastColumn, IsOfBlock, IsReadyAt}
 use Rattle.mixed_matrices.specs.CheckerRules.{IsListingIn, block_of}
 use Rattle.mixed_matrices.specs.Forms.{Parts}
-use Rattle.mixed_matrices.specs.LayeredMatrices.{Layered}
+use Rattle.mixed_matrices.specs.LayeredMatrices.{LayeredMatrix}
 use Rattle.mixed_matrices.specs.SetFunctions.{IsMinimiser}
 use Rattle.mixed_matrices.specs.Tableaus.{HasTableau, Tableau}
 use Rattle.mixed_pairs.proofs.Minimisers.{closed-minimiser, least_set, least_set-closed, minimiser-closed}
 
-module _ (p : ℕ) (prime : IsPrime p) (L : Layered) (F : Tableau) (tab : HasTableau p L F) (clear : HasNoWalk p L F) (G : Parts) (C : AreCanonical p L G) where
+module _ (p : ℕ) (prime : IsPrime p) (L : LayeredMatrix) (F : Tableau) (tab : HasTableau p L F) (clear : HasNoWalk p L F) (G : Parts) (C : AreCanonical p L G) where
   least : (X : ℕ → Bool) → IsClosedIn p L F X → IsMinimiser p L X
   least = closed-minimiser p prime L F tab
 
@@ -114,7 +114,7 @@ module _ (p : ℕ) (prime : IsPrime p) (L : Layered) (F : Tableau) (tab : HasTab
     least = least-first;
   }
 
-module _ (p : ℕ) (prime : IsPrime p) (L : Layered) (F : Tableau) (tab : HasTableau p L F) (clear : HasNoWalk p L F) (G H : Parts) (C : AreCanonical p L G) (D : AreCanonical p L H) where
+module _ (p : ℕ) (prime : IsPrime p) (L : LayeredMatrix) (F : Tableau) (tab : HasTableau p L F) (clear : HasNoWalk p L F) (G H : Parts) (C : AreCanonical p L G) (D : AreCanonical p L H) where
   pub same-blocks : G.blocks ≡ H.blocks
   same-blocks = listing-size (leads_to p L F) L.columns (is_free F) (is_end p L F) (block_of G) (block_of H) G.blocks H.blocks
       (canonical-listing p prime L F tab clear G C) (canonical-listing p prime L F tab clear H D)

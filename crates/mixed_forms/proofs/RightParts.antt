@@ -9,7 +9,7 @@ use Rattle.mixed_matrices.specs.Arcs.{HasNoWalk, IsOfMiddle, IsReachedFromFree, 
 use Rattle.mixed_matrices.specs.CanonicalParts.{AreCanonical, AreRightParts, IsBlockBelow, IsLowerBlock, IsOfBlock}
 use Rattle.mixed_matrices.specs.CheckerRules.{KeepsPartRules, block_of, in_first, in_last}
 use Rattle.mixed_matrices.specs.Forms.{IsForm, Parts}
-use Rattle.mixed_matrices.specs.LayeredMatrices.{Layered}
+use Rattle.mixed_matrices.specs.LayeredMatrices.{LayeredMatrix}
 use Rattle.mixed_matrices.specs.Tableaus.{HasTableau, IsTableau, Tableau}
 use Rattle.mixed_pairs.proofs.TableauParts.{tableau}
 use Rattle.mixed_forms.proofs.Canonical.{below-block, block-below, block-lower, checked-canonical, lower-block}
@@ -17,7 +17,7 @@ use Rattle.mixed_forms.proofs.CheckedForms.{checked-form}
 use Rattle.mixed_forms.proofs.OneListing.{block-middle_told, canonical-listing, first-told, held-reached, last-told, middle-block_told, reached-below}
 use Rattle.mixed_forms.proofs.RightRows.{form-rows}
 
-module _ (p : ℕ) (prime : IsPrime p) (L : Layered) (S U : ℕ → ℕ → ℕ) (F : Tableau) (tab : IsTableau p L S U F) (clear : HasNoWalk p L F)
+module _ (p : ℕ) (prime : IsPrime p) (L : LayeredMatrix) (S U : ℕ → ℕ → ℕ) (F : Tableau) (tab : IsTableau p L S U F) (clear : HasNoWalk p L F)
     (G : Parts) (form : IsForm p L S G) (C : AreCanonical p L G) (below lower : ℕ → ℕ → Bool)
     (ordered : (k l : ℕ) → k < G.blocks → l < G.blocks → (below k l ≡ true) ↔ IsBlockBelow p L G k l)
     (listed : (k l : ℕ) → k < G.blocks → l < G.blocks → (lower l k ≡ true) ↔ IsLowerBlock p L G k l)
@@ -63,7 +63,7 @@ module _ (p : ℕ) (prime : IsPrime p) (L : Layered) (S U : ℕ → ℕ → ℕ)
   }
 
 -- and parts that keep the rules are right
-pub kept-right : (p : ℕ) → IsPrime p → (L : Layered) (S U : ℕ → ℕ → ℕ) (F : Tableau) → IsTableau p L S U F → (G : Parts) (below lower : ℕ → ℕ → Bool) →
+pub kept-right : (p : ℕ) → IsPrime p → (L : LayeredMatrix) (S U : ℕ → ℕ → ℕ) (F : Tableau) → IsTableau p L S U F → (G : Parts) (below lower : ℕ → ℕ → Bool) →
     KeepsPartRules p L F G below lower → AreRightParts p L S G below lower
 kept-right p prime L S U F tab G below lower K = record {
   form = checked-form p prime L S U F tab G below lower K;

@@ -11,7 +11,7 @@ use Rattle.residue_theory.specs.Sums.{size_on}
 use Rattle.mixed_matrices.specs.Arcs.{HasNoWalk, IsClosedIn, has_base, has_match}
 use Rattle.mixed_matrices.specs.CheckerRules.{HasRows}
 use Rattle.mixed_matrices.specs.Forms.{IsTriangular, Parts, transformed}
-use Rattle.mixed_matrices.specs.LayeredMatrices.{Layered}
+use Rattle.mixed_matrices.specs.LayeredMatrices.{LayeredMatrix}
 use Rattle.mixed_matrices.specs.Pairs.{pair_size}
 use Rattle.mixed_matrices.specs.Tableaus.{HasTableau, IsTableau, Tableau}
 use Rattle.mixed_pairs.proofs.ArcFacts.{free-holds, no_base, no_match}
@@ -20,7 +20,7 @@ use Rattle.mixed_pairs.proofs.PairRank.{closed-rank}
 use Rattle.mixed_pairs.proofs.TableauParts.{tableau}
 use Rattle.mixed_forms.proofs.FirstParts.{first_parts-minimiser, form-rank, sizes}
 
-module _ (p : ℕ) (prime : IsPrime p) (L : Layered) (S U : ℕ → ℕ → ℕ) (F : Tableau) (tab : IsTableau p L S U F) (clear : HasNoWalk p L F)
+module _ (p : ℕ) (prime : IsPrime p) (L : LayeredMatrix) (S U : ℕ → ℕ → ℕ) (F : Tableau) (tab : IsTableau p L S U F) (clear : HasNoWalk p L F)
     (G : Parts) (tri : IsTriangular p (transformed S L) G) where
   has : HasTableau p L F
   has = tableau p prime L S U F tab

@@ -6,12 +6,12 @@ use Rattle.residue_theory.specs.Residues.{IsPrime}
 use Rattle.residue_theory.specs.Sums.{size_on}
 use Rattle.linear_algebra.specs.Parts.{in_part}
 use Rattle.mixed_matrices.specs.Forms.{IsForm, Parts, part_columns, part_rows, transformed}
-use Rattle.mixed_matrices.specs.LayeredMatrices.{Layered}
+use Rattle.mixed_matrices.specs.LayeredMatrices.{LayeredMatrix}
 use Rattle.mixed_matrices.specs.StructuralRanks.{IsLayeredRank}
 use Rattle.mixed_pairs.proofs.BestPairs.{layered-rank_exists}
 use Rattle.mixed_forms.proofs.FirstParts.{form-rank, last-rows, sizes}
 
-module _ (p : ℕ) (prime : IsPrime p) (L : Layered) (S T : ℕ → ℕ → ℕ) (G H : Parts) (form : IsForm p L S G) (other : IsForm p L T H)
+module _ (p : ℕ) (prime : IsPrime p) (L : LayeredMatrix) (S T : ℕ → ℕ → ℕ) (G H : Parts) (form : IsForm p L S G) (other : IsForm p L T H)
     (blocks : G.blocks ≡ H.blocks) (same : (x : ℕ) → x < L.columns → G.column x ≡ H.column x) where
   same-columns : (k : ℕ) → part_columns (transformed S L) G k ≡ part_columns (transformed T L) H k
   same-columns k = sum_on-same (in_part G.column k) (in_part H.column k) L.columns (λ _. 1) (λ x xl. ap (λ c. eqb c k) (same x xl))

@@ -83,8 +83,10 @@ pub fn ideals_at_examples()
 /// Two symbols in one column keep them with all in the last tail.
 pub fn rules_at_examples()
     ensures holds { KeepsPartRules 65521 symbol_triangle triangle_tableau triangle_parts triangle_below triangle_lower }
-    ensures fails { KeepsPartRules 65521 symbol_triangle triangle_tableau triangle_parts triangle_below (λ l k. false) → ⊥ }
-    ensures fails_turned { (below : ℕ → ℕ → Bool) → (lower : ℕ → ℕ → Bool) → KeepsPartRules 65521 symbol_triangle triangle_tableau turned_parts below lower → ⊥ }
+    ensures fails { KeepsPartRules 65521 symbol_triangle triangle_tableau triangle_parts triangle_below
+        (λ l k. false) → ⊥ }
+    ensures fails_turned { (below : ℕ → ℕ → Bool) → (lower : ℕ → ℕ → Bool) →
+        KeepsPartRules 65521 symbol_triangle triangle_tableau turned_parts below lower → ⊥ }
     ensures holds_for_last { KeepsPartRules 65521 tall_symbols tall_tableau tall_parts (λ k l. false) (λ l k. false) }
     ensures holds_for_rows { HasRows symbol_triangle triangle_tableau triangle_parts }
     ensures fails_for_rows { HasRows symbol_triangle triangle_tableau (record triangle_parts { t_row = λ i. 1 }) → ⊥ }
@@ -102,7 +104,8 @@ pub fn right_parts_at_examples()
     ensures fails { AreRightParts 65521 symbol_triangle identity triangle_parts triangle_below (λ l k. false) → ⊥ }
 {}
 
-/// Of two loose symbols every column set is a minimiser, so each column is a block of its own, and both are not one block.
+/// Of two loose symbols every column set is a minimiser, so each column is a block of its own, and both are not one
+/// block.
 pub fn loose_symbols_at_examples()
     ensures holds { (X : ℕ → Bool) → IsMinimiser 65521 loose_symbols X }
     ensures canonical { AreCanonical 65521 loose_symbols loose_parts }

@@ -21,7 +21,8 @@ pub fn forms_show_the_rank()
     ensures { FormsShowTheRank }
 {}
 
-/// In a form with the S of a tableau whose pair is best, rows stand with their base or matched columns, the others last.
+/// In a form with the S of a tableau whose pair is best, rows stand with their base or matched columns, the others
+/// last.
 pub fn rows_stand_with_their_columns()
     ensures { RowsStandWithTheirColumns }
 {}

@@ -4,7 +4,7 @@ use Rattle.residue_theory.specs.Sets.{some_below}
 use Rattle.residue_theory.proofs.SetLaws.{some_below-holds}
 use Rattle.dense_q.specs.Tables.{Table, IsTableOf}
 use Rattle.sparse_t.specs.Incidences.{Incidence}
-use Rattle.mixed_matrices.specs.Models.{Mixed}
+use Rattle.mixed_matrices.specs.Models.{MixedMatrix}
 use Rattle.mixed_matrices.specs.Layerings.{AreMembers, has_constant, has_symbol, gives_q}
 use Rattle.mixed_model.specs.declared.origin.Origin.{Origin}
 use Rattle.mixed_model.specs.Models.{MixedModel, mixed_matrix_of}
@@ -23,7 +23,7 @@ none_below n X none j at = by (X j) refl
     by false e = e
 
 -- an equation that gives no Q row has no constant, and one that gives no T row no symbol
-no_constant : (M : Mixed) (i j : ℕ) → j < M.columns → gives_q M i ≡ false → M.constant i j ≡ 0
+no_constant : (M : MixedMatrix) (i j : ℕ) → j < M.columns → gives_q M i ≡ false → M.constant i j ≡ 0
 no_constant M i j at gives = by (has_constant M i) refl gives
   where
     zero_is : (b : Bool) → eqb (M.constant i j) 0 ≡ b → not b ≡ false → M.constant i j ≡ 0

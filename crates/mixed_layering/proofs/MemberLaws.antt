@@ -8,7 +8,7 @@ use Rattle.residue_theory.specs.Sets.{everything, both}
 use Rattle.residue_theory.specs.Sums.{size_on}
 use Rattle.residue_theory.proofs.SumLaws.{size_on-within}
 use Rattle.residue_theory.proofs.CountLaws.{size-everything, sum_on-join}
-use Rattle.mixed_matrices.specs.Models.{Mixed}
+use Rattle.mixed_matrices.specs.Models.{MixedMatrix}
 use Rattle.mixed_matrices.specs.Layerings.{gives_q, has_symbol}
 use Rattle.mixed_layering.specs.Members.{AreListed, AreRows, AreEquations, AreSplit}
 
@@ -63,7 +63,7 @@ listed-rising A n list listed k at = ⊎_elim
     (cases_lt (get_or list k 0) (get_or list (k + 1) 0))
 
 -- the rows that the equations give
-module _ (M : Mixed) (n : ℕ) (of_q of_t of_z : List ℕ) (rows : AreRows M n of_q of_t of_z) (few : n ≤ 4096) where
+module _ (M : MixedMatrix) (n : ℕ) (of_q of_t of_z : List ℕ) (rows : AreRows M n of_q of_t of_z) (few : n ≤ 4096) where
   pub q_equations-are : AreEquations n of_q
   q_equations-are = record { few = omega (arith, few, listed-few (gives_q M) n of_q rows.constants); below = rows.constants.below }
 

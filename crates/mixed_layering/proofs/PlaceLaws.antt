@@ -6,10 +6,10 @@ use Rattle.std.proofs.lemmas.Bool.{cases_lt, eqb-false}
 use Rattle.std.proofs.lemmas.List.{get_or-replicate, get_or_append_left}
 use Rattle.std.proofs.Math.Seq.{get_or-append_seam}
 use Rattle.dense_q.specs.Tables.{entry, zero_table}
-use Rattle.sparse_t.specs.Lists.{has}
+use Rattle.residue_theory.specs.Sets.{has}
 use Rattle.sparse_t.specs.Incidences.{Incidence, with_last_row}
 use Rattle.sparse_t.proofs.ListLaws.{has-append, has-none, rising-append, below-append}
-use Rattle.mixed_matrices.specs.Models.{Mixed}
+use Rattle.mixed_matrices.specs.Models.{MixedMatrix}
 use Rattle.mixed_model.specs.Models.{MixedModel, IsModel, row_of, constant_at, mixed_matrix_of}
 use Rattle.mixed_model.proofs.ModelLaws.{beyond_unknowns}
 use Rattle.mixed_layering.specs.Columns.{StandsIn, IsAbsent}
@@ -28,7 +28,7 @@ eqb-behind u a b = by (eqb a b) refl
     by true e = eq-eqb (u + a) (u + b) (ap (λ x. u + x) (eqb-true a b e)) ∙ sym e
     by false e = ne_eqb (u + a) (u + b) (λ same. eqb-false a b e (omega (arith, same))) ∙ sym e
 
-module _ (model : MixedModel) (is : IsModel model) (equation : ℕ) (at : equation < length model.equations) (split : List ℕ) where
+module _ (p : ℕ) (model : MixedModel) (is : IsModel p model) (equation : ℕ) (at : equation < length model.equations) (split : List ℕ) where
   -- no constant stands past the unknowns
   past_constant : (k : ℕ) → constant_at model equation (length model.unknowns + k) ≡ 0
   past_constant k =
@@ -48,7 +48,7 @@ module _ (model : MixedModel) (is : IsModel model) (equation : ℕ) (at : equati
       (λ b low. refl)
       (λ k low. rw (no_place split equation absent k low) (past_constant k))
 
-module _ (M : Mixed) (equation : ℕ) (split list : List ℕ) (touched : AreTouched M.columns (M.symbol equation) list) where
+module _ (M : MixedMatrix) (equation : ℕ) (split list : List ℕ) (touched : AreTouched M.columns (M.symbol equation) list) where
   -- the list has nothing past the unknowns
   past_symbol : (b : ℕ) → M.columns ≤ b → has list b ≡ false
   past_symbol b high = has-none list b (λ k at e. omega (arith, touched.below k at, e, high))
@@ -78,7 +78,7 @@ module _ (M : Mixed) (equation : ℕ) (split list : List ℕ) (touched : AreTouc
   }
 
 -- one row more
-pub rows-next : (M : Mixed) (split equations : List ℕ) (n : ℕ) (t : Incidence) (list : List ℕ) → AreRowsOfSymbols M split equations n t → AreTouched (M.columns + length split) (symbol_place M split (slice_index equations n)) list → AreRowsOfSymbols M split equations (n + 1) (with_last_row t list)
+pub rows-next : (M : MixedMatrix) (split equations : List ℕ) (n : ℕ) (t : Incidence) (list : List ℕ) → AreRowsOfSymbols M split equations n t → AreTouched (M.columns + length split) (symbol_place M split (slice_index equations n)) list → AreRowsOfSymbols M split equations (n + 1) (with_last_row t list)
 rows-next M split equations n t list are touched = record {
   width = are.width;
   count = length-append t.rows (list ∷ []) ∙ omega (arith, are.count);

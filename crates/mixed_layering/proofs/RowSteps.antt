@@ -3,27 +3,28 @@ use Rattle.std.proofs.Common.{◌≡◌, ℕ, ◌<◌, ◌≤◌, Bool, true, fa
 use Rattle.std.specs.Option.{unwrap_or}
 use Rattle.std.proofs.lemmas.Bool.{cases_lt}
 use Rattle.std.proofs.Math.Seq.{get_or-append_seam}
-use Rattle.sparse_t.specs.Lists.{has, IsBelow}
+use Rattle.residue_theory.specs.Sets.{has}
+use Rattle.sparse_t.specs.Lists.{IsBelow}
 use Rattle.sparse_t.proofs.ListLaws.{has-at, has-append}
-use Rattle.mixed_model.specs.declared.entry.Entry.{Entry}
+use Rattle.mixed_model.specs.Entries.{RowEntry}
 use Rattle.mixed_model.specs.Rows.{entry_in, constant_at_place, symbol_at_place, constant_in, symbol_in, IsRow, IsWithin}
 use Rattle.mixed_model.proofs.RowLaws.{entry_in-next, entry_in-lower}
 
-module _ (row : List Entry) (seen : List Entry) (entry : Entry) (rest : List Entry) (is_row : IsRow row) (split : row ≡ seen ++ entry ∷ rest) where
-  rises : IsRow (seen ++ entry ∷ rest)
-  rises = subst IsRow split is_row
+module _ (p : ℕ) (row : List RowEntry) (seen : List RowEntry) (entry : RowEntry) (rest : List RowEntry) (is_row : IsRow p row) (split : row ≡ seen ++ entry ∷ rest) where
+  rises : IsRow p (seen ++ entry ∷ rest)
+  rises = subst (IsRow p) split is_row
 
   -- the entry is one of the row
   pub entry_within : (columns : ℕ) → IsWithin columns row → entry.column < columns
   entry_within columns within =
       let at = subst (IsWithin columns) split within (length seen) entry (omega (arith, length-append seen (entry ∷ rest))) in
-      subst (λ (x : Entry). x.column < columns) (get_or-append_seam seen entry rest entry) at
+      subst (λ (x : RowEntry). x.column < columns) (get_or-append_seam seen entry rest entry) at
 
   next_place : (b : ℕ) → entry_in (seen ++ entry ∷ []) b ≡ cond (eqb entry.column b) (Some entry) (entry_in seen b)
-  next_place b = entry_in-next 0 seen entry rest b rises
+  next_place b = entry_in-next p 0 seen entry rest b rises
 
   not_yet : (b : ℕ) → entry.column ≤ b → entry_in seen b ≡ None
-  not_yet b at = entry_in-lower 0 seen entry rest rises b at
+  not_yet b at = entry_in-lower p 0 seen entry rest rises b at
 
   pub constant-next : (c : ℕ) → entry.constant ≡ Some c → (b : ℕ) → unwrap_or (constant_in (seen ++ entry ∷ []) b) 0 ≡ cond (eqb entry.column b) c (unwrap_or (constant_in seen b) 0)
   constant-next c is b = ap (λ x. unwrap_or (constant_at_place x) 0) (next_place b) ∙ by (eqb entry.column b)

@@ -20,4 +20,5 @@ pub record AreLayersOf (model : MixedModel) (layers : Layers) : Type 0 where
   pub layered : IsLayeredMatrixOf (mixed_matrix_of model) (layered_matrix_of layers) (origins_of layers split)
   pub count : split_of layers ≡ length split
   pub unknowns : (j : ℕ) → j < length model.unknowns → slice_get layers.column_origins j ≡ Some (Unknown j)
-  pub auxiliary : (k : ℕ) → k < length split → slice_get layers.column_origins (length model.unknowns + k) ≡ Some (Split (slice_index split k))
+  pub auxiliary : (k : ℕ) → k < length split
+      → slice_get layers.column_origins (length model.unknowns + k) ≡ Some (Split (slice_index split k))

@@ -2,17 +2,17 @@
 use Rattle.std.specs.Prelude.{ℕ, ◌+◌, ◌-◌, ◌<◌, ◌≡◌, ◌≢◌, Bool, List, cond, eqb, ltb, length, slice_index}
 use Rattle.std.specs.List.Sorted.{IsStrictlyIncreasing}
 use Rattle.dense_q.specs.Tables.{Table, HasSameSize, row_at, entry}
-use Rattle.mixed_matrices.specs.Models.{Mixed}
-use Rattle.sparse_t.specs.Lists.{has}
+use Rattle.mixed_matrices.specs.Models.{MixedMatrix}
+use Rattle.residue_theory.specs.Sets.{has}
 use Rattle.sparse_t.specs.Incidences.{Incidence, touches}
 
 -- the entry of the Q row of an equation: its constants, and 1 at its auxiliary column
-abbrev pub constant_place : Mixed → List ℕ → ℕ → ℕ → ℕ
+abbrev pub constant_place : MixedMatrix → List ℕ → ℕ → ℕ → ℕ
 constant_place M split equation j =
     cond (ltb j M.columns) (M.constant equation j) (cond (eqb equation (slice_index split (j - M.columns))) 1 0)
 
 -- whether the T row of an equation touches a column: at its symbols, and at its auxiliary column
-abbrev pub symbol_place : Mixed → List ℕ → ℕ → ℕ → Bool
+abbrev pub symbol_place : MixedMatrix → List ℕ → ℕ → ℕ → Bool
 symbol_place M split equation j =
     cond (ltb j M.columns) (M.symbol equation j) (eqb equation (slice_index split (j - M.columns)))
 
@@ -30,7 +30,7 @@ pub record AreTouched (n : ℕ) (A : ℕ → Bool) (list : List ℕ) : Type 0 wh
   pub exact : (j : ℕ) → j < n → has list j ≡ A j
 
 -- the rows are the T rows of the first n of these equations
-pub record AreRowsOfSymbols (M : Mixed) (split equations : List ℕ) (n : ℕ) (t : Incidence) : Type 0 where
+pub record AreRowsOfSymbols (M : MixedMatrix) (split equations : List ℕ) (n : ℕ) (t : Incidence) : Type 0 where
   pub width : t.width ≡ M.columns + length split
   pub count : length t.rows ≡ n
   pub touched : (i j : ℕ) → i < n → j < t.width → touches t i j ≡ symbol_place M split (slice_index equations i) j

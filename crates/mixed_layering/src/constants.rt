@@ -11,19 +11,20 @@ use crate::columns::place_of;
 use dense_q::Mat;
 use mixed_model::Mixed;
 use out_of_memory::NoMemory;
-use residue_field::Res;
+use residue_field::Field;
 use std::alloc::Global;
 
 /// The rows of constants of these equations: a column for each unknown, then one for each split equation.
-pub fn constants_of(
+pub fn constants_of<F: Field>(
     alloc: Global,
-    model: &Mixed,
+    model: &Mixed<F>,
     equations: &[usize],
     split: &[usize],
-) -> Result<Mat<Res>, NoMemory>
+) -> Result<Mat<F>, NoMemory>
     requires equations { AreEquations (length model.now.equations) equations.now }
     requires split { AreSplit (length model.now.equations) split.now }
-    ensures { IfOk result (IsTableOf (length equations.now) (length model.now.unknowns + length split.now) (λ i j. constant_place (mixed_matrix_of model.now) split.now (slice_index equations.now i) j)) }
+    ensures { IfOk result (IsTableOf (length equations.now) (length model.now.unknowns + length split.now)
+        (λ i j. constant_place (mixed_matrix_of model.now) split.now (slice_index equations.now i) j)) }
 {
     let mut q = Mat::zeros(alloc, equations.len(), model.unknowns() + split.len())?;
     for row in 0..equations.len() {
@@ -33,7 +34,13 @@ pub fn constants_of(
 }
 
 // Fills a row of zeros with the constants of an equation, and 1 at its auxiliary column.
-fn fill_row(q: &mut Mat<Res>, row: usize, model: &Mixed, equation: usize, split: &[usize])
+fn fill_row<F: Field>(
+    q: &mut Mat<F>,
+    row: usize,
+    model: &Mixed<F>,
+    equation: usize,
+    split: &[usize],
+)
     requires row { row < height q.old }
     requires width { q.old.width ≡ length model.now.unknowns + length split.now }
     requires equation { equation < length model.now.equations }
@@ -44,19 +51,19 @@ fn fill_row(q: &mut Mat<Res>, row: usize, model: &Mixed, equation: usize, split:
     let first_auxiliary = q.cols() - split.len();
     put_constants(q, row, model, equation);
     if let Some(place) = place_of(split, equation) {
-        q.set(row, first_auxiliary + place, Res::of(1));
+        q.set(row, first_auxiliary + place, F::one());
     }
 }
 
 // Fills a row of zeros with the constants of an equation.
-fn put_constants(q: &mut Mat<Res>, row: usize, model: &Mixed, equation: usize)
+fn put_constants<F: Field>(q: &mut Mat<F>, row: usize, model: &Mixed<F>, equation: usize)
     requires row { row < height q.old }
     requires matrix { IsMatrix q.old }
     requires width { length model.now.unknowns ≤ q.old.width }
     requires equation { equation < length model.now.equations }
     requires zero { (j : ℕ) → j < q.old.width → entry q.old row j ≡ 0 }
     ensures fills { FillsRow q.old q.new row (constant_at model.now equation) }
-    ensures model { IsModel model.now }
+    ensures model { IsModel F.modulus model.now }
 {
     for entry in model.entries(equation) {
         if let Some(constant) = entry.constant {

@@ -9,13 +9,14 @@ use crate::members::rows_of;
 use crate::symbols::symbols_of;
 use mixed_model::{Layered, Mixed};
 use out_of_memory::NoMemory;
+use residue_field::Field;
 use std::alloc::Global;
 
 /// The layered matrix of a model. Its columns are the unknowns in order, then an auxiliary column for each equation
 /// with constants and symbols. An equation with constants alone, or with nothing, gives a Q row; one with symbols
 /// alone a T row; one with both gives one of each, with 1 and a symbol at its auxiliary column. Rows stand in the
 /// order of their equations. (Murota, chapter 4, splits every equation.)
-pub fn layer(alloc: Global, model: &Mixed) -> Result<Layered, NoMemory>
+pub fn layer<F: Field>(alloc: Global, model: &Mixed<F>) -> Result<Layered<F>, NoMemory>
     ensures { IfOk result (AreLayersOf model.now) }
 {
     let rows = rows_of(alloc, model)?;

@@ -6,6 +6,7 @@ ghost use Rattle.mixed_layering.specs.Members.{AreListed, AreRows};
 
 use mixed_model::Mixed;
 use out_of_memory::NoMemory;
+use residue_field::Field;
 use std::alloc::Global;
 
 /// The equations that give Q rows, those that give T rows, and those that give both, each by rising number.
@@ -17,9 +18,10 @@ pub struct Rows {
 }
 
 /// The rows that the equations of a model give.
-pub fn rows_of(alloc: Global, model: &Mixed) -> Result<Rows, NoMemory>
-    ensures model { IfOk result (λ rows. IsModel model.now) }
-    ensures rows { IfOk result (λ rows. AreRows (mixed_matrix_of model.now) (length model.now.equations) rows.constants.items rows.symbols.items rows.split.items) }
+pub fn rows_of<F: Field>(alloc: Global, model: &Mixed<F>) -> Result<Rows, NoMemory>
+    ensures model { IfOk result (λ rows. IsModel F.modulus model.now) }
+    ensures rows { IfOk result (λ rows. AreRows (mixed_matrix_of model.now) (length model.now.equations)
+        rows.constants.items rows.symbols.items rows.split.items) }
 {
     let mut rows = Rows {
         constants: Vec::new(alloc),
@@ -36,9 +38,10 @@ pub fn rows_of(alloc: Global, model: &Mixed) -> Result<Rows, NoMemory>
     Ok(rows)
 }
 
-/// Puts a number at the end of the list of the members before it, where it is a member itself.
+// Puts a number at the end of the list of the members before it, where it is a member itself.
 fn enter(list: &mut Vec<usize>, number: usize, member: bool) -> Result<(), NoMemory>
-    ensures { OnOk result ((A : ℕ → Bool) → AreListed A number list.old.items → A number ≡ member → AreListed A (number + 1) list.new.items) }
+    ensures { OnOk result ((A : ℕ → Bool) → AreListed A number list.old.items → A number ≡ member
+        → AreListed A (number + 1) list.new.items) }
 {
     if member {
         list.push(number)?;

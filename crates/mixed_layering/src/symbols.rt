@@ -9,19 +9,21 @@ ghost use Rattle.mixed_layering.specs.Places.{symbol_place, AreTouched, AreRowsO
 use crate::columns::place_of;
 use mixed_model::Mixed;
 use out_of_memory::NoMemory;
+use residue_field::Field;
 use sparse_t::Pattern;
 use std::alloc::Global;
 
 /// The rows of symbols of these equations: a column for each unknown, then one for each split equation.
-pub fn symbols_of(
+pub fn symbols_of<F: Field>(
     alloc: Global,
-    model: &Mixed,
+    model: &Mixed<F>,
     equations: &[usize],
     split: &[usize],
 ) -> Result<Pattern, NoMemory>
     requires equations { AreEquations (length model.now.equations) equations.now }
     requires split { AreSplit (length model.now.equations) split.now }
-    ensures { IfOk result (AreRowsOfSymbols (mixed_matrix_of model.now) split.now equations.now (length equations.now)) }
+    ensures { IfOk result
+        (AreRowsOfSymbols (mixed_matrix_of model.now) split.now equations.now (length equations.now)) }
 {
     let mut t = Pattern::empty(alloc, model.unknowns() + split.len())?;
     for equation in equations {
@@ -32,15 +34,16 @@ pub fn symbols_of(
 }
 
 // The columns that the T row of an equation touches: its symbols, and its auxiliary column.
-fn touched_by(
+fn touched_by<F: Field>(
     alloc: Global,
-    model: &Mixed,
+    model: &Mixed<F>,
     equation: usize,
     split: &[usize],
 ) -> Result<Vec<u32>, NoMemory>
     requires equation { equation < length model.now.equations }
     requires split { AreSplit (length model.now.equations) split.now }
-    ensures { IfOk result (λ list. AreTouched (length model.now.unknowns + length split.now) (symbol_place (mixed_matrix_of model.now) split.now equation) list.items) }
+    ensures { IfOk result (λ list. AreTouched (length model.now.unknowns + length split.now)
+        (symbol_place (mixed_matrix_of model.now) split.now equation) list.items) }
 {
     let mut columns = symbol_columns(alloc, model, equation)?;
     if let Some(place) = place_of(split, equation) {
@@ -50,7 +53,11 @@ fn touched_by(
 }
 
 // The columns of the symbols of an equation.
-fn symbol_columns(alloc: Global, model: &Mixed, equation: usize) -> Result<Vec<u32>, NoMemory>
+fn symbol_columns<F: Field>(
+    alloc: Global,
+    model: &Mixed<F>,
+    equation: usize,
+) -> Result<Vec<u32>, NoMemory>
     requires equation { equation < length model.now.equations }
     ensures { IfOk result (λ list. AreTouched (length model.now.unknowns) (symbol_of model.now equation) list.items) }
 {

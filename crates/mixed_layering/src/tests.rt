@@ -1,12 +1,14 @@
+//! Models of one unknown, layered.
+
 use super::*;
 use mixed_model::{Mixed, Origin};
-use residue_field::Res;
+use residue_field::{Field, Res};
 use std::alloc::Global;
 use std::process::Abort;
 use std::test::Fail;
 
 // One equation with these constants and symbols at one unknown each: a constant where `constant` is not 0.
-fn model(rt: &impl Abort, alloc: Global, rows: &[(u64, bool)]) -> Result<Mixed, Fail> {
+fn model(rt: &impl Abort, alloc: Global, rows: &[(u64, bool)]) -> Result<Mixed<Res>, Fail> {
     let mut model = Mixed::new(alloc)?;
     model.add_unknown("x")?;
     for (i, (constant, symbol)) in rows.iter().enumerate() {

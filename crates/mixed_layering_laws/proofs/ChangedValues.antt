@@ -11,8 +11,8 @@ use Rattle.linear_algebra_laws.proofs.Entries.{above-low, above-top, with_entry-
 use Rattle.linear_algebra_laws.proofs.OneOrTwo.{one_of_next, one_of_two}
 use Rattle.linear_algebra_laws.proofs.Products.{independent-agree}
 use Rattle.linear_algebra_laws.proofs.Ranks.{rank_exists}
-use Rattle.mixed_matrices.specs.LayeredMatrices.{Layered, layered_value}
-use Rattle.mixed_matrices.specs.Models.{Mixed, numbers, value}
+use Rattle.mixed_matrices.specs.LayeredMatrices.{LayeredMatrix, layered_value}
+use Rattle.mixed_matrices.specs.Models.{MixedMatrix, numbers, value}
 use Rattle.mixed_matrices.specs.StructuralRanks.{IsGreatestRank}
 use Rattle.mixed_layering_laws.proofs.ScaledRows.{small}
 use Rattle.mixed_layering_laws.specs.LayeredValues.{IsOneOrTwo}
@@ -52,7 +52,7 @@ above-changed m a b r v x i j = elim (lt_cases i m) [
         ∙ ap (λ e. cond (e && eqb j v) x (above m a b (m + k) j)) (sym (eqb-shift m k r))
 
 -- ---- one symbol of a model
-module _ (p : ℕ) (prime : IsPrime p) (M : Mixed) (Y : ℕ → Bool) where
+module _ (p : ℕ) (prime : IsPrime p) (M : MixedMatrix) (Y : ℕ → Bool) where
   abbrev Keeps : (ℕ → ℕ → ℕ) → Type 0
   Keeps v = IsIndependent p (value M v) M.rows M.columns Y
 
@@ -94,7 +94,7 @@ module _ (p : ℕ) (prime : IsPrime p) (M : Mixed) (Y : ℕ → Bool) where
       ]
 
 -- ---- one symbol of a layered matrix
-module _ (p : ℕ) (prime : IsPrime p) (L : Layered) (Y : ℕ → Bool) where
+module _ (p : ℕ) (prime : IsPrime p) (L : LayeredMatrix) (Y : ℕ → Bool) where
   abbrev KeepsLayered : (ℕ → ℕ → ℕ) → Type 0
   KeepsLayered w = IsIndependent p (layered_value L w) (L.q_rows + L.t_rows) L.columns Y
 
@@ -187,11 +187,11 @@ module _ (rows columns : ℕ) (Serves : (ℕ → ℕ → ℕ) → Type 0)
       go : (w : ℕ → ℕ → ℕ) × Serves w × Done rows 0 w → (w : ℕ → ℕ → ℕ) × Serves w × ((i j : ℕ) → i < rows → j < columns → IsOneOrTwo (w i j))
       go (w, kept, done) = (w, kept, λ i j il jl. done i j (inl (il, jl)))
 
-pub model-ones_and_twos : (p : ℕ) → IsPrime p → (M : Mixed) (Y : ℕ → Bool) (v : ℕ → ℕ → ℕ) → IsIndependent p (value M v) M.rows M.columns Y →
+pub model-ones_and_twos : (p : ℕ) → IsPrime p → (M : MixedMatrix) (Y : ℕ → Bool) (v : ℕ → ℕ → ℕ) → IsIndependent p (value M v) M.rows M.columns Y →
     (w : ℕ → ℕ → ℕ) × IsIndependent p (value M w) M.rows M.columns Y × ((i j : ℕ) → i < M.rows → j < M.columns → IsOneOrTwo (w i j))
 model-ones_and_twos p prime M Y = ones_and_twos M.rows M.columns (λ v. IsIndependent p (value M v) M.rows M.columns Y) (model-placed p prime M Y)
 
-pub layered-ones_and_twos : (p : ℕ) → IsPrime p → (L : Layered) (Y : ℕ → Bool) (w : ℕ → ℕ → ℕ) → IsIndependent p (layered_value L w)
+pub layered-ones_and_twos : (p : ℕ) → IsPrime p → (L : LayeredMatrix) (Y : ℕ → Bool) (w : ℕ → ℕ → ℕ) → IsIndependent p (layered_value L w)
     (L.q_rows + L.t_rows) L.columns Y →
     (u : ℕ → ℕ → ℕ) × IsIndependent p (layered_value L u) (L.q_rows + L.t_rows) L.columns Y ×
     ((i j : ℕ) → i < L.t_rows → j < L.columns → IsOneOrTwo (u i j))

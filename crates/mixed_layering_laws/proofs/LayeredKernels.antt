@@ -12,13 +12,13 @@ use Rattle.residue_theory.specs.Sums.{size_on, sum_on}
 use Rattle.linear_algebra.specs.Columns.{CombinesToZero, IsIndependent, IsRank}
 use Rattle.linear_algebra_laws.proofs.Ranks.{Basis, basis, basis-rank}
 use Rattle.linear_algebra_laws.proofs.Stacked.{above-zero, low-zero, top-zero}
-use Rattle.mixed_matrices.specs.LayeredMatrices.{Layered, layered_value}
+use Rattle.mixed_matrices.specs.LayeredMatrices.{LayeredMatrix, layered_value}
 use Rattle.mixed_matrices.specs.Layerings.{IsLayering, Origins}
-use Rattle.mixed_matrices.specs.Models.{Mixed, numbers, value}
+use Rattle.mixed_matrices.specs.Models.{MixedMatrix, numbers, value}
 use Rattle.mixed_layering_laws.proofs.Members.{member-at, member-index, members-distinct}
 
 -- the values of the layered matrix that stand for v: at unknowns those of v, at auxiliary columns -1
-abbrev pub layered_values : ℕ → Mixed → Origins → (ℕ → ℕ → ℕ) → ℕ → ℕ → ℕ
+abbrev pub layered_values : ℕ → MixedMatrix → Origins → (ℕ → ℕ → ℕ) → ℕ → ℕ → ℕ
 layered_values p M O v i j = cond (ltb j M.columns) (v (O.of_t i) j) (p - 1)
 
 pub ltb-first : (m i : ℕ) → i < m → ltb i m ≡ true
@@ -43,7 +43,7 @@ mark-is : (e z : ℕ) → cond (eqb e z) 1 0 ≡ mark e z
 unfolding mark
 mark-is e z = refl
 
-module _ (p : ℕ) (prime : IsPrime p) (M : Mixed) (A D : ℕ → Bool) (L : Layered) (O : Origins) (lay : IsLayering M A D L O) where
+module _ (p : ℕ) (prime : IsPrime p) (M : MixedMatrix) (A D : ℕ → Bool) (L : LayeredMatrix) (O : Origins) (lay : IsLayering M A D L O) where
   -- what the columns of X combine to: constants, and the auxiliary columns
   abbrev csum : (ℕ → Bool) → (ℕ → ℕ) → ℕ → ℕ
   csum X c e = sum_on X M.columns (λ j. c j * M.constant e j)

@@ -5,9 +5,9 @@ use Rattle.residue_theory.proofs.SetLaws.{choose, differ, either-first, not_true
 use Rattle.residue_theory.proofs.SumLaws.{nat_cases}
 use Rattle.residue_theory.specs.Sets.{both}
 use Rattle.residue_theory.specs.Sums.{size_on}
-use Rattle.mixed_matrices.specs.LayeredMatrices.{Layered}
+use Rattle.mixed_matrices.specs.LayeredMatrices.{LayeredMatrix}
 use Rattle.mixed_matrices.specs.Layerings.{AreMembers, IsLayeredMatrixOf, IsLayering, Origins, gives_q, has_constant, has_symbol}
-use Rattle.mixed_matrices.specs.Models.{Mixed}
+use Rattle.mixed_matrices.specs.Models.{MixedMatrix}
 use Rattle.mixed_pairs.proofs.DroppedSymbols.{symbols}
 use Rattle.mixed_layering_laws.proofs.LayeredKernels.{ltb-first, ltb-next}
 
@@ -41,12 +41,12 @@ members_exist A n = go (choose (size_on A n) ℕ 0 (IsPlace A n) (member_of A n)
     go (at, ok) = (at, record { count = refl; below = λ k l. (ok k l).0; member = λ k l. (ok k l).1; place = λ k l. (ok k l).2 })
 
 -- ---- a layering
-module _ (M : Mixed) (A D : ℕ → Bool) (constants : (i j : ℕ) → i < M.rows → j < M.columns → A i ≡ false → M.constant i j ≡ 0)
+module _ (M : MixedMatrix) (A D : ℕ → Bool) (constants : (i j : ℕ) → i < M.rows → j < M.columns → A i ≡ false → M.constant i j ≡ 0)
     (symbols : (i j : ℕ) → i < M.rows → j < M.columns → D i ≡ false → M.symbol i j ≡ false) (of_q of_t of_z : ℕ → ℕ) where
   abbrev origins : Origins
   origins = record { of_q = of_q; of_t = of_t; of_z = of_z; split = size_on (both A D) M.rows }
 
-  abbrev layers : Layered
+  abbrev layers : LayeredMatrix
   layers = record {
     q_rows = size_on A M.rows;
     t_rows = size_on D M.rows;
@@ -78,15 +78,15 @@ module _ (M : Mixed) (A D : ℕ → Bool) (constants : (i j : ℕ) → i < M.row
         ∙ ap (λ x. eqb (of_t i) (of_z x)) (past k);
   }
 
-layering_exists : (M : Mixed) (A D : ℕ → Bool) → ((i j : ℕ) → i < M.rows → j < M.columns → A i ≡ false → M.constant i j ≡ 0) →
-    ((i j : ℕ) → i < M.rows → j < M.columns → D i ≡ false → M.symbol i j ≡ false) → (L : Layered) × (O : Origins) × IsLayering M A D L O
+layering_exists : (M : MixedMatrix) (A D : ℕ → Bool) → ((i j : ℕ) → i < M.rows → j < M.columns → A i ≡ false → M.constant i j ≡ 0) →
+    ((i j : ℕ) → i < M.rows → j < M.columns → D i ≡ false → M.symbol i j ≡ false) → (L : LayeredMatrix) × (O : Origins) × IsLayering M A D L O
 layering_exists M A D constants symbols = go (members_exist A M.rows) (members_exist D M.rows) (members_exist (both A D) M.rows)
   where
     go : (at : ℕ → ℕ) × AreMembers A M.rows at (size_on A M.rows) → (at : ℕ → ℕ) × AreMembers D M.rows at (size_on D M.rows) →
-        (at : ℕ → ℕ) × AreMembers (both A D) M.rows at (size_on (both A D) M.rows) → (L : Layered) × (O : Origins) × IsLayering M A D L O
+        (at : ℕ → ℕ) × AreMembers (both A D) M.rows at (size_on (both A D) M.rows) → (L : LayeredMatrix) × (O : Origins) × IsLayering M A D L O
     go (of_q, q) (of_t, t) (of_z, z) = (layers M A D constants symbols of_q of_t of_z, origins M A D constants symbols of_q of_t of_z, is_layering M A D constants symbols of_q of_t of_z q t z)
 
-pub layered_matrix_exists : (M : Mixed) → (L : Layered) × (O : Origins) × IsLayeredMatrixOf M L O
+pub layered_matrix_exists : (M : MixedMatrix) → (L : LayeredMatrix) × (O : Origins) × IsLayeredMatrixOf M L O
 layered_matrix_exists M = layering_exists M (gives_q M) (has_symbol M)
     (λ i j il jl h. no_constant (M.constant i j) (λ e. differ h
     (either-first (has_constant M i) (not (has_symbol M i)) (some_below-holds M.columns (λ j. not (eqb (M.constant i j) 0)) j jl e))))

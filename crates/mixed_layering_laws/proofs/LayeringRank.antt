@@ -10,9 +10,9 @@ use Rattle.linear_algebra.specs.Products.{Agree}
 use Rattle.linear_algebra_laws.proofs.Entries.{above-low, above-top}
 use Rattle.linear_algebra_laws.proofs.Kernels.{independent_of-kernel, kernel_of-agree, rank_of-kernel}
 use Rattle.linear_algebra_laws.proofs.Ranks.{rank-unique, rank_exists}
-use Rattle.mixed_matrices.specs.LayeredMatrices.{Layered, layered_value}
+use Rattle.mixed_matrices.specs.LayeredMatrices.{LayeredMatrix, layered_value}
 use Rattle.mixed_matrices.specs.Layerings.{IsLayeredMatrixOf, IsLayering, Origins, gives_q, has_symbol}
-use Rattle.mixed_matrices.specs.Models.{Mixed, numbers, value}
+use Rattle.mixed_matrices.specs.Models.{MixedMatrix, numbers, value}
 use Rattle.mixed_matrices.specs.StructuralRanks.{IsLayeredRank, IsStructuralRank}
 use Rattle.mixed_pairs.proofs.GreatestRanks.{mixed-rank_exists}
 use Rattle.mixed_pairs.proofs.PairRank.{greatest-unique}
@@ -21,7 +21,7 @@ use Rattle.mixed_layering_laws.proofs.LayeredKernels.{layered_values, layering-r
 use Rattle.mixed_layering_laws.proofs.ScaledRows.{minus_ones, scaled-kernel, small}
 use Rattle.mixed_layering_laws.specs.LayeredValues.{AreScaledValues, AreValuesFor, IsOneOrTwo}
 
-module _ (p : ℕ) (prime : IsPrime p) (M : Mixed) (A D : ℕ → Bool) (L : Layered) (O : Origins) (lay : IsLayering M A D L O) where
+module _ (p : ℕ) (prime : IsPrime p) (M : MixedMatrix) (A D : ℕ → Bool) (L : LayeredMatrix) (O : Origins) (lay : IsLayering M A D L O) where
   -- ---- any values that stand for v
   module _ (v w : ℕ → ℕ → ℕ) (values : AreValuesFor p M L O v w) where
     unknown-entry : (i j : ℕ) → i < L.t_rows → j < M.columns → numbers L.t (layered_values p M O v) i j % p ≡ numbers L.t w i j % p
@@ -126,7 +126,7 @@ module _ (p : ℕ) (prime : IsPrime p) (M : Mixed) (A D : ℕ → Bool) (L : Lay
       go (s, S, q) = subst (λ k. IsStructuralRank p M k) (omega (arith, q)) S
 
 -- the rank of a model, from that of its layered matrix
-pub model_rank : (p : ℕ) → IsPrime p → 2 < p → (M : Mixed) (L : Layered) (O : Origins) → IsLayeredMatrixOf M L O → (t : ℕ) → IsLayeredRank p L t →
+pub model_rank : (p : ℕ) → IsPrime p → 2 < p → (M : MixedMatrix) (L : LayeredMatrix) (O : Origins) → IsLayeredMatrixOf M L O → (t : ℕ) → IsLayeredRank p L t →
     IsStructuralRank p M (t - O.split) × (O.split ≤ t)
 model_rank p prime big M L O lay t T = go (layering-back p prime M (gives_q M) (has_symbol M) L O lay big t T)
   where

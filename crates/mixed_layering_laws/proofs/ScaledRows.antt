@@ -9,9 +9,9 @@ use Rattle.residue_theory.specs.Sets.{both}
 use Rattle.residue_theory.specs.Sums.{size_on, sum_on}
 use Rattle.linear_algebra.specs.Kernels.{SameKernel}
 use Rattle.linear_algebra_laws.proofs.Stacked.{above-zero, low-zero, top-zero}
-use Rattle.mixed_matrices.specs.LayeredMatrices.{Layered, layered_value}
+use Rattle.mixed_matrices.specs.LayeredMatrices.{LayeredMatrix, layered_value}
 use Rattle.mixed_matrices.specs.Layerings.{IsLayering, Origins}
-use Rattle.mixed_matrices.specs.Models.{Mixed, numbers}
+use Rattle.mixed_matrices.specs.Models.{MixedMatrix, numbers}
 use Rattle.mixed_layering_laws.proofs.Members.{member-at, member-index}
 use Rattle.mixed_layering_laws.specs.LayeredValues.{AreFreeOfZeros, AreScaledValues, AreValuesFor}
 
@@ -22,7 +22,7 @@ small p x pos less z = bad (x % p) z (mod-eq_of_lt less)
     bad : (y : ℕ) → y ≡ 0 → y ≡ x → ⊥
     bad y a b = omega arith
 
-module _ (p : ℕ) (prime : IsPrime p) (L : Layered) (f : ℕ → ℕ) (w u : ℕ → ℕ → ℕ) (scaled : AreScaledValues p L f w u) where
+module _ (p : ℕ) (prime : IsPrime p) (L : LayeredMatrix) (f : ℕ → ℕ) (w u : ℕ → ℕ → ℕ) (scaled : AreScaledValues p L f w u) where
   entry : (i j : ℕ) → i < L.t_rows → j < L.columns → numbers L.t u i j % p ≡ f i * numbers L.t w i j % p
   entry i j il jl = go (L.t i j) refl
     where
@@ -54,7 +54,7 @@ module _ (p : ℕ) (prime : IsPrime p) (L : Layered) (f : ℕ → ℕ) (w u : �
   }
 
 -- ---- each T row scaled by what makes its auxiliary value -1
-module _ (p : ℕ) (prime : IsPrime p) (M : Mixed) (A D : ℕ → Bool) (L : Layered) (O : Origins) (lay : IsLayering M A D L O) (w : ℕ → ℕ → ℕ)
+module _ (p : ℕ) (prime : IsPrime p) (M : MixedMatrix) (A D : ℕ → Bool) (L : LayeredMatrix) (O : Origins) (lay : IsLayering M A D L O) (w : ℕ → ℕ → ℕ)
     (free : AreFreeOfZeros p M L O w) where
   abbrev Scales : ℕ → ℕ → Type 0
   Scales i x = (x % p ≢ 0) × ((k : ℕ) → k < O.split → O.of_t i ≡ O.of_z k → (x * w i (M.columns + k) + 1) % p ≡ 0)

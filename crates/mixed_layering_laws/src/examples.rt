@@ -11,7 +11,8 @@ ghost use Rattle.mixed_layering_laws.specs.LayeredValues.{AreFreeOfZeros, AreSca
 /// The values 2 and -1 of the T row stand for the value 2 of the symbol, and 2 and 2 do not;
 /// they may be scaled by 2, and not by 0.
 pub fn values_at_examples()
-    ensures holds { AreValuesFor 65521 split_model split_matrix split_origins (λ i j. 2) (λ i j. cond (eqb j 0) 2 65520) }
+    ensures holds { AreValuesFor 65521 split_model split_matrix split_origins (λ i j.
+        2) (λ i j. cond (eqb j 0) 2 65520) }
     ensures fails { AreValuesFor 65521 split_model split_matrix split_origins (λ i j. 2) (λ i j. 2) → ⊥ }
     ensures holds_free { AreFreeOfZeros 65521 split_model split_matrix split_origins (λ i j. j) }
     ensures fails_free { AreFreeOfZeros 65521 split_model split_matrix split_origins (λ i j. 0) → ⊥ }
@@ -27,5 +28,6 @@ pub fn layering_at_examples()
     ensures model { IsStructuralRank 65521 split_model 1 }
     ensures layered { IsLayeredRank 65521 split_matrix (1 + split_origins.split) }
     ensures zero_entry { IsRank 65521 (value split_model (λ i j. 65520)) 1 1 everything 0 }
-    ensures layered_zero { IsRank 65521 (layered_value split_matrix (λ i j. 65520)) 2 2 everything (0 + split_origins.split) }
+    ensures layered_zero { IsRank 65521 (layered_value split_matrix (λ i j.
+        65520)) 2 2 everything (0 + split_origins.split) }
 {}

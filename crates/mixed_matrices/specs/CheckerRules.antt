@@ -4,7 +4,7 @@ use Rattle.linear_algebra.specs.Parts.{in_part}
 use Rattle.closed_sets.specs.Blocks.{IsListing, IsBelow}
 use Rattle.closed_sets.specs.Orders.{IsCover}
 use Rattle.closed_sets.specs.Rules.{KeepsRules}
-use Rattle.mixed_matrices.specs.LayeredMatrices.{Layered}
+use Rattle.mixed_matrices.specs.LayeredMatrices.{LayeredMatrix}
 use Rattle.mixed_matrices.specs.Tableaus.{Tableau}
 use Rattle.mixed_matrices.specs.Arcs.{has_base, has_match, is_free, is_end, leads_to}
 use Rattle.mixed_matrices.specs.Forms.{Parts}
@@ -20,7 +20,7 @@ abbrev pub block_of : Parts → ℕ → ℕ
 block_of G x = G.column x - 1
 
 -- each row of a base or matched column stands in the part of its column, each other row in the last tail
-pub record HasRows (L : Layered) (F : Tableau) (G : Parts) : Type 0 where
+pub record HasRows (L : LayeredMatrix) (F : Tableau) (G : Parts) : Type 0 where
   pub columns : (x : ℕ) → x < L.columns → G.column x ≤ G.blocks + 1
   pub base : (b : ℕ) → b < L.columns → F.base b ≡ true → G.q_row (F.row b) ≡ G.column b
   pub matched : (j : ℕ) → j < L.columns → F.matched j ≡ true → G.t_row (F.mate j) ≡ G.column j
@@ -28,12 +28,14 @@ pub record HasRows (L : Layered) (F : Tableau) (G : Parts) : Type 0 where
   pub other_t : (i : ℕ) → i < L.t_rows → has_match L F i ≡ false → G.t_row i ≡ G.blocks + 1
 
 -- the blocks are the listing of the columns that are neither reached from a free one nor reach an end
-abbrev pub IsListingIn : ℕ → Layered → Tableau → Parts → Type 0
+abbrev pub IsListingIn : ℕ → LayeredMatrix → Tableau → Parts → Type 0
 IsListingIn p L F G = IsListing (leads_to p L F) L.columns (is_free F) (is_end p L F) (block_of G) G.blocks
 
 -- below k l says that block k is below block l, and lower l k that k is in the list of l
-pub record KeepsPartRules (p : ℕ) (L : Layered) (F : Tableau) (G : Parts) (below lower : ℕ → ℕ → Bool) : Type 0 where
+pub record KeepsPartRules (p : ℕ) (L : LayeredMatrix) (F : Tableau) (G : Parts)
+    (below lower : ℕ → ℕ → Bool) : Type 0 where
   pub rows : HasRows L F G
-  pub rules : KeepsRules (leads_to p L F) L.columns (is_free F) (is_end p L F) (in_first G) (in_last G) (block_of G) G.blocks lower
+  pub rules : KeepsRules (leads_to p L F) L.columns (is_free F) (is_end p L F) (in_first G) (in_last G)
+      (block_of G) G.blocks lower
   pub order : IsBelow (leads_to p L F) L.columns (is_free F) (is_end p L F) (block_of G) G.blocks below
   pub lists : IsCover below G.blocks lower

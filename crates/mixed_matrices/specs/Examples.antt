@@ -2,18 +2,18 @@
 -- Columns, rows and blocks are numbered from 0.
 use Rattle.std.specs.Prelude.{ℕ, ◌+◌, ◌-◌, Bool, cond, true, false, eqb, ltb, ◌&&◌}
 use Rattle.residue_theory.specs.Sets.{everything, nothing, only}
-use Rattle.mixed_matrices.specs.Models.{Mixed}
-use Rattle.mixed_matrices.specs.LayeredMatrices.{Layered}
+use Rattle.mixed_matrices.specs.Models.{MixedMatrix}
+use Rattle.mixed_matrices.specs.LayeredMatrices.{LayeredMatrix}
 use Rattle.mixed_matrices.specs.Layerings.{Origins}
 use Rattle.mixed_matrices.specs.Tableaus.{Tableau}
 use Rattle.mixed_matrices.specs.Forms.{Parts}
 
 -- ---- one entry with the constant 1 and a symbol
-abbrev pub split_model : Mixed
+abbrev pub split_model : MixedMatrix
 split_model = record { rows = 1; columns = 1; constant = λ i j. 1; symbol = λ i j. true }
 
 -- its layered matrix: the Q row 1 1 above a T row with two symbols; column 1 is auxiliary
-abbrev pub split_matrix : Layered
+abbrev pub split_matrix : LayeredMatrix
 split_matrix = record { q_rows = 1; t_rows = 1; columns = 2; q = λ i j. 1; t = λ i j. true }
 
 abbrev pub split_origins : Origins
@@ -28,14 +28,14 @@ abbrev pub empty_tableau : Tableau
 empty_tableau = record { P = λ i j. 1; base = nothing; row = λ b. 0; matched = nothing; mate = λ j. 0 }
 
 -- ---- models of constants 1 alone: two equations of one unknown, and two equations of two unknowns
-abbrev pub tall_model : Mixed
+abbrev pub tall_model : MixedMatrix
 tall_model = record { rows = 2; columns = 1; constant = λ i j. 1; symbol = λ i j. false }
 
-abbrev pub cancelling_model : Mixed
+abbrev pub cancelling_model : MixedMatrix
 cancelling_model = record { rows = 2; columns = 2; constant = λ i j. 1; symbol = λ i j. false }
 
 -- ---- two T rows: symbols in both columns, and a symbol in column 0
-abbrev pub symbol_triangle : Layered
+abbrev pub symbol_triangle : LayeredMatrix
 symbol_triangle = record { q_rows = 0; t_rows = 2; columns = 2; q = λ i j. 0; t = λ i j. ltb (i + j) 2 }
 
 -- column 0 is matched with row 1, and column 1 with row 0; so column 0 leads to column 1
@@ -61,7 +61,7 @@ abbrev pub triangle_lower : ℕ → ℕ → Bool
 triangle_lower l k = triangle_below k l
 
 -- ---- two T rows with a symbol in the one column: all is the last tail
-abbrev pub tall_symbols : Layered
+abbrev pub tall_symbols : LayeredMatrix
 tall_symbols = record { q_rows = 0; t_rows = 2; columns = 1; q = λ i j. 0; t = λ i j. true }
 
 abbrev pub tall_tableau : Tableau
@@ -71,7 +71,7 @@ abbrev pub tall_parts : Parts
 tall_parts = record { blocks = 0; column = λ j. 1; q_row = λ i. 1; t_row = λ i. 1 }
 
 -- ---- two T rows with a symbol in a column each: nothing leads to anything
-abbrev pub loose_symbols : Layered
+abbrev pub loose_symbols : LayeredMatrix
 loose_symbols = record { q_rows = 0; t_rows = 2; columns = 2; q = λ i j. 0; t = λ i j. eqb i j }
 
 abbrev pub loose_tableau : Tableau
@@ -81,7 +81,7 @@ abbrev pub loose_parts : Parts
 loose_parts = record { blocks = 2; column = λ j. j + 1; q_row = λ i. 3; t_row = λ i. i + 1 }
 
 -- ---- the equation x + y over x and a symbol at y
-abbrev pub stacked_model : Mixed
+abbrev pub stacked_model : MixedMatrix
 stacked_model = record {
   rows = 2;
   columns = 2;
@@ -90,7 +90,7 @@ stacked_model = record {
 }
 
 -- Q has the rows 1 1 0 and 1 0 1, T the row of two symbols at columns 1 and 2
-abbrev pub stacked_matrix : Layered
+abbrev pub stacked_matrix : LayeredMatrix
 stacked_matrix = record {
   q_rows = 2;
   t_rows = 1;

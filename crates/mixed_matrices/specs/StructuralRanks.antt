@@ -2,8 +2,8 @@
 use Rattle.std.specs.Prelude.{ℕ, ◌+◌, ◌≤◌}
 use Rattle.residue_theory.specs.Sets.{everything}
 use Rattle.linear_algebra.specs.Columns.{IsRank}
-use Rattle.mixed_matrices.specs.Models.{Mixed, value}
-use Rattle.mixed_matrices.specs.LayeredMatrices.{Layered, layered_value}
+use Rattle.mixed_matrices.specs.Models.{MixedMatrix, value}
+use Rattle.mixed_matrices.specs.LayeredMatrices.{LayeredMatrix, layered_value}
 
 -- r is the greatest rank of the m by n matrices `at w`, over all values w
 pub record IsGreatestRank (p m n : ℕ) (at : (ℕ → ℕ → ℕ) → ℕ → ℕ → ℕ) (r : ℕ) : Type 0 where
@@ -11,9 +11,9 @@ pub record IsGreatestRank (p m n : ℕ) (at : (ℕ → ℕ → ℕ) → ℕ → 
   pub greatest : (w : ℕ → ℕ → ℕ) (s : ℕ) → IsRank p (at w) m n everything s → s ≤ r
 
 -- r is R(M)
-abbrev pub IsStructuralRank : ℕ → Mixed → ℕ → Type 0
+abbrev pub IsStructuralRank : ℕ → MixedMatrix → ℕ → Type 0
 IsStructuralRank p M r = IsGreatestRank p M.rows M.columns (value M) r
 
 -- r is R(L)
-abbrev pub IsLayeredRank : ℕ → Layered → ℕ → Type 0
+abbrev pub IsLayeredRank : ℕ → LayeredMatrix → ℕ → Type 0
 IsLayeredRank p L r = IsGreatestRank p (L.q_rows + L.t_rows) L.columns (layered_value L) r

@@ -1,35 +1,53 @@
 -- What one changed row leaves of a model.
-use Rattle.std.proofs.Common.{◌≡◌, ◌≢◌, ℕ, ◌<◌, Bool, true, false, cond, ◌&&◌, ◌||◌, List, [], length, map, get_or, set, Some, refl, sym, ap, subst, ◌∙◌, arith, eqb, eqb-true, get_or-set_same, get_or-set_other, length-set, Vec, None, ⊎_elim, ◌≤◌}
+use Rattle.std.proofs.Common.{◌≡◌, ◌≢◌, ℕ, ◌<◌, Bool, true, false, cond, ◌&&◌, ◌||◌, List, [], ◌∷◌, ◌++◌, ◌+◌, length, length-append, map, get_or, set, Some, refl, sym, ap, subst, ◌∙◌, arith, eqb, eqb-true, get_or-set_same, get_or-set_other, length-set, Vec, None, ⊎_elim, ◌≤◌}
 use Rattle.std.specs.Prelude.{All}
 use Rattle.std.proofs.lemmas.Bool.{cases_lt, eqb-false}
 use Rattle.std.proofs.Math.Seq.{map-set_same}
-use Rattle.std.proofs.lemmas.List.{get_or-map, length-map, map-set, ext_get_or}
-use Rattle.std.proofs.lemmas.List.Elements.{All-set}
+use Rattle.std.proofs.lemmas.List.{get_or-map, length-map, map-append, map-set, ext_get_or}
+use Rattle.std.proofs.lemmas.List.Elements.{All-push, All-set}
 use Rattle.mixed_model.proofs.RowLaws.{entry_in-None, same_rows}
-use Rattle.mixed_model.specs.declared.entry.Entry.{Entry}
+use Rattle.mixed_model.specs.Entries.{RowEntry}
+use Rattle.mixed_model.specs.Names.{IsNameList}
 use Rattle.mixed_model.specs.Rows.{IsRow, IsWithin, PutsConstant, PutsSymbol, ChangesRow, constant_in, symbol_in, constant_at_place, symbol_at_place}
 use Rattle.mixed_model.specs.Models.{MixedModel, IsModel, PutsAt, PutsSymbolAt, constant_of, symbol_of}
 
 -- rows that are vectors
-pub rows_are_rows : {A : Type 0} (rows : List (Vec Entry A)) (columns : ℕ) → All (λ row. IsRow row × IsWithin columns row) (map (λ row. row.items) rows) → All (λ row. IsRow row.items) rows
-rows_are_rows rows columns all k d at =
+pub rows_are_rows : {A : Type 0} (p : ℕ) (rows : List (Vec RowEntry A)) (columns : ℕ) → All (λ row. IsRow p row × IsWithin columns row) (map (λ row. row.items) rows) → All (λ row. IsRow p row.items) rows
+rows_are_rows p rows columns all k d at =
     let within : k < length (map (λ row. row.items) rows) = omega (arith, length-map rows (λ row. row.items)) in
-    subst IsRow (get_or-map (λ row. row.items) rows k d [] at) (all k [] within).0
+    subst (IsRow p) (get_or-map (λ row. row.items) rows k d [] at) (all k [] within).0
 
 -- a model whose row i is changed to a row
-IsModel-changed : (model : MixedModel) (rows : List (List Entry)) (i : ℕ) (Change : List Entry → List Entry → Type 0) → IsModel model → i < length model.equations → (changes : ChangesRow Change i model.rows rows) → IsRow changes.row → (IsWithin (length model.unknowns) (get_or model.rows i []) → IsWithin (length model.unknowns) changes.row) → IsModel (record { equations = model.equations; unknowns = model.unknowns; rows = rows })
-IsModel-changed model rows i Change is equation changes row within =
+IsModel-changed : (p : ℕ) (model : MixedModel) (rows : List (List RowEntry)) (i : ℕ) (Change : List RowEntry → List RowEntry → Type 0) → IsModel p model → i < length model.equations → (changes : ChangesRow Change i model.rows rows) → IsRow p changes.row → (IsWithin (length model.unknowns) (get_or model.rows i []) → IsWithin (length model.unknowns) changes.row) → IsModel p (record { equations = model.equations; unknowns = model.unknowns; rows = rows })
+IsModel-changed p model rows i Change is equation changes row within =
     let at = is.rows i [] (omega (arith, is.one_row_each)) in
     record {
       equations = is.equations;
       unknowns = is.unknowns;
       one_row_each = ap length changes.rows ∙ length-set model.rows i changes.row ∙ is.one_row_each;
-      rows = subst (All (λ row. IsRow row × IsWithin (length model.unknowns) row)) (sym changes.rows)
-          (All-set (λ row. IsRow row × IsWithin (length model.unknowns) row) model.rows i changes.row (row, within at.1) is.rows);
+      rows = subst (All (λ row. IsRow p row × IsWithin (length model.unknowns) row)) (sym changes.rows)
+          (All-set (λ row. IsRow p row × IsWithin (length model.unknowns) row) model.rows i changes.row (row, within at.1) is.rows);
     }
 
+-- a model with one more equation, and nothing in its row
+pub IsModel-with_row : {A : Type 0} (p : ℕ) (equations more_equations unknowns : List (List ℕ)) (rows more : List (Vec RowEntry A)) (row : Vec RowEntry A) →
+    IsModel p (record { equations = equations; unknowns = unknowns; rows = map (λ row. row.items) rows }) → IsNameList more_equations → length more_equations ≡ length equations + 1 →
+    more ≡ rows ++ row ∷ [] → row.items ≡ [] → IsModel p (record { equations = more_equations; unknowns = unknowns; rows = map (λ row. row.items) more })
+IsModel-with_row {A} p equations more_equations unknowns rows more row is names count pushed empty = record {
+  equations = names;
+  unknowns = is.unknowns;
+  one_row_each = ap length whole ∙ length-append (map (λ row. row.items) rows) ([] ∷ []) ∙ ap (λ n. n + 1) is.one_row_each ∙ sym count;
+  rows = subst (All (λ row. IsRow p row × IsWithin (length unknowns) row)) (sym whole)
+      (All-push (λ row. IsRow p row × IsWithin (length unknowns) row) (map (λ row. row.items) rows) [] is.rows (tt, λ k d short. absurd (omega arith)));
+}
+  where
+    whole : map (λ (row : Vec RowEntry A). row.items) more ≡ map (λ (row : Vec RowEntry A). row.items) rows ++ [] ∷ []
+    whole =
+        ap (λ rs. map (λ (row : Vec RowEntry A). row.items) rs) pushed ∙ map-append (λ (row : Vec RowEntry A). row.items) rows (row ∷ [])
+        ∙ ap (λ items. map (λ (row : Vec RowEntry A). row.items) rows ++ items ∷ []) empty
+
 -- what is told of the places of each row, after one row is changed
-told_after : {A : Type 0} (tells : List Entry → ℕ → A) (rows : List (List Entry)) (i : ℕ) (row : List Entry) (told : ℕ → A → A) → i < length rows → ((c : ℕ) → tells row c ≡ told c (tells (get_or rows i []) c)) → (k c : ℕ) → tells (get_or (set rows i row) k []) c ≡ cond (eqb i k) (told c (tells (get_or rows k []) c)) (tells (get_or rows k []) c)
+told_after : {A : Type 0} (tells : List RowEntry → ℕ → A) (rows : List (List RowEntry)) (i : ℕ) (row : List RowEntry) (told : ℕ → A → A) → i < length rows → ((c : ℕ) → tells row c ≡ told c (tells (get_or rows i []) c)) → (k c : ℕ) → tells (get_or (set rows i row) k []) c ≡ cond (eqb i k) (told c (tells (get_or rows k []) c)) (tells (get_or rows k []) c)
 told_after tells rows i row told within there k c = by (eqb i k) refl
   where
     by : (b : Bool) → eqb i k ≡ b → tells (get_or (set rows i row) k []) c ≡ cond b (told c (tells (get_or rows k []) c)) (tells (get_or rows k []) c)
@@ -41,7 +59,7 @@ told_after tells rows i row told within there k c = by (eqb i k) refl
         let other : k ≢ i = λ same. eqb-false i k e (sym same) in
         ap (λ row. tells row c) (get_or-set_other rows i k row [] other)
 
-module _ (model : MixedModel) (rows : List (List Entry)) (i j : ℕ) (is : IsModel model) (equation : i < length model.equations) (unknown : j < length model.unknowns) where
+module _ (p : ℕ) (model : MixedModel) (rows : List (List RowEntry)) (i j : ℕ) (is : IsModel p model) (equation : i < length model.equations) (unknown : j < length model.unknowns) where
   -- the model with these rows
   abbrev put : MixedModel
   put = record { equations = model.equations; unknowns = model.unknowns; rows = rows }
@@ -61,11 +79,11 @@ module _ (model : MixedModel) (rows : List (List Entry)) (i j : ℕ) (is : IsMod
   unchanged true x = refl
   unchanged false x = refl
 
-  pub IsModel-put : (constant : ℕ) → ChangesRow (PutsConstant j constant) i model.rows rows → IsModel put
+  pub IsModel-put : (constant : ℕ) → ChangesRow (PutsConstant p j constant) i model.rows rows → IsModel p put
   IsModel-put constant puts =
-      IsModel-changed model rows i (PutsConstant j constant) is equation puts puts.change.row (puts.change.within (length model.unknowns) unknown)
+      IsModel-changed p model rows i (PutsConstant p j constant) is equation puts puts.change.row (puts.change.within (length model.unknowns) unknown)
 
-  pub PutsAt-put : (constant : ℕ) → ChangesRow (PutsConstant j constant) i model.rows rows → PutsAt model put i j constant
+  pub PutsAt-put : (constant : ℕ) → ChangesRow (PutsConstant p j constant) i model.rows rows → PutsAt model put i j constant
   PutsAt-put constant puts = record {
     equations = refl;
     unknowns = refl;
@@ -79,11 +97,11 @@ module _ (model : MixedModel) (rows : List (List Entry)) (i j : ℕ) (is : IsMod
         ∙ unchanged (eqb i k) (symbol_in (get_or model.rows k []) c);
   }
 
-  pub IsModel-put_symbol : ChangesRow (PutsSymbol j) i model.rows rows → IsModel put
+  pub IsModel-put_symbol : ChangesRow (PutsSymbol p j) i model.rows rows → IsModel p put
   IsModel-put_symbol puts =
-      IsModel-changed model rows i (PutsSymbol j) is equation puts puts.change.row (puts.change.within (length model.unknowns) unknown)
+      IsModel-changed p model rows i (PutsSymbol p j) is equation puts puts.change.row (puts.change.within (length model.unknowns) unknown)
 
-  pub PutsSymbolAt-put : ChangesRow (PutsSymbol j) i model.rows rows → PutsSymbolAt model put i j
+  pub PutsSymbolAt-put : ChangesRow (PutsSymbol p j) i model.rows rows → PutsSymbolAt model put i j
   PutsSymbolAt-put puts = record {
     equations = refl;
     unknowns = refl;
@@ -98,7 +116,7 @@ module _ (model : MixedModel) (rows : List (List Entry)) (i j : ℕ) (is : IsMod
   }
 
 -- one of several vectors is changed
-pub ChangesRow-set : {A : Type 0} (Change : List Entry → List Entry → Type 0) (rows : List (Vec Entry A)) (i : ℕ) (old new : Vec Entry A) → i < length rows → old ≡ get_or rows i old → Change old.items new.items → ChangesRow Change i (map (λ row. row.items) rows) (map (λ row. row.items) (set rows i new))
+pub ChangesRow-set : {A : Type 0} (Change : List RowEntry → List RowEntry → Type 0) (rows : List (Vec RowEntry A)) (i : ℕ) (old new : Vec RowEntry A) → i < length rows → old ≡ get_or rows i old → Change old.items new.items → ChangesRow Change i (map (λ row. row.items) rows) (map (λ row. row.items) (set rows i new))
 ChangesRow-set Change rows i old new within is change = record {
   row = new.items;
   change = subst (λ row. Change row new.items) (ap (λ row. row.items) is ∙ sym (get_or-map (λ row. row.items) rows i old [] within)) change;
@@ -106,18 +124,18 @@ ChangesRow-set Change rows i old new within is change = record {
 }
 
 -- or keeps its items
-pub rows_kept : {A : Type 0} (rows : List (Vec Entry A)) (i : ℕ) (old new : Vec Entry A) → old ≡ get_or rows i old → new.items ≡ old.items → map (λ row. row.items) (set rows i new) ≡ map (λ row. row.items) rows
+pub rows_kept : {A : Type 0} (rows : List (Vec RowEntry A)) (i : ℕ) (old new : Vec RowEntry A) → old ≡ get_or rows i old → new.items ≡ old.items → map (λ row. row.items) (set rows i new) ≡ map (λ row. row.items) rows
 rows_kept rows i old new is same = map-set_same (λ row. row.items) rows i new old (same ∙ ap (λ row. row.items) is)
 
 -- nothing stands at a column past the unknowns
-pub beyond_unknowns : (columns : ℕ) (row : List Entry) (j : ℕ) → IsWithin columns row → columns ≤ j → (constant_in row j ≡ None) × (symbol_in row j ≡ false)
+pub beyond_unknowns : (columns : ℕ) (row : List RowEntry) (j : ℕ) → IsWithin columns row → columns ≤ j → (constant_in row j ≡ None) × (symbol_in row j ≡ false)
 beyond_unknowns columns row j within beyond =
     let none = entry_in-None row j (λ k d at same. omega (arith, within k d at, same)) in
     (ap constant_at_place none, ap symbol_at_place none)
 
 -- models with the same names, constants and symbols are the same
-pub same_models : (a b : MixedModel) → IsModel a → IsModel b → a.equations ≡ b.equations → a.unknowns ≡ b.unknowns → ((i j : ℕ) → i < length a.equations → j < length a.unknowns → constant_of a i j ≡ constant_of b i j) → ((i j : ℕ) → i < length a.equations → j < length a.unknowns → symbol_of a i j ≡ symbol_of b i j) → a ≡ b
-same_models a b is_a is_b equations unknowns constants symbols = λ i. record { equations = equations i; unknowns = unknowns i; rows = rows i }
+pub same_models : (p : ℕ) (a b : MixedModel) → IsModel p a → IsModel p b → a.equations ≡ b.equations → a.unknowns ≡ b.unknowns → ((i j : ℕ) → i < length a.equations → j < length a.unknowns → constant_of a i j ≡ constant_of b i j) → ((i j : ℕ) → i < length a.equations → j < length a.unknowns → symbol_of a i j ≡ symbol_of b i j) → a ≡ b
+same_models p a b is_a is_b equations unknowns constants symbols = λ i. record { equations = equations i; unknowns = unknowns i; rows = rows i }
   where
     rows : a.rows ≡ b.rows
     rows = ext_get_or [] a.rows b.rows (is_a.one_row_each ∙ ap length equations ∙ sym is_b.one_row_each) (λ k at.
@@ -125,7 +143,7 @@ same_models a b is_a is_b equations unknowns constants symbols = λ i. record { 
         let there = is_b.rows k [] (omega (arith, is_a.one_row_each, is_b.one_row_each, ap length equations)) in
         let past : (j : ℕ) → length a.unknowns ≤ j → length b.unknowns ≤ j = λ j beyond. omega (arith, ap length unknowns) in
         let equation : k < length a.equations = omega (arith, is_a.one_row_each) in
-        same_rows (get_or a.rows k []) (get_or b.rows k []) here.0 there.0
+        same_rows p (get_or a.rows k []) (get_or b.rows k []) here.0 there.0
         (λ j. ⊎_elim
         (λ within. constants k j equation within)
         (λ beyond.

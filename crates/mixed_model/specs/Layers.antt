@@ -3,7 +3,7 @@ use Rattle.std.specs.Prelude.{ℕ, ◌≡◌, Bool, true, false, List, length}
 use Rattle.std.specs.List.{count_by}
 use Rattle.dense_q.specs.Tables.{Table, height, entry}
 use Rattle.sparse_t.specs.Incidences.{Incidence, touches}
-use Rattle.mixed_matrices.specs.LayeredMatrices.{Layered}
+use Rattle.mixed_matrices.specs.LayeredMatrices.{LayeredMatrix}
 use Rattle.mixed_model.specs.declared.origin.Origin.{Origin}
 use Rattle.mixed_model.specs.declared.origin.Origin.TheVariants.{Unknown, Split}
 
@@ -23,7 +23,7 @@ pub record AreLayers (layers : Layers) : Type 0 where
   pub column_origins : length layers.column_origins ≡ layers.q.width
 
 -- the layered mixed matrix of the data
-abbrev pub layered_matrix_of : Layers → Layered
+abbrev pub layered_matrix_of : Layers → LayeredMatrix
 layered_matrix_of layers = record {
   q_rows = height layers.q;
   t_rows = length layers.t.rows;

@@ -1,18 +1,19 @@
 -- Models, seen as data, and what the calls of `Mixed` leave.
 use Rattle.std.specs.Prelude.{◌≡◌, ℕ, ◌&&◌, ◌||◌, Bool, List, [], ◌∷◌, ◌++◌, length, nat_eq, if◌then◌else◌, Option, Some, unwrap_or, slice_index_or, All}
-use Rattle.mixed_matrices.specs.Models.{Mixed}
-use Rattle.mixed_model.specs.declared.entry.Entry.{Entry}
+use Rattle.mixed_matrices.specs.Models.{MixedMatrix}
+use Rattle.mixed_model.specs.Entries.{RowEntry}
 use Rattle.mixed_model.specs.Names.{IsNameList, see}
 use Rattle.mixed_model.specs.Rows.{IsRow, IsWithin, constant_in, symbol_in}
 
--- A model: the names of its equations and of its unknowns, in order, and for each equation its entries by rising column.
+-- A model: the names of its equations and of its unknowns, in order, and for each equation its entries by rising
+-- column.
 pub record MixedModel : Type 0 where
   pub equations : List (List ℕ)
   pub unknowns : List (List ℕ)
-  pub rows : List (List Entry)
+  pub rows : List (List RowEntry)
 
 -- the row of equation i
-abbrev pub row_of : MixedModel → ℕ → List Entry
+abbrev pub row_of : MixedModel → ℕ → List RowEntry
 row_of model i = slice_index_or model.rows i []
 
 -- the constant of equation i at unknown j, where there is one
@@ -28,7 +29,7 @@ abbrev pub constant_at : MixedModel → ℕ → ℕ → ℕ
 constant_at model i j = unwrap_or (constant_of model i j) 0
 
 -- the mixed matrix of a model
-abbrev pub mixed_matrix_of : MixedModel → Mixed
+abbrev pub mixed_matrix_of : MixedModel → MixedMatrix
 mixed_matrix_of model = record {
   rows = length model.equations;
   columns = length model.unknowns;
@@ -36,12 +37,13 @@ mixed_matrix_of model = record {
   symbol = symbol_of model;
 }
 
--- Names are few and differ, each equation has a row, and the columns of the rows are unknowns.
-pub record IsModel (model : MixedModel) : Type 0 where
+-- Names are few and differ, each equation has a row, the columns of the rows are unknowns, and their constants are
+-- residues modulo p.
+pub record IsModel (p : ℕ) (model : MixedModel) : Type 0 where
   pub equations : IsNameList model.equations
   pub unknowns : IsNameList model.unknowns
   pub one_row_each : length model.rows ≡ length model.equations
-  pub rows : All (λ row. IsRow row × IsWithin (length model.unknowns) row) model.rows
+  pub rows : All (λ row. IsRow p row × IsWithin (length model.unknowns) row) model.rows
 
 -- a model without equations and unknowns
 abbrev pub empty_model : MixedModel
@@ -63,7 +65,8 @@ with_seen_unknown model name = record model { unknowns = see model.unknowns name
 pub record PutsAt (old new : MixedModel) (i j constant : ℕ) : Type 0 where
   pub equations : new.equations ≡ old.equations
   pub unknowns : new.unknowns ≡ old.unknowns
-  pub constants : (k c : ℕ) → constant_of new k c ≡ (if nat_eq i k && nat_eq j c then Some constant else constant_of old k c)
+  pub constants : (k c : ℕ) → constant_of new k c
+      ≡ (if nat_eq i k && nat_eq j c then Some constant else constant_of old k c)
   pub symbols : (k c : ℕ) → symbol_of new k c ≡ symbol_of old k c
 
 -- The new model is the old one with a symbol at the place (i, j).

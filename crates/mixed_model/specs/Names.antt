@@ -2,17 +2,20 @@
 use Rattle.std.specs.Prelude.{◌≡◌, ℕ, ◌≤◌, All, Bool, not, ◌&&◌, ◌||◌, IsTrue, List, [], ◌∷◌, ◌++◌, length, nat_eq, nat_le, nat_lt, position, if◌then◌else◌, Option, Some, None, Result, Ok, Err}
 use Rattle.std.specs.List.{IsDistinct, list_all, list_any}
 use Rattle.std.specs.Str.{bytes_eq}
+use Rattle.limits.specs.Limits.{equation_limit}
 use Rattle.mixed_model.specs.declared.errors.AddError.{AddError}
 use Rattle.mixed_model.specs.declared.errors.AddError.TheVariants.{Twice, TooMany, NoMemory}
 
 -- what may be a name: 1 to 96 bytes, none of them a space or a tab
 abbrev pub is_label : List ℕ → Bool
-is_label name = nat_le 1 (length name) && nat_le (length name) 96 && list_all (λ byte. not (nat_eq byte 32 || nat_eq byte 9)) name
+is_label name =
+    nat_le 1 (length name) && nat_le (length name) 96
+    && list_all (λ byte. not (nat_eq byte 32 || nat_eq byte 9)) name
 
 -- at most 4,096 names, no two of them the same
 pub record IsNameList (names : List (List ℕ)) : Type 0 where
   pub labels : All (λ name. IsTrue (is_label name)) names
-  pub few : length names ≤ 4096
+  pub few : length names ≤ equation_limit
   pub distinct : IsDistinct bytes_eq names
 
 -- whether a name is among these
@@ -25,7 +28,7 @@ see names name = if has_name names name then names else names ++ name ∷ []
 
 -- What putting a name last answers while there is memory: its place, or that there are 4,096.
 abbrev pub appending : List (List ℕ) → Result ℕ AddError
-appending names = if nat_lt (length names) 4096 then Ok (length names) else Err TooMany
+appending names = if nat_lt (length names) equation_limit then Ok (length names) else Err TooMany
 
 -- What adding a name answers while there is memory: its place, or why it is not added.
 abbrev pub adding : List (List ℕ) → List ℕ → Result ℕ AddError

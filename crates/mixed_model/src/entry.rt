@@ -1,50 +1,75 @@
-ghost use Rattle.std.specs.Prelude.{◌≡◌, ◌<◌};
+//! What stands at the places of an equation.
+
+ghost use Rattle.std.specs.Prelude.{◌≡◌};
 ghost use Rattle.std.specs.Iterator.{YieldsFirst, item_count};
 
-use residue_field::Res;
+use residue_field::Field;
 use std::marker::Model;
 
-/// What stands at a place of an equation: a constant other than 0, a symbol, or both; and the column of its unknown, from 0.
-#[derive(Clone, Copy, Debug, PartialEq, Eq)]
-pub struct Entry {
+/// What stands at a place of an equation: a constant other than 0, a symbol, or both; and the column of its unknown,
+/// from 0. Contracts see the number of the constant.
+#[derive(Drop)]
+pub struct Entry<F: Field> {
     pub column: usize,
-    pub constant: Option<Res>,
+    pub constant: Option<F>,
     pub symbol: bool,
+}
+
+impl<F: Field> Model for Entry<F> {
+    ghost use Rattle.std.specs.Option.{option_map};
+    ghost use Rattle.mixed_model.specs.Entries.{RowEntry};
+
+    ghost Value = { RowEntry };
+
+    ghost view = { λ e. record { column = e.column; constant = option_map F.number e.constant; symbol = e.symbol } };
+}
+
+impl<F: Field> Entry<F> {
+    /// The same entry once more.
+    pub fn copy(&self) -> Entry<F>
+        ensures { result ≡ self.now }
+    {
+        Entry {
+            column: self.column,
+            constant: self.constant,
+            symbol: self.symbol,
+        }
+    }
 }
 
 /// The entries of an equation that are left, seen by contracts as a list.
 #[derive(Drop)]
-pub struct Entries<'a> {
-    rest: &'a [Entry],
+pub struct Entries<'a, F: Field> {
+    rest: &'a [Entry<F>],
 }
 
-impl<'a> Model for Entries<'a> {
+impl<'a, F: Field> Model for Entries<'a, F> {
     ghost use Rattle.std.specs.Prelude.{List};
-    ghost use Rattle.mixed_model.specs.declared.entry.Entry.{Entry};
+    ghost use Rattle.mixed_model.specs.Entries.{RowEntry};
 
-    ghost Value = { List Entry };
+    ghost Value = { List RowEntry };
 
     ghost view = { λ e. e.rest.now };
 }
 
-impl<'a> Entries<'a> {
-    pub(crate) fn new(row: &'a [Entry]) -> Self
+impl<'a, F: Field> Entries<'a, F> {
+    pub(crate) fn new(row: &'a [Entry<F>]) -> Self
         ensures { result ≡ row.now }
     {
         Entries { rest: row }
     }
 }
 
-impl Iterator for Entries<'_> {
-    type Item = Entry;
+impl<F: Field> Iterator for Entries<'_, F> {
+    type Item = Entry<F>;
 
     ghost next_gives = { YieldsFirst (λ left. left) };
 
     ghost remaining = { item_count (λ left. left) };
 
-    fn next(&mut self) -> Option<Entry> {
+    fn next(&mut self) -> Option<Entry<F>> {
         let (first, rest) = self.rest.split_first()?;
         self.rest = rest;
-        Some(*first)
+        Some(first.copy())
     }
 }

@@ -1,3 +1,5 @@
+//! Why nothing was added to a model.
+
 use std::alloc::{AllocError, AllocFailed};
 use thiserror::Error;
 

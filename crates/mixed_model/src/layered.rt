@@ -1,19 +1,21 @@
+//! Layered mixed matrices.
+
 ghost use Rattle.std.specs.Prelude.{◌≡◌, ◌<◌, length, slice_get, Some};
 ghost use Rattle.dense_q.specs.Tables.{height};
 ghost use Rattle.mixed_model.specs.Layers.{Layers, AreLayers, split_of};
 
 use crate::origin::Origin;
 use dense_q::Mat;
-use residue_field::Res;
+use residue_field::Field;
 use sparse_t::Pattern;
 use std::marker::Model;
 
-/// A layered mixed matrix: rows of constants above rows of symbols, on the same columns. It keeps for each row the
-/// equation, and for each column the unknown or the split equation, from which it comes. (Murota, chapter 4.)
+/// A layered mixed matrix over F: rows of constants above rows of symbols, on the same columns. It keeps for each row
+/// the equation, and for each column the unknown or the split equation, from which it comes. (Murota, chapter 4.)
 #[derive(Drop)]
-pub struct Layered {
+pub struct Layered<F: Field> {
     /// The constants, Q rows x columns.
-    pub q: Mat<Res>,
+    pub q: Mat<F>,
     /// The places of the symbols, T rows x columns.
     pub t: Pattern,
     q_origins: Vec<usize>,
@@ -21,30 +23,48 @@ pub struct Layered {
     column_origins: Vec<Origin>,
 }
 
-impl Model for Layered {
+impl<F: Field> Model for Layered<F> {
     ghost use Rattle.mixed_model.specs.Layers.{Layers, AreLayers};
 
     ghost Value = { Layers };
 
-    ghost view = { λ l. record { q = l.q; t = l.t; q_origins = l.q_origins.items; t_origins = l.t_origins.items; column_origins = l.column_origins.items } };
+    ghost view = { λ l. record {
+      q = l.q;
+      t = l.t;
+      q_origins = l.q_origins.items;
+      t_origins = l.t_origins.items;
+      column_origins = l.column_origins.items;
+    } };
 
-    ghost invariant = { λ l. AreLayers (record { q = l.q; t = l.t; q_origins = l.q_origins.items; t_origins = l.t_origins.items; column_origins = l.column_origins.items }) };
+    ghost invariant = { λ l. AreLayers (record {
+      q = l.q;
+      t = l.t;
+      q_origins = l.q_origins.items;
+      t_origins = l.t_origins.items;
+      column_origins = l.column_origins.items;
+    }) };
 }
 
-impl Layered {
+impl<F: Field> Layered<F> {
     /// The layered matrix of these parts: an equation for each Q row and for each T row, and an origin for each column.
     pub fn new(
-        q: Mat<Res>,
+        q: Mat<F>,
         t: Pattern,
         q_origins: Vec<usize>,
         t_origins: Vec<usize>,
         column_origins: Vec<Origin>,
-    ) -> Layered
+    ) -> Layered<F>
         requires columns { t.width ≡ q.width }
         requires q_rows { length q_origins.items ≡ height q }
         requires t_rows { length t_origins.items ≡ length t.rows }
         requires origins { length column_origins.items ≡ q.width }
-        ensures { result ≡ record { q = q; t = t; q_origins = q_origins.items; t_origins = t_origins.items; column_origins = column_origins.items } }
+        ensures { result ≡ record {
+          q = q;
+          t = t;
+          q_origins = q_origins.items;
+          t_origins = t_origins.items;
+          column_origins = column_origins.items;
+        } }
     {
         Layered {
             q,
@@ -77,6 +97,15 @@ impl Layered {
         ensures { slice_get self.now.column_origins col ≡ Some result }
     {
         self.column_origins[col]
+    }
+
+    /// Tells a proof that both parts have the same columns, and that each row and each column has its origin. It does
+    /// nothing when it runs.
+    pub fn are_layers(&self)
+        ensures { AreLayers self.now }
+    {
+        // a proof knows what the type keeps once a field is read
+        let _ = &self.column_origins;
     }
 
     /// How many columns are auxiliary: one for each split equation.

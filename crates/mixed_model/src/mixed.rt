@@ -1,4 +1,7 @@
+//! Models: named equations over named unknowns.
+
 ghost use Rattle.std.specs.Prelude.{ℕ, ◌≡◌, ◌≢◌, ◌<◌, IsTrue, [], length, position, slice_get, Some, IfOk, OnOk, OnErr};
+ghost use Rattle.std.specs.Option.{option_map};
 ghost use Rattle.std.specs.Str.{bytes_eq};
 ghost use Rattle.mixed_matrices.specs.Layerings.{has_constant, has_symbol};
 ghost use Rattle.mixed_model.specs.Names.{is_label, adding, seeing, AnswersAdd};
@@ -10,7 +13,7 @@ use crate::errors::AddError;
 use crate::names::Names;
 use crate::rows;
 use out_of_memory::NoMemory;
-use residue_field::Res;
+use residue_field::Field;
 use std::alloc::Global;
 use std::marker::Model;
 
@@ -21,28 +24,36 @@ const FIRST_ROOM: usize = 16;
 /// which they were added, at most 4,096 of each: at each place perhaps a constant, and perhaps a symbol of its own.
 /// (Murota, chapter 4.)
 #[derive(Drop)]
-pub struct Mixed {
+pub struct Mixed<F: Field> {
     equations: Names,
     unknowns: Names,
-    rows: Vec<Vec<Entry>>,
+    rows: Vec<Vec<Entry<F>>>,
 }
 
-impl Model for Mixed {
+impl<F: Field> Model for Mixed<F> {
     ghost use Rattle.std.specs.Prelude.{map};
     ghost use Rattle.mixed_model.specs.Models.{MixedModel, IsModel};
 
     ghost Value = { MixedModel };
 
-    ghost view = { λ m. record { equations = m.equations; unknowns = m.unknowns; rows = map (λ row. row.items) m.rows.items } };
+    ghost view = { λ m. record {
+      equations = m.equations;
+      unknowns = m.unknowns;
+      rows = map (λ row. row.items) m.rows.items;
+    } };
 
-    ghost invariant = { λ m. IsModel (record { equations = m.equations; unknowns = m.unknowns; rows = map (λ row. row.items) m.rows.items }) };
+    ghost invariant = { λ m. IsModel F.modulus (record {
+      equations = m.equations;
+      unknowns = m.unknowns;
+      rows = map (λ row. row.items) m.rows.items;
+    }) };
 }
 
-impl Mixed {
+impl<F: Field> Mixed<F> {
     /// A model without equations and unknowns.
-    pub fn new(alloc: Global) -> Result<Mixed, NoMemory>
+    pub fn new(alloc: Global) -> Result<Mixed<F>, NoMemory>
         ensures empty { IfOk result (λ m. m ≡ empty_model) }
-        ensures model { IfOk result IsModel }
+        ensures model { IfOk result (IsModel F.modulus) }
     {
         Ok(Mixed {
             equations: Names::new(alloc),
@@ -54,7 +65,7 @@ impl Mixed {
     /// How many equations there are.
     pub fn equations(&self) -> usize
         ensures count { result ≡ length self.now.equations }
-        ensures model { IsModel self.now }
+        ensures model { IsModel F.modulus self.now }
     {
         self.equations.len()
     }
@@ -62,7 +73,7 @@ impl Mixed {
     /// How many unknowns there are.
     pub fn unknowns(&self) -> usize
         ensures count { result ≡ length self.now.unknowns }
-        ensures model { IsModel self.now }
+        ensures model { IsModel F.modulus self.now }
     {
         self.unknowns.len()
     }
@@ -98,10 +109,10 @@ impl Mixed {
     }
 
     /// The constant of equation `i` at unknown `j`: none where it is 0.
-    pub fn constant(&self, i: usize, j: usize) -> Option<Res>
+    pub fn constant(&self, i: usize, j: usize) -> Option<F>
         requires equation { i < length self.now.equations }
         requires unknown { j < length self.now.unknowns }
-        ensures { result ≡ constant_of self.now i j }
+        ensures { option_map F.number result ≡ constant_of self.now i j }
     {
         match rows::entry_in_row(&self.rows, i, j) {
             Some(entry) => entry.constant,
@@ -138,10 +149,10 @@ impl Mixed {
     }
 
     /// The entries of equation `i` by rising column, each with a constant other than 0, a symbol, or both.
-    pub fn entries(&self, i: usize) -> Entries<'_>
+    pub fn entries(&self, i: usize) -> Entries<'_, F>
         requires { i < length self.now.equations }
         ensures entries { result ≡ row_of self.now i }
-        ensures model { IsModel self.now }
+        ensures model { IsModel F.modulus self.now }
     {
         Entries::new(&self.rows[i])
     }
@@ -153,7 +164,7 @@ impl Mixed {
         ensures answer { AnswersAdd result (adding self.old.equations name.now) }
         ensures added { OnOk result (self.new ≡ with_equation self.old name.now) }
         ensures kept { OnErr result (self.new ≡ self.old) }
-        ensures model { IsModel self.new }
+        ensures model { IsModel F.modulus self.new }
     {
         let alloc = *self.rows.allocator();
         self.rows.reserve(1)?;
@@ -169,7 +180,7 @@ impl Mixed {
         ensures answer { AnswersAdd result (adding self.old.unknowns name.now) }
         ensures added { OnOk result (self.new ≡ with_unknown self.old name.now) }
         ensures kept { OnErr result (self.new ≡ self.old) }
-        ensures model { IsModel self.new }
+        ensures model { IsModel F.modulus self.new }
     {
         self.unknowns.add(name)
     }
@@ -181,21 +192,21 @@ impl Mixed {
         ensures answer { AnswersAdd result (seeing self.old.unknowns name.now) }
         ensures seen { OnOk result (self.new ≡ with_seen_unknown self.old name.now) }
         ensures kept { OnErr result (self.new ≡ self.old) }
-        ensures model { IsModel self.new }
+        ensures model { IsModel F.modulus self.new }
     {
         self.unknowns.find_or_add(name)
     }
 
     /// Puts a constant other than 0 at the place of equation `i` and unknown `j`. `Twice` comes where one is
     /// there. A refusal changes nothing.
-    pub fn put_constant(&mut self, i: usize, j: usize, value: Res) -> Result<(), AddError>
+    pub fn put_constant(&mut self, i: usize, j: usize, value: F) -> Result<(), AddError>
         requires equation { i < length self.old.equations }
         requires unknown { j < length self.old.unknowns }
-        requires value { value ≢ 0 }
+        requires value { F.number value ≢ 0 }
         ensures answer { AnswersAdd result (putting (row_of self.old i) j) }
-        ensures put { OnOk result (PutsAt self.old self.new i j value) }
+        ensures put { OnOk result (PutsAt self.old self.new i j (F.number value)) }
         ensures kept { OnErr result (self.new ≡ self.old) }
-        ensures model { IsModel self.new }
+        ensures model { IsModel F.modulus self.new }
     {
         rows::put_constant_in_row(&mut self.rows, i, j, value)
     }
@@ -208,7 +219,7 @@ impl Mixed {
         ensures answer { AnswersAdd result (putting_symbol (row_of self.old i) j) }
         ensures put { OnOk result (PutsSymbolAt self.old self.new i j) }
         ensures kept { OnErr result (self.new ≡ self.old) }
-        ensures model { IsModel self.new }
+        ensures model { IsModel F.modulus self.new }
     {
         rows::put_symbol_in_row(&mut self.rows, i, j)
     }
@@ -216,7 +227,8 @@ impl Mixed {
 
 /// Models with the same names, the same constants and the same symbols are the same.
 pub fn places_tell_a_model()
-    ensures { (a b : MixedModel) → IsModel a → IsModel b → a.equations ≡ b.equations → a.unknowns ≡ b.unknowns
+    ensures { (p : ℕ) (a b : MixedModel) → IsModel p a → IsModel p b
+        → a.equations ≡ b.equations → a.unknowns ≡ b.unknowns
         → ((i j : ℕ) → i < length a.equations → j < length a.unknowns → constant_of a i j ≡ constant_of b i j)
         → ((i j : ℕ) → i < length a.equations → j < length a.unknowns → symbol_of a i j ≡ symbol_of b i j) → a ≡ b }
 {}

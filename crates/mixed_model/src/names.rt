@@ -1,3 +1,5 @@
+//! The names of equations or of unknowns.
+
 ghost use Rattle.std.specs.Prelude.{◌≡◌, ◌∷◌, ◌++◌, [], ◌<◌, IsTrue, false, not, ◌||◌, nat_eq, length, map, position, slice_get, Some, OnOk, OnErr};
 ghost use Rattle.std.specs.List.{list_all};
 ghost use Rattle.std.specs.Str.{bytes_eq};
@@ -6,11 +8,9 @@ ghost use Rattle.mixed_model.specs.Names.{is_label, IsNameList, has_name, see, a
 
 use crate::errors::AddError;
 use indexmap::IndexSet;
+use limits::EQUATION_LIMIT;
 use std::alloc::{AllocError, Global};
 use std::marker::Model;
-
-// The greatest number of names.
-const MOST: usize = 4096;
 
 // The greatest number of bytes of a name.
 const LONGEST: usize = 96;
@@ -128,7 +128,7 @@ impl Names {
         ensures names { IsNameList self.new }
     {
         let place = self.len();
-        if place >= MOST {
+        if place >= EQUATION_LIMIT {
             return Err(AddError::TooMany);
         }
         push_text(&mut self.texts, name)?;

@@ -1,3 +1,5 @@
+//! Rows: the entries of each equation by rising column.
+
 ghost use Rattle.std.specs.Prelude.{◌≡◌, ◌≢◌, ◌<◌, ◌≤◌, ℕ, Some, None, length, All, slice_index_or, vec_len, MatchResult, OnOk, OnErr};
 ghost use Rattle.std.specs.Prelude.{is_some};
 ghost use Rattle.std.specs.List.{list_any};
@@ -6,30 +8,34 @@ ghost use Rattle.mixed_model.specs.Rows.{IsRow, PutsConstant, PutsSymbol, FitsBe
 
 use crate::entry::Entry;
 use crate::errors::AddError;
-use residue_field::Res;
+use residue_field::Field;
 
 // The entry of row `i` at a column.
-pub(crate) fn entry_in_row(rows: &[Vec<Entry>], i: usize, column: usize) -> Option<Entry>
+pub(crate) fn entry_in_row<F: Field>(
+    rows: &[Vec<Entry<F>>],
+    i: usize,
+    column: usize,
+) -> Option<Entry<F>>
     requires within { i < length rows.now }
-    requires rows { All (λ row. IsRow row.items) rows.now }
+    requires rows { All (λ row. IsRow F.modulus row.items) rows.now }
     ensures { result ≡ entry_in (row_at rows.now i) column }
 {
     entry(&rows[i], column)
 }
 
 // The entry of a row at a column.
-fn entry(row: &[Entry], column: usize) -> Option<Entry>
-    requires { IsRow row.now }
+fn entry<F: Field>(row: &[Entry<F>], column: usize) -> Option<Entry<F>>
+    requires { IsRow F.modulus row.now }
     ensures { result ≡ entry_in row.now column }
 {
     match place_of(row, column) {
-        Ok(place) => Some(row[place]),
+        Ok(place) => Some(row[place].copy()),
         Err(_) => None,
     }
 }
 
 // Whether row `i` has a constant.
-pub(crate) fn any_constant(rows: &[Vec<Entry>], i: usize) -> bool
+pub(crate) fn any_constant<F: Field>(rows: &[Vec<Entry<F>>], i: usize) -> bool
     requires { i < length rows.now }
     ensures { result ≡ list_any (λ entry. is_some entry.constant) (row_at rows.now i) }
 {
@@ -37,7 +43,7 @@ pub(crate) fn any_constant(rows: &[Vec<Entry>], i: usize) -> bool
 }
 
 // Whether row `i` has a symbol.
-pub(crate) fn any_symbol(rows: &[Vec<Entry>], i: usize) -> bool
+pub(crate) fn any_symbol<F: Field>(rows: &[Vec<Entry<F>>], i: usize) -> bool
     requires { i < length rows.now }
     ensures { result ≡ list_any (λ entry. entry.symbol) (row_at rows.now i) }
 {
@@ -45,30 +51,31 @@ pub(crate) fn any_symbol(rows: &[Vec<Entry>], i: usize) -> bool
 }
 
 // Whether a row has a constant.
-fn holds_constant(row: &[Entry]) -> bool
+fn holds_constant<F: Field>(row: &[Entry<F>]) -> bool
     ensures { result ≡ list_any (λ entry. is_some entry.constant) row.now }
 {
     row.iter().any(|entry| entry.constant.is_some())
 }
 
 // Whether a row has a symbol.
-fn holds_symbol(row: &[Entry]) -> bool
+fn holds_symbol<F: Field>(row: &[Entry<F>]) -> bool
     ensures { result ≡ list_any (λ entry. entry.symbol) row.now }
 {
     row.iter().any(|entry| entry.symbol)
 }
 
 // Puts a constant other than 0 into row `i`. A refusal changes nothing.
-pub(crate) fn put_constant_in_row(
-    rows: &mut Vec<Vec<Entry>>,
+pub(crate) fn put_constant_in_row<F: Field>(
+    rows: &mut Vec<Vec<Entry<F>>>,
     i: usize,
     column: usize,
-    constant: Res,
+    constant: F,
 ) -> Result<(), AddError>
     requires within { i < vec_len rows.old }
-    requires rows { All (λ row. IsRow row.items) rows.old.items }
-    requires constant { constant ≢ 0 }
-    ensures put { OnOk result (ChangesRow (PutsConstant column constant) i (rows_of rows.old) (rows_of rows.new)) }
+    requires rows { All (λ row. IsRow F.modulus row.items) rows.old.items }
+    requires constant { F.number constant ≢ 0 }
+    ensures put { OnOk result
+        (ChangesRow (PutsConstant F.modulus column (F.number constant)) i (rows_of rows.old) (rows_of rows.new)) }
     ensures answer { AnswersAdd result (putting (row_at rows.old.items i) column) }
     ensures kept { OnErr result (rows_of rows.new ≡ rows_of rows.old) }
 {
@@ -78,14 +85,14 @@ pub(crate) fn put_constant_in_row(
 }
 
 // Puts a symbol into row `i`. A refusal changes nothing.
-pub(crate) fn put_symbol_in_row(
-    rows: &mut Vec<Vec<Entry>>,
+pub(crate) fn put_symbol_in_row<F: Field>(
+    rows: &mut Vec<Vec<Entry<F>>>,
     i: usize,
     column: usize,
 ) -> Result<(), AddError>
     requires within { i < vec_len rows.old }
-    requires rows { All (λ row. IsRow row.items) rows.old.items }
-    ensures put { OnOk result (ChangesRow (PutsSymbol column) i (rows_of rows.old) (rows_of rows.new)) }
+    requires rows { All (λ row. IsRow F.modulus row.items) rows.old.items }
+    ensures put { OnOk result (ChangesRow (PutsSymbol F.modulus column) i (rows_of rows.old) (rows_of rows.new)) }
     ensures answer { AnswersAdd result (putting_symbol (row_at rows.old.items i) column) }
     ensures kept { OnErr result (rows_of rows.new ≡ rows_of rows.old) }
 {
@@ -95,22 +102,26 @@ pub(crate) fn put_symbol_in_row(
 }
 
 // Puts a constant other than 0 into a row. A refusal changes nothing.
-fn put_constant(row: &mut Vec<Entry>, column: usize, constant: Res) -> Result<(), AddError>
-    requires row { IsRow row.old.items }
-    requires constant { constant ≢ 0 }
-    ensures put { OnOk result (PutsConstant column constant row.old.items row.new.items) }
+fn put_constant<F: Field>(
+    row: &mut Vec<Entry<F>>,
+    column: usize,
+    constant: F,
+) -> Result<(), AddError>
+    requires row { IsRow F.modulus row.old.items }
+    requires constant { F.number constant ≢ 0 }
+    ensures put { OnOk result (PutsConstant F.modulus column (F.number constant) row.old.items row.new.items) }
     ensures answer { AnswersAdd result (putting row.old.items column) }
     ensures kept { OnErr result (row.new.items ≡ row.old.items) }
 {
-    let _residue = constant.value();
+    constant.in_field();
     let constant = Some(constant);
     match place_of(row, column) {
         Ok(place) => {
-            let entry = row[place];
+            let entry = &row[place];
             if entry.constant.is_some() {
                 return Err(AddError::Twice);
             }
-            row[place] = Entry { constant, ..entry };
+            row[place] = Entry { constant, ..*entry };
         }
         Err(place) => row.insert(
             place,
@@ -125,21 +136,21 @@ fn put_constant(row: &mut Vec<Entry>, column: usize, constant: Res) -> Result<()
 }
 
 // Puts a symbol into a row. A refusal changes nothing.
-fn put_symbol(row: &mut Vec<Entry>, column: usize) -> Result<(), AddError>
-    requires row { IsRow row.old.items }
-    ensures put { OnOk result (PutsSymbol column row.old.items row.new.items) }
+fn put_symbol<F: Field>(row: &mut Vec<Entry<F>>, column: usize) -> Result<(), AddError>
+    requires row { IsRow F.modulus row.old.items }
+    ensures put { OnOk result (PutsSymbol F.modulus column row.old.items row.new.items) }
     ensures answer { AnswersAdd result (putting_symbol row.old.items column) }
     ensures kept { OnErr result (row.new.items ≡ row.old.items) }
 {
     match place_of(row, column) {
         Ok(place) => {
-            let entry = row[place];
+            let entry = &row[place];
             if entry.symbol {
                 return Err(AddError::Twice);
             }
             row[place] = Entry {
                 symbol: true,
-                ..entry
+                ..*entry
             };
         }
         Err(place) => row.insert(
@@ -155,8 +166,8 @@ fn put_symbol(row: &mut Vec<Entry>, column: usize) -> Result<(), AddError>
 }
 
 // Where a column stands in a row, or else where it belongs. One past all others takes one comparison.
-fn place_of(row: &[Entry], column: usize) -> Result<usize, usize>
-    requires { IsRow row.now }
+fn place_of<F: Field>(row: &[Entry<F>], column: usize) -> Result<usize, usize>
+    requires { IsRow F.modulus row.now }
     ensures { MatchResult result
         (λ place. StandsAt row.now place column)
         (λ place. (entry_in row.now column ≡ None) × FitsBetween row.now place column) }

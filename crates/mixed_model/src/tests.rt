@@ -1,11 +1,13 @@
+//! Models that are built, and what they tell.
+
 use super::*;
 use dense_q::Mat;
-use residue_field::Res;
+use residue_field::{Field, Res};
 use sparse_t::Pattern;
 use std::alloc::Global;
 use std::test::Fail;
 
-fn rectangle(alloc: Global) -> Result<Mixed, Fail> {
+fn rectangle(alloc: Global) -> Result<Mixed<Res>, Fail> {
     let mut model = Mixed::new(alloc)?;
     model.add_equation("mass")?;
     model.add_equation("heat")?;
@@ -116,7 +118,7 @@ fn a_split_entry_has_an_auxiliary_column(rt: HostRuntime) -> Result<(), Fail> {
 
 #[test]
 fn a_model_has_at_most_4096_unknowns(rt: HostRuntime) -> Result<(), Fail> {
-    let mut model = Mixed::new(rt.alloc())?;
+    let mut model: Mixed<Res> = Mixed::new(rt.alloc())?;
     for number in 0..4096 {
         let name = format!(in rt.alloc(); "x{number}")?;
         assert!(rt; is_label(name.as_str()));

@@ -8,7 +8,7 @@ use Rattle.linear_algebra.specs.Bases.{HasNoBase}
 use Rattle.closed_sets.proofs.SetLaws.{not-make, not-true}
 use Rattle.closed_sets.specs.Closed.{Follows}
 use Rattle.mixed_matrices.specs.Arcs.{has_base, has_match, is_end, is_free, leads_to}
-use Rattle.mixed_matrices.specs.LayeredMatrices.{Layered}
+use Rattle.mixed_matrices.specs.LayeredMatrices.{LayeredMatrix}
 use Rattle.mixed_matrices.specs.Tableaus.{Tableau}
 
 nonzero_test : (x : ℕ) → x ≢ 0 → not (eqb x 0) ≡ true
@@ -21,7 +21,7 @@ other_test : (x y : ℕ) → x ≢ y → not (eqb x y) ≡ true
 other_test x y ne = grind (arith, nat_tests)
 
 -- ---- rows with a base, and rows with a match
-module _ (L : Layered) (F : Tableau) where
+module _ (L : LayeredMatrix) (F : Tableau) where
   pub base_found : (i : ℕ) → has_base L F i ≡ true → (b : ℕ) × (b < L.columns) × (F.base b ≡ true) × (F.row b ≡ i)
   unfolding has_base
   base_found i h = go (some_below-found L.columns (λ b. F.base b && eqb (F.row b) i) h)
@@ -59,7 +59,7 @@ pub free-holds : (F : Tableau) (x : ℕ) → F.base x ≡ false → F.matched x 
 unfolding is_free
 free-holds F x a b = both_true (not (F.base x)) (not (F.matched x)) (not-make (F.base x) a) (not-make (F.matched x) b)
 
-module _ (p : ℕ) (L : Layered) (F : Tableau) where
+module _ (p : ℕ) (L : LayeredMatrix) (F : Tableau) where
   -- ---- ends
   abbrev pub EndsInQ : ℕ → Type 0
   EndsInQ x = (i : ℕ) × (i < L.q_rows) × (F.P i x % p ≢ 0) × (has_base L F i ≡ false)

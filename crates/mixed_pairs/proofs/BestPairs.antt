@@ -10,7 +10,7 @@ use Rattle.residue_theory.specs.Sets.{both, either, some_below, without}
 use Rattle.residue_theory.specs.Sums.{size_on}
 use Rattle.linear_algebra_laws.proofs.RankLaws.{rank-submodular}
 use Rattle.linear_algebra_laws.proofs.Ranks.{rank_exists}
-use Rattle.mixed_matrices.specs.LayeredMatrices.{Layered}
+use Rattle.mixed_matrices.specs.LayeredMatrices.{LayeredMatrix}
 use Rattle.mixed_matrices.specs.Pairs.{IsPair, pair_size}
 use Rattle.mixed_matrices.specs.SetFunctions.{IsRho, gamma, touches}
 use Rattle.mixed_matrices.specs.StructuralRanks.{IsLayeredRank}
@@ -19,7 +19,7 @@ use Rattle.mixed_pairs.proofs.PairBounds.{bound}
 use Rattle.mixed_pairs.proofs.PairRank.{reached-rank}
 
 -- a pair, and a column set at which it reaches the bound
-pub record Optimal (p : ℕ) (L : Layered) : Type 0 where
+pub record Optimal (p : ℕ) (L : LayeredMatrix) : Type 0 where
   pub I : ℕ → Bool
   pub J : ℕ → Bool
   pub mate : ℕ → ℕ
@@ -32,7 +32,7 @@ pub record Optimal (p : ℕ) (L : Layered) : Type 0 where
 one_meets : (u v s t : ℕ) → s ≤ u → t ≤ u → s ≤ v → t ≤ v → u + v ≤ s + t + 1 → (s ≡ u) ⊎ ((s ≡ v) ⊎ ((t ≡ u) ⊎ (t ≡ v)))
 one_meets u v s t a b c d e = grind arith
 
-module _ (p : ℕ) (prime : IsPrime p) (L : Layered) where
+module _ (p : ℕ) (prime : IsPrime p) (L : LayeredMatrix) where
   -- the same pair and set serve L
   kept : (i a : ℕ) → (O : Optimal p (dropped L i a)) → gamma L O.X ≡ gamma (dropped L i a) O.X → Optimal p L
   kept i a O e = record { I = O.I; J = O.J; mate = O.mate; X = O.X; r = O.r; pair = drop-pair L i a p O.I O.J O.mate O.pair; rank = O.rank; equal = omega (arith, O.equal, e) }
@@ -182,7 +182,7 @@ module _ (p : ℕ) (prime : IsPrime p) (L : Layered) where
                 none false h = refl
 
 -- two symbols in one row, or none
-two_symbols : (L : Layered) → ((i : ℕ) × (i < L.t_rows) × ((a : ℕ) × (b : ℕ) × (a < L.columns) × (b < L.columns) × (L.t i a ≡ true) × (L.t i b ≡ true) × (a ≢ b))) ⊎
+two_symbols : (L : LayeredMatrix) → ((i : ℕ) × (i < L.t_rows) × ((a : ℕ) × (b : ℕ) × (a < L.columns) × (b < L.columns) × (L.t i a ≡ true) × (L.t i b ≡ true) × (a ≢ b))) ⊎
     ((i j k : ℕ) → i < L.t_rows → j < L.columns → k < L.columns → L.t i j ≡ true → L.t i k ≡ true → j ≡ k)
 two_symbols L = elim (first_on (λ i. some_below L.columns (λ a. L.t i a && some_below L.columns (λ b. L.t i b && not (eqb a b)))) L.t_rows) [
   | inl f ↦ let g : (a : ℕ) × (a < L.columns) × (L.t f.0 a && some_below L.columns (λ b. L.t f.0 b && not (eqb a b)) ≡ true) = some_below-found L.columns
@@ -217,7 +217,7 @@ two_symbols L = elim (first_on (λ i. some_below L.columns (λ a. L.t i a && som
     apart : (a b : ℕ) → a ≢ b → not (eqb a b) ≡ true
     apart a b ne = grind (arith, nat_tests)
 
-optimal_by : (p : ℕ) → IsPrime p → (fuel : ℕ) (L : Layered) → symbols L ≤ fuel → Optimal p L
+optimal_by : (p : ℕ) → IsPrime p → (fuel : ℕ) (L : LayeredMatrix) → symbols L ≤ fuel → Optimal p L
 optimal_by p prime zero L le = elim (two_symbols L) [
   | inl f ↦ absurd (omega (arith, drop-fewer L f.0 f.2.0 f.1 f.2.2 f.2.4))
   | inr single ↦ plain p prime L single
@@ -229,12 +229,12 @@ optimal_by p prime (suc fuel) L le = elim (two_symbols L) [
   | inr single ↦ plain p prime L single
 ]
 
-pub optimal : (p : ℕ) → IsPrime p → (L : Layered) → Optimal p L
+pub optimal : (p : ℕ) → IsPrime p → (L : LayeredMatrix) → Optimal p L
 optimal p prime L = optimal_by p prime (symbols L) L (omega arith)
 
 -- its size is the structural rank
-pub optimal-rank : (p : ℕ) → IsPrime p → (L : Layered) → (O : Optimal p L) → IsLayeredRank p L (pair_size L O.I O.J)
+pub optimal-rank : (p : ℕ) → IsPrime p → (L : LayeredMatrix) → (O : Optimal p L) → IsLayeredRank p L (pair_size L O.I O.J)
 optimal-rank p prime L O = reached-rank p prime L O.I O.J O.mate O.X O.r O.pair O.rank O.equal
 
-pub layered-rank_exists : (p : ℕ) → IsPrime p → (L : Layered) → (r : ℕ) × IsLayeredRank p L r
+pub layered-rank_exists : (p : ℕ) → IsPrime p → (L : LayeredMatrix) → (r : ℕ) × IsLayeredRank p L r
 layered-rank_exists p prime L = let O : Optimal p L = optimal p prime L in (pair_size L O.I O.J, optimal-rank p prime L O)

@@ -11,7 +11,7 @@ use Rattle.linear_algebra_laws.proofs.Bases.{base-independent, base-no_row, rank
 use Rattle.linear_algebra_laws.proofs.Kernels.{independent_of-kernel, kernel-sym, rank_of-kernel}
 use Rattle.linear_algebra_laws.proofs.Ranks.{with_one-independent}
 use Rattle.mixed_matrices.specs.Arcs.{IsClosedIn, has_base, has_match}
-use Rattle.mixed_matrices.specs.LayeredMatrices.{Layered}
+use Rattle.mixed_matrices.specs.LayeredMatrices.{LayeredMatrix}
 use Rattle.mixed_matrices.specs.Pairs.{pair_size}
 use Rattle.mixed_matrices.specs.SetFunctions.{IsRho, gamma, touches}
 use Rattle.mixed_matrices.specs.Tableaus.{HasTableau, Tableau}
@@ -19,12 +19,12 @@ use Rattle.mixed_pairs.proofs.ArcFacts.{EndsInQ, EndsInT, LeadsInQ, LeadsInT, ba
 use Rattle.mixed_pairs.proofs.PairBounds.{matched-count}
 
 -- each entry of a column of X is in the row of a base column of X, each symbol in that of a matched one
-pub record Fits (p : ℕ) (L : Layered) (F : Tableau) (X : ℕ → Bool) : Type 0 where
+pub record Fits (p : ℕ) (L : LayeredMatrix) (F : Tableau) (X : ℕ → Bool) : Type 0 where
   pub free : (x : ℕ) → x < L.columns → F.base x ≡ false → F.matched x ≡ false → X x ≡ true
   pub q : (x i : ℕ) → x < L.columns → X x ≡ true → i < L.q_rows → F.P i x % p ≢ 0 → (b : ℕ) × (b < L.columns) × (both F.base X b ≡ true) × (F.row b ≡ i)
   pub t : (x i : ℕ) → x < L.columns → X x ≡ true → i < L.t_rows → L.t i x ≡ true → (y : ℕ) × (y < L.columns) × (both F.matched X y ≡ true) × (F.mate y ≡ i)
 
-module _ (p : ℕ) (prime : IsPrime p) (L : Layered) (F : Tableau) (tab : HasTableau p L F) (X : ℕ → Bool) where
+module _ (p : ℕ) (prime : IsPrime p) (L : LayeredMatrix) (F : Tableau) (tab : HasTableau p L F) (X : ℕ → Bool) where
   pub closed-fits : IsClosedIn p L F X → Fits p L F X
   closed-fits C = record {
     free = λ x l a b. C.holds_starts x l (free-holds F x a b);

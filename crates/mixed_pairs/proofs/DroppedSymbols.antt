@@ -5,12 +5,12 @@ use Rattle.residue_theory.proofs.SetLaws.{both-first, both-second, both_true, di
 use Rattle.residue_theory.proofs.SumLaws.{member-without, nat_cases, size_on-within, sum_on-ext, sum_on-same, sum_on-without, without-member}
 use Rattle.residue_theory.specs.Sets.{both, either, everything, without}
 use Rattle.residue_theory.specs.Sums.{size_on, sum_below}
-use Rattle.mixed_matrices.specs.LayeredMatrices.{Layered}
+use Rattle.mixed_matrices.specs.LayeredMatrices.{LayeredMatrix}
 use Rattle.mixed_matrices.specs.Pairs.{IsPair}
 use Rattle.mixed_matrices.specs.SetFunctions.{gamma, touches}
 
 -- L without the symbol at row i and column a of T
-abbrev pub dropped : Layered → ℕ → ℕ → Layered
+abbrev pub dropped : LayeredMatrix → ℕ → ℕ → LayeredMatrix
 dropped L i a = record {
   q_rows = L.q_rows;
   t_rows = L.t_rows;
@@ -19,7 +19,7 @@ dropped L i a = record {
   t = λ k j. L.t k j && not (eqb k i && eqb j a);
 }
 
-abbrev pub symbols : Layered → ℕ
+abbrev pub symbols : LayeredMatrix → ℕ
 symbols L = sum_below L.t_rows (λ i. size_on (L.t i) L.columns)
 
 -- ---- counting
@@ -41,7 +41,7 @@ size-complement A (suc n) = omega (arith, size-complement A n, one (A n))
     one true = refl
     one false = refl
 
-module _ (L : Layered) (i a : ℕ) where
+module _ (L : LayeredMatrix) (i a : ℕ) where
   pub drop-part : (k j : ℕ) → (dropped L i a).t k j ≡ true → L.t k j ≡ true
   drop-part k j h = both-first (L.t k j) (not (eqb k i && eqb j a)) h
 

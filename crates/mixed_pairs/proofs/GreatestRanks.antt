@@ -12,7 +12,7 @@ use Rattle.linear_algebra.specs.Products.{Agree}
 use Rattle.linear_algebra_laws.proofs.Kernels.{kernel_of-agree, rank_of-kernel}
 use Rattle.linear_algebra_laws.proofs.RankLaws.{rank-rows, rank-size}
 use Rattle.linear_algebra_laws.proofs.Ranks.{rank-unique, rank_exists}
-use Rattle.mixed_matrices.specs.Models.{Mixed, numbers, value}
+use Rattle.mixed_matrices.specs.Models.{MixedMatrix, numbers, value}
 use Rattle.mixed_matrices.specs.StructuralRanks.{IsGreatestRank, IsStructuralRank}
 
 -- ---- searching
@@ -138,7 +138,7 @@ greatest-size p prime m n at r G = go G.reached
       omega (arith, size-everything n, rank-size p (at w) m n everything r R),
     )
 
-pub mixed-rank_exists : (p : ℕ) → IsPrime p → (M : Mixed) → (r : ℕ) × IsStructuralRank p M r
+pub mixed-rank_exists : (p : ℕ) → IsPrime p → (M : MixedMatrix) → (r : ℕ) × IsStructuralRank p M r
 mixed-rank_exists p prime M = greatest_exists p prime M.rows M.columns (value M)
     (λ v w h i j il jl. agree-add p (M.constant i j) (M.constant i j) (numbers M.symbol v i j) (numbers M.symbol w i j) refl (chosen (M.symbol i j) (v i j) (w i j) (h i j il jl)))
   where

@@ -5,7 +5,7 @@ use Rattle.residue_theory.specs.Sums.{size_on}
 use Rattle.linear_algebra_laws.proofs.Ranks.{rank-unique}
 use Rattle.closed_sets.proofs.ClosedLaws.{closed-from}
 use Rattle.mixed_matrices.specs.Arcs.{HasNoWalk, IsClosedIn, is_end, is_free, leads_to}
-use Rattle.mixed_matrices.specs.LayeredMatrices.{Layered, layered_value}
+use Rattle.mixed_matrices.specs.LayeredMatrices.{LayeredMatrix, layered_value}
 use Rattle.mixed_matrices.specs.Pairs.{IsBest, pair_size}
 use Rattle.mixed_matrices.specs.SetFunctions.{IsMinimiser, IsRho, gamma}
 use Rattle.mixed_matrices.specs.StructuralRanks.{IsLayeredRank}
@@ -15,7 +15,7 @@ use Rattle.mixed_pairs.proofs.Minimisers.{equal-closed, tableau-pair}
 use Rattle.mixed_pairs.proofs.PairBounds.{bound}
 use Rattle.mixed_pairs.proofs.PairRank.{greatest-unique, rank-bound}
 
-module _ (p : ℕ) (prime : IsPrime p) (L : Layered) where
+module _ (p : ℕ) (prime : IsPrime p) (L : LayeredMatrix) where
   -- R(L) is at most p(X) + N
   pub rank-at_most : (X : ℕ → Bool) (r R : ℕ) → IsRho p L X r → IsLayeredRank p L R → R + size_on X L.columns ≤ r + gamma L X + L.columns
   rank-at_most X r R K S = omega (arith, S.reached.1.reached.3, rank-bound p prime L X r K S.reached.0 S.reached.1.reached.0 S.reached.1.reached.2)

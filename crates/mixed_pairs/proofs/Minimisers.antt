@@ -9,14 +9,14 @@ use Rattle.linear_algebra_laws.proofs.Ranks.{rank-unique, rank_exists}
 use Rattle.closed_sets.proofs.ClosedLaws.{least-closed}
 use Rattle.closed_sets.proofs.Hulls.{reached}
 use Rattle.mixed_matrices.specs.Arcs.{HasNoWalk, IsClosedIn, is_end, is_free, leads_to}
-use Rattle.mixed_matrices.specs.LayeredMatrices.{Layered}
+use Rattle.mixed_matrices.specs.LayeredMatrices.{LayeredMatrix}
 use Rattle.mixed_matrices.specs.Pairs.{IsPair, pair_size}
 use Rattle.mixed_matrices.specs.SetFunctions.{IsMinimiser, IsRho, gamma}
 use Rattle.mixed_matrices.specs.Tableaus.{HasTableau, Tableau}
 use Rattle.mixed_pairs.proofs.ClosedSets.{closed-fits, fits-closed, fits-equal, fits-rank, reached-fits}
 use Rattle.mixed_pairs.proofs.PairBounds.{bound}
 
-module _ (p : ℕ) (prime : IsPrime p) (L : Layered) (F : Tableau) (tab : HasTableau p L F) where
+module _ (p : ℕ) (prime : IsPrime p) (L : LayeredMatrix) (F : Tableau) (tab : HasTableau p L F) where
   -- the tableau's base and matching are a pair
   pub tableau-pair : IsPair p L F.base F.matched F.mate
   tableau-pair = record {
@@ -57,9 +57,9 @@ module _ (p : ℕ) (prime : IsPrime p) (L : Layered) (F : Tableau) (tab : HasTab
         go (r, R) (s, S) = equal-closed Y s S (omega (arith, closed-equal X r R C, bound p L F.base F.matched F.mate Y s tableau-pair S, least X s r S R))
 
 -- where no end is reached from a free column, what is reached is a closed set
-pub least_set : ℕ → Layered → Tableau → ℕ → Bool
+pub least_set : ℕ → LayeredMatrix → Tableau → ℕ → Bool
 least_set p L F = reached (leads_to p L F) L.columns (is_free F)
 
-pub least_set-closed : (p : ℕ) (L : Layered) (F : Tableau) → HasNoWalk p L F → IsClosedIn p L F (least_set p L F)
+pub least_set-closed : (p : ℕ) (L : LayeredMatrix) (F : Tableau) → HasNoWalk p L F → IsClosedIn p L F (least_set p L F)
 unfolding least_set
 least_set-closed p L F clear = least-closed (leads_to p L F) L.columns (is_free F) (is_end p L F) clear

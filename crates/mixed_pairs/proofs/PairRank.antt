@@ -12,7 +12,7 @@ use Rattle.linear_algebra.specs.Columns.{CombinesToZero, IsIndependent, IsRank}
 use Rattle.linear_algebra_laws.proofs.Ranks.{independent-within, rank_exists}
 use Rattle.linear_algebra_laws.proofs.Stacked.{above-rows, low-zero, top-zero}
 use Rattle.mixed_matrices.specs.Arcs.{IsClosedIn}
-use Rattle.mixed_matrices.specs.LayeredMatrices.{Layered, layered_value}
+use Rattle.mixed_matrices.specs.LayeredMatrices.{LayeredMatrix, layered_value}
 use Rattle.mixed_matrices.specs.Models.{numbers}
 use Rattle.mixed_matrices.specs.Pairs.{IsPair, matching_values, pair_size}
 use Rattle.mixed_matrices.specs.SetFunctions.{IsRho, gamma, touches}
@@ -23,7 +23,7 @@ use Rattle.mixed_pairs.proofs.Minimisers.{closed-equal, tableau-pair}
 abbrev pick : Bool → ℕ → ℕ
 pick b x = cond b x 0
 
-module _ (p : ℕ) (prime : IsPrime p) (L : Layered) (I J : ℕ → Bool) (mate : ℕ → ℕ) (pair : IsPair p L I J mate) where
+module _ (p : ℕ) (prime : IsPrime p) (L : LayeredMatrix) (I J : ℕ → Bool) (mate : ℕ → ℕ) (pair : IsPair p L I J mate) where
   matched-one : (j : ℕ) → j < L.columns → J j ≡ true → numbers L.t (matching_values J mate) (mate j) j ≡ 1
   matched-one j jl jh = one (L.t (mate j) j) (J j) (eqb (mate j) (mate j)) (pair.matching.symbol j jl jh) jh (eqb_from (mate j) (mate j) refl)
     where
@@ -68,7 +68,7 @@ module _ (p : ℕ) (prime : IsPrime p) (L : Layered) (I J : ℕ → Bool) (mate 
   pair-reached s R = omega (arith, size-either I J L.columns pair.apart, R.greatest (either I J) (λ _ _ _. refl) pair-independent)
 
 -- columns that are independent at some values are at most p(X) + N
-pub rank-bound : (p : ℕ) → IsPrime p → (L : Layered) (X : ℕ → Bool) (r : ℕ) → IsRho p L X r → (w : ℕ → ℕ → ℕ) (C : ℕ → Bool) →
+pub rank-bound : (p : ℕ) → IsPrime p → (L : LayeredMatrix) (X : ℕ → Bool) (r : ℕ) → IsRho p L X r → (w : ℕ → ℕ → ℕ) (C : ℕ → Bool) →
     IsIndependent p (layered_value L w) (L.q_rows + L.t_rows) L.columns C → size_on C L.columns + size_on X L.columns ≤ r + gamma L X + L.columns
 rank-bound p prime L X r R w C ind = omega (
   arith,
@@ -85,7 +85,7 @@ rank-bound p prime L X r R w C ind = omega (
         at true s = absurd (differ e (some_below-holds L.columns (both X (L.t i)) j jl (both_true (X j) (L.t i j) jh s)))
 
 -- where a pair reaches the bound at X, its size is the structural rank
-pub reached-rank : (p : ℕ) → IsPrime p → (L : Layered) (I J : ℕ → Bool) (mate : ℕ → ℕ) (X : ℕ → Bool) (r : ℕ) → IsPair p L I J mate → IsRho p L X r →
+pub reached-rank : (p : ℕ) → IsPrime p → (L : LayeredMatrix) (I J : ℕ → Bool) (mate : ℕ → ℕ) (X : ℕ → Bool) (r : ℕ) → IsPair p L I J mate → IsRho p L X r →
     pair_size L I J + size_on X L.columns ≡ r + gamma L X + L.columns → IsLayeredRank p L (pair_size L I J)
 reached-rank p prime L I J mate X r pair R e = record {
   reached = (
@@ -103,7 +103,7 @@ pub greatest-unique : (p m n : ℕ) (at : (ℕ → ℕ → ℕ) → ℕ → ℕ 
 greatest-unique p m n at r s R S = omega (arith, R.greatest S.reached.0 s S.reached.1, S.greatest R.reached.0 r R.reached.1)
 
 -- with a tableau and a closed set
-pub closed-rank : (p : ℕ) → IsPrime p → (L : Layered) (F : Tableau) → HasTableau p L F → (X : ℕ → Bool) → IsClosedIn p L F X → IsLayeredRank p L (pair_size L F.base F.matched)
+pub closed-rank : (p : ℕ) → IsPrime p → (L : LayeredMatrix) (F : Tableau) → HasTableau p L F → (X : ℕ → Bool) → IsClosedIn p L F X → IsLayeredRank p L (pair_size L F.base F.matched)
 closed-rank p prime L F tab X C = go (rank_exists p prime L.q L.q_rows L.columns X)
   where
     go : (r : ℕ) × IsRho p L X r → IsLayeredRank p L (pair_size L F.base F.matched)

@@ -10,7 +10,7 @@ use Rattle.linear_algebra_laws.proofs.PartLaws.{part_columns-rank}
 use Rattle.linear_algebra_laws.proofs.Ranks.{rank-unique, rank_exists}
 use Rattle.linear_algebra_laws.proofs.RowRemoval.{IsRowRemoved, part-removed, without_row-removed}
 use Rattle.linear_algebra_laws.proofs.SkipLaws.{unskip, unskip-skip}
-use Rattle.mixed_matrices.specs.Models.{Mixed, value}
+use Rattle.mixed_matrices.specs.Models.{MixedMatrix, value}
 use Rattle.mixed_matrices.specs.Removals.{mixed_part, without_equation, without_unknown}
 use Rattle.mixed_matrices.specs.StructuralRanks.{IsGreatestRank, IsStructuralRank}
 
@@ -69,14 +69,14 @@ greatest-moved p m n k l at to there back r G = record {
 }
 
 -- the values of an emptied model are those of the model, emptied
-mixed_part-value : (M : Mixed) (R X : ℕ → Bool) (v : ℕ → ℕ → ℕ) (i j : ℕ) → value (mixed_part R X M) v i j ≡ part R X (value M v) i j
+mixed_part-value : (M : MixedMatrix) (R X : ℕ → Bool) (v : ℕ → ℕ → ℕ) (i j : ℕ) → value (mixed_part R X M) v i j ≡ part R X (value M v) i j
 mixed_part-value M R X v i j = at (R i && X j) (M.constant i j) (M.symbol i j) (v i j)
   where
     at : (b : Bool) (x : ℕ) (s : Bool) (y : ℕ) → cond b x 0 + cond (b && s) y 0 ≡ cond b (x + cond s y 0) 0
     at true x s y = refl
     at false x s y = refl
 
-module _ (p : ℕ) (prime : IsPrime p) (M : Mixed) where
+module _ (p : ℕ) (prime : IsPrime p) (M : MixedMatrix) where
   -- values that agree have the same ranks
   same-rank : (m n : ℕ) (a b : ℕ → ℕ → ℕ) → ((i j : ℕ) → i < m → j < n → a i j ≡ b i j) → (r : ℕ) → IsRank p a m n everything r → IsRank p b m n everything r
   same-rank m n a b same r R = rank_of-kernel p m n a b everything r (kernel_of-agree p m n a b (λ i j il jl. ap (λ x. x % p) (same i j il jl))) R

@@ -6,8 +6,8 @@ use Rattle.residue_theory.specs.Sets.{everything}
 use Rattle.linear_algebra.specs.Products.{Agree}
 use Rattle.linear_algebra_laws.proofs.Entries.{above-low, above-top}
 use Rattle.linear_algebra_laws.proofs.Kernels.{kernel-sym, kernel_of-agree, rank_of-kernel}
-use Rattle.mixed_matrices.specs.LayeredMatrices.{AreSameLayers, Layered, layered_value}
-use Rattle.mixed_matrices.specs.Models.{AreSameModels, Mixed, numbers, value}
+use Rattle.mixed_matrices.specs.LayeredMatrices.{AreSameLayers, LayeredMatrix, layered_value}
+use Rattle.mixed_matrices.specs.Models.{AreSameModels, MixedMatrix, numbers, value}
 use Rattle.mixed_matrices.specs.StructuralRanks.{IsGreatestRank, IsLayeredRank, IsStructuralRank}
 use Rattle.mixed_pairs.proofs.RemovedRows.{greatest-moved}
 
@@ -20,12 +20,12 @@ greatest-same p m n at to same = greatest-moved p m n m n at to
 numbers-same : (s t : ℕ → ℕ → Bool) (w : ℕ → ℕ → ℕ) (i j : ℕ) → s i j ≡ t i j → numbers s w i j ≡ numbers t w i j
 numbers-same s t w i j e = ap (λ b. cond b (w i j) 0) e
 
-pub same-model : (p : ℕ) (M N : Mixed) → AreSameModels p M N → (r : ℕ) → IsStructuralRank p M r → IsStructuralRank p N r
+pub same-model : (p : ℕ) (M N : MixedMatrix) → AreSameModels p M N → (r : ℕ) → IsStructuralRank p M r → IsStructuralRank p N r
 same-model p M N same r R = subst (λ m. IsGreatestRank p m N.columns (value N) r) same.rows (subst (λ n. IsGreatestRank p M.rows n (value N) r) same.columns
     (greatest-same p M.rows M.columns (value M) (value N) (λ v i j il jl. agree-add p (M.constant i j) (N.constant i j) (numbers M.symbol v i j) (numbers N.symbol v i j)
     (same.constants i j il jl) (ap (λ x. x % p) (numbers-same M.symbol N.symbol v i j (same.symbols i j il jl)))) r R))
 
-pub same-layers : (p : ℕ) (L K : Layered) → AreSameLayers p L K → (r : ℕ) → IsLayeredRank p L r → IsLayeredRank p K r
+pub same-layers : (p : ℕ) (L K : LayeredMatrix) → AreSameLayers p L K → (r : ℕ) → IsLayeredRank p L r → IsLayeredRank p K r
 same-layers p L K same r R = subst (λ m. IsGreatestRank p m K.columns (layered_value K) r) (let q : L.q_rows + L.t_rows ≡ K.q_rows + K.t_rows = omega (arith, same.q_rows, same.t_rows) in q)
     (subst (λ n. IsGreatestRank p (L.q_rows + L.t_rows) n (layered_value K) r) same.columns
     (greatest-same p (L.q_rows + L.t_rows) L.columns (layered_value L) (layered_value K) agrees r R))

@@ -9,7 +9,7 @@ use Rattle.linear_algebra_laws.proofs.Entries.{part-shown}
 use Rattle.linear_algebra_laws.proofs.Kernels.{kernel_of-agree}
 use Rattle.linear_algebra_laws.proofs.Products.{product-kernel}
 use Rattle.mixed_matrices.specs.Forms.{transformed}
-use Rattle.mixed_matrices.specs.LayeredMatrices.{Layered, layered_part}
+use Rattle.mixed_matrices.specs.LayeredMatrices.{LayeredMatrix, layered_part}
 use Rattle.mixed_matrices.specs.Pairs.{pair_size}
 use Rattle.mixed_matrices.specs.StructuralRanks.{IsLayeredRank}
 use Rattle.mixed_matrices.specs.Tableaus.{HasTableau, IsTableau, Tableau, tableau_part}
@@ -17,7 +17,7 @@ use Rattle.mixed_pairs.proofs.ArcFacts.{EndsInQ, EndsInT, LeadsInQ, LeadsInT, en
 use Rattle.mixed_pairs.proofs.PairRank.{closed-rank}
 
 -- a product with an invertible matrix keeps the kernel, so a tableau with S and U is one
-pub tableau : (p : ℕ) → IsPrime p → (L : Layered) (S U : ℕ → ℕ → ℕ) (F : Tableau) → IsTableau p L S U F → HasTableau p L F
+pub tableau : (p : ℕ) → IsPrime p → (L : LayeredMatrix) (S U : ℕ → ℕ → ℕ) (F : Tableau) → IsTableau p L S U F → HasTableau p L F
 tableau p prime L S U F t = record {
   kernel = product-kernel p prime L.q_rows L.columns S U L.q F.P t.inverse t.product;
   base = t.base;
@@ -25,10 +25,10 @@ tableau p prime L S U F t = record {
   apart = t.apart;
 }
 
-module _ (p : ℕ) (prime : IsPrime p) (L : Layered) (S U : ℕ → ℕ → ℕ) (F : Tableau) (tab : IsTableau p L S U F) (R D X : ℕ → Bool)
+module _ (p : ℕ) (prime : IsPrime p) (L : LayeredMatrix) (S U : ℕ → ℕ → ℕ) (F : Tableau) (tab : IsTableau p L S U F) (R D X : ℕ → Bool)
     (rows : (b : ℕ) → b < L.columns → F.base b ≡ true → X b ≡ true → R (F.row b) ≡ true)
     (mates : (j : ℕ) → j < L.columns → F.matched j ≡ true → X j ≡ true → D (F.mate j) ≡ true) where
-  abbrev pub the_part : Layered
+  abbrev pub the_part : LayeredMatrix
   the_part = layered_part R D X (transformed S L)
 
   pub part-has_tableau : HasTableau p the_part (tableau_part R X F)

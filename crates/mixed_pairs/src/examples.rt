@@ -1,4 +1,5 @@
-//! Each definition of mixed matrices up to minimisers at two worked examples: one where it holds, and one where it fails.
+//! Each definition of mixed matrices up to minimisers at two worked examples: one where it holds, and one where it
+//! fails.
 ghost use Rattle.std.specs.Prelude.{◌≡◌, ◌-◌, true, false};
 ghost use Rattle.residue_theory.specs.Sets.{everything, nothing, only};
 ghost use Rattle.linear_algebra.specs.Products.{identity};
@@ -65,7 +66,8 @@ pub fn undetermined_at_examples()
     ensures fails { IsUndetermined 65521 split_model 0 → ⊥ }
 {}
 
-/// An entry with a constant and a symbol gives a Q row, a T row and an auxiliary column; two T rows are not its layered matrix.
+/// An entry with a constant and a symbol gives a Q row, a T row and an auxiliary column; two T rows are not its layered
+/// matrix.
 pub fn layered_matrices_at_examples()
     ensures holds { IsLayeredMatrixOf split_model split_matrix split_origins }
     ensures fails { IsLayeredMatrixOf split_model symbol_triangle split_origins → ⊥ }
@@ -108,7 +110,8 @@ pub fn matchings_at_examples()
     ensures zero_elsewhere { matching_values everything (λ j. 1 - j) 0 0 ≡ 0 }
 {}
 
-/// Column 0 in Q and column 1 in T are a pair, and a best one; both in Q beside column 1 are none, and column 0 alone is not best.
+/// Column 0 in Q and column 1 in T are a pair, and a best one; both in Q beside column 1 are none, and column 0 alone
+/// is not best.
 pub fn pairs_at_examples()
     ensures holds { IsPair 65521 split_matrix (only 0) (only 1) (λ j. 0) }
     ensures fails { IsPair 65521 split_matrix everything (only 1) (λ j. 0) → ⊥ }
@@ -153,8 +156,8 @@ pub fn closed_sets_at_examples()
     ensures fails_reached { IsReachedFromFree 65521 split_matrix split_tableau everything → ⊥ }
 {}
 
-/// In the triangle column 0 reaches column 1 and not back, no column is reached from a free one or reaches an end, and both are
-/// of the middle; with nothing in the base or matched column 0 of the split entry is free and an end itself.
+/// In the triangle column 0 reaches column 1 and not back, no column is reached from a free one or reaches an end, and
+/// both are of the middle; with nothing in the base or matched column 0 of the split entry is free and an end itself.
 pub fn walks_at_examples()
     ensures holds { ReachesIn 65521 symbol_triangle triangle_tableau 0 1 }
     ensures fails { ReachesIn 65521 symbol_triangle triangle_tableau 1 0 → ⊥ }

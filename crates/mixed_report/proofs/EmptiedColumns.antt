@@ -9,14 +9,14 @@ use Rattle.residue_theory.specs.Sums.{size_on}
 use Rattle.linear_algebra_laws.proofs.PartLaws.{part_columns-rank}
 use Rattle.linear_algebra_laws.proofs.RankLaws.{rank-same_set}
 use Rattle.linear_algebra_laws.proofs.Ranks.{rank-unique, rank_exists}
-use Rattle.mixed_matrices.specs.LayeredMatrices.{Layered, layered_part}
+use Rattle.mixed_matrices.specs.LayeredMatrices.{LayeredMatrix, layered_part}
 use Rattle.mixed_matrices.specs.SetFunctions.{IsMinimiser, IsRho}
 use Rattle.mixed_matrices.specs.StructuralRanks.{IsLayeredRank}
 use Rattle.mixed_pairs.proofs.MinMax.{minimiser-reached, rank-at_most, reached-minimiser}
 use Rattle.mixed_report.proofs.EmptiedParts.{LeastBound, gamma-columns, gamma-same_set, layered_part-rank, least_bound}
 
-module _ (p : ℕ) (prime : IsPrime p) (L : Layered) (v : ℕ) (vl : v < L.columns) where
-  abbrev emptied : Layered
+module _ (p : ℕ) (prime : IsPrime p) (L : LayeredMatrix) (v : ℕ) (vl : v < L.columns) where
+  abbrev emptied : LayeredMatrix
   emptied = layered_part everything everything (without everything v) L
 
   abbrev others : (ℕ → Bool) → ℕ → Bool

@@ -8,7 +8,7 @@ use Rattle.linear_algebra.specs.Columns.{IsRank}
 use Rattle.linear_algebra.specs.Parts.{without_row}
 use Rattle.linear_algebra_laws.proofs.Ranks.{rank-unique, rank_exists}
 use Rattle.linear_algebra_laws.proofs.RowRemoval.{IsRowRemoved, part-removed, removed-at_most, without_row-removed}
-use Rattle.mixed_matrices.specs.LayeredMatrices.{Layered, layered_part}
+use Rattle.mixed_matrices.specs.LayeredMatrices.{LayeredMatrix, layered_part}
 use Rattle.mixed_matrices.specs.SetFunctions.{IsMinimiser, IsRho, gamma}
 use Rattle.mixed_matrices.specs.StructuralRanks.{IsLayeredRank}
 use Rattle.mixed_pairs.proofs.MinMax.{minimiser-reached, rank-at_most, reached-minimiser}
@@ -22,8 +22,8 @@ removed-same p m k l n a b c e B C X v K = record {
   greatest = λ Y within ind. K.greatest Y within (λ f z. ind f (C.back Y f (B.rows Y f z)));
 }
 
-module _ (p : ℕ) (prime : IsPrime p) (L : Layered) (e : ℕ) (el : e < L.q_rows) where
-  abbrev emptied : Layered
+module _ (p : ℕ) (prime : IsPrime p) (L : LayeredMatrix) (e : ℕ) (el : e < L.q_rows) where
+  abbrev emptied : LayeredMatrix
   emptied = layered_part (without everything e) everything everything L
 
   abbrev IsRhoWithout : (ℕ → Bool) → ℕ → Type 0

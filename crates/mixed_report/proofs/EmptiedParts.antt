@@ -9,7 +9,7 @@ use Rattle.linear_algebra.specs.Parts.{part}
 use Rattle.linear_algebra_laws.proofs.Kernels.{kernel_of-agree, rank_of-kernel}
 use Rattle.linear_algebra_laws.proofs.PartLaws.{part-rank}
 use Rattle.linear_algebra_laws.proofs.Ranks.{rank_exists}
-use Rattle.mixed_matrices.specs.LayeredMatrices.{Layered, layered_part, layered_value}
+use Rattle.mixed_matrices.specs.LayeredMatrices.{LayeredMatrix, layered_part, layered_value}
 use Rattle.mixed_matrices.specs.Pairs.{pair_size}
 use Rattle.mixed_matrices.specs.SetFunctions.{IsRho, gamma, touches}
 use Rattle.mixed_matrices.specs.StructuralRanks.{IsLayeredRank}
@@ -17,13 +17,13 @@ use Rattle.mixed_pairs.proofs.BestPairs.{Optimal, optimal, optimal-rank}
 use Rattle.mixed_pairs.proofs.PairRank.{greatest-unique}
 
 -- ---- a column set at which R(L) is reached
-pub record LeastBound (p : ℕ) (L : Layered) (R : ℕ) : Type 0 where
+pub record LeastBound (p : ℕ) (L : LayeredMatrix) (R : ℕ) : Type 0 where
   pub X : ℕ → Bool
   pub rho : ℕ
   pub rank : IsRho p L X rho
   pub equal : R + size_on X L.columns ≡ rho + gamma L X + L.columns
 
-pub least_bound : (p : ℕ) → IsPrime p → (L : Layered) (R : ℕ) → IsLayeredRank p L R → LeastBound p L R
+pub least_bound : (p : ℕ) → IsPrime p → (L : LayeredMatrix) (R : ℕ) → IsLayeredRank p L R → LeastBound p L R
 least_bound p prime L R K = go (optimal p prime L)
   where
     go : Optimal p L → LeastBound p L R
@@ -40,7 +40,7 @@ least_bound p prime L R K = go (optimal p prime L)
     }
 
 -- ---- a part has at most the rank of the whole
-module _ (p : ℕ) (prime : IsPrime p) (L : Layered) (R D X : ℕ → Bool) where
+module _ (p : ℕ) (prime : IsPrime p) (L : LayeredMatrix) (R D X : ℕ → Bool) where
   abbrev kept_rows : ℕ → Bool
   kept_rows i = cond (ltb i L.q_rows) (R i) (D (i - L.q_rows))
 
@@ -74,7 +74,7 @@ some_below-same zero X Y same = refl
 some_below-same (suc n) X Y same = ap (λ b. b || X n) (some_below-same n X Y same) ∙ ap (λ b. some_below n Y || b) (same n)
 
 -- in the part of the columns C, X touches what the columns of both touch in the whole
-pub gamma-columns : (L : Layered) (C X : ℕ → Bool) → gamma (layered_part everything everything C L) X ≡ gamma L (both X C)
+pub gamma-columns : (L : LayeredMatrix) (C X : ℕ → Bool) → gamma (layered_part everything everything C L) X ≡ gamma L (both X C)
 gamma-columns L C X = sum_on-same (touches (layered_part everything everything C L) X) (touches L (both X C)) L.t_rows (λ _. 1)
     (λ i _. some_below-same L.columns (both X ((layered_part everything everything C L).t i)) (both (both X C) (L.t i))
     (λ j. moved (X j) (C j) (L.t i j)))
@@ -82,6 +82,6 @@ gamma-columns L C X = sum_on-same (touches (layered_part everything everything C
     moved : (x c t : Bool) → x && (true && c && t) ≡ (x && c) && t
     moved x c t = grind arith
 
-pub gamma-same_set : (L : Layered) (X Y : ℕ → Bool) → ((j : ℕ) → X j ≡ Y j) → gamma L X ≡ gamma L Y
+pub gamma-same_set : (L : LayeredMatrix) (X Y : ℕ → Bool) → ((j : ℕ) → X j ≡ Y j) → gamma L X ≡ gamma L Y
 gamma-same_set L X Y same = sum_on-same (touches L X) (touches L Y) L.t_rows (λ _. 1)
     (λ i _. some_below-same L.columns (both X (L.t i)) (both Y (L.t i)) (λ j. ap (λ b. b && L.t i j) (same j)))

@@ -6,15 +6,15 @@ use Rattle.residue_theory.specs.Residues.{IsPrime}
 use Rattle.residue_theory.specs.Sets.{both, everything, without}
 use Rattle.residue_theory.specs.Sums.{size_on}
 use Rattle.linear_algebra_laws.proofs.Ranks.{rank_exists}
-use Rattle.mixed_matrices.specs.LayeredMatrices.{Layered, layered_part}
+use Rattle.mixed_matrices.specs.LayeredMatrices.{LayeredMatrix, layered_part}
 use Rattle.mixed_matrices.specs.SetFunctions.{IsMinimiser, IsRho, gamma, touches}
 use Rattle.mixed_matrices.specs.StructuralRanks.{IsLayeredRank}
 use Rattle.mixed_pairs.proofs.MinMax.{minimiser-reached, rank-at_most, reached-minimiser}
 use Rattle.mixed_report.proofs.EmptiedParts.{LeastBound, layered_part-rank, least_bound}
 use Rattle.mixed_report.proofs.PartEntries.{symbol-kept}
 
-module _ (p : ℕ) (prime : IsPrime p) (L : Layered) (d : ℕ) (dl : d < L.t_rows) where
-  abbrev emptied : Layered
+module _ (p : ℕ) (prime : IsPrime p) (L : LayeredMatrix) (d : ℕ) (dl : d < L.t_rows) where
+  abbrev emptied : LayeredMatrix
   emptied = layered_part everything (without everything d) everything L
 
   pub symbol-part : (i j : ℕ) → emptied.t i j ≡ true → (L.t i j ≡ true) × (i ≢ d)

@@ -14,7 +14,7 @@ use Rattle.linear_algebra_laws.proofs.Kernels.{kernel-sym, kernel_of-agree, rank
 use Rattle.linear_algebra_laws.proofs.Ranks.{rank-unique, rank_exists}
 use Rattle.mixed_matrices.specs.Examples.{split_model, stacked_matrix, stacked_model, stacked_origins}
 use Rattle.mixed_matrices.specs.Layerings.{gives_q, has_symbol}
-use Rattle.mixed_matrices.specs.Models.{Mixed, value}
+use Rattle.mixed_matrices.specs.Models.{MixedMatrix, value}
 use Rattle.mixed_matrices.specs.Removals.{without_equation, without_unknown}
 use Rattle.mixed_matrices.specs.StructuralRanks.{IsStructuralRank}
 use Rattle.mixed_pairs.proofs.ExampleFacts.{below_two}
@@ -27,7 +27,7 @@ use Rattle.mixed_forms.proofs.FirstParts.{sizes}
 use Rattle.mixed_forms.proofs.StackedExample.{stacked-layered, stacked-rank}
 
 -- ---- models of one row or one column
-no_rank : (M : Mixed) → (M.rows ≡ 0) ⊎ (M.columns ≡ 0) → IsStructuralRank 65521 M 0
+no_rank : (M : MixedMatrix) → (M.rows ≡ 0) ⊎ (M.columns ≡ 0) → IsStructuralRank 65521 M 0
 no_rank M none = go (mixed-rank_exists 65521 prime_65521 M)
   where
     go : (r : ℕ) × IsStructuralRank 65521 M r → IsStructuralRank 65521 M 0
@@ -47,7 +47,7 @@ first-independent m n a pos wide one c z j jl h = subst (λ k. c k % 65521 ≡ 0
     (vanishes-sum 65521 (without (only 0) 0) n (λ j. c j * a 0 j)
     (λ j _ w. absurd ((without-member (only 0) 0 j w).1 (eqb_true j 0 (without-member (only 0) 0 j w).0)))))
 
-one_rank : (M : Mixed) → 0 < M.rows → 0 < M.columns → (M.rows ≡ 1) ⊎ (M.columns ≡ 1) → value M (λ i j. 0) 0 0 ≡ 1 → IsStructuralRank 65521 M 1
+one_rank : (M : MixedMatrix) → 0 < M.rows → 0 < M.columns → (M.rows ≡ 1) ⊎ (M.columns ≡ 1) → value M (λ i j. 0) 0 0 ≡ 1 → IsStructuralRank 65521 M 1
 one_rank M pos wide single one = go (mixed-rank_exists 65521 prime_65521 M)
     (rank_exists 65521 prime_65521 (value M (λ i j. 0)) M.rows M.columns everything)
   where

@@ -5,9 +5,9 @@ use Rattle.residue_theory.proofs.SumLaws.{member-without, nat_cases}
 use Rattle.residue_theory.specs.Residues.{IsPrime}
 use Rattle.residue_theory.specs.Sets.{everything, without}
 use Rattle.residue_theory.specs.Sums.{size_on}
-use Rattle.mixed_matrices.specs.LayeredMatrices.{Layered, layered_part}
+use Rattle.mixed_matrices.specs.LayeredMatrices.{LayeredMatrix, layered_part}
 use Rattle.mixed_matrices.specs.Layerings.{IsLayeredMatrixOf, IsLayering, Origins, gives_q, has_constant, has_symbol}
-use Rattle.mixed_matrices.specs.Models.{Mixed}
+use Rattle.mixed_matrices.specs.Models.{MixedMatrix}
 use Rattle.mixed_matrices.specs.Removals.{mixed_part, without_equation, without_unknown}
 use Rattle.mixed_matrices.specs.StructuralRanks.{IsLayeredRank, IsStructuralRank}
 use Rattle.mixed_pairs.proofs.RemovedRows.{emptied_equation, emptied_unknown, left_equation, left_unknown}
@@ -16,7 +16,7 @@ use Rattle.mixed_layering_laws.proofs.Members.{member-at, member-index, members-
 use Rattle.mixed_report.proofs.PartEntries.{part-none, part-zero, row-gone, row-kept, symbol-gone, symbol-kept, without-no}
 use Rattle.mixed_report.proofs.SplitEquations.{cut, cut-first, cut-layering, first-cut}
 
-module _ (p : ℕ) (prime : IsPrime p) (M : Mixed) (A D : ℕ → Bool) (L : Layered) (O : Origins) (lay : IsLayering M A D L O) where
+module _ (p : ℕ) (prime : IsPrime p) (M : MixedMatrix) (A D : ℕ → Bool) (L : LayeredMatrix) (O : Origins) (lay : IsLayering M A D L O) where
   -- ---- an unknown
   module _ (v : ℕ) (vl : v < M.columns) where
     column-layering : IsLayering (mixed_part everything (without everything v) M) A D (layered_part everything everything (without everything v) L) O
@@ -150,7 +150,7 @@ module _ (p : ℕ) (prime : IsPrime p) (M : Mixed) (A D : ℕ → Bool) (L : Lay
         (layered_part (without everything e) everything everything L) O (constant-layering e el no_t) big r R)
 
 -- in the layered matrix of a model each equation has a T row, or no symbol and a Q row
-pub equation_rows : (M : Mixed) (L : Layered) (O : Origins) → IsLayeredMatrixOf M L O → (i : ℕ) → i < M.rows →
+pub equation_rows : (M : MixedMatrix) (L : LayeredMatrix) (O : Origins) → IsLayeredMatrixOf M L O → (i : ℕ) → i < M.rows →
     ((d : ℕ) × (d < L.t_rows) × (O.of_t d ≡ i)) ⊎ ((e : ℕ) × (e < L.q_rows) × (O.of_q e ≡ i) × (has_symbol M i ≡ false))
 equation_rows M L O lay i il = go (has_symbol M i) refl
   where

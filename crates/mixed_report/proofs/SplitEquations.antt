@@ -7,9 +7,9 @@ use Rattle.residue_theory.specs.Residues.{IsPrime}
 use Rattle.residue_theory.specs.Sets.{both, everything, without}
 use Rattle.residue_theory.specs.Sums.{size_on}
 use Rattle.linear_algebra_laws.proofs.Entries.{above-low, above-top}
-use Rattle.mixed_matrices.specs.LayeredMatrices.{Layered, layered_part, layered_value}
+use Rattle.mixed_matrices.specs.LayeredMatrices.{LayeredMatrix, layered_part, layered_value}
 use Rattle.mixed_matrices.specs.Layerings.{IsLayering, Origins}
-use Rattle.mixed_matrices.specs.Models.{Mixed, numbers}
+use Rattle.mixed_matrices.specs.Models.{MixedMatrix, numbers}
 use Rattle.mixed_matrices.specs.Removals.{mixed_part}
 use Rattle.mixed_matrices.specs.StructuralRanks.{IsLayeredRank}
 use Rattle.mixed_pairs.proofs.RemovedRows.{greatest-moved}
@@ -19,7 +19,7 @@ use Rattle.mixed_report.proofs.EmptiedSymbolRows.{symbol-part}
 use Rattle.mixed_report.proofs.PartEntries.{part-none, part-zero, row-gone, row-kept, symbol-gone, symbol-kept, without-no}
 use Rattle.mixed_report.proofs.SwappedRows.{AreSwapped, swapped-back, swapped-there}
 
-module _ (p : ℕ) (prime : IsPrime p) (M : Mixed) (A D : ℕ → Bool) (L : Layered) (O : Origins) (lay : IsLayering M A D L O) (d : ℕ)
+module _ (p : ℕ) (prime : IsPrime p) (M : MixedMatrix) (A D : ℕ → Bool) (L : LayeredMatrix) (O : Origins) (lay : IsLayering M A D L O) (d : ℕ)
     (dl : d < L.t_rows) (split : A (O.of_t d) ≡ true) where
   abbrev i : ℕ
   i = O.of_t d
@@ -58,7 +58,7 @@ module _ (p : ℕ) (prime : IsPrime p) (M : Mixed) (A D : ℕ → Bool) (L : Lay
   other_z x xl ne q = ne (sym (lay.auxiliary.place x xl) ∙ ap (λ y. size_on (both A D) y) q)
 
   -- both rows of the equation emptied at the unknowns
-  abbrev pub cut : Layered
+  abbrev pub cut : LayeredMatrix
   cut = record {
     q_rows = L.q_rows;
     t_rows = L.t_rows;
@@ -136,7 +136,7 @@ module _ (p : ℕ) (prime : IsPrime p) (M : Mixed) (A D : ℕ → Bool) (L : Lay
   past j g = subst (λ y. ltb y M.columns ≡ false) (let q : M.columns + (j - M.columns) ≡ j = omega arith in q) (ltb-next M.columns (j - M.columns))
 
   -- without T row d
-  abbrev first : Layered
+  abbrev first : LayeredMatrix
   first = layered_part everything (without everything d) everything L
 
   module _ (w : ℕ → ℕ → ℕ) where

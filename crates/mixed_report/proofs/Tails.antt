@@ -14,7 +14,7 @@ use Rattle.linear_algebra_laws.proofs.RowRemoval.{stays-tableau, tableau-stays, 
 use Rattle.mixed_matrices.specs.Arcs.{has_base, has_match}
 use Rattle.mixed_matrices.specs.CheckerRules.{KeepsPartRules}
 use Rattle.mixed_matrices.specs.Forms.{IsForm, Parts}
-use Rattle.mixed_matrices.specs.LayeredMatrices.{Layered}
+use Rattle.mixed_matrices.specs.LayeredMatrices.{LayeredMatrix}
 use Rattle.mixed_matrices.specs.SetFunctions.{IsMinimiser, IsRho, touches}
 use Rattle.mixed_matrices.specs.Tableaus.{HasTableau, IsTableau, Tableau}
 use Rattle.mixed_pairs.proofs.ArcFacts.{base_found, end-t, match_found}
@@ -25,7 +25,7 @@ use Rattle.mixed_forms.proofs.CheckedForms.{checked-form}
 use Rattle.mixed_forms.proofs.CheckedParts.{end-last, symbol-falls}
 use Rattle.mixed_forms.proofs.FirstParts.{first_parts-minimiser}
 
-module _ (p : ℕ) (prime : IsPrime p) (L : Layered) (S U : ℕ → ℕ → ℕ) (F : Tableau) (tab : IsTableau p L S U F) (G : Parts)
+module _ (p : ℕ) (prime : IsPrime p) (L : LayeredMatrix) (S U : ℕ → ℕ → ℕ) (F : Tableau) (tab : IsTableau p L S U F) (G : Parts)
     (below lower : ℕ → ℕ → Bool) (K : KeepsPartRules p L F G below lower) where
   has : HasTableau p L F
   has = tableau p prime L S U F tab

@@ -5,9 +5,9 @@ use Rattle.residue_theory.specs.Residues.{IsPrime}
 use Rattle.residue_theory.specs.Sets.{everything, without}
 use Rattle.linear_algebra.specs.Columns.{IsRank}
 use Rattle.linear_algebra.specs.Parts.{without_row}
-use Rattle.mixed_matrices.specs.LayeredMatrices.{Layered, layered_part}
+use Rattle.mixed_matrices.specs.LayeredMatrices.{LayeredMatrix, layered_part}
 use Rattle.mixed_matrices.specs.Layerings.{IsLayering, Origins}
-use Rattle.mixed_matrices.specs.Models.{Mixed}
+use Rattle.mixed_matrices.specs.Models.{MixedMatrix}
 use Rattle.mixed_matrices.specs.Removals.{IsSurplus, IsUndetermined, without_equation, without_unknown}
 use Rattle.mixed_matrices.specs.SetFunctions.{IsMinimiser, IsRho, touches}
 use Rattle.mixed_matrices.specs.StructuralRanks.{IsLayeredRank, IsStructuralRank}
@@ -19,7 +19,7 @@ use Rattle.mixed_report.proofs.EmptiedSymbolRows.{symbols_empty-falls, symbols_e
 use Rattle.mixed_report.proofs.Removals.{equation-constants, equation-symbols, unknown-column}
 
 -- two models beside two layered matrices of them: where the layered ranks are the same, the models' are
-same-rank : (p : ℕ) → IsPrime p → (M N : Mixed) (L K : Layered) (s : ℕ) → ((r : ℕ) → IsStructuralRank p M r → IsLayeredRank p L (r + s)) →
+same-rank : (p : ℕ) → IsPrime p → (M N : MixedMatrix) (L K : LayeredMatrix) (s : ℕ) → ((r : ℕ) → IsStructuralRank p M r → IsLayeredRank p L (r + s)) →
     ((r : ℕ) → IsStructuralRank p N r → IsLayeredRank p K (r + s)) →
     ((r t : ℕ) → IsLayeredRank p L r → IsLayeredRank p K t → t ≡ r) → (r : ℕ) × IsStructuralRank p M r × IsStructuralRank p N r
 same-rank p prime M N L K s there less same = go (mixed-rank_exists p prime M) (mixed-rank_exists p prime N)
@@ -32,7 +32,7 @@ same-rank p prime M N L K s there less same = go (mixed-rank_exists p prime M) (
           (let q : t + s ≡ r + s = same (r + s) (t + s) (there r R) (less t T) in omega (arith, q)) T,
     )
 
-module _ (p : ℕ) (prime : IsPrime p) (big : 2 < p) (M : Mixed) (A D : ℕ → Bool) (L : Layered) (O : Origins) (lay : IsLayering M A D L O) where
+module _ (p : ℕ) (prime : IsPrime p) (big : 2 < p) (M : MixedMatrix) (A D : ℕ → Bool) (L : LayeredMatrix) (O : Origins) (lay : IsLayering M A D L O) where
   -- ---- an unknown
   module _ (j : ℕ) (jl : j < M.columns) where
     inside : j < L.columns

@@ -1,5 +1,5 @@
-//! The laws of layering and of the report at worked examples: the split entry (1 and a symbol in one place), x + y over x and a
-//! symbol at y, two equations of one unknown, and one equation of two unknowns.
+//! The laws of layering and of the report at worked examples: the split entry (1 and a symbol in one place), x + y over
+//! x and a symbol at y, two equations of one unknown, and one equation of two unknowns.
 ghost use Rattle.std.specs.Prelude.{◌+◌};
 ghost use Rattle.linear_algebra.specs.Columns.{IsRank};
 ghost use Rattle.residue_theory.specs.Sets.{everything, without};
@@ -11,21 +11,22 @@ ghost use Rattle.mixed_matrices.specs.Removals.{IsSurplus, IsUndetermined, witho
 ghost use Rattle.mixed_matrices.specs.StructuralRanks.{IsLayeredRank, IsStructuralRank};
 ghost use Rattle.mixed_report.specs.Examples.{plain_origins, tall_constants, tall_symbol_model, wide_model, wide_symbols};
 
-/// The split entry has rank 1 and its layered matrix rank 2; without its equation, or without its unknown, each has one less.
-/// So the equation is not surplus, and the unknown not undetermined.
+/// The split entry has rank 1 and its layered matrix rank 2; without its equation, or without its unknown, each has one
+/// less. So the equation is not surplus, and the unknown not undetermined.
 pub fn split_entry_at_examples()
     ensures model { IsStructuralRank 65521 split_model 1 }
     ensures layered { IsLayeredRank 65521 split_matrix (1 + split_origins.split) }
     ensures without_equation { IsStructuralRank 65521 (without_equation 0 split_model) 0 }
-    ensures without_row { IsLayeredRank 65521 (layered_part everything (without everything 0) everything split_matrix) 1 }
+    ensures without_row { IsLayeredRank 65521 (layered_part everything (without everything 0)
+        everything split_matrix) 1 }
     ensures without_unknown { IsStructuralRank 65521 (without_unknown 0 split_model) 0 }
     ensures without_column { IsLayeredRank 65521 (layered_part everything everything (without everything 0) split_matrix) 1 }
     ensures not_surplus { IsSurplus 65521 split_model 0 → ⊥ }
     ensures not_undetermined { IsUndetermined 65521 split_model 0 → ⊥ }
 {}
 
-/// x + y over x and a symbol at y: the rank is 2, and 3 in the layered matrix, where one row is split. With 1 for its symbol the
-/// rank is 1, and with 2 it is 2.
+/// x + y over x and a symbol at y: the rank is 2, and 3 in the layered matrix, where one row is split. With 1 for its
+/// symbol the rank is 1, and with 2 it is 2.
 pub fn stacked_values_at_examples()
     ensures model { IsStructuralRank 65521 stacked_model 2 }
     ensures layered { IsLayeredRank 65521 stacked_matrix (2 + stacked_origins.split) }
@@ -33,8 +34,8 @@ pub fn stacked_values_at_examples()
     ensures two { IsRank 65521 (value stacked_model (λ i j. 2)) 2 2 everything 2 }
 {}
 
-/// Without the equation of constants its Q row goes from the layered matrix, and without the split one its T row; the rank of
-/// the model is then 1. No equation is surplus, and no unknown undetermined.
+/// Without the equation of constants its Q row goes from the layered matrix, and without the split one its T row; the
+/// rank of the model is then 1. No equation is surplus, and no unknown undetermined.
 pub fn stacked_removals_at_examples()
     ensures without_constants { IsStructuralRank 65521 (without_equation 0 stacked_model) 1 }
     ensures without_q_row { IsLayeredRank 65521 (layered_part (without everything 0) everything everything stacked_matrix) 2 }

@@ -11,7 +11,8 @@ pub fn removed_equations_are_emptied_rows_of_symbols()
     ensures { RemovedEquationsAreEmptiedRowsOfSymbols }
 {}
 
-/// A model without an equation of constants alone has that of its layered matrix without the Q row, less the split rows.
+/// A model without an equation of constants alone has that of its layered matrix without the Q row, less the split
+/// rows.
 pub fn removed_equations_are_emptied_rows_of_constants()
     ensures { RemovedEquationsAreEmptiedRowsOfConstants }
 {}

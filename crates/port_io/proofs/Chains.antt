@@ -1,8 +1,9 @@
-use Rattle.std.proofs.Common.{◌≡◌, ℕ, ◌+◌, ◌≤◌, List, [], ◌++◌, length, take, drop, Option, Some, None, refl, sym, ◌∙◌, ap, arith, append_assoc, length-drop, ◌-◌, subst}
+-- Bytes taken or appended twice are taken or appended at once.
+use Rattle.std.proofs.Common.{◌≡◌, ℕ, length-append, ◌+◌, ◌≤◌, List, [], ◌++◌, length, take, drop, Option, Some, None, refl, sym, ◌∙◌, ap, arith, append_assoc, length-drop, ◌-◌, subst}
 use Rattle.std.proofs.lemmas.Grind.{common_steps}
 use Rattle.std.proofs.lemmas.List.{take_rest}
 use Rattle.std.proofs.Math.Seq.{take-add}
-use Rattle.port_io.specs.Bytes.{Took, Appended}
+use Rattle.port_io.specs.Bytes.{Took, TookExactly, TookAtMost, Appended}
 
 pub took_nothing : (a : Option (List ℕ)) → Took a a []
 took_nothing None = tt
@@ -35,3 +36,12 @@ took_is a b p q e h = let P : List ℕ → Type 0 = λ r. Took a b r in subst P 
 
 pub appended_is : (a b : Option (List ℕ)) (p q : List ℕ) → p ≡ q → Appended a b p → Appended a b q
 appended_is a b p q e h = let P : List ℕ → Type 0 = λ r. Appended a b r in subst P e h
+
+-- bytes taken, and then so many more
+pub took_exactly : (a b c : Option (List ℕ)) (p : List ℕ) (n : ℕ) → Took a b p → TookExactly n b c → TookExactly (length p + n) a c
+took_exactly a b c p n first (more, long, then) =
+    (p ++ more, length-append p more ∙ ap (λ k. length p + k) long, took_more a b c p more first then)
+
+-- bytes taken, and then others, which are no more than so many together
+pub took_at_most : (a b c : Option (List ℕ)) (p q : List ℕ) (n : ℕ) → Took a b p → Took b c q → length p + length q ≤ n → TookAtMost n a c
+took_at_most a b c p q n first then few = (p ++ q, omega (arith, length-append p q, few), took_more a b c p q first then)

@@ -10,7 +10,11 @@ nothing_asked = record { taken = 0; longest = 0; furthest = 0 }
 -- asked once more, for so many bytes
 abbrev pub asked_for : Asked → ℕ → Asked
 asked_for asked space =
-    record { taken = asked.taken; longest = max asked.longest space; furthest = max asked.furthest (shown (asked.taken + space)) }
+    record {
+      taken = asked.taken;
+      longest = max asked.longest space;
+      furthest = max asked.furthest (shown (asked.taken + space));
+    }
 
 -- it gave so many bytes
 abbrev pub gave : Asked → ℕ → Asked

@@ -1,3 +1,4 @@
+-- Bytes that are taken and appended, seen where a source or a sink tells of them.
 use Rattle.std.specs.Prelude.{◌≡◌, ℕ, ◌≤◌, List, [], ◌++◌, length, Option, Some, None}
 
 -- these bytes were taken from the front of what was left, where it is told

@@ -27,11 +27,19 @@ pub record MemorySink : Type 0 where
 abbrev pub ReadsMemory : {E : Type 0} → MemorySource → ℕ → Result ℕ E → MemorySource → Type 0
 ReadsMemory before space (Err e) after =
     Contains before.fails (one_more before.calls)
-    × (after ≡ record before { asked = asked_for before.asked space; calls = one_more before.calls; faults = one_more before.faults })
+    × (after ≡ record before {
+      asked = asked_for before.asked space;
+      calls = one_more before.calls;
+      faults = one_more before.faults;
+    })
 ReadsMemory before space (Ok n) after =
     ¬ Contains before.fails (one_more before.calls)
     × (n ≡ min space (min before.most (length before.left)))
-    × (after ≡ record before { left = drop n before.left; asked = gave (asked_for before.asked space) n; calls = one_more before.calls })
+    × (after ≡ record before {
+      left = drop n before.left;
+      asked = gave (asked_for before.asked space) n;
+      calls = one_more before.calls;
+    })
 
 -- no room is left
 abbrev pub IsFull : MemorySink → Type 0
@@ -46,13 +54,21 @@ WritesMemory before piece (Err e) after =
 WritesMemory before piece (Ok n) after =
     ¬ Contains before.fails (one_more before.calls)
     × (n ≡ min (length piece) (min before.most (before.room - length before.written)))
-    × (after ≡ record before { written = before.written ++ take n piece; flushed = cond (n == 0) before.flushed false; calls = one_more before.calls })
+    × (after ≡ record before {
+      written = before.written ++ take n piece;
+      flushed = cond (n == 0) before.flushed false;
+      calls = one_more before.calls;
+    })
 
 -- a flush fails exactly where its number is listed
 abbrev pub FlushesMemory : {T E : Type 0} → MemorySink → Result T E → MemorySink → Type 0
 FlushesMemory before (Err e) after =
     Contains before.fails (one_more before.calls)
-    × (after ≡ record before { flushes = one_more before.flushes; calls = one_more before.calls; faults = one_more before.faults })
+    × (after ≡ record before {
+      flushes = one_more before.flushes;
+      calls = one_more before.calls;
+      faults = one_more before.faults;
+    })
 FlushesMemory before (Ok v) after =
     ¬ Contains before.fails (one_more before.calls)
     × (after ≡ record before { flushed = true; flushes = one_more before.flushes; calls = one_more before.calls })

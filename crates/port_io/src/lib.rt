@@ -5,9 +5,9 @@
 #![tactic(auto)]
 
 mod asking;
-mod gathering;
 mod memory;
 mod ports;
+mod pump;
 mod reading;
 mod streams;
 #[cfg(test)]
@@ -15,9 +15,9 @@ mod tests;
 mod writing;
 
 pub use asking::Asked;
-pub use gathering::PieceBuffer;
 pub use memory::{MemSink, MemSource};
 pub use ports::{Failed, Sink, Source};
+pub use pump::Pump;
 pub use reading::{ReadError, read_all};
 pub use streams::{StdSink, StdSource};
 pub use writing::{WriteFault, write_all};

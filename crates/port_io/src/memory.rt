@@ -31,12 +31,14 @@ impl Calls {
         })
     }
 
-    /// One call more, which fails where its number is listed.
+    // One call more, which fails where its number is listed.
     fn count(&mut self) -> Result<(), Failed>
         ensures made { self.new.made ≡ one_more self.old.made }
         ensures failing { self.new.failing.items ≡ self.old.failing.items }
-        ensures fine { OnOk result ((¬ Contains self.old.failing.items self.new.made) × (self.new.faults ≡ self.old.faults)) }
-        ensures failed { OnErr result (Contains self.old.failing.items self.new.made × (self.new.faults ≡ one_more self.old.faults)) }
+        ensures fine { OnOk result ((¬ Contains self.old.failing.items self.new.made)
+            × (self.new.faults ≡ self.old.faults)) }
+        ensures failed { OnErr result (Contains self.old.failing.items self.new.made
+            × (self.new.faults ≡ one_more self.old.faults)) }
     {
         self.made = self.made.saturating_add(1);
         if self.failing.contains(&self.made) {
@@ -45,7 +47,7 @@ impl Calls {
         Ok(())
     }
 
-    /// The call fails.
+    // The call fails.
     fn fail(&mut self) -> Failed
         ensures made { self.new.made ≡ self.old.made }
         ensures failing { self.new.failing.items ≡ self.old.failing.items }
@@ -72,7 +74,15 @@ impl Model for MemSource {
 
     ghost Value = { MemorySource };
 
-    ghost view = { λ s. record { left = drop s.taken s.bytes.items; most = s.most; asked = s.asked; calls = s.calls.made; fails = s.calls.failing.items; faults = s.calls.faults } };
+    ghost view = { λ s. record {
+      left = drop s.taken s.bytes.items;
+      most = s.most;
+      asked = s.asked;
+      calls = s.calls.made;
+      fails =
+          s.calls.failing.items;
+      faults = s.calls.faults;
+    } };
 
     ghost invariant = { λ s. (s.taken ≤ length s.bytes.items) × (1 ≤ s.most) };
 }
@@ -87,7 +97,14 @@ impl MemSource {
         fails: &[u64],
     ) -> Result<MemSource, AllocError>
         requires { 1 ≤ most }
-        ensures made { IfOk result (λ source. source ≡ record { left = bytes.now; most = most; asked = nothing_asked; calls = 0; fails = fails.now; faults = 0 }) }
+        ensures made { IfOk result (λ source. source ≡ record {
+          left = bytes.now;
+          most = most;
+          asked = nothing_asked;
+          calls = 0;
+          fails = fails.now;
+          faults = 0;
+        }) }
         ensures zero { IfOk result (λ source. ⟦<MemSource as Source>⟧.faults source ≡ 0) }
         ensures left { IfOk result (λ source. ⟦<MemSource as Source>⟧.left source ≡ Some bytes.now) }
         ensures steady { IfOk result (λ source. fails.now ≡ [] → ⟦<MemSource as Source>⟧.never_fails source) }
@@ -142,7 +159,17 @@ impl Model for MemSink {
 
     ghost Value = { MemorySink };
 
-    ghost view = { λ s. record { written = s.bytes.items; most = s.most; room = s.room; flushed = s.flushed; flushes = s.flushes; calls = s.calls.made; fails = s.calls.failing.items; faults = s.calls.faults } };
+    ghost view = { λ s. record {
+      written = s.bytes.items;
+      most = s.most;
+      room = s.room;
+      flushed = s.flushed;
+      flushes = s.flushes;
+      calls =
+          s.calls.made;
+      fails = s.calls.failing.items;
+      faults = s.calls.faults;
+    } };
 
     ghost invariant = { λ s. (length s.bytes.items ≤ s.room) × (s.room ≤ vec_capacity s.bytes) × (1 ≤ s.most) };
 }
@@ -157,7 +184,16 @@ impl MemSink {
         fails: &[u64],
     ) -> Result<MemSink, AllocError>
         requires { 1 ≤ most }
-        ensures made { IfOk result (λ sink. sink ≡ record { written = []; most = most; room = room; flushed = false; flushes = 0; calls = 0; fails = fails.now; faults = 0 }) }
+        ensures made { IfOk result (λ sink. sink ≡ record {
+          written = [];
+          most = most;
+          room = room;
+          flushed = false;
+          flushes = 0;
+          calls = 0;
+          fails = fails.now;
+          faults = 0;
+        }) }
         ensures zero { IfOk result (λ sink. ⟦<MemSink as Sink>⟧.faults sink ≡ 0) }
         ensures written { IfOk result (λ sink. ⟦<MemSink as Sink>⟧.written sink ≡ Some []) }
         ensures unflushed { IfOk result (λ sink. ⟦<MemSink as Sink>⟧.flushed sink ≡ false) }

@@ -42,7 +42,8 @@ pub trait Source {
         ensures none { OnErr result (Keeps (left self.old) (left self.new)) }
         ensures asked { asked self.new ≡ given (asked_for (asked self.old) (length buffer.old)) result }
         ensures cause { HasCause (faults self.old) (faults self.new) result }
-        ensures steady { never_fails self.old → never_fails self.new × (faults self.new ≡ faults self.old) × IsOk result }
+        ensures steady { never_fails self.old → never_fails self.new
+            × (faults self.new ≡ faults self.old) × IsOk result }
         ensures gives { read_gives self.old (length buffer.old) result self.new };
 }
 
@@ -79,7 +80,8 @@ pub trait Sink {
         ensures none { OnErr result (Keeps (written self.old) (written self.new)) }
         ensures no_flush { flushes self.new ≡ flushes self.old }
         ensures cause { HasCause (faults self.old) (faults self.new) result }
-        ensures steady { (more : ℕ) → takes self.old (length piece.now + more) → (faults self.new ≡ faults self.old) × IsOk result × IfOk result (λ n. (rest : ℕ) → n + rest ≡ length piece.now → takes self.new (rest + more)) }
+        ensures steady { (more : ℕ) → takes self.old (length piece.now + more) → (faults self.new ≡ faults self.old)
+            × IsOk result × IfOk result (λ n. (rest : ℕ) → n + rest ≡ length piece.now → takes self.new (rest + more)) }
         ensures gives { write_gives self.old piece.now result self.new };
 
     /// Hands on what was written.
@@ -88,6 +90,7 @@ pub trait Sink {
         ensures one_flush { flushes self.new ≡ one_more (flushes self.old) }
         ensures flushed { OnOk result (IsTrue (flushed self.new)) }
         ensures cause { HasCause (faults self.old) (faults self.new) result }
-        ensures steady { (more : ℕ) → takes self.old more → takes self.new more × (faults self.new ≡ faults self.old) × IsOk result }
+        ensures steady { (more : ℕ) → takes self.old more → takes self.new more
+            × (faults self.new ≡ faults self.old) × IsOk result }
         ensures gives { flush_gives self.old result self.new };
 }

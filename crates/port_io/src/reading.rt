@@ -4,9 +4,11 @@ ghost use Rattle.std.specs.Prelude.{◌≡◌, ◌≢◌, ◌+◌, ◌≤◌, �
 ghost use Rattle.port_io.specs.Causes.{Rose};
 ghost use Rattle.port_io.specs.Asking.{AsksWithin};
 ghost use Rattle.port_io.specs.Bytes.{Took, Ended, TookExactly, TookAtMost};
+ghost use Rattle.port_io.specs.Pumping.{nothing_pumped};
 
 use crate::ports::Source;
-use std::alloc::{AllocError, Global};
+use crate::pump::Pump;
+use std::alloc::Global;
 use thiserror::Error;
 
 /// Why there is no whole input.
@@ -23,9 +25,6 @@ pub enum ReadError {
     NoMemory,
 }
 
-/// The most bytes of one call.
-const PIECE: usize = 65_536;
-
 /// All bytes to the end, where there are no more than `limit`. It asks for at most 65,536 bytes at
 /// once, and never for one beyond the next `limit + 1`. No read is tried again: the answer is a fault
 /// exactly where one failed. After an error the bytes that were taken stay taken: `limit + 1` at
@@ -33,65 +32,52 @@ const PIECE: usize = 65_536;
 pub fn read_all<S: Source>(alloc: Global, source: &mut S, limit: u64) -> Result<Vec<u8>, ReadError>
     requires { limit ≤ 2147483648 }
     ensures within { IfOk result (λ bytes. length bytes.items ≤ limit) }
-    ensures all { IfOk result (λ bytes. Took (S.left source.old) (S.left source.new) bytes.items × Ended (S.left source.new)) }
-    ensures too_long { result ≡ Err ReadError.TooLong → TookExactly (limit + 1) (S.left source.old) (S.left source.new) }
+    ensures all { IfOk result (λ bytes.
+        Took (S.left source.old) (S.left source.new) bytes.items × Ended (S.left source.new)) }
+    ensures too_long { result ≡ Err ReadError.TooLong →
+        TookExactly (limit + 1) (S.left source.old) (S.left source.new) }
     ensures fault_taken { result ≡ Err ReadError.ReadFault → TookAtMost limit (S.left source.old) (S.left source.new) }
     ensures memory_taken { result ≡ Err ReadError.NoMemory → TookAtMost limit (S.left source.old) (S.left source.new) }
     ensures fault { result ≡ Err ReadError.ReadFault → Rose (S.faults source.old) (S.faults source.new) }
     ensures no_fault { result ≢ Err ReadError.ReadFault → S.faults source.new ≡ S.faults source.old }
     ensures later { S.faults source.old ≤ S.faults source.new }
     ensures asked { AsksWithin 65536 (limit + 1) (S.asked source.old) (S.asked source.new) }
-    ensures steady { S.never_fails source.old → S.never_fails source.new × (S.faults source.new ≡ S.faults source.old) × (result ≢ Err ReadError.ReadFault) }
+    ensures steady { S.never_fails source.old → S.never_fails source.new × (S.faults source.new ≡ S.faults source.old)
+        × (result ≢ Err ReadError.ReadFault) }
 {
-    let Ok(mut buffer) = buffer_of(alloc, PIECE) else {
+    let Ok(pump) = Pump::new(alloc, limit) else {
         return Err(ReadError::NoMemory);
     };
-    read_through(alloc, source, &mut buffer, limit)
+    pump_all(alloc, source, pump, limit)
 }
 
-/// A buffer of this size.
-fn buffer_of(alloc: Global, size: usize) -> Result<Vec<u8>, AllocError>
-    ensures { IfOk result (λ buffer. length buffer.items ≡ size) }
-{
-    vec![in alloc; 0u8; size]
-}
-
-/// All bytes to the end, through this buffer.
-fn read_through<S: Source>(
+// All bytes to the end, through a pump that took none so far.
+fn pump_all<S: Source>(
     alloc: Global,
     source: &mut S,
-    buffer: &mut [u8],
+    mut pump: Pump,
     limit: u64,
 ) -> Result<Vec<u8>, ReadError>
-    requires limit { limit ≤ 2147483648 }
-    requires room { 0 < length buffer.old }
+    requires { pump ≡ nothing_pumped limit }
     ensures within { IfOk result (λ bytes. length bytes.items ≤ limit) }
-    ensures all { IfOk result (λ bytes. Took (S.left source.old) (S.left source.new) bytes.items × Ended (S.left source.new)) }
-    ensures too_long { result ≡ Err ReadError.TooLong → TookExactly (limit + 1) (S.left source.old) (S.left source.new) }
+    ensures all { IfOk result (λ bytes.
+        Took (S.left source.old) (S.left source.new) bytes.items × Ended (S.left source.new)) }
+    ensures too_long { result ≡ Err ReadError.TooLong →
+        TookExactly (limit + 1) (S.left source.old) (S.left source.new) }
     ensures fault_taken { result ≡ Err ReadError.ReadFault → TookAtMost limit (S.left source.old) (S.left source.new) }
     ensures memory_taken { result ≡ Err ReadError.NoMemory → TookAtMost limit (S.left source.old) (S.left source.new) }
     ensures fault { result ≡ Err ReadError.ReadFault → Rose (S.faults source.old) (S.faults source.new) }
     ensures no_fault { result ≢ Err ReadError.ReadFault → S.faults source.new ≡ S.faults source.old }
     ensures later { S.faults source.old ≤ S.faults source.new }
-    ensures asked { AsksWithin (length buffer.old) (limit + 1) (S.asked source.old) (S.asked source.new) }
-    ensures steady { S.never_fails source.old → S.never_fails source.new × (S.faults source.new ≡ S.faults source.old) × (result ≢ Err ReadError.ReadFault) }
+    ensures asked { AsksWithin 65536 (limit + 1) (S.asked source.old) (S.asked source.new) }
+    ensures steady { S.never_fails source.old → S.never_fails source.new × (S.faults source.new ≡ S.faults source.old)
+        × (result ≢ Err ReadError.ReadFault) }
 {
-    let most = limit as usize + 1;
     let mut bytes = Vec::new(alloc);
-    while bytes.len() < most {
-        let want = buffer.len().min(most - bytes.len());
-        let Ok(count) = source.read(&mut buffer[..want]) else {
-            return Err(ReadError::ReadFault);
-        };
-        if count == 0 {
-            return Ok(bytes);
-        }
-        if bytes.len() + count >= most {
-            return Err(ReadError::TooLong);
-        }
-        if bytes.extend_from_slice(&buffer[..count]).is_err() {
+    while pump.next(source)? > 0 {
+        if bytes.extend_from_slice(pump.piece()).is_err() {
             return Err(ReadError::NoMemory);
         }
     }
-    Err(ReadError::TooLong)
+    Ok(bytes)
 }

@@ -1,7 +1,6 @@
 //! Calls over memory, with ample memory.
 
-use crate::{MemSink, MemSource, PieceBuffer, ReadError, Sink, Source, read_all, write_all};
-use std::alloc::Global;
+use crate::{MemSink, MemSource, Pump, ReadError, Sink, Source, read_all, write_all};
 use std::test::Fail;
 
 #[test]
@@ -30,6 +29,39 @@ fn reads_nothing_past_a_fault_or_the_limit(rt: HostRuntime) -> Result<(), Fail> 
         let rest = read_all(alloc, &mut source, 9)?;
         assert_eq!(rt; rest.as_slice(), left, "at {failing}");
     }
+    Ok(())
+}
+
+#[test]
+fn pumps_pieces_to_the_end(rt: HostRuntime) -> Result<(), Fail> {
+    let mut source = MemSource::new(rt.alloc(), b"seventeen", 4, &[2])?;
+    let mut pump = Pump::new(rt.alloc(), 9)?;
+    let cases: [(Result<usize, ReadError>, &[u8]); 5] = [
+        (Ok(4), b"seve"),
+        (Err(ReadError::ReadFault), b""),
+        (Ok(4), b"ntee"),
+        (Ok(1), b"n"),
+        (Ok(0), b""),
+    ];
+    for (want, piece) in cases {
+        assert!(rt; !pump.ended());
+        assert_eq!(rt; pump.next(&mut source), want);
+        assert_eq!(rt; pump.piece(), piece);
+    }
+    assert!(rt; pump.ended());
+    Ok(())
+}
+
+#[test]
+fn a_pump_stays_too_long(rt: HostRuntime) -> Result<(), Fail> {
+    let mut source = MemSource::new(rt.alloc(), b"seventeen", 4, &[])?;
+    let mut pump = Pump::new(rt.alloc(), 6)?;
+    for want in [Ok(4), Err(ReadError::TooLong), Err(ReadError::TooLong)] {
+        assert!(rt; !pump.ended());
+        assert_eq!(rt; pump.next(&mut source), want);
+    }
+    let rest = read_all(rt.alloc(), &mut source, 9)?;
+    assert_eq!(rt; rest.as_slice(), b"en".as_slice());
     Ok(())
 }
 
@@ -63,48 +95,5 @@ fn counts_a_flush_as_a_call(rt: HostRuntime) -> Result<(), Fail> {
     assert!(rt; sink.write(b"c").is_err());
     assert_eq!(rt; sink.write(b"").ok(), Some(0));
     assert_eq!(rt; sink.bytes(), b"ab".as_slice());
-    Ok(())
-}
-
-/// Puts the piece many times, then a piece that is longer than the buffer, then hands on.
-fn put_many<K: Sink>(alloc: Global, sink: &mut K) -> Result<Option<usize>, Fail> {
-    let long = vec![in alloc; b'x'; 5000]?;
-    let mut buffer = PieceBuffer::new();
-    for _ in 0..1000 {
-        if let Err(fault) = buffer.put(sink, b"12345\n") {
-            return Ok(Some(fault.written));
-        }
-    }
-    if let Err(fault) = buffer.put(sink, &long) {
-        return Ok(Some(fault.written));
-    }
-    Ok(buffer.hand_on(sink).err().map(|fault| fault.written))
-}
-
-#[test]
-fn gathers_small_pieces(rt: HostRuntime) -> Result<(), Fail> {
-    let alloc = rt.alloc();
-    let mut whole = Vec::new(alloc);
-    for _ in 0..1000 {
-        whole.extend_from_slice(b"12345\n")?;
-    }
-    whole.extend_from_slice(&vec![in alloc; b'x'; 5000]?)?;
-    let cases: [(u64, Option<usize>); 4] = [
-        (99, None),
-        (1, Some(0)),
-        (3, Some(4092)),
-        (5, Some(8500)),
-    ];
-    for (failing, want) in cases {
-        let mut sink = MemSink::new(alloc, 2500, 20_000, &[failing])?;
-        let written = put_many(alloc, &mut sink)?;
-        assert_eq!(rt; written, want, "at {failing}");
-        assert_eq!(rt;
-            sink.bytes().len(),
-            want.unwrap_or(whole.len()),
-            "at {failing}"
-        );
-        assert!(rt; whole.starts_with(sink.bytes()));
-    }
     Ok(())
 }

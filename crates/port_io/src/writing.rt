@@ -18,10 +18,12 @@ pub struct WriteFault {
 pub fn write_all<K: Sink>(sink: &mut K, piece: &[u8]) -> Result<(), WriteFault>
     ensures all { OnOk result (Appended (K.written sink.old) (K.written sink.new) piece.now) }
     ensures within { IfErr result (λ fault. fault.written ≤ length piece.now) }
-    ensures part { IfErr result (λ fault. Appended (K.written sink.old) (K.written sink.new) (take fault.written piece.now)) }
+    ensures part { IfErr result (λ fault.
+        Appended (K.written sink.old) (K.written sink.new) (take fault.written piece.now)) }
     ensures cause { HasCause (K.faults sink.old) (K.faults sink.new) result }
     ensures no_flush { K.flushes sink.new ≡ K.flushes sink.old }
-    ensures steady { (more : ℕ) → K.takes sink.old (length piece.now + more) → (K.faults sink.new ≡ K.faults sink.old) × IsOk result × K.takes sink.new more }
+    ensures steady { (more : ℕ) → K.takes sink.old (length piece.now + more) → (K.faults sink.new ≡ K.faults sink.old)
+        × IsOk result × K.takes sink.new more }
 {
     let mut done = 0;
     while done < piece.len() {

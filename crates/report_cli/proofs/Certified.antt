@@ -14,9 +14,9 @@ use Rattle.report_cli.specs.Limits.{model_limit}
 use Rattle.report_cli.specs.RightFor.{IsRightFor}
 
 -- a form that is right for the layers makes a certificate that is right for the text
-pub right_for : (text : List ℕ) (model : MixedModel) (layers : Layers) (echo : List ℕ) (ccf : Contents) → GivesModel text model → AreLayersOf model layers → echo ≡ text → length text ≤ model_limit → IsCcf ccf →
-    OfEachModel layers (λ M O. HasShape M (layered_matrix_of layers) ccf) → HasTransform res_modulus (layered_matrix_of layers) ccf →
-    OfEachModel layers (λ M O. HasPairAndRank res_modulus M (layered_matrix_of layers) O ccf) → HasForm res_modulus (layered_matrix_of layers) ccf →
+pub right_for : (text : List ℕ) (model : MixedModel) (layers : Layers) (echo : List ℕ) (ccf : Contents) → GivesModel res_modulus text model → AreLayersOf model layers → echo ≡ text → length text ≤ model_limit → IsCcf res_modulus ccf →
+    OfEachModel res_modulus layers (λ M O. HasShape M (layered_matrix_of layers) ccf) → HasTransform res_modulus (layered_matrix_of layers) ccf →
+    OfEachModel res_modulus layers (λ M O. HasPairAndRank res_modulus M (layered_matrix_of layers) O ccf) → HasForm res_modulus (layered_matrix_of layers) ccf →
     HasIdeals res_modulus (layered_matrix_of layers) ccf → HasCanonicalListing res_modulus (layered_matrix_of layers) ccf →
     IsRightFor text (record { kind = Matrix; echo = echo; ccf = ccf })
 right_for text model layers echo ccf gives are same short form shape transform pair triangular ideals canonical = record {

@@ -12,7 +12,7 @@ use Rattle.mixed_model.specs.Models.{MixedModel, IsModel, constant_at}
 use Rattle.mixed_model.specs.Names.{IsNameList, is_label}
 use Rattle.mixed_model.specs.Rows.{RisesFrom, IsFilled, IsRow, IsWithin, entry_in, constant_in, constant_at_place}
 use Rattle.mixed_model.specs.Layers.{Layers}
-use Rattle.mixed_model.specs.declared.entry.Entry.{Entry}
+use Rattle.mixed_model.specs.Entries.{RowEntry}
 use Rattle.mixed_model.specs.declared.origin.Origin.{Origin}
 use Rattle.mixed_model.specs.declared.origin.Origin.TheVariants.{Unknown, Split}
 use Rattle.mixed_layering.specs.Layers.{AreLayersOf}
@@ -38,11 +38,11 @@ head-short : (letter number : ℕ) → number < 100000 → length (line_head let
 head-short letter number few = omega (arith, length-append (marked letter number) (codes " "), marked-short letter number few)
 
 -- the lines of columns
-column-name-short : (model : MixedModel) → IsModel model → (origin : Origin) → length (column_name model origin) ≤ 97
+column-name-short : (model : MixedModel) → IsModel res_modulus model → (origin : Origin) → length (column_name model origin) ≤ 97
 column-name-short model is (Unknown unknown) = omega (arith, name-short model.unknowns is.unknowns unknown)
 column-name-short model is (Split equation) = omega (arith, name-short model.equations is.equations equation, length-append (codes "*") (name_at model.equations equation))
 
-columns-short : (model : MixedModel) → IsModel model → (number : ℕ) (origins : List Origin) → number + length origins ≤ 8193 → length (column_lines model number origins) ≤ length origins * 105
+columns-short : (model : MixedModel) → IsModel res_modulus model → (number : ℕ) (origins : List Origin) → number + length origins ≤ 8193 → length (column_lines model number origins) ≤ length origins * 105
 columns-short model is number [] few = omega arith
 columns-short model is number (origin ∷ origins) few =
     let head : List ℕ = line_head 99 number in
@@ -86,7 +86,7 @@ filled-small : (constant : Option ℕ) → ((c : ℕ) → constant ≡ Some c �
 filled-small None residue = omega arith
 filled-small (Some c) residue = residue c refl
 
-constants-small : (first : ℕ) (row : List Entry) → RisesFrom first row → (j : ℕ) → unwrap_or (constant_in row j) 0 < 65521
+constants-small : (first : ℕ) (row : List RowEntry) → RisesFrom res_modulus first row → (j : ℕ) → unwrap_or (constant_in row j) 0 < 65521
 constants-small first [] rises j = omega arith
 constants-small first (item ∷ row) rises j = go (constants-small (item.column + 1) row rises.2 j) (nat_eq item.column j)
   where
@@ -94,10 +94,10 @@ constants-small first (item ∷ row) rises j = go (constants-small (item.column 
     go rest true = filled-small item.constant (rises.1).residue
     go rest false = rest
 
-constant-small : (model : MixedModel) → IsModel model → (i j : ℕ) → i < length model.equations → constant_at model i j < 65521
+constant-small : (model : MixedModel) → IsModel res_modulus model → (i j : ℕ) → i < length model.equations → constant_at model i j < 65521
 constant-small model is i j within = constants-small 0 (get_or model.rows i []) (is.rows i [] (omega (arith, within, is.one_row_each))).0 j
 
-module _ (model : MixedModel) (is : IsModel model) (layers : Layers) (are : AreLayersOf model layers) (whole : AreWholeLayers layers) (k : ℕ) (few : k ≤ 8192)
+module _ (model : MixedModel) (is : IsModel res_modulus model) (layers : Layers) (are : AreLayersOf model layers) (whole : AreWholeLayers layers) (k : ℕ) (few : k ≤ 8192)
     (low_q : height layers.q ≤ k) (low_t : length layers.t.rows ≤ k) (low : layers.q.width ≤ k) where
   entry-small : (i j : ℕ) → i < height layers.q → j < layers.q.width → entry layers.q i j < 65521
   entry-small i j il jl = ⊎_elim

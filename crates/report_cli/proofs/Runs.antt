@@ -1,6 +1,7 @@
 -- A whole input has one answer.
 use Rattle.std.proofs.Common.{◌≡◌, ℕ, ◌+◌, ◌≤◌, ◌<◌, List, ◌++◌, length, Option, Some, None, refl, sym, ◌∙◌, ap, subst, arith, inl, inr, append-nil}
 use Rattle.std.proofs.lemmas.List.{length-append}
+use Rattle.residue_field.specs.Modulus.{res_modulus}
 use Rattle.port_io.specs.Bytes.{Took, Ended}
 use Rattle.refusals.specs.declared.Refused.{Refused as Refusal}
 use Rattle.mixed_model.specs.Models.{MixedModel}
@@ -34,7 +35,7 @@ too_long : {A : Type 0} (input : List ℕ) → model_limit < length input → le
 too_long {A} input long short = absurd (omega (arith, long, short))
 
 -- the model of an input that has a report
-model_of : (words : List (List ℕ)) (input text : List ℕ) → IsReported words input text → (model : MixedModel) × GivesModel input model
+model_of : (words : List (List ℕ)) (input text : List ℕ) → IsReported words input text → (model : MixedModel) × GivesModel res_modulus input model
 model_of words input text reported = gives_model reported.command input reported.report reported.right
 
 -- words that ask for nothing
@@ -70,7 +71,7 @@ refused_only words input refused WriteFault text asks short is a = absurd a
 refused_only words input refused Memory text asks short is a = absurd a
 
 -- an input that gives a model
-done_only : (words : List (List ℕ)) (input : List ℕ) (model : MixedModel) (answer : Status) (text : List ℕ) → AsksForCommand words → length input ≤ model_limit → GivesModel input model →
+done_only : (words : List (List ℕ)) (input : List ℕ) (model : MixedModel) (answer : Status) (text : List ℕ) → AsksForCommand words → length input ≤ model_limit → GivesModel res_modulus input model →
     IsAnswer words input answer text → Done ≡ answer
 done_only words input model Usage text asks short gives a = absurd (a.0 asks.0 asks.1)
 done_only words input model Done text asks short gives a = refl

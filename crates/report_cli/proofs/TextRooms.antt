@@ -5,9 +5,9 @@ use Rattle.residue_theory.specs.Sets.{everything}
 use Rattle.residue_theory.specs.Sums.{size_on}
 use Rattle.residue_theory.proofs.CountLaws.{size-everything}
 use Rattle.residue_theory.proofs.SumLaws.{size_on-within}
-use Rattle.mixed_matrices.specs.LayeredMatrices.{Layered}
+use Rattle.mixed_matrices.specs.LayeredMatrices.{LayeredMatrix}
 use Rattle.mixed_matrices.specs.Layerings.{AreMembers, Origins, IsLayeredMatrixOf}
-use Rattle.mixed_matrices.specs.Models.{Mixed}
+use Rattle.mixed_matrices.specs.Models.{MixedMatrix}
 use Rattle.mixed_model.specs.Models.{MixedModel, IsModel, mixed_matrix_of}
 use Rattle.mixed_model.specs.Layers.{Layers, layered_matrix_of}
 use Rattle.mixed_layering.specs.Layers.{AreLayersOf, origins_of}
@@ -32,15 +32,15 @@ pub members-few : (A : ℕ → Bool) (n : ℕ) (at : ℕ → ℕ) (m : ℕ) → 
 members-few A n at m are = omega (arith, are.count, size-everything n, size_on-within everything A n (λ j jl h. refl))
 
 -- the layered matrix of a model that a text gives has no more rows and columns than the text has room for
-pub record IsNarrow (n : ℕ) (L : Layered) : Type 0 where
+pub record IsNarrow (n : ℕ) (L : LayeredMatrix) : Type 0 where
   pub q_rows : L.q_rows ≤ columns_within n
   pub t_rows : L.t_rows ≤ columns_within n
   pub columns : L.columns ≤ columns_within n
 
-narrow : (text : List ℕ) (model : MixedModel) (L : Layered) (O : Origins) → GivesModel text model → IsLayeredMatrixOf (mixed_matrix_of model) L O → IsNarrow (length text) L
+narrow : (text : List ℕ) (model : MixedModel) (L : LayeredMatrix) (O : Origins) → GivesModel res_modulus text model → IsLayeredMatrixOf (mixed_matrix_of model) L O → IsNarrow (length text) L
 narrow text model L O gives are =
-    let few = few-names text model gives in
-    let is : IsModel model = (gives.given).is_model in
+    let few = few-names res_modulus text model gives in
+    let is : IsModel res_modulus model = (gives.given).is_model in
     let e : length model.equations ≤ 4096 = (is.equations).few in
     let u : length model.unknowns ≤ 4096 = (is.unknowns).few in
     let q : L.q_rows ≤ length model.equations = members-few _ _ _ _ are.q_rows in
@@ -68,11 +68,11 @@ certificate-fits input c right short =
     let echo : length c.echo ≡ length input = ap length right.echo in
     omega (
       arith,
-      certificate-short res_modulus (mixed_matrix_of right.model) right.layered right.origins c (length input) (columns_within (length input))
+      certificate-short res_modulus (omega arith) (mixed_matrix_of right.model) right.layered right.origins c (length input) (columns_within (length input))
           (omega (arith, echo)) short (few_columns (length input)) right.form right.right within,
     )
 
-layers-fit : (input : List ℕ) (model : MixedModel) (layers : Layers) → GivesModel input model → AreLayersOf model layers → AreWholeLayers layers →
+layers-fit : (input : List ℕ) (model : MixedModel) (layers : Layers) → GivesModel res_modulus input model → AreLayersOf model layers → AreWholeLayers layers →
     length (report_text (Layering model layers)) ≤ text_room (length input)
 layers-fit input model layers gives are whole =
     let low = narrow input model (layered_matrix_of layers) (origins_of layers are.split) gives are.layered in

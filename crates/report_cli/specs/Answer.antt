@@ -1,5 +1,6 @@
 -- What a run answers.
 use Rattle.std.specs.Prelude.{◌≡◌, ℕ, ◌+◌, ◌≤◌, ◌<◌, ◌⊎◌, List, [], length, Option, Some}
+use Rattle.residue_field.specs.Modulus.{res_modulus}
 use Rattle.port_io.specs.Bytes.{Took, TookAtMost, TookExactly, Appended, Ended}
 use Rattle.mixed_model.specs.Models.{MixedModel}
 use Rattle.matrix_reader.specs.Models.{GivesModel}
@@ -90,7 +91,7 @@ OnlyAnswer words left status =
 abbrev pub IsComplete : List (List ℕ) → Option (List ℕ) → Status → Type 0
 IsComplete words left status =
     (input : List ℕ) (model : MixedModel) → left ≡ Some input → AsksForCommand words → length input ≤ model_limit →
-    GivesModel input model → (status ≡ Done) ⊎ (status ≡ Memory)
+    GivesModel res_modulus input model → (status ≡ Done) ⊎ (status ≡ Memory)
 
 -- a text was written whole, or the sink failed
 abbrev pub IsDelivered : Status → Type 0 → Type 0 → Type 0

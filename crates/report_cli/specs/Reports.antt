@@ -1,5 +1,6 @@
 -- What a command writes of an input.
 use Rattle.std.specs.Prelude.{ℕ, ◌≤◌, List, length}
+use Rattle.residue_field.specs.Modulus.{res_modulus}
 use Rattle.cert_text.specs.Texts.{certificate_text}
 use Rattle.matrix_reader.specs.Models.{GivesModel}
 use Rattle.mixed_layering.specs.Layers.{AreLayersOf}
@@ -23,7 +24,7 @@ IsReportFor Analyse input (Certificate certificate) = IsRightFor input certifica
 IsReportFor Analyse input (Layers model layers) = ⊥
 IsReportFor Layer input (Certificate certificate) = ⊥
 IsReportFor Layer input (Layers model layers) =
-    GivesModel input model × AreLayersOf model layers × AreWholeLayers layers
+    GivesModel res_modulus input model × AreLayersOf model layers × AreWholeLayers layers
 
 -- the echo is no longer than an input may be, and the layers are those of the model
 abbrev pub IsWritable : Report → Type 0

@@ -3,7 +3,7 @@ use Rattle.std.specs.Prelude.{◌≡◌, ℕ, ◌≤◌, List, length}
 use Rattle.refusals.specs.declared.Refused.{Refused}
 use Rattle.refusals.specs.declared.ReadModel.TheVariants.{Refused as Refusal}
 use Rattle.residue_field.specs.Modulus.{res_modulus}
-use Rattle.mixed_matrices.specs.LayeredMatrices.{Layered}
+use Rattle.mixed_matrices.specs.LayeredMatrices.{LayeredMatrix}
 use Rattle.mixed_matrices.specs.Layerings.{Origins, IsLayeredMatrixOf}
 use Rattle.mixed_model.specs.Models.{MixedModel, mixed_matrix_of}
 use Rattle.matrix_reader.specs.Models.{GivesModel, IsRefusal}
@@ -17,16 +17,16 @@ use Rattle.report_cli.specs.Limits.{model_limit}
 -- its lines, and has a right canonical form of the model's layered matrix
 pub record IsRightFor (input : List ℕ) (certificate : Certificate) : Type 0 where
   pub model : MixedModel
-  pub gives : GivesModel input model
+  pub gives : GivesModel res_modulus input model
   pub kind : certificate.kind ≡ Matrix
   pub echo : certificate.echo ≡ input
   pub short : length certificate.echo ≤ model_limit
-  pub form : IsCcf certificate.ccf
-  pub layered : Layered
+  pub form : IsCcf res_modulus certificate.ccf
+  pub layered : LayeredMatrix
   pub origins : Origins
   pub layers : IsLayeredMatrixOf (mixed_matrix_of model) layered origins
   pub right : IsRightCcf res_modulus (mixed_matrix_of model) layered origins certificate.ccf
 
 -- the refusal holds the first rule that the input breaks, and its line
 abbrev pub IsRefused : List ℕ → Refused → Type 0
-IsRefused input refused = IsRefusal input (Refusal refused)
+IsRefused input refused = IsRefusal res_modulus input (Refusal refused)

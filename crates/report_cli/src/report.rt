@@ -8,6 +8,7 @@ ghost use Rattle.mixed_layering.specs.Layers.{AreLayersOf};
 ghost use Rattle.port_io.specs.Bytes.{Appended};
 ghost use Rattle.port_io.specs.Causes.{HasCause};
 ghost use Rattle.report_cli.specs.LayerTexts.{layer_text};
+ghost use Rattle.residue_field.specs.Modulus.{res_modulus};
 ghost use Rattle.report_cli.specs.Limits.{model_limit};
 ghost use Rattle.report_cli.specs.Reports.{IsReportFor, IsWritable, report_text};
 ghost use Rattle.report_cli.specs.WholeLayers.{AreWholeLayers};
@@ -20,15 +21,17 @@ use mixed_layering::layer;
 use mixed_model::{Layered, Mixed};
 use port_io::{PieceBuffer, Sink, WriteFault};
 use refusals::ReadModel;
+use residue_field::Res;
+use row_transform::DenseTableau;
 use std::alloc::Global;
 
 /// What a command writes of an input.
 #[derive(Drop)]
 pub enum Report {
     /// The certificate of the input.
-    Certificate(Certificate),
+    Certificate(Certificate<Res>),
     /// The model that the input gives, and the layered matrix of the model.
-    Layers(Mixed, Layered),
+    Layers(Mixed<Res>, Layered<Res>),
 }
 
 impl Report {
@@ -36,7 +39,7 @@ impl Report {
     pub fn of(alloc: Global, command: Command, input: Vec<u8>) -> Result<Report, ReadModel>
         requires { length input.items ≤ model_limit }
         ensures right { IfOk result (IsReportFor command input.items) }
-        ensures refused { IfErr result (IsRefusal input.items) }
+        ensures refused { IfErr result (IsRefusal res_modulus input.items) }
     {
         let model = matrix_reader::read(alloc, &input)?;
         let Ok(layered) = layer(alloc, &model) else {
@@ -48,7 +51,7 @@ impl Report {
                 Ok(Report::Layers(model, layered))
             }
             Command::Analyse => {
-                let Ok(ccf) = build(alloc, &layered) else {
+                let Ok(ccf) = build::<Res, DenseTableau<Res>>(alloc, &layered) else {
                     return Err(ReadModel::NoMemory);
                 };
                 is_in_form(&ccf);
@@ -80,21 +83,21 @@ impl Report {
 }
 
 // Tells a proof what the type of a layered matrix keeps.
-fn is_whole(layered: &Layered)
+fn is_whole(layered: &Layered<Res>)
     ensures { AreWholeLayers layered.now }
 {
     let _ = (layered.split(), layered.q.rows(), layered.t.rows());
 }
 
 // Tells a proof what the type of a printed form keeps.
-fn is_in_form(ccf: &Ccf)
-    ensures { IsCcf ccf.now }
+fn is_in_form(ccf: &Ccf<Res>)
+    ensures { IsCcf res_modulus ccf.now }
 {
     let _ = ccf.rank();
 }
 
 // Appends the text of the layered matrix of a model to the sink.
-fn write_layers<K: Sink>(out: &mut K, model: &Mixed, layered: &Layered) -> Result<(), WriteFault>
+fn write_layers<K: Sink>(out: &mut K, model: &Mixed<Res>, layered: &Layered<Res>) -> Result<(), WriteFault>
     requires { AreLayersOf model.now layered.now }
     ensures whole { OnOk result (Appended (K.written out.old) (K.written out.new) (layer_text model.now layered.now)) }
     ensures part { IfErr result (IsCut (K.written out.old) (K.written out.new) (layer_text model.now layered.now)) }

@@ -1,3 +1,5 @@
+//! Tests of residues modulo 65,521.
+
 use super::*;
 
 #[test]

@@ -1,5 +1,6 @@
 -- Sets of numbers. A set is a test, and is looked at below a bound.
-use Rattle.std.specs.Prelude.{ℕ, zero, suc, ◌<◌, ◌≡◌, Bool, ◌&&◌, ◌||◌, not, eqb, true, false}
+use Rattle.std.specs.Prelude.{ℕ, zero, suc, ◌<◌, ◌≡◌, Bool, ◌&&◌, ◌||◌, not, eqb, true, false, List}
+use Rattle.std.specs.List.{list_any}
 
 -- every number
 abbrev pub everything : ℕ → Bool
@@ -41,3 +42,7 @@ IsApart n X Y = (j : ℕ) → j < n → X j ≡ true → Y j ≡ false
 abbrev pub some_below : ℕ → (ℕ → Bool) → Bool
 some_below zero X = false
 some_below (suc n) X = some_below n X || X n
+
+-- whether a list holds a number
+abbrev pub has : List ℕ → ℕ → Bool
+has list x = list_any (λ item. eqb item x) list

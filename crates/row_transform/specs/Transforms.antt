@@ -1,4 +1,5 @@
--- A matrix P to which row operations have led, with the matrix S of these operations and the transpose V of its inverse.
+-- A matrix P to which row operations have led, with the matrix S of these operations and the transpose V of its
+-- inverse.
 use Rattle.std.specs.Prelude.{ℕ, ◌%◌, ◌<◌, ◌≡◌, ◌≢◌}
 use Rattle.linear_algebra.specs.Products.{product, Agree, IsInverse}
 use Rattle.dense_q.specs.Tables.{Table, height}
@@ -16,7 +17,8 @@ pub record LeadsFrom (p m n : ℕ) (q P S V : ℕ → ℕ → ℕ) : Type 0 wher
   pub inverse : IsInverse p m S (λ i j. V j i)
 
 -- whatever matrix the first transform leads from, the second one leads from too: both have m rows and n columns
-abbrev pub LeadsFromTheSame : ℕ → ℕ → ℕ → (ℕ → ℕ → ℕ) → (ℕ → ℕ → ℕ) → (ℕ → ℕ → ℕ) → (ℕ → ℕ → ℕ) → (ℕ → ℕ → ℕ) → (ℕ → ℕ → ℕ) → Type 0
+abbrev pub LeadsFromTheSame : ℕ → ℕ → ℕ → (ℕ → ℕ → ℕ) → (ℕ → ℕ → ℕ) → (ℕ → ℕ → ℕ) → (ℕ → ℕ → ℕ) → (ℕ → ℕ → ℕ) →
+    (ℕ → ℕ → ℕ) → Type 0
 LeadsFromTheSame p m n P S V P' S' V' = (q : ℕ → ℕ → ℕ) → LeadsFrom p m n q P S V → LeadsFrom p m n q P' S' V'
 
 -- a and b have m rows and n columns: each row of a that is zero in column v stays in b, other than row r

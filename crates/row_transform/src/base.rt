@@ -1,3 +1,5 @@
+//! The base of a tableau.
+
 ghost use Rattle.std.specs.Prelude.{◌≡◌, ◌≢◌, ℕ, ◌<◌, ◌≤◌, Bool, true, false, length, replicate, slice_index_or, IfOk, IfSome, IfNone};
 ghost use Rattle.row_transform.specs.Bases.{BaseLists, is_base, row_of, unlinked, linked, IsBaseTaken, IsBaseDropped, IsRowCleared};
 
@@ -35,7 +37,8 @@ impl Base {
     // The base column of a row.
     pub(crate) fn column_of(&self, row: usize) -> Option<usize>
         requires { row < length self.now.columns }
-        ensures none { IfNone result ((y : ℕ) → y < length self.now.rows → is_base self.now y ≡ true → row_of self.now y ≢ row) }
+        ensures none { IfNone result ((y : ℕ) → y < length self.now.rows → is_base self.now y ≡ true →
+            row_of self.now y ≢ row) }
         ensures below { IfSome result (λ y. y < length self.now.rows) }
         ensures member { IfSome result (λ y. is_base self.now y ≡ true) }
         ensures at_row { IfSome result (λ y. row_of self.now y ≡ row) }
@@ -59,7 +62,8 @@ impl Base {
         requires row { row < length self.old.columns }
         requires column { column < length self.old.rows }
         requires free { is_base self.old column ≡ false }
-        ensures taken { IsBaseTaken (length self.old.rows) (is_base self.old) (row_of self.old) (is_base self.new) (row_of self.new) row column }
+        ensures taken { IsBaseTaken (length self.old.rows) (is_base self.old) (row_of self.old) (is_base self.new)
+            (row_of self.new) row column }
         ensures rows { length self.new.columns ≡ length self.old.columns }
         ensures columns { length self.new.rows ≡ length self.old.rows }
     {
@@ -70,7 +74,8 @@ impl Base {
     // Takes a column out of the base.
     pub(crate) fn leave(&mut self, column: usize)
         requires column { column < length self.old.rows }
-        ensures dropped { IsBaseDropped (length self.old.rows) (is_base self.old) (row_of self.old) (is_base self.new) (row_of self.new) column }
+        ensures dropped { IsBaseDropped (length self.old.rows) (is_base self.old) (row_of self.old) (is_base self.new)
+            (row_of self.new) column }
         ensures rows { length self.new.columns ≡ length self.old.columns }
         ensures columns { length self.new.rows ≡ length self.old.rows }
     {
@@ -82,7 +87,8 @@ impl Base {
     // Takes the base column of a row out of the base, if there is one.
     fn clear(&mut self, row: usize)
         requires row { row < length self.old.columns }
-        ensures cleared { IsRowCleared (length self.old.rows) (is_base self.old) (row_of self.old) (is_base self.new) (row_of self.new) row }
+        ensures cleared { IsRowCleared (length self.old.rows) (is_base self.old) (row_of self.old) (is_base self.new)
+            (row_of self.new) row }
         ensures bare { slice_index_or self.new.columns row None ≡ None }
         ensures rows { length self.new.columns ≡ length self.old.columns }
         ensures columns { length self.new.rows ≡ length self.old.rows }

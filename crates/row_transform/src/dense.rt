@@ -1,3 +1,5 @@
+//! A tableau of dense matrices.
+
 ghost use Rattle.std.specs.Prelude.{◌≡◌, ◌≢◌, ℕ, ◌<◌, ◌≤◌, ◌%◌, Bool, true, false, IfOk};
 ghost use Rattle.dense_q.specs.Tables.{height, entry};
 ghost use Rattle.row_transform.specs.Tableaus.{IsOpened};
@@ -13,8 +15,8 @@ use residue_field::Field;
 use std::alloc::Global;
 use std::marker::Model;
 
-/// A tableau that keeps all entries of its matrices, and for each column the rows where P may have one that is not zero:
-/// a search of the exchange graph asks for the entries of a column at each of its looks, and most are zero.
+/// A tableau that keeps all entries of its matrices, and for each column the rows where P may have one that is not
+/// zero: a search of the exchange graph asks for the entries of a column at each of its looks, and most are zero.
 #[derive(Drop)]
 pub struct DenseTableau<F: Field> {
     transform: Transform<F>,
@@ -30,24 +32,24 @@ impl<F: Field> Model for DenseTableau<F> {
 
     ghost view = { λ t. record { p = t.transform.p; s = t.transform.s; v = t.transform.v; base = t.base } };
 
-    ghost invariant = { λ t. IsDense F.modulus (record { p = t.transform.p; s = t.transform.s; v = t.transform.v; base = t.base }) × IsListed F.modulus t.transform.p t.entries.bits };
+    ghost invariant = { λ t. IsDense F.modulus (record {
+      p = t.transform.p;
+      s = t.transform.s;
+      v = t.transform.v;
+      base = t.base;
+    }) × IsListed F.modulus t.transform.p t.entries.bits };
 }
 
-impl<F: Field> DenseTableau<F> {
-    /// The tableau of a matrix before any row operation, with no base column.
-    pub fn open(alloc: Global, q: &Mat<F>) -> Result<DenseTableau<F>, NoMemory>
-        ensures { IfOk result (λ t. IsOpened F.modulus (height q.now) q.now.width (entry q.now) (state_of F.modulus t)) }
-    {
+impl<F: Field> Tableau<F> for DenseTableau<F> {
+    ghost state = { state_of F.modulus };
+
+    fn open(alloc: Global, q: &Mat<F>) -> Result<Self, NoMemory> {
         Ok(DenseTableau {
             transform: Transform::open(alloc, q)?,
             entries: Entries::of(alloc, q)?,
             base: Base::empty(alloc, q.rows(), q.cols())?,
         })
     }
-}
-
-impl<F: Field> Tableau<F> for DenseTableau<F> {
-    ghost state = { state_of F.modulus };
 
     fn rows(&self) -> usize {
         self.transform.rows()

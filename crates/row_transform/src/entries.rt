@@ -1,3 +1,5 @@
+//! Where the columns of a matrix have entries.
+
 ghost use Rattle.std.specs.Prelude.{◌≡◌, ◌≢◌, ℕ, ◌%◌, ◌<◌, ◌≤◌, true, IfOk, IfSome, IfNone};
 ghost use Rattle.number_ranges.specs.Ranges.{HasNone, IsLeast};
 ghost use Rattle.dense_q.specs.Tables.{height, entry};
@@ -35,8 +37,10 @@ impl Entries {
         requires row { row < height q.now }
         requires size { HasSizeOf q.now self.old.bits }
         ensures size { HasSizeOf q.now self.new.bits }
-        ensures listed { (j : ℕ) → j < q.now.width → entry q.now row j % F.modulus ≢ 0 → bit_in self.new.bits j row ≡ true }
-        ensures kept { (i j : ℕ) → i < height q.now → bit_in self.old.bits j i ≡ true → bit_in self.new.bits j i ≡ true }
+        ensures listed { (j : ℕ) → j < q.now.width → entry q.now row j % F.modulus ≢ 0 →
+            bit_in self.new.bits j row ≡ true }
+        ensures kept { (i j : ℕ) → i < height q.now → bit_in self.old.bits j i ≡ true →
+            bit_in self.new.bits j i ≡ true }
     {
         for col in 0..q.cols() {
             if !q.get(row, col).is_zero() {
@@ -55,14 +59,15 @@ impl Entries {
         self.bits.next(col, from, rows)
     }
 
-    // Lists what a pivot of P at a row and a column is about to make of the entries: it adds multiples of the row to all
-    // rows with an entry in the column, and takes these entries away.
+    // Lists what a pivot of P at a row and a column is about to make of the entries: it adds multiples of the row to
+    // all rows with an entry in the column, and takes these entries away.
     pub(crate) fn pivot<F: Field>(&mut self, p: &Mat<F>, row: usize, col: usize)
         requires row { row < height p.now }
         requires col { col < p.now.width }
         requires size { HasSizeOf p.now self.old.bits }
         ensures size { HasSizeOf p.now self.new.bits }
-        ensures filled { IsFilled (height p.now) p.now.width (entry p.now) (bit_in self.old.bits) (bit_in self.new.bits) row col }
+        ensures filled { IsFilled (height p.now) p.now.width (entry p.now) (bit_in self.old.bits)
+            (bit_in self.new.bits) row col }
     {
         for other in 0..p.cols() {
             if other != col && !p.get(row, other).is_zero() {

@@ -1,11 +1,16 @@
+//! Tableaus, and the matrices that they keep.
+
 ghost use Rattle.std.specs.Prelude.{◌≡◌, ◌≢◌, ℕ, ◌<◌, ◌≤◌, ◌%◌, Bool, true, false, IfSome, IfNone, IfOk, IsTrue, ◌↔◌};
+ghost use Rattle.limits.specs.Limits.{column_limit};
 ghost use Rattle.number_ranges.specs.Ranges.{HasNone, IsLeast};
-ghost use Rattle.row_transform.specs.Tableaus.{State, IsTableau, IsBare, IsBaseColumn, IsPivot, IsDrop, AreParts, has_entry};
+ghost use Rattle.dense_q.specs.Tables.{height, entry};
+ghost use Rattle.row_transform.specs.Tableaus.{State, IsOpened, IsTableau, IsBare, IsBaseColumn, IsPivot, IsDrop, AreParts, has_entry};
 ghost use Rattle.linear_algebra.specs.Columns.{IsCombination};
 
 use dense_q::Mat;
 use out_of_memory::NoMemory;
 use residue_field::Field;
+use std::alloc::Global;
 
 /// The matrices of a tableau: S and its inverse U, with a row and a column for each row of Q, and P = S * Q.
 #[derive(Drop)]
@@ -20,16 +25,20 @@ pub struct TableauParts<F: Field> {
 pub trait Tableau<F: Field>: Drop {
     ghost state: { Self → State };
 
+    /// The tableau of a matrix before any row operation, with no base column.
+    fn open(alloc: Global, q: &Mat<F>) -> Result<Self, NoMemory>
+        ensures { IfOk result (λ t. IsOpened F.modulus (height q.now) q.now.width (entry q.now) (state t)) };
+
     /// How many rows there are.
     fn rows(&self) -> usize
         ensures rows { result ≡ (state self.now).rows }
-        ensures few { result ≤ 8192 }
+        ensures few { result ≤ column_limit }
         ensures tableau { IsTableau F.modulus (state self.now) };
 
     /// How many columns there are.
     fn columns(&self) -> usize
         ensures columns { result ≡ (state self.now).columns }
-        ensures narrow { result ≤ 8192 }
+        ensures narrow { result ≤ column_limit }
         ensures tableau { IsTableau F.modulus (state self.now) };
 
     /// The entry of P.
@@ -41,8 +50,10 @@ pub trait Tableau<F: Field>: Drop {
     /// The first row from `from` on where P has an entry in the column that is not zero.
     fn next_entry(&self, col: usize, from: usize) -> Option<usize>
         requires { col < (state self.now).columns }
-        ensures none { IfNone result (HasNone (λ row. has_entry F.modulus (state self.now) row col) from (state self.now).rows) }
-        ensures least { IfSome result (IsLeast (λ row. has_entry F.modulus (state self.now) row col) from (state self.now).rows) };
+        ensures none { IfNone result (HasNone (λ row.
+            has_entry F.modulus (state self.now) row col) from (state self.now).rows) }
+        ensures least { IfSome result (IsLeast (λ row.
+            has_entry F.modulus (state self.now) row col) from (state self.now).rows) };
 
     /// The base column of a row.
     fn base_of(&self, row: usize) -> Option<usize>
@@ -60,7 +71,8 @@ pub trait Tableau<F: Field>: Drop {
     /// Whether a column of Q is a combination of the base columns.
     fn in_span(&self, col: usize) -> bool
         requires { col < (state self.now).columns }
-        ensures { IsTrue result ↔ IsCombination F.modulus (state self.now).q (state self.now).rows (state self.now).columns (state self.now).base col };
+        ensures { IsTrue result ↔ IsCombination F.modulus (state self.now).q (state self.now).rows
+            (state self.now).columns (state self.now).base col };
 
     /// Makes a column that is no base column the base column of a row where its entry is not zero.
     fn pivot(&mut self, row: usize, col: usize)

@@ -1,3 +1,5 @@
+//! Tableaus, step by step.
+
 ghost use Rattle.std.specs.Prelude.{◌≡◌, ◌<◌, false};
 ghost use Rattle.row_transform.specs.Tableaus.{IsPivot};
 

@@ -1,4 +1,7 @@
+//! Row operations on a matrix, with their own matrix and its inverse.
+
 ghost use Rattle.std.specs.Prelude.{◌≡◌, ◌≢◌, ℕ, ◌+◌, ◌*◌, ◌%◌, ◌<◌, ◌≤◌, IfOk};
+ghost use Rattle.limits.specs.Limits.{column_limit};
 ghost use Rattle.linear_algebra.specs.Products.{identity};
 ghost use Rattle.linear_algebra.specs.RowOperations.{IsRowAdded, IsRowScaled, IsPivoted};
 ghost use Rattle.dense_q.specs.Tables.{Table, height, entry, HasSameSize, IsTableOf};
@@ -9,7 +12,8 @@ use out_of_memory::NoMemory;
 use residue_field::Field;
 use std::alloc::Global;
 
-// A matrix P to which row operations have led, with the matrix S of these operations, and V, the transpose of its inverse.
+// A matrix P to which row operations have led, with the matrix S of these operations, and V, the transpose of its
+// inverse.
 #[derive(Drop)]
 pub(crate) struct Transform<F: Field> {
     pub(crate) p: Mat<F>,
@@ -23,7 +27,8 @@ impl<F: Field> Transform<F> {
         ensures p { IfOk result (λ t. t.p ≡ q.now) }
         ensures s { IfOk result (λ t. IsTableOf (height q.now) (height q.now) identity t.s) }
         ensures v { IfOk result (λ t. IsTableOf (height q.now) (height q.now) identity t.v) }
-        ensures leads { IfOk result (λ t. LeadsFrom F.modulus (height q.now) q.now.width (entry q.now) (entry t.p) (entry t.s) (entry t.v)) }
+        ensures leads { IfOk result (λ t.
+            LeadsFrom F.modulus (height q.now) q.now.width (entry q.now) (entry t.p) (entry t.s) (entry t.v)) }
     {
         let rows = q.rows();
         Ok(Transform {
@@ -35,14 +40,14 @@ impl<F: Field> Transform<F> {
 
     pub(crate) fn rows(&self) -> usize
         ensures rows { result ≡ height self.now.p }
-        ensures few { result ≤ 8192 }
+        ensures few { result ≤ column_limit }
     {
         self.p.rows()
     }
 
     pub(crate) fn columns(&self) -> usize
         ensures columns { result ≡ self.now.p.width }
-        ensures narrow { result ≤ 8192 }
+        ensures narrow { result ≤ column_limit }
     {
         self.p.cols()
     }
@@ -63,8 +68,10 @@ impl<F: Field> Transform<F> {
         requires inverse { (F.number factor * F.number inverse) % F.modulus ≡ 1 }
         ensures size { HasSameSize self.new.p self.old.p }
         ensures sized { IsSized self.new.p self.new.s self.new.v }
-        ensures scaled { IsRowScaled F.modulus (height self.old.p) self.old.p.width (entry self.old.p) (entry self.new.p) row (F.number factor) }
-        ensures leads { LeadsFromTheSame F.modulus (height self.old.p) self.old.p.width (entry self.old.p) (entry self.old.s) (entry self.old.v) (entry self.new.p) (entry self.new.s) (entry self.new.v) }
+        ensures scaled { IsRowScaled F.modulus (height self.old.p) self.old.p.width (entry self.old.p)
+            (entry self.new.p) row (F.number factor) }
+        ensures leads { LeadsFromTheSame F.modulus (height self.old.p) self.old.p.width (entry self.old.p)
+            (entry self.old.s) (entry self.old.v) (entry self.new.p) (entry self.new.s) (entry self.new.v) }
     {
         self.p.scale_row(row, factor);
         self.s.scale_row(row, factor);
@@ -80,8 +87,10 @@ impl<F: Field> Transform<F> {
         requires negative { (F.number factor + F.number negative) % F.modulus ≡ 0 }
         ensures size { HasSameSize self.new.p self.old.p }
         ensures sized { IsSized self.new.p self.new.s self.new.v }
-        ensures added { IsRowAdded F.modulus (height self.old.p) self.old.p.width (entry self.old.p) (entry self.new.p) target source (F.number factor) }
-        ensures leads { LeadsFromTheSame F.modulus (height self.old.p) self.old.p.width (entry self.old.p) (entry self.old.s) (entry self.old.v) (entry self.new.p) (entry self.new.s) (entry self.new.v) }
+        ensures added { IsRowAdded F.modulus (height self.old.p) self.old.p.width (entry self.old.p) (entry self.new.p)
+            target source (F.number factor) }
+        ensures leads { LeadsFromTheSame F.modulus (height self.old.p) self.old.p.width (entry self.old.p)
+            (entry self.old.s) (entry self.old.v) (entry self.new.p) (entry self.new.s) (entry self.new.v) }
     {
         self.p.add_row(target, source, factor);
         self.s.add_row(target, source, factor);
@@ -96,9 +105,12 @@ impl<F: Field> Transform<F> {
         requires entry { entry self.old.p row column ≢ 0 }
         ensures size { HasSameSize self.new.p self.old.p }
         ensures sized { IsSized self.new.p self.new.s self.new.v }
-        ensures pivoted { IsPivoted F.modulus (height self.old.p) self.old.p.width (entry self.old.p) (entry self.new.p) row column }
-        ensures rest { ZeroRowsStay F.modulus (height self.old.p) self.old.p.width (entry self.old.p) (entry self.new.p) row column }
-        ensures leads { LeadsFromTheSame F.modulus (height self.old.p) self.old.p.width (entry self.old.p) (entry self.old.s) (entry self.old.v) (entry self.new.p) (entry self.new.s) (entry self.new.v) }
+        ensures pivoted { IsPivoted F.modulus (height self.old.p) self.old.p.width (entry self.old.p)
+            (entry self.new.p) row column }
+        ensures rest { ZeroRowsStay F.modulus (height self.old.p) self.old.p.width (entry self.old.p)
+            (entry self.new.p) row column }
+        ensures leads { LeadsFromTheSame F.modulus (height self.old.p) self.old.p.width (entry self.old.p)
+            (entry self.old.s) (entry self.old.v) (entry self.new.p) (entry self.new.s) (entry self.new.v) }
     {
         let entry = self.entry(row, column);
         let inverse = entry.inv().unwrap();

@@ -10,4 +10,5 @@ pub record IsBare (arc : ℕ → ℕ → Bool) (starts ends : ℕ → Bool) (at 
   pub one_end : (i : ℕ) → i ≤ k → ends (at i) ≡ true → i ≡ k
 
 abbrev pub ShortestWalksAreBare : Type 0
-ShortestWalksAreBare = (arc : ℕ → ℕ → Bool) (n : ℕ) (starts ends : ℕ → Bool) (at : ℕ → ℕ) (k : ℕ) → IsShortest arc n starts ends at k → IsBare arc starts ends at k
+ShortestWalksAreBare = (arc : ℕ → ℕ → Bool) (n : ℕ) (starts ends : ℕ → Bool) (at : ℕ → ℕ) (k : ℕ) →
+    IsShortest arc n starts ends at k → IsBare arc starts ends at k

@@ -40,7 +40,8 @@ pub record IsSearch (arc : ℕ → ℕ → Bool) (n : ℕ) (s : State) (head fil
   pub rising : (i j : ℕ) → i ≤ j → j < filled → s.depth (s.order i) ≤ s.depth (s.order j)
   pub near : (j : ℕ) → j < filled → head < filled → s.depth (s.order j) ≤ s.depth (s.order head) + 1
   pub origin : (y : ℕ) → y < n → s.reached y ≡ true → (s.depth y ≡ 0) ⊎ IsLed arc n s y
-  pub looked : (j y : ℕ) → j < head → y < n → arc (s.order j) y ≡ true → (s.reached y ≡ true) × (s.depth y ≤ s.depth (s.order j) + 1)
+  pub looked : (j y : ℕ) → j < head → y < n → arc (s.order j) y ≡ true → (s.reached y ≡ true)
+      × (s.depth y ≤ s.depth (s.order j) + 1)
 
 -- the reached places of depth 0 are the starts
 pub record HasStarts (n : ℕ) (starts : ℕ → Bool) (s : State) : Type 0 where

@@ -4,7 +4,8 @@ use Rattle.std.proofs.Math.ListN.{get_or-append}
 use Rattle.std.proofs.Math.Seq.{get_or-append_seam}
 use Rattle.std.proofs.lemmas.List.{take_more}
 use Rattle.std.specs.List.Sorted.{IsStrictlyIncreasing}
-use Rattle.sparse_t.specs.Lists.{has, IsBelow}
+use Rattle.residue_theory.specs.Sets.{has}
+use Rattle.sparse_t.specs.Lists.{IsBelow}
 use Rattle.sparse_t.specs.Incidences.{Incidence, IsIncidence, AreRowsOf, height, row_at, with_last_row}
 use Rattle.sparse_t.proofs.ListLaws.{lt_cases, has-none, has-append, nat_eq-itself, nat_eq-apart, rising-append, below-append}
 

@@ -8,7 +8,8 @@ use Rattle.std.proofs.Math.ListN.{get_or-append}
 use Rattle.std.specs.List.Sorted.{IsStrictlyIncreasing, IsBinarySearchResult}
 use Rattle.std.specs.Ordering.{nat_cmp}
 use Rattle.std.specs.Result.{MatchResult}
-use Rattle.sparse_t.specs.Lists.{has, IsBelow}
+use Rattle.residue_theory.specs.Sets.{has}
+use Rattle.sparse_t.specs.Lists.{IsBelow}
 
 nat_eq-same : (a b : ℕ) → a ≡ b → nat_eq a b ≡ true
 nat_eq-same a b e = grind (arith, nat_tests)

@@ -1,7 +1,7 @@
 -- How the rows of each column are kept beside the rows.
 use Rattle.std.specs.Prelude.{ℕ, ◌+◌, ◌<◌, ◌≤◌, ◌≡◌, true, false, List, [], ◌∷◌, ◌++◌, length, map, slice_index, slice_index_or}
 use Rattle.smallvec.specs.SmallVec.{SmallVec}
-use Rattle.sparse_t.specs.Lists.{has}
+use Rattle.residue_theory.specs.Sets.{has}
 use Rattle.sparse_t.specs.Incidences.{IsIncidence, AreRowsOf}
 
 -- the numbers in one of some lists
@@ -14,7 +14,8 @@ capacity_at lists j = slice_index_or (map (λ list. list.capacity) lists) j 0
 
 -- the lists of the first k of the columns have room for one number more
 abbrev pub HasRoom : List (SmallVec ℕ) → List ℕ → ℕ → Type 0
-HasRoom lists columns k = (i : ℕ) → i < k → length (items_at lists (slice_index columns i)) + 1 ≤ capacity_at lists (slice_index columns i)
+HasRoom lists columns k = (i : ℕ) → i < k → length (items_at lists (slice_index columns i)) + 1
+    ≤ capacity_at lists (slice_index columns i)
 
 -- the lists hold what they held
 pub record HasSameItems (lists now : List (SmallVec ℕ)) : Type 0 where
@@ -30,4 +31,5 @@ pub record IsEntered (lists now : List (SmallVec ℕ)) (columns : List ℕ) (row
 -- each row is a row of an incidence, and beside each column stand the rows that touch it
 pub record IsStored (rows columns : List (SmallVec ℕ)) : Type 0 where
   pub incidence : IsIncidence (record { width = length columns; rows = map (λ row. row.items) rows })
-  pub rows_of : (j : ℕ) → j < length columns → AreRowsOf (record { width = length columns; rows = map (λ row. row.items) rows }) j (items_at columns j)
+  pub rows_of : (j : ℕ) → j < length columns → AreRowsOf
+      (record { width = length columns; rows = map (λ row. row.items) rows }) j (items_at columns j)

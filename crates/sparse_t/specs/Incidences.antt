@@ -1,7 +1,9 @@
 -- Which rows touch which columns.
 use Rattle.std.specs.Prelude.{ℕ, ◌<◌, ◌≤◌, ◌≡◌, Bool, List, [], ◌∷◌, ◌++◌, length, slice_index_or}
 use Rattle.std.specs.List.Sorted.{IsStrictlyIncreasing}
-use Rattle.sparse_t.specs.Lists.{has, IsBelow}
+use Rattle.limits.specs.Limits.{column_limit}
+use Rattle.residue_theory.specs.Sets.{has}
+use Rattle.sparse_t.specs.Lists.{IsBelow}
 
 -- how many columns there are, and for each row the columns that it touches
 pub record Incidence : Type 0 where
@@ -24,7 +26,7 @@ with_last_row p row = record p { rows = p.rows ++ row ∷ [] }
 pub record IsIncidence (p : Incidence) : Type 0 where
   pub rising : (i : ℕ) → i < height p → IsStrictlyIncreasing (row_at p i)
   pub below : (i : ℕ) → i < height p → IsBelow p.width (row_at p i)
-  pub few : height p ≤ 8192
+  pub few : height p ≤ column_limit
 
 -- the list holds, rising, exactly the rows that touch column j
 pub record AreRowsOf (p : Incidence) (j : ℕ) (list : List ℕ) : Type 0 where

@@ -1,3 +1,5 @@
+//! The rows of each column of a pattern.
+
 ghost use Rattle.std.specs.Prelude.{◌≡◌, ◌≤◌, ℕ, ◌<◌, length, vec_len, IfOk, OnOk, OnErr, []};
 ghost use Rattle.std.specs.List.Sorted.{IsStrictlyIncreasing};
 ghost use Rattle.sparse_t.specs.Lists.{IsBelow};
@@ -13,7 +15,7 @@ pub struct Columns {
 }
 
 impl Columns {
-    // So many columns that no row touches.
+    /// So many columns that no row touches.
     pub fn open(alloc: Global, cols: usize) -> Result<Self, AllocError>
         ensures width { IfOk result (λ c. vec_len c.lists ≡ cols) }
         ensures empty { IfOk result (λ c. (j : ℕ) → j < cols → items_at c.lists.items j ≡ []) }
@@ -25,7 +27,7 @@ impl Columns {
         Ok(Columns { lists })
     }
 
-    // Puts a row number at the end of the lists of its columns, all of them or none.
+    /// Puts a row number at the end of the lists of its columns, all of them or none.
     pub fn enter(&mut self, columns: &[u32], row: u32) -> Result<(), AllocError>
         requires rising { IsStrictlyIncreasing columns.now }
         requires below { IsBelow (vec_len self.old.lists) columns.now }

@@ -1,5 +1,8 @@
+//! Patterns: which places of some rows and columns hold a symbol.
+
 ghost use Rattle.std.specs.Prelude.{◌≡◌, ◌<◌, ℕ, IfOk, OnOk, OnErr, []};
 ghost use Rattle.std.specs.List.Sorted.{IsStrictlyIncreasing};
+ghost use Rattle.limits.specs.Limits.{column_limit};
 ghost use Rattle.sparse_t.specs.Lists.{IsBelow};
 ghost use Rattle.sparse_t.specs.Incidences.{Incidence, IsIncidence, AreRowsOf, height, row_at, touches, with_last_row};
 
@@ -43,7 +46,7 @@ impl Pattern {
     pub fn push_row(&mut self, columns: &[u32]) -> Result<(), NoMemory>
         requires rising { IsStrictlyIncreasing columns.now }
         requires below { IsBelow self.old.width columns.now }
-        requires room { height self.old < 8192 }
+        requires room { height self.old < column_limit }
         ensures ok { OnOk result (self.new ≡ with_last_row self.old columns.now) }
         ensures err { OnErr result (self.new ≡ self.old) }
     {

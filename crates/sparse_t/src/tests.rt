@@ -1,3 +1,5 @@
+//! Tests of patterns.
+
 ghost use Rattle.std.specs.Prelude.{◌≡◌, ◌<◌, IfOk};
 ghost use Rattle.sparse_t.specs.Incidences.{height};
 

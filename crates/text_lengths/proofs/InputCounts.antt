@@ -119,8 +119,8 @@ equations-few : (lines : List (List (List ℕ))) → length (equations_in lines)
 equations-few [] = omega arith
 equations-few (line ∷ lines) = omega (arith, length-append (equation_of line) (equations_in lines), equation-few line, equations-few lines)
 
-pub few-names : (text : List ℕ) (model : MixedModel) → GivesModel text model → (length model.equations ≤ length text) × (length model.unknowns ≤ length text)
-few-names text model gives =
+pub few-names : (p : ℕ) (text : List ℕ) (model : MixedModel) → GivesModel p text model → (length model.equations ≤ length text) × (length model.unknowns ≤ length text)
+few-names p text model gives =
     let lines : List (List (List ℕ)) = map words_of (lines_of text) in
     let equations : length model.equations ≡ length (equations_in lines) = ap length (gives.given).equations_are ∙ length-map (equations_in lines) (λ (equation : Equation). equation.name) in
     let unknowns : length model.unknowns ≡ length (unknowns_in lines) = ap length (gives.given).unknowns_are in

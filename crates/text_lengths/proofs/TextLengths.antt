@@ -7,14 +7,13 @@ use Rattle.residue_theory.specs.Sets.{everything}
 use Rattle.residue_theory.proofs.CountLaws.{size-everything, size-surjection}
 use Rattle.mixed_matrices.specs.CanonicalParts.{AreCanonical}
 use Rattle.mixed_matrices.specs.Forms.{Parts}
-use Rattle.mixed_matrices.specs.LayeredMatrices.{Layered}
+use Rattle.mixed_matrices.specs.LayeredMatrices.{LayeredMatrix}
 use Rattle.mixed_matrices.specs.Layerings.{Origins}
-use Rattle.mixed_matrices.specs.Models.{Mixed}
-use Rattle.cert_text.specs.Contents.{Contents}
+use Rattle.mixed_matrices.specs.Models.{MixedMatrix}
+use Rattle.cert_text.specs.Contents.{Contents, Certificate}
 use Rattle.cert_text.specs.Ranges.{IsCcf, IsPart, AreRising}
 use Rattle.cert_text.specs.Right.{IsRightCcf}
 use Rattle.cert_text.specs.Texts.{spaced, pairs_text, matrix_text, pattern_text, tail_line, blocks_text, kind_text, echo_text, shape_text, pair_text, matrices_text, parts_text, contents_text, certificate_text}
-use Rattle.cert_text.specs.declared.certificate.Certificate.{Certificate}
 use Rattle.cert_text.specs.declared.kind.Kind.{Kind}
 use Rattle.cert_text.specs.declared.kind.Kind.TheVariants.{Matrix, Netlist, Flowsheet}
 use Rattle.text_lengths.specs.Rooms.{IsShapeWithin, contents_room, certificate_room}
@@ -22,7 +21,7 @@ use Rattle.text_lengths.proofs.Lengths.{marked-short}
 use Rattle.text_lengths.proofs.LineLengths.{pairs-within, matrix-short, pattern-short, tail-short, blocks-short}
 
 -- canonical parts have no more blocks than columns
-blocks-few : (p : ℕ) (L : Layered) (G : Parts) → AreCanonical p L G → G.blocks ≤ L.columns
+blocks-few : (p : ℕ) (L : LayeredMatrix) (G : Parts) → AreCanonical p L G → G.blocks ≤ L.columns
 blocks-few p L G are = omega (
   arith,
   size-everything G.blocks,
@@ -38,7 +37,7 @@ expand k a b = mul-add k a (b * k) ∙ ap (λ x. x + k * (b * k)) (mul_comm k a)
 pub at_most : (m k a b : ℕ) → m ≤ k → m * (a + b * k) ≤ a * k + b * (k * k)
 at_most m k a b less = subst (λ n. m * (a + b * k) ≤ n) (expand k a b) (mul-le-mul_right (a + b * k) less)
 
-module _ (k : ℕ) (few : k ≤ 8192) (c : Contents) (is : IsCcf c) (low : IsShapeWithin k c.shape) where
+module _ (p : ℕ) (short : p ≤ 100000) (k : ℕ) (few : k ≤ 8192) (c : Contents) (is : IsCcf p c) (low : IsShapeWithin k c.shape) where
   shape-short : length (shape_text c.shape) ≤ 36
   shape-short =
       let e = marked-short 32 c.shape.equations (omega (arith, (is.shape).equations)) in
@@ -93,9 +92,9 @@ module _ (k : ℕ) (few : k ≤ 8192) (c : Contents) (is : IsCcf c) (low : IsSha
   matrices-short =
       let q_few : c.shape.q_rows ≤ 4096 = (is.shape).q_rows in
       let t_few : c.shape.t_rows ≤ 4096 = (is.shape).t_rows in
-      let s = matrix-short k few 83 1 c.shape.q_rows c.s low.q_rows (omega (arith, (is.s).count, q_few)) (is.s).entries in
-      let u = matrix-short k few 85 1 c.shape.q_rows c.u low.q_rows (omega (arith, (is.u).count, q_few)) (is.u).entries in
-      let p = matrix-short k few 80 1 c.shape.columns c.p low.columns (omega (arith, (is.p).count, q_few)) (is.p).entries in
+      let s = matrix-short k few p short 83 1 c.shape.q_rows c.s low.q_rows (omega (arith, (is.s).count, q_few)) (is.s).entries in
+      let u = matrix-short k few p short 85 1 c.shape.q_rows c.u low.q_rows (omega (arith, (is.u).count, q_few)) (is.u).entries in
+      let product = matrix-short k few p short 80 1 c.shape.columns c.p low.columns (omega (arith, (is.p).count, q_few)) (is.p).entries in
       let t = pattern-short k few 84 1 c.shape.columns c.t low.columns (omega (arith, (is.t).count, t_few)) (is.t).columns in
       let sk = at_most (length c.s) k 9 12 (omega (arith, (is.s).count, low.q_rows)) in
       let uk = at_most (length c.u) k 9 12 (omega (arith, (is.u).count, low.q_rows)) in
@@ -108,7 +107,7 @@ module _ (k : ℕ) (few : k ≤ 8192) (c : Contents) (is : IsCcf c) (low : IsSha
         arith,
         s,
         u,
-        p,
+        product,
         t,
         sk,
         uk,
@@ -173,16 +172,16 @@ echo-short kind echo few =
       length-append five (codes "\n"),
     )
 
-pub certificate-short : (p : ℕ) (M : Mixed) (L : Layered) (O : Origins) (c : Certificate) (n k : ℕ) →
-    length c.echo ≤ n → n ≤ 8388608 → k ≤ 8192 → IsCcf c.ccf → IsRightCcf p M L O c.ccf → IsShapeWithin k c.ccf.shape →
+pub certificate-short : (p : ℕ) → p ≤ 100000 → (M : MixedMatrix) (L : LayeredMatrix) (O : Origins) (c : Certificate) (n k : ℕ) →
+    length c.echo ≤ n → n ≤ 8388608 → k ≤ 8192 → IsCcf p c.ccf → IsRightCcf p M L O c.ccf → IsShapeWithin k c.ccf.shape →
     length (certificate_text c) ≤ certificate_room n k
-certificate-short p M L O c n k within limit few is right low =
+certificate-short p short M L O c n k within limit few is right low =
     let columns : L.columns ≤ k = omega (arith, low.columns, (right.shape).columns) in
     let blocks = blocks-few p L _ (right.canonical_listing).parts in
     omega (
       arith,
       within,
       echo-short c.kind c.echo (omega (arith, within, limit)),
-      contents-short k few c.ccf is low (omega (arith, blocks, columns)),
+      contents-short p short k few c.ccf is low (omega (arith, blocks, columns)),
       length-append (echo_text c.kind c.echo) (contents_text c.ccf),
     )

@@ -6,5 +6,5 @@ use Rattle.matrix_reader.specs.Models.{GivesModel}
 -- a model that a text gives has no more equations than the text has bytes, and no more unknowns
 abbrev pub TextsHaveFewNames : Type 0
 TextsHaveFewNames =
-    (text : List ℕ) (model : MixedModel) → GivesModel text model →
+    (p : ℕ) (text : List ℕ) (model : MixedModel) → GivesModel p text model →
     (length model.equations ≤ length text) × (length model.unknowns ≤ length text)

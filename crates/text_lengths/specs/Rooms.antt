@@ -1,12 +1,13 @@
 -- How many bytes a certificate's text has at most.
 use Rattle.std.specs.Prelude.{ℕ, ◌+◌, ◌*◌, ◌≤◌, length}
-use Rattle.mixed_matrices.specs.LayeredMatrices.{Layered}
+use Rattle.limits.specs.Limits.{column_limit, input_limit}
+use Rattle.mixed_matrices.specs.LayeredMatrices.{LayeredMatrix}
 use Rattle.mixed_matrices.specs.Layerings.{Origins}
-use Rattle.mixed_matrices.specs.Models.{Mixed}
+use Rattle.mixed_matrices.specs.Models.{MixedMatrix}
+use Rattle.cert_text.specs.Contents.{Certificate}
 use Rattle.cert_text.specs.Ranges.{IsCcf}
 use Rattle.cert_text.specs.Right.{IsRightCcf}
 use Rattle.cert_text.specs.Texts.{certificate_text}
-use Rattle.cert_text.specs.declared.certificate.Certificate.{Certificate}
 use Rattle.cert_text.specs.declared.shape.Shape.{Shape}
 
 -- no number of a shape is greater than k
@@ -24,8 +25,10 @@ contents_room k = 78 + 117 * k + 68 * (k * k)
 abbrev pub certificate_room : ℕ → ℕ → ℕ
 certificate_room n k = n + 51 + contents_room k
 
+-- The modulus is such that the numbers below it have at most five digits.
 abbrev pub CertificateTextsAreShort : Type 0
 CertificateTextsAreShort =
-    (p : ℕ) (M : Mixed) (L : Layered) (O : Origins) (c : Certificate) (n k : ℕ) →
-    length c.echo ≤ n → n ≤ 8388608 → k ≤ 8192 → IsCcf c.ccf → IsRightCcf p M L O c.ccf → IsShapeWithin k c.ccf.shape →
+    (p : ℕ) → p ≤ 100000 → (M : MixedMatrix) (L : LayeredMatrix) (O : Origins) (c : Certificate) (n k : ℕ) →
+    length c.echo ≤ n → n ≤ input_limit → k ≤ column_limit → IsCcf p c.ccf → IsRightCcf p M L O c.ccf →
+    IsShapeWithin k c.ccf.shape →
     length (certificate_text c) ≤ certificate_room n k

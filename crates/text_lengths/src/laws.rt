@@ -1,9 +1,10 @@
 //! Bounds of a certificate's text, and of the names of a text that is read.
+
 ghost use Rattle.text_lengths.specs.Counts.{TextsHaveFewNames};
 ghost use Rattle.text_lengths.specs.Rooms.{CertificateTextsAreShort};
 
-/// The text of a right certificate whose rows and columns number at most k, and whose input has at most n bytes, has
-/// at most `certificate_room n k` bytes.
+/// The text of a right certificate over a field of modulus at most 100,000, whose rows and columns number at most k,
+/// and whose input has at most n bytes, has at most `certificate_room n k` bytes.
 pub fn certificate_texts_are_short()
     ensures { CertificateTextsAreShort }
 {}

@@ -1,27 +1,26 @@
 use Rattle.std.proofs.Common.{false, ap, ◌∙◌, subst}
 use Rattle.std.proofs.lemmas.Option.{get_or_from_slice_get}
-use Rattle.residue_field.specs.Modulus.{res_modulus}
 use Rattle.closed_sets.specs.Closed.{NoEndReached}
 use Rattle.closed_sets.specs.Rules.{KeepsRules}
 use Rattle.exchange_graph.specs.Marks.{members_of}
 use Rattle.mixed_matrices.specs.Arcs.{is_end, is_free, leads_to}
-use Rattle.row_transform.specs.Dense.{Dense, state_of}
 use Rattle.independent_matching.specs.Sides.{layers_of, tableau_of}
 use Rattle.minimiser_lattice.specs.Parts.{IsLattice}
 use Rattle.minimiser_lattice.specs.Views.{parts_in}
 use Rattle.ccf_builder.proofs.decomposition.decompose.Goals as goal
 
 pub returns : goal.returns
-returns c =
-    let S = state_of res_modulus c.args.engine.now.tableau in
+returns g c =
+    let p = g.F.Field.modulus in
+    let S = g.T.Tableau.state c.args.engine.now.tableau in
     let M = c.args.engine.now.matching in
     let free = is_free (tableau_of S M) in
-    let end = is_end res_modulus (layers_of S M) (tableau_of S M) in
-    let arc = leads_to res_modulus (layers_of S M) (tableau_of S M) in
+    let end = is_end p (layers_of S M) (tableau_of S M) in
+    let arc = leads_to p (layers_of S M) (tableau_of S M) in
     let starts = members_of c.deref.result.now in
     let ends = members_of c.deref-2.result.now in
     let v = parts_in c.fill.new.self in
-    let places = c.in_ok-lattice.ensures ∙ c.columns.ensures.columns ∙ ap (λ (d : Dense). (state_of res_modulus d).columns) c.tableau.ensures in
+    let places = c.in_ok-lattice.ensures ∙ c.columns.ensures.columns ∙ ap (λ d. (g.T.Tableau.state d).columns) c.tableau.ensures in
     record {
       starts = starts;
       ends = ends;

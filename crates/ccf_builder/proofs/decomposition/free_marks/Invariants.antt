@@ -1,9 +1,7 @@
-use Rattle.residue_field.specs.Modulus.{res_modulus}
 use Rattle.mixed_matrices.specs.Arcs.{is_free}
-use Rattle.row_transform.specs.Dense.{state_of}
 use Rattle.independent_matching.specs.Sides.{tableau_of}
 use Rattle.ccf_builder.specs.Tabulations.{Tabulates}
 use Rattle.ccf_builder.proofs.decomposition.free_marks.Given as goal
 
 abbrev pub invariant-loop-column : goal.invariant-loop-column
-invariant-loop-column l = Tabulates (is_free (tableau_of (state_of res_modulus l.engine.tableau) l.engine.matching)) l.column l.marks.items
+invariant-loop-column g l = Tabulates (is_free (tableau_of (g.T.Tableau.state l.engine.tableau) l.engine.matching)) l.column l.marks.items

@@ -1,6 +1,8 @@
 use Rattle.dense_q.specs.Tables.{entry}
+use Rattle.cert_text.specs.Contents.{numbered}
 use Rattle.ccf_builder.specs.Matrices.{PrintsRow}
 use Rattle.ccf_builder.proofs.matrices.entries_of.Given as goal
 
 abbrev pub invariant-loop-column : goal.invariant-loop-column
-invariant-loop-column l = PrintsRow l.column (entry l.matrix l.row) l.entries.items
+invariant-loop-column g l =
+    PrintsRow g.F.Field.modulus l.column (entry l.matrix l.row) (numbered g.F.Field.number l.entries.items)

@@ -1,6 +1,6 @@
 use Rattle.std.proofs.Common.{◌+◌, List, ◌++◌, ◌∷◌, [], ℕ, subst, sym, ap}
 use Rattle.sparse_t.specs.Incidences.{touches}
-use Rattle.sparse_t.specs.Lists.{has}
+use Rattle.residue_theory.specs.Sets.{has}
 use Rattle.ccf_builder.specs.Matrices.{PrintsPattern}
 use Rattle.ccf_builder.proofs.PrintedRows.{pattern-push}
 use Rattle.ccf_builder.proofs.matrices.symbols_of.Goals as goal

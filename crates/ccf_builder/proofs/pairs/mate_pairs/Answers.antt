@@ -1,15 +1,13 @@
 use Rattle.std.proofs.Common.{◌≡◌, ◌+◌, List, ℕ, subst, sym, ap, ◌∙◌}
-use Rattle.residue_field.specs.Modulus.{res_modulus}
-use Rattle.row_transform.specs.Dense.{state_of}
 use Rattle.ccf_builder.specs.Pairs.{ListsPairs, IsMate}
 use Rattle.ccf_builder.proofs.PairLists.{lists-none, lists-some}
 use Rattle.ccf_builder.proofs.pairs.mate_pairs.Goals as goal
 use Rattle.ccf_builder.proofs.pairs.mate_pairs.Goals.{in-Some+in_ok-push, in_default}
 
 pub loop-row-preserved : goal.loop-row-preserved
-loop-row-preserved c =
+loop-row-preserved g c =
     let M = c.args.engine.now.matching in
-    let n = (state_of res_modulus c.args.engine.now.tableau).columns in
+    let n = (g.T.Tableau.state c.args.engine.now.tableau).columns in
     let row = c.loop-row.row in
     let P : List (ℕ × ℕ) → Type 0 = λ pairs. ListsPairs (IsMate M n) (row + 1) pairs in
     let one : (r y z : ℕ) → IsMate M n r y → IsMate M n r z → y ≡ z =

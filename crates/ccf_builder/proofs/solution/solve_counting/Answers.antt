@@ -1,8 +1,6 @@
 use Rattle.std.proofs.Common.{subst, ◌∙◌}
-use Rattle.residue_field.specs.Modulus.{res_modulus}
 use Rattle.dense_q.specs.Tables.{entry}
 use Rattle.exchange_graph.specs.Results.{reached_of}
-use Rattle.row_transform.specs.Dense.{state_of}
 use Rattle.independent_matching.specs.Engines.{IsSolved}
 use Rattle.independent_matching.specs.Sides.{tableau_of}
 use Rattle.ccf_builder.proofs.solution.solve_counting.Goals as goal
@@ -16,5 +14,5 @@ returns g c =
     record {
       layers_are = same;
       entries = entries;
-      solved = subst (λ M. IsSolved res_modulus M (tableau_of (state_of res_modulus now.tableau) now.matching) (reached_of now.found)) same (c.run.ensures.solved q entries);
+      solved = subst (λ M. IsSolved g.F.Field.modulus M (tableau_of (g.T.Tableau.state now.tableau) now.matching) (reached_of now.found)) same (c.run.ensures.solved q entries);
     }

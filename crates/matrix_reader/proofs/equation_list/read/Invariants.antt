@@ -4,7 +4,7 @@ use Rattle.matrix_reader.proofs.ListSteps.{ListProgress}
 use Rattle.matrix_reader.proofs.equation_list.read.Given as goal
 
 abbrev pub invariant-loop-line : goal.invariant-loop-line
-invariant-loop-line l = record {
+invariant-loop-line g l = record {
   lengths : vec_len l.reader.last_lines ≡ length l.reader.model.unknowns;
-  progress : ListProgress (lines_of l.bytes) (length l.yielded) l.line-iterator l.reader.model l.reader.last_lines.items;
+  progress : ListProgress g.F.Field.modulus (lines_of l.bytes) (length l.yielded) l.line-iterator l.reader.model l.reader.last_lines.items;
 }

@@ -5,7 +5,7 @@ use Rattle.mixed_layering.specs.Places.{constant_place}
 use Rattle.mixed_layering.proofs.constants.constants_of.Given as goal
 
 abbrev pub invariant-loop-row : goal.invariant-loop-row
-invariant-loop-row l = record {
+invariant-loop-row g l = record {
   height_is : height l.q ≡ length l.equations;
   width_is : l.q.width ≡ length l.model.unknowns + length l.split;
   filled : (i j : ℕ) → i < l.row → j < l.q.width → entry l.q i j ≡ constant_place (mixed_matrix_of l.model) l.split (slice_index l.equations i) j;

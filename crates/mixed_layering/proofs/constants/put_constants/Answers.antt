@@ -1,6 +1,8 @@
 use Rattle.std.proofs.Common.{◌∷◌, ◌++◌, [], length, ap, sym, ◌∙◌, arith}
 use Rattle.std.proofs.lemmas.List.{append_assoc}
-use Rattle.std.specs.Option.{unwrap_or}
+use Rattle.std.specs.Option.{option_map, unwrap_or}
+use Rattle.dense_q.specs.Tables.{with_entry}
+use Rattle.mixed_model.specs.Entries.{RowEntry}
 use Rattle.mixed_model.specs.Models.{row_of}
 use Rattle.mixed_model.specs.Rows.{constant_in}
 use Rattle.mixed_layering.proofs.EntryLaws.{row_long, fills-next, fills-same}
@@ -8,27 +10,30 @@ use Rattle.mixed_layering.proofs.RowSteps.{entry_within, constant-next, constant
 use Rattle.mixed_layering.proofs.constants.put_constants.Goals as goal
 
 pub loop-entry-preserved-in-Some-constant : goal.loop-entry-preserved-in-Some-constant
-loop-entry-preserved-in-Some-constant c =
+loop-entry-preserved-in-Some-constant g c =
     let is = c.entries-entry-items.ensures.model in
     let seen = c.loop-entry.yielded in
     let entry = c.in-Some.entry in
+    let constant = g.F.Field.number c.in-Some-constant.constant in
     let rest = c.next.new.self in
     let row_is = is.rows c.args.equation [] (omega (arith, is.one_row_each, c.requires.equation)) in
     let split = c.loop-entry.invariant.split ∙ ap (λ left. seen ++ left) c.in-Some.ensures.steps in
-    let within = entry_within (row_of c.args.model.now c.args.equation) seen entry rest row_is.0 split (length c.args.model.now.unknowns) row_is.1 in
+    let within = entry_within g.F.Field.modulus (row_of c.args.model.now c.args.equation) seen entry rest row_is.0 split (length c.args.model.now.unknowns) row_is.1 in
     record {
       can_next = tt;
       is_finite = tt;
       split = split ∙ sym (append_assoc seen (entry ∷ []) rest);
-      filled = fills-next c.args.q.now c.loop-entry.q c.set.new.self c.args.row entry.column c.in-Some-constant.constant
+      filled = fills-next c.args.q.now c.loop-entry.q c.set.new.self c.args.row entry.column constant
           (λ j. unwrap_or (constant_in seen j) 0) (λ j. unwrap_or (constant_in (seen ++ entry ∷ []) j) 0) c.requires.row
           (omega (arith, within, c.requires.width, row_long c.args.q.now c.args.row c.requires.row c.requires.matrix))
-          c.loop-entry.invariant.filled c.set.ensures
-          (λ b low. constant-next (row_of c.args.model.now c.args.equation) seen entry rest row_is.0 split c.in-Some-constant.constant c.in-Some-constant.is b);
+          c.loop-entry.invariant.filled
+          (c.set.ensures ∙ ap (λ (x : RowEntry). with_entry c.loop-entry.q c.args.row x.column constant) c.entry.view_is)
+          (λ b low. constant-next g.F.Field.modulus (row_of c.args.model.now c.args.equation) seen entry rest row_is.0 split constant
+          (sym (ap (λ (x : RowEntry). x.constant) c.entry.view_is) ∙ ap (option_map g.F.Field.number) c.in-Some-constant.is) b);
     }
 
 pub loop-entry-preserved : goal.loop-entry-preserved
-loop-entry-preserved c =
+loop-entry-preserved g c =
     let is = c.entries-entry-items.ensures.model in
     let seen = c.loop-entry.yielded in
     let entry = c.in-Some.entry in
@@ -41,5 +46,6 @@ loop-entry-preserved c =
       split = split ∙ sym (append_assoc seen (entry ∷ []) rest);
       filled = fills-same c.args.q.now c.loop-entry.q c.args.row (λ j. unwrap_or (constant_in seen j) 0) (λ j. unwrap_or (constant_in (seen ++ entry ∷ []) j) 0)
           c.loop-entry.invariant.filled
-          (λ b low. constant-none (row_of c.args.model.now c.args.equation) seen entry rest row_is.0 split c.in_default.is b);
+          (λ b low. constant-none g.F.Field.modulus (row_of c.args.model.now c.args.equation) seen entry rest row_is.0 split
+          (sym (ap (λ (x : RowEntry). x.constant) c.entry.view_is) ∙ ap (option_map g.F.Field.number) c.in_default.is) b);
     }

@@ -8,35 +8,35 @@ use Rattle.mixed_layering.proofs.LayerLaws.{layers-seen}
 use Rattle.mixed_layering.proofs.layering.layer.Goals as goal
 
 pub constants_of-requires-clause-equations : goal.constants_of-requires-clause-equations
-constants_of-requires-clause-equations c =
+constants_of-requires-clause-equations g c =
     let rows = c.in_ok-rows.rows in
     let model = c.args.model.now in
     subst (AreEquations (length model.equations)) (sym c.deref.ensures.value)
     (q_equations-are (mixed_matrix_of model) (length model.equations) rows.constants.items rows.symbols.items rows.split.items c.in_ok-rows.ensures.rows c.in_ok-rows.ensures.model.equations.few)
 
 pub constants_of-requires-clause-split : goal.constants_of-requires-clause-split
-constants_of-requires-clause-split c =
+constants_of-requires-clause-split g c =
     let rows = c.in_ok-rows.rows in
     let model = c.args.model.now in
     subst (AreSplit (length model.equations)) (sym c.deref-2.ensures.value)
     (split-are (mixed_matrix_of model) (length model.equations) rows.constants.items rows.symbols.items rows.split.items c.in_ok-rows.ensures.rows c.in_ok-rows.ensures.model.equations.few)
 
 pub symbols_of-requires-clause-equations : goal.symbols_of-requires-clause-equations
-symbols_of-requires-clause-equations c =
+symbols_of-requires-clause-equations g c =
     let rows = c.in_ok-rows.rows in
     let model = c.args.model.now in
     subst (AreEquations (length model.equations)) (sym c.deref-3.ensures.value)
     (t_equations-are (mixed_matrix_of model) (length model.equations) rows.constants.items rows.symbols.items rows.split.items c.in_ok-rows.ensures.rows c.in_ok-rows.ensures.model.equations.few)
 
 pub symbols_of-requires-clause-split : goal.symbols_of-requires-clause-split
-symbols_of-requires-clause-split c =
+symbols_of-requires-clause-split g c =
     let rows = c.in_ok-rows.rows in
     let model = c.args.model.now in
     subst (AreSplit (length model.equations)) (sym c.deref-4.ensures.value)
     (split-are (mixed_matrix_of model) (length model.equations) rows.constants.items rows.symbols.items rows.split.items c.in_ok-rows.ensures.rows c.in_ok-rows.ensures.model.equations.few)
 
 pub returns : goal.returns
-returns c =
+returns g c =
     let rows = c.in_ok-rows.rows in
     let model = c.args.model.now in
     subst (AreLayersOf model) (sym c.new.ensures)

@@ -4,7 +4,7 @@ use Rattle.mixed_layering.proofs.symbols.touched_by.Goals.{in-Some+in_ok-push, i
 use Rattle.mixed_layering.proofs.symbols.touched_by.Goals as goal
 
 pub returns : goal.returns
-returns c =
+returns g c =
     let M = mixed_matrix_of c.args.model.now in
     let split = c.args.split.now in
     let list = c.in_ok-columns.columns.items in

@@ -1,17 +1,19 @@
-use Rattle.std.proofs.Common.{◌≡◌, None, sym, subst, arith}
+use Rattle.std.proofs.Common.{◌≡◌, None, get_or, sym, subst, arith}
 use Rattle.mixed_model.specs.Rows.{PutsConstant, StandsAt, FitsBetween, entry_in}
 use Rattle.mixed_model.proofs.RowLaws.{place_takes_constant, gap_takes_constant}
 use Rattle.mixed_model.proofs.rows.put_constant.Goals as goal
 
 pub returns-else-is_some-clause-put : goal.returns-else-is_some-clause-put
-returns-else-is_some-clause-put c =
-    place_takes_constant c.args.row.now.items c.in-Ok.place c.args.column c.args.constant c.index.result.now c.requires.row
-    (omega arith) (omega arith) (subst (λ row. StandsAt row c.in-Ok.place c.args.column) c.deref.ensures.value c.in-Ok.ensures) c.index.ensures
+returns-else-is_some-clause-put g c =
+    let row = c.args.row.now.items in
+    place_takes_constant g.F.Field.modulus row c.in-Ok.place c.args.column (g.F.Field.number c.args.constant) _ c.requires.row
+    (omega arith) (omega arith) (subst (λ row. StandsAt row c.in-Ok.place c.args.column) c.deref.ensures.value c.in-Ok.ensures)
+    (subst (λ entry. entry ≡ get_or row c.in-Ok.place entry) (sym c.entry.view_is) c.index-entry.ensures)
 
 pub returns-in_ok-insert-in-Err-clause-put : goal.returns-in_ok-insert-in-Err-clause-put
-returns-in_ok-insert-in-Err-clause-put c =
+returns-in_ok-insert-in-Err-clause-put g c =
     let row = c.args.row.now.items in
-    subst (PutsConstant c.args.column c.args.constant row) (sym c.in_ok-insert-in-Err.ensures.items)
-    (gap_takes_constant row c.in-Err.place c.args.column c.args.constant c.requires.row (omega arith) (omega arith)
+    subst (PutsConstant g.F.Field.modulus c.args.column (g.F.Field.number c.args.constant) row) (sym c.in_ok-insert-in-Err.ensures.items)
+    (gap_takes_constant g.F.Field.modulus row c.in-Err.place c.args.column (g.F.Field.number c.args.constant) c.requires.row (omega arith) (omega arith)
     (subst (λ row. entry_in row c.args.column ≡ None) c.deref.ensures.value c.in-Err.ensures.0)
     (subst (λ row. FitsBetween row c.in-Err.place c.args.column) c.deref.ensures.value c.in-Err.ensures.1))

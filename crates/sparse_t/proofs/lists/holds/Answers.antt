@@ -1,5 +1,5 @@
 use Rattle.std.proofs.Common.{ℕ, ◌∙◌, ap, sym, arith}
-use Rattle.sparse_t.specs.Lists.{has}
+use Rattle.residue_theory.specs.Sets.{has}
 use Rattle.sparse_t.proofs.ListLaws.{has-searched, has-none}
 use Rattle.sparse_t.proofs.lists.holds.Goals as goal
 

@@ -2,7 +2,7 @@ use Rattle.std.proofs.Common.{◌≡◌, ◌+◌, ◌-◌, ◌<◌, ◌≤◌, �
 use Rattle.residue_theory.specs.Sums.{size_on}
 use Rattle.exchange_graph.specs.Results.{step_of}
 use Rattle.mixed_augmentation.specs.Moves.{route}
-use Rattle.mixed_matrices.specs.LayeredMatrices.{Layered}
+use Rattle.mixed_matrices.specs.LayeredMatrices.{LayeredMatrix}
 use Rattle.independent_matching.specs.Sides.{AreRowsMoving, CanTake, IsMoving, Takes, in_q, is_matched, layers_of, number, row_had, size_of, tableau_of}
 use Rattle.independent_matching.proofs.LeftLaws.{move-rows, moved-rows, moving-rows}
 use Rattle.independent_matching.proofs.MoveLaws.{can-take, moving-apart, moving-below, moving-count, moving-next, moving-none, moving-pivots, moving-positive, moving-size, moving-start, moving-tableau, moving-taken}
@@ -63,8 +63,8 @@ loop-next-preserved g c =
           (moving-next p S₀ M₀ c.requires.pair at c.args.last c.args.end c.requires.route S M c.loop-next.next c.in-Some.row c.loop-next.left I.moving c.in-Some.is i here S' M' c.take.ensures.layers c.take.ensures.pattern
           (subst (λ x. Takes p (layers_of S M) (tableau_of S M) (tableau_of S' M') c.in-Some.row x) x_is c.take.ensures.takes));
       rows = subst (λ next. AreRowsMoving M₀ c.args.end M' next) (sym c.row_of-next.ensures)
-          (move-rows p S S' M M' (omega (arith, I.moving.width, c.requires.width, ap (λ (L : Layered). L.columns) I.moving.layers)) (ap (λ m. m.width) c.take.ensures.pattern) c.step-x.result
-          (subst (λ n. c.step-x.result < n) (sym (ap (λ (L : Layered). L.columns) I.moving.layers)) (subst (λ x. x < S₀.columns) (sym x_is) (moving-below p S₀ M₀ c.requires.pair at c.args.last c.args.end c.requires.route S M c.loop-next.next c.in-Some.row c.loop-next.left I.moving c.in-Some.is i here)))
+          (move-rows p S S' M M' (omega (arith, I.moving.width, c.requires.width, ap (λ (L : LayeredMatrix). L.columns) I.moving.layers)) (ap (λ m. m.width) c.take.ensures.pattern) c.step-x.result
+          (subst (λ n. c.step-x.result < n) (sym (ap (λ (L : LayeredMatrix). L.columns) I.moving.layers)) (subst (λ x. x < S₀.columns) (sym x_is) (moving-below p S₀ M₀ c.requires.pair at c.args.last c.args.end c.requires.route S M c.loop-next.next c.in-Some.row c.loop-next.left I.moving c.in-Some.is i here)))
           (subst (λ x. S.base x ≡ true → is_matched M x ≡ true → ⊥) (sym x_is) (moving-apart p S₀ M₀ c.requires.pair at c.args.last c.args.end c.requires.route S M c.loop-next.next c.in-Some.row c.loop-next.left I.moving c.in-Some.is i here))
           c.in-Some.row c.take.ensures.takes M₀ c.args.end (subst (λ next. AreRowsMoving M₀ c.args.end M next) c.in-Some.is I.rows));
       marks = c.take.ensures.marks;

@@ -4,7 +4,7 @@ use Rattle.exchange_graph.specs.Marks.{members_of}
 use Rattle.exchange_graph.specs.Results.{Found, reached_of, step_of}
 use Rattle.mixed_augmentation.specs.Moves.{IsFreeRow}
 use Rattle.mixed_matrices.specs.Arcs.{leads_to}
-use Rattle.mixed_matrices.specs.LayeredMatrices.{Layered}
+use Rattle.mixed_matrices.specs.LayeredMatrices.{LayeredMatrix}
 use Rattle.mixed_matrices.specs.Tableaus.{HasTableau}
 use Rattle.search_laws.specs.Searches.{IsShortest}
 use Rattle.independent_matching.specs.Marks.{IsTMark}
@@ -52,14 +52,14 @@ close-requires-clause-by_t g c =
     let M' = c.augment.new.self.pair.mates in
     λ x l apart. subst (λ b. IsTMark M' b.items x) (sym c.augment.ensures.by_t)
     (left-mark S S' M M' c.augment.ensures.layers c.unwrap-end.result c.augment.ensures.rows c.args.self.now.marks.by_t.items x
-    (c.requires.ready.marks.by_t x (subst (λ n. x < n) (ap (λ (L : Layered). L.columns) c.augment.ensures.layers) l)) apart)
+    (c.requires.ready.marks.by_t x (subst (λ n. x < n) (ap (λ (L : LayeredMatrix). L.columns) c.augment.ensures.layers) l)) apart)
 
 pub close-requires-clause-free : goal.close-requires-clause-free
 close-requires-clause-free g c =
     let S = g.T.Tableau.state c.args.self.now.pair.tableau in
     let S' = g.T.Tableau.state c.augment.new.self.pair.tableau in
     λ x l ne.
-    let here : x < S.columns = subst (λ n. x < n) (ap (λ (L : Layered). L.columns) c.augment.ensures.layers) l in
+    let here : x < S.columns = subst (λ n. x < n) (ap (λ (L : LayeredMatrix). L.columns) c.augment.ensures.layers) l in
     ap (λ f. members_of f.items x) c.augment.ensures.free ∙ (c.requires.ready.marks.free x here
     ∙ sym (c.augment.ensures.taken.others x here (λ e. ne (e ∙ sym (c.step.ensures ∙ ap (λ s. step_of s 0) c.augment.ensures.search)))))
 
@@ -116,7 +116,7 @@ returns-in-Some-clause-ready g c =
     let M' = c.augment.new.self.pair.mates in
     let ready = c.requires.ready in
     let E = c.augment.ensures in
-    let same : S'.columns ≡ S.columns = ap (λ (L : Layered). L.columns) E.layers in
+    let same : S'.columns ≡ S.columns = ap (λ (L : LayeredMatrix). L.columns) E.layers in
     let grown : size_of S' M' ≡ c.augment.new.self.size + 1 = omega (arith, E.size, E.count, ready.count) in
     record {
       pair = subst (λ L. HasTableau p L (tableau_of S' M')) (sym E.layers) E.pair;

@@ -1,5 +1,5 @@
 use Rattle.std.proofs.Common.{◌≡◌, ◌<◌, ℕ, ap, subst, sym}
-use Rattle.mixed_matrices.specs.LayeredMatrices.{Layered}
+use Rattle.mixed_matrices.specs.LayeredMatrices.{LayeredMatrix}
 use Rattle.independent_matching.specs.Marks.{IsKept}
 use Rattle.independent_matching.specs.Sides.{in_q, number}
 use Rattle.independent_matching.proofs.MarkLaws.{mate-mark}
@@ -11,7 +11,7 @@ returns-in-T-clause-marks g c =
     let M = c.args.self.now.pair.mates in
     let S' = g.T.Tableau.state c.take.new.self.tableau in
     let M' = c.take.new.self.mates in
-    let same : S'.columns ≡ S.columns = ap (λ (L : Layered). L.columns) c.take.ensures.layers in
+    let same : S'.columns ≡ S.columns = ap (λ (L : LayeredMatrix). L.columns) c.take.ensures.layers in
     let here : (x : ℕ) → x < S'.columns → x < S.columns = λ x l. subst (λ n. x < n) same l in
     let marks = c.args.self.now.marks in
     record {

@@ -2,7 +2,7 @@ use Rattle.std.proofs.Common.{◌∙◌, inl, inr, refl, sym, subst, ap, arith, 
 use Rattle.residue_theory.proofs.SetLaws.{not_true}
 use Rattle.residue_theory.proofs.SumLaws.{nat_cases}
 use Rattle.sparse_t.specs.Incidences.{row_at, touches}
-use Rattle.sparse_t.specs.Lists.{has}
+use Rattle.residue_theory.specs.Sets.{has}
 use Rattle.sparse_t.proofs.ListLaws.{has-member}
 use Rattle.independent_matching.specs.Marks.{IsEndMark, IsQMark, IsKept, IsTMark}
 use Rattle.independent_matching.proofs.MarkLaws.{other-end, other-t}

@@ -13,22 +13,22 @@ use Rattle.matrix_reader.proofs.RuleSteps.{answers_fault}
 use Rattle.matrix_reader.proofs.reader.Reader.read_item.Goals as goal
 
 pub returns-in_err-j-clause-read : goal.returns-in_err-j-clause-read
-returns-in_err-j-clause-read c = λ before name items numbered at_line.
+returns-in_err-j-clause-read g c = λ before name items numbered at_line.
     let failed = err_from_is_err_and c.from_residual.result c.from_residual.ensures.1 in
     let old = c.args.self.now.model in
     let lines = c.args.self.now.last_lines.items in
     let item = c.args.item.now in
-    let rule = item_rule before (so_far name items) item in
-    let left = IsWithin before (so_far name (items ++ item ∷ [])) c.args.line c.mark.new.self.model c.mark.new.self.last_lines.items in
+    let rule = item_rule g.F.Field.modulus before (so_far name items) item in
+    let left = IsWithin g.F.Field.modulus before (so_far name (items ++ item ∷ [])) c.args.line c.mark.new.self.model c.mark.new.self.last_lines.items in
     rw failed.1
     (subst (λ fault. AnswersRule rule left (Err fault)) (sym failed.2)
     (answers_fault rule left (UnmarkedFrom (position (bytes_eq c.in-Ok.term.unknown.now) old.unknowns) c.args.line old lines) c.in_err-j.field-0.0
-    (λ why told. unmarked_item before name items c.args.line old lines item at_line why c.in-Ok.ensures.0
+    (λ why told. unmarked_item g.F.Field.modulus before name items c.args.line old lines item at_line why c.in-Ok.ensures.0
     (subst (λ unknown. UnmarkedFrom (position (bytes_eq unknown) old.unknowns) c.args.line old lines why) c.in-Ok.ensures.2 told))
     c.in_err-j.ensures.unmarked))
 
 pub returns-in_err-put_value-clause-read : goal.returns-in_err-put_value-clause-read
-returns-in_err-put_value-clause-read c = λ before name items numbered at_line.
+returns-in_err-put_value-clause-read g c = λ before name items numbered at_line.
     let failed = err_from_is_err_and c.from_residual-in_err-put_value.result c.from_residual-in_err-put_value.ensures.1 in
     let old = c.args.self.now.model in
     let lines = c.args.self.now.last_lines.items in
@@ -36,18 +36,18 @@ returns-in_err-put_value-clause-read c = λ before name items numbered at_line.
     let new = c.mark.new.self.model in
     let new_lines = c.mark.new.self.last_lines.items in
     let j = c.in_ok-j.j in
-    let rule = item_rule before (so_far name items) item in
-    let left = IsWithin before (so_far name (items ++ item ∷ [])) c.args.line c.put_value.new.model c.mark.new.self.last_lines.items in
+    let rule = item_rule g.F.Field.modulus before (so_far name items) item in
+    let left = IsWithin g.F.Field.modulus before (so_far name (items ++ item ∷ [])) c.args.line c.put_value.new.model c.mark.new.self.last_lines.items in
     let error = c.in_err-put_value.field-0.0 in
-    let marks = Marks-from_mark before name items c.args.line old lines item at_line new new_lines j
-    (subst (λ unknown. MarkedFrom (position (bytes_eq unknown) old.unknowns) c.args.line old new lines new_lines unknown j) c.in-Ok.ensures.2 c.in_ok-j.ensures.marked) in
+    let marks = Marks-from_mark g.F.Field.modulus before name items c.args.line old lines item at_line new new_lines j
+    (subst (λ unknown. MarkedFrom g.F.Field.modulus (position (bytes_eq unknown) old.unknowns) c.args.line old new lines new_lines unknown j) c.in-Ok.ensures.2 c.in_ok-j.ensures.marked) in
     rw failed.1
     (subst (λ fault. AnswersRule rule left (Err fault)) (sym failed.2)
-    (put_refused before name items c.args.line old lines item at_line new new_lines j marks error rule left
+    (put_refused g.F.Field.modulus before name items c.args.line old lines item at_line new new_lines j marks error rule left
     (subst (λ i. constant_of new i j ≡ None → symbol_of new i j ≡ false → error ≡ NoMemory) numbered c.in_err-put_value.ensures.refused)))
 
 pub returns-clause-read : goal.returns-clause-read
-returns-clause-read c = λ before name items numbered at_line.
+returns-clause-read g c = λ before name items numbered at_line.
     let old = c.args.self.now.model in
     let lines = c.args.self.now.last_lines.items in
     let item = c.args.item.now in
@@ -56,11 +56,11 @@ returns-clause-read c = λ before name items numbered at_line.
     let last = c.put_value.new.model in
     let j = c.in_ok-j.j in
     let value = c.in-Ok.term.value in
-    let marks = Marks-from_mark before name items c.args.line old lines item at_line new new_lines j
-    (subst (λ unknown. MarkedFrom (position (bytes_eq unknown) old.unknowns) c.args.line old new lines new_lines unknown j) c.in-Ok.ensures.2 c.in_ok-j.ensures.marked) in (
-      marked_item before name items c.args.line old lines item at_line new new_lines j marks c.in-Ok.ensures.0,
-      grown_by_value before name items c.args.line old lines item at_line new new_lines j marks last
-          (subst (λ symbol. PutsValue new last (length (equations_in before)) j (item_constant item) symbol) c.in-Ok.ensures.4
-          (subst (λ constant. PutsValue new last (length (equations_in before)) j constant value.symbol) c.in-Ok.ensures.3
-          (subst (λ i. PutsValue new last i j value.constant value.symbol) numbered c.in_ok-put_value.ensures.put))),
+    let marks = Marks-from_mark g.F.Field.modulus before name items c.args.line old lines item at_line new new_lines j
+    (subst (λ unknown. MarkedFrom g.F.Field.modulus (position (bytes_eq unknown) old.unknowns) c.args.line old new lines new_lines unknown j) c.in-Ok.ensures.2 c.in_ok-j.ensures.marked) in (
+      marked_item g.F.Field.modulus before name items c.args.line old lines item at_line new new_lines j marks c.in-Ok.ensures.0,
+      grown_by_value g.F.Field.modulus before name items c.args.line old lines item at_line new new_lines j marks last
+          (subst (λ symbol. PutsValue g.F.Field.modulus new last (length (equations_in before)) j (item_constant g.F.Field.modulus item) symbol) c.in-Ok.ensures.4
+          (subst (λ constant. PutsValue g.F.Field.modulus new last (length (equations_in before)) j constant value.symbol) c.in-Ok.ensures.3
+          (subst (λ i. PutsValue g.F.Field.modulus new last i j (g.F.Field.number value.constant) value.symbol) numbered c.in_ok-put_value.ensures.put))),
     )

@@ -2,4 +2,4 @@ use Rattle.mixed_model.proofs.ModelLaws.{rows_are_rows}
 use Rattle.mixed_model.proofs.mixed.Mixed.put_symbol.Goals as goal
 
 pub put_symbol_in_row-requires-clause-rows : goal.put_symbol_in_row-requires-clause-rows
-put_symbol_in_row-requires-clause-rows c = rows_are_rows c.self.inside.rows.items _ c.self.invariant.rows
+put_symbol_in_row-requires-clause-rows g c = rows_are_rows g.F.Field.modulus c.self.inside.rows.items _ c.self.invariant.rows

@@ -1,4 +1,5 @@
 use Rattle.std.proofs.Common.{subst, sym}
+use Rattle.residue_field.specs.Modulus.{res_modulus}
 use Rattle.matrix_reader.specs.Models.{GivesModel}
 use Rattle.report_cli.specs.Reports.{IsReportFor}
 use Rattle.report_cli.specs.declared.report.Report.TheVariants.{Certificate}
@@ -8,7 +9,7 @@ use Rattle.report_cli.proofs.report.Report.of.Goals as goal
 
 pub returns-in-Ok-build-clause-right : goal.returns-in-Ok-build-clause-right
 returns-in-Ok-build-clause-right c =
-    let of_input = subst (λ text. GivesModel text c.in_ok-model.model) c.deref.ensures.value c.in_ok-model.ensures.model in
+    let of_input = subst (λ text. GivesModel res_modulus text c.in_ok-model.model) c.deref.ensures.value c.in_ok-model.ensures.model in
     let promise = c.in-Ok-build.ensures in
     let right = right_for c.args.input.items c.in_ok-model.model c.in-Ok.layered c.from_vec.result c.in-Ok-build.ccf of_input c.in-Ok.ensures c.from_vec.ensures c.requires c.is_in_form.ensures
     promise.shape promise.transform promise.pair_and_rank promise.block_triangular_form promise.ideals promise.canonical_listing in

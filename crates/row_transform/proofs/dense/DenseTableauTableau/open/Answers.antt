@@ -1,7 +1,7 @@
 use Rattle.row_transform.proofs.DenseLaws.{opened-dense, opened-state}
 use Rattle.row_transform.specs.Entries.{IsListed}
 use Rattle.std.proofs.Common.{sym, subst}
-use Rattle.row_transform.proofs.dense.DenseTableau.open.Goals as goal
+use Rattle.row_transform.proofs.dense.DenseTableauTableau.open.Goals as goal
 
 pub invariant_of-result : goal.invariant_of-result
 invariant_of-result g c = (
