@@ -1,9 +1,6 @@
-pub mod DigitSteps
 pub mod PairLists
 pub mod Pieces
 pub mod PrintedRules
-pub mod Puts
 pub mod RightFacts
 pub mod RuleFacts
 pub mod Smallness
-pub mod Written

@@ -1,12 +1,9 @@
 -- What is left of a text once a piece of it is put.
-use Rattle.std.proofs.Common.{◌≡◌, ℕ, ◌+◌, ◌<◌, List, ◌∷◌, ◌++◌, length, get_or, drop, drop-cons, add-one, ap, refl}
+use Rattle.std.proofs.Common.{◌≡◌, ℕ, ◌+◌, ◌<◌, List, ◌++◌, length, get_or, drop, ap}
+use Rattle.text_writer.proofs.Putting.{drop_next}
 use Rattle.cert_text.specs.Contents.{numbered, numbered_rows}
 use Rattle.cert_text.specs.Texts.{item, lettered, spaced, pairs_text, entries_text, numbers_text, letters_text, entries_line, columns_line, block_line, matrix_text, pattern_text, blocks_text}
 use Rattle.cert_text.specs.declared.part.CcfBlock.{CcfBlock}
-
--- the next element, and those behind it
-pub drop_next : {A : Type 0} (xs : List A) (i : ℕ) (d : A) → i < length xs → drop i xs ≡ get_or xs i d ∷ drop (i + 1) xs
-drop_next xs i d within = rw (add-one, drop-cons xs i d) refl
 
 pub pairs_left : (pairs : List (ℕ × ℕ)) (i : ℕ) (d : ℕ × ℕ) → i < length pairs →
     pairs_text (drop i pairs) ≡ item ((get_or pairs i d).0 + 1) ((get_or pairs i d).1 + 1) ++ pairs_text (drop (i + 1) pairs)

@@ -1,7 +1,6 @@
 pub mod Contents
 pub mod Ranges
 pub mod Texts
-pub mod Writing
 pub mod Readings
 pub mod Right
 pub mod Rules

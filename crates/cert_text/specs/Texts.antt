@@ -1,23 +1,12 @@
 -- The text of a certificate, by cases on its fields. Rows, columns and blocks are counted from 0 here, and from 1 in the text.
-use Rattle.std.specs.Prelude.{ℕ, ◌+◌, List, [], ◌∷◌, ◌++◌, length, codes, decimal}
+use Rattle.std.specs.Prelude.{ℕ, ◌+◌, List, [], ◌∷◌, ◌++◌, length, codes}
+pub use Rattle.text_writer.specs.Numbers.{marked, spaced, item}
 use Rattle.cert_text.specs.Contents.{Contents, Certificate}
 use Rattle.cert_text.specs.declared.kind.Kind.{Kind}
 use Rattle.cert_text.specs.declared.kind.Kind.TheVariants.{Matrix, Netlist, Flowsheet}
 use Rattle.cert_text.specs.declared.shape.Shape.{Shape}
 use Rattle.cert_text.specs.declared.part.CcfPart.{CcfPart}
 use Rattle.cert_text.specs.declared.part.CcfBlock.{CcfBlock}
-
--- a mark and a number
-abbrev pub marked : ℕ → ℕ → List ℕ
-marked mark number = mark ∷ decimal number
-
--- a number behind a space
-abbrev pub spaced : ℕ → List ℕ
-spaced number = marked 32 number
-
--- the item `key=value` behind a space
-abbrev pub item : ℕ → ℕ → List ℕ
-item key value = spaced key ++ marked 61 value
 
 -- a row behind its letter, behind a space
 abbrev pub lettered : ℕ → ℕ → List ℕ

@@ -5,17 +5,17 @@ ghost use Rattle.cert_text.specs.Contents.{Contents, contents_of, numbered_rows}
 ghost use Rattle.cert_text.specs.Ranges.{IsCcf, AreSmall, AreSmallPairs, HasSmallKeys, IsSmallPart, AreSmallBlocks};
 ghost use Rattle.std.specs.List.{All};
 ghost use Rattle.cert_text.specs.Texts.{contents_text, shape_text, pair_text, matrices_text, parts_text};
-ghost use Rattle.cert_text.specs.Writing.{IsPut};
+ghost use Rattle.text_writer.specs.Texts.{Puts};
 
 use crate::items::Items;
 use crate::lines::{put_blocks, put_matrix, put_pattern, put_tail};
 use crate::lists::put_pairs;
-use crate::numbers::{put_number, put_piece};
 use crate::part::{CcfBlock, CcfPart};
 use crate::shape::Shape;
-use port_io::{PieceBuffer, Sink, WriteFault};
+use port_io::Sink;
 use residue_field::Field;
 use std::marker::Model;
+use text_writer::TextWriter;
 
 /// A printed combinatorial canonical form of a layered matrix: what a certificate has besides the input. (Murota, chapter
 /// 4.) With Q rows of constants, T rows of symbols and N columns, all counted from 0:
@@ -175,109 +175,90 @@ impl<F: Field> Ccf<F> {
     }
 
     /// Puts the lines from the shape on.
-    pub(crate) fn put<K: Sink>(
-        &self,
-        buffer: &mut PieceBuffer,
-        out: &mut K,
-    ) -> Result<(), WriteFault>
-        ensures { IsPut K.written K.faults K.flushes K.takes out.old buffer.old out.new buffer.new
-            (contents_text self.now) result }
+    pub(crate) fn put<K: Sink>(&self, out: &mut TextWriter<'_, K>)
+        ensures { Puts K.Sink out.old out.new (contents_text self.now) }
     {
-        put_shape(buffer, out, self.shape)?;
-        put_pair(
-            buffer,
-            out,
-            self.rank,
-            self.base.as_slice(),
-            self.mates.as_slice(),
-        )?;
+        put_shape(out, self.shape);
+        put_pair(out, self.rank, self.base.as_slice(), self.mates.as_slice());
         put_matrices(
-            buffer,
             out,
             self.s.as_slice(),
             self.u.as_slice(),
             self.p.as_slice(),
             self.t.as_slice(),
-        )?;
-        put_parts(buffer, out, &self.first, self.blocks.as_slice(), &self.last)?;
-        put_piece(buffer, out, b"end\n")
+        );
+        put_parts(out, &self.first, self.blocks.as_slice(), &self.last);
+        out.piece(b"end\n");
     }
 }
 
 // Puts the line of the shape.
-fn put_shape<K: Sink>(buffer: &mut PieceBuffer, out: &mut K, shape: Shape) -> Result<(), WriteFault>
-    ensures { IsPut K.written K.faults K.flushes K.takes out.old buffer.old out.new buffer.new
-        (shape_text shape) result }
+fn put_shape<K: Sink>(out: &mut TextWriter<'_, K>, shape: Shape)
+    ensures { Puts K.Sink out.old out.new (shape_text shape) }
 {
-    put_piece(buffer, out, b"shape")?;
-    put_number(buffer, out, b' ', shape.equations as u64)?;
-    put_number(buffer, out, b' ', shape.unknowns as u64)?;
-    put_number(buffer, out, b' ', shape.q_rows as u64)?;
-    put_number(buffer, out, b' ', shape.t_rows as u64)?;
-    put_number(buffer, out, b' ', shape.columns as u64)?;
-    put_piece(buffer, out, b"\n")
+    out.piece(b"shape");
+    out.number(b' ', shape.equations as u64);
+    out.number(b' ', shape.unknowns as u64);
+    out.number(b' ', shape.q_rows as u64);
+    out.number(b' ', shape.t_rows as u64);
+    out.number(b' ', shape.columns as u64);
+    out.piece(b"\n");
 }
 
 // Puts the lines of the rank, the base and the match.
 fn put_pair<K: Sink>(
-    buffer: &mut PieceBuffer,
-    out: &mut K,
+    out: &mut TextWriter<'_, K>,
     rank: usize,
     base: &[(usize, usize)],
     mates: &[(usize, usize)],
-) -> Result<(), WriteFault>
+)
     requires base { AreSmallPairs base.now }
     requires mates { AreSmallPairs mates.now }
-    ensures { IsPut K.written K.faults K.flushes K.takes out.old buffer.old out.new buffer.new
-        (pair_text rank base.now mates.now) result }
+    ensures { Puts K.Sink out.old out.new (pair_text rank base.now mates.now) }
 {
-    put_piece(buffer, out, b"rank")?;
-    put_number(buffer, out, b' ', rank as u64)?;
-    put_piece(buffer, out, b"\nbase")?;
-    put_pairs(buffer, out, base)?;
-    put_piece(buffer, out, b"\nmatch")?;
-    put_pairs(buffer, out, mates)?;
-    put_piece(buffer, out, b"\n")
+    out.piece(b"rank");
+    out.number(b' ', rank as u64);
+    out.piece(b"\nbase");
+    put_pairs(out, base);
+    out.piece(b"\nmatch");
+    put_pairs(out, mates);
+    out.piece(b"\n");
 }
 
 // Puts the lines of S, U, P and T.
 fn put_matrices<F: Field, K: Sink>(
-    buffer: &mut PieceBuffer,
-    out: &mut K,
+    out: &mut TextWriter<'_, K>,
     s: &[Items<(usize, F)>],
     u: &[Items<(usize, F)>],
     p: &[Items<(usize, F)>],
     t: &[Items<usize>],
-) -> Result<(), WriteFault>
+)
     requires s { All HasSmallKeys s.now }
     requires u { All HasSmallKeys u.now }
     requires p { All HasSmallKeys p.now }
     requires t { All AreSmall t.now }
-    ensures { IsPut K.written K.faults K.flushes K.takes out.old buffer.old out.new buffer.new
-        (matrices_text (numbered_rows F.number s.now) (numbered_rows F.number u.now) (numbered_rows F.number p.now) t.now)
-        result }
+    ensures { Puts K.Sink out.old out.new (matrices_text (numbered_rows F.number s.now) (numbered_rows F.number u.now)
+        (numbered_rows F.number p.now) t.now) }
 {
-    put_matrix(buffer, out, b"S", s)?;
-    put_matrix(buffer, out, b"U", u)?;
-    put_matrix(buffer, out, b"P", p)?;
-    put_pattern(buffer, out, b"T", t)
+    put_matrix(out, b"S", s);
+    put_matrix(out, b"U", u);
+    put_matrix(out, b"P", p);
+    put_pattern(out, b"T", t);
 }
 
 // Puts the lines of the parts.
 fn put_parts<K: Sink>(
-    buffer: &mut PieceBuffer,
-    out: &mut K,
+    out: &mut TextWriter<'_, K>,
     first: &CcfPart,
     blocks: &[CcfBlock],
     last: &CcfPart,
-) -> Result<(), WriteFault>
+)
     requires first { IsSmallPart first.now }
     requires blocks { AreSmallBlocks blocks.now }
     requires last { IsSmallPart last.now }
-    ensures { IsPut K.written K.faults K.flushes K.takes out.old buffer.old out.new buffer.new
-        (parts_text first.now blocks.now last.now) result }
+    ensures { Puts K.Sink out.old out.new (parts_text first.now blocks.now last.now) }
 {
-    put_tail(buffer, out, b"first", first)?;
-    put_blocks(buffer, out, blocks)?;
-    put_tail(buffer, out, b"last", last)
+    put_tail(out, b"first", first);
+    put_blocks(out, blocks);
+    put_tail(out, b"last", last);
 }

@@ -3,13 +3,11 @@
 
 mod ccf;
 mod certificate;
-mod digits;
 mod items;
 mod kind;
 pub mod laws;
 mod lines;
 mod lists;
-mod numbers;
 mod part;
 mod shape;
 
@@ -17,9 +15,5 @@ pub use ccf::Ccf;
 pub use certificate::{Certificate, write};
 pub use items::Items;
 pub use kind::Kind;
-pub use numbers::{put_item, put_number, put_piece};
 pub use part::{CcfBlock, CcfPart};
 pub use shape::Shape;
-
-#[cfg(test)]
-mod tests;

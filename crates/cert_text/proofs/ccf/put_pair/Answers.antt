@@ -1,25 +1,5 @@
-use Rattle.std.proofs.Common.{codes}
-use Rattle.cert_text.specs.Texts.{spaced, pairs_text}
-use Rattle.cert_text.proofs.Puts.{put_stop, put_failed, put_then}
+use Rattle.text_writer.proofs.Putting.{puts_then}
 use Rattle.cert_text.proofs.ccf.put_pair.Goals as goal
 
-pub returns-in_err-put_piece : goal.returns-in_err-put_piece
-returns-in_err-put_piece g c = put_failed c.from_residual.ensures.1 (put_stop (codes "\n") (put_stop (pairs_text c.args.mates.now) (put_stop (codes "\nmatch") (put_stop (pairs_text c.args.base.now) (put_stop (codes "\nbase") (put_stop (spaced c.args.rank) c.in_err-put_piece.ensures))))))
-
-pub returns-in_err-put_number : goal.returns-in_err-put_number
-returns-in_err-put_number g c = put_failed c.from_residual-in_err-put_number.ensures.1 (put_stop (codes "\n") (put_stop (pairs_text c.args.mates.now) (put_stop (codes "\nmatch") (put_stop (pairs_text c.args.base.now) (put_stop (codes "\nbase") (put_then c.in_ok-put_piece.ensures c.in_err-put_number.ensures))))))
-
-pub returns-in_err-put_piece-2 : goal.returns-in_err-put_piece-2
-returns-in_err-put_piece-2 g c = put_failed c.from_residual-in_err-put_piece-2.ensures.1 (put_stop (codes "\n") (put_stop (pairs_text c.args.mates.now) (put_stop (codes "\nmatch") (put_stop (pairs_text c.args.base.now) (put_then (put_then c.in_ok-put_piece.ensures c.in_ok-put_number.ensures) c.in_err-put_piece-2.ensures)))))
-
-pub returns-in_err-put_pairs : goal.returns-in_err-put_pairs
-returns-in_err-put_pairs g c = put_failed c.from_residual-in_err-put_pairs.ensures.1 (put_stop (codes "\n") (put_stop (pairs_text c.args.mates.now) (put_stop (codes "\nmatch") (put_then (put_then (put_then c.in_ok-put_piece.ensures c.in_ok-put_number.ensures) c.in_ok-put_piece-2.ensures) c.in_err-put_pairs.ensures))))
-
-pub returns-in_err-put_piece-3 : goal.returns-in_err-put_piece-3
-returns-in_err-put_piece-3 g c = put_failed c.from_residual-in_err-put_piece-3.ensures.1 (put_stop (codes "\n") (put_stop (pairs_text c.args.mates.now) (put_then (put_then (put_then (put_then c.in_ok-put_piece.ensures c.in_ok-put_number.ensures) c.in_ok-put_piece-2.ensures) c.in_ok-put_pairs.ensures) c.in_err-put_piece-3.ensures)))
-
-pub returns-in_err-put_pairs-2 : goal.returns-in_err-put_pairs-2
-returns-in_err-put_pairs-2 g c = put_failed c.from_residual-in_err-put_pairs-2.ensures.1 (put_stop (codes "\n") (put_then (put_then (put_then (put_then (put_then c.in_ok-put_piece.ensures c.in_ok-put_number.ensures) c.in_ok-put_piece-2.ensures) c.in_ok-put_pairs.ensures) c.in_ok-put_piece-3.ensures) c.in_err-put_pairs-2.ensures))
-
 pub returns : goal.returns
-returns g c = put_then (put_then (put_then (put_then (put_then (put_then c.in_ok-put_piece.ensures c.in_ok-put_number.ensures) c.in_ok-put_piece-2.ensures) c.in_ok-put_pairs.ensures) c.in_ok-put_piece-3.ensures) c.in_ok-put_pairs-2.ensures) c.put_piece-4.ensures
+returns g c = puts_then (puts_then (puts_then (puts_then (puts_then (puts_then c.piece.ensures c.number.ensures) c.piece-2.ensures) c.put_pairs.ensures) c.piece-3.ensures) c.put_pairs-2.ensures) c.piece-4.ensures

@@ -1,16 +1,13 @@
-use Rattle.std.proofs.Common.{drop, ap, sym, subst, ◌+◌, arith}
-use Rattle.cert_text.specs.Texts.{blocks_text, block_line}
+use Rattle.std.proofs.Common.{ap, sym, subst, ◌+◌, arith}
+use Rattle.cert_text.specs.Texts.{block_line}
 use Rattle.cert_text.proofs.Pieces.{blocks_left}
-use Rattle.cert_text.proofs.Puts.{loop_goes_on, loop_breaks, put_failed, put_is}
+use Rattle.text_writer.proofs.Putting.{loop_goes_on, puts_is}
 use Rattle.cert_text.specs.Ranges.{IsSmallBlock}
 use Rattle.cert_text.proofs.Smallness.{small_block}
 use Rattle.cert_text.proofs.lines.put_blocks.Goals as goal
 
-pub returns-in_err-put_block : goal.returns-in_err-put_block
-returns-in_err-put_block g c = put_failed c.from_residual.ensures.1 (loop_breaks (blocks_text (c.loop-place.place + 1 + 1) (drop (c.loop-place.place + 1) c.args.blocks.now)) (blocks_left c.args.blocks.now c.loop-place.place c.index-blocks-place.result c.loop-place-test.true) c.loop-place.invariant (put_is (ap (block_line (c.loop-place.place + 1)) (c.index-blocks-place.is)) c.in_err-put_block.ensures))
-
 pub loop-place-preserved : goal.loop-place-preserved
-loop-place-preserved g c = loop_goes_on (blocks_text (c.loop-place.place + 1 + 1) (drop (c.loop-place.place + 1) c.args.blocks.now)) (blocks_left c.args.blocks.now c.loop-place.place c.index-blocks-place.result c.loop-place-test.true) c.loop-place.invariant (put_is (ap (block_line (c.loop-place.place + 1)) (c.index-blocks-place.is)) c.in_ok-put_block.ensures)
+loop-place-preserved g c = loop_goes_on (blocks_left c.args.blocks.now c.loop-place.place c.index-blocks-place.result c.loop-place-test.true) c.loop-place.invariant (puts_is (ap (block_line (c.loop-place.place + 1)) (c.index-blocks-place.is)) c.put_block.ensures)
 
 pub put_block-requires : goal.put_block-requires
 put_block-requires g c =

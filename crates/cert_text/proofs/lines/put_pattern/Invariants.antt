@@ -1,9 +1,8 @@
 use Rattle.std.proofs.Common.{drop, ◌+◌}
 use Rattle.cert_text.specs.Texts.{pattern_text}
-use Rattle.cert_text.specs.Writing.{IsPutUpTo}
+use Rattle.text_writer.specs.Texts.{PutsUpTo}
 use Rattle.cert_text.proofs.lines.put_pattern.Given as goal
 
 abbrev pub invariant-loop-row : goal.invariant-loop-row
 invariant-loop-row g l =
-    let K = g.K.Sink in
-    IsPutUpTo K.written K.faults K.flushes K.takes l.initial.out l.initial.buffer l.out l.buffer (pattern_text l.word 1 l.rows) (pattern_text l.word (l.row + 1) (drop l.row l.rows))
+    PutsUpTo g.K.Sink l.initial.out l.out (pattern_text l.word 1 l.rows) (pattern_text l.word (l.row + 1) (drop l.row l.rows))

@@ -1,0 +1,3 @@
+pub mod DigitSteps
+pub mod Giving
+pub mod Putting

@@ -1,0 +1,14 @@
+-- How numbers stand in a text.
+use Rattle.std.specs.Prelude.{ℕ, List, ◌∷◌, ◌++◌, decimal}
+
+-- a mark and a number
+abbrev pub marked : ℕ → ℕ → List ℕ
+marked mark number = mark ∷ decimal number
+
+-- a number behind a space
+abbrev pub spaced : ℕ → List ℕ
+spaced number = marked 32 number
+
+-- the item `key=value` behind a space
+abbrev pub item : ℕ → ℕ → List ℕ
+item key value = spaced key ++ marked 61 value
