@@ -17,7 +17,8 @@ pub record IsCalm (source : MemorySource) (out : MemorySink) : Type 0 where
 
 -- a run took the bytes `read` from the source, all of them where it tells of the whole input, and this status and the
 -- appended text answer them
-pub record IsAnswered (words : List (List ℕ)) (source source' : MemorySource) (out out' : MemorySink) (status : Status) :
+pub record IsAnswered (words : List (List ℕ)) (source source' : MemorySource) (out out' : MemorySink)
+    (status : Status) :
     Type 0 where
   pub read : List ℕ
   pub text : List ℕ

@@ -5,7 +5,7 @@ use Rattle.std.proofs.lemmas.List.Elements.{All-from_get_or}
 use Rattle.residue_theory.proofs.SumLaws.{nat_cases}
 use Rattle.residue_theory.proofs.SetLaws.{either_cases, either-first, either-second, eqb_true, eqb_from, lt_cases}
 use Rattle.cert_text.specs.Ranges.{AreRising}
-use Rattle.cert_text.specs.Readings.{has}
+use Rattle.residue_theory.specs.Sets.{has}
 use Rattle.cert_text.proofs.PrintedRules.{has-below}
 use Rattle.ccf_builder.specs.Placings.{ListsBelow}
 
