@@ -4,7 +4,7 @@ use Rattle.std.specs.List.{slice_get}
 use Rattle.std.proofs.Math.ListN.{drop_of_length-le}
 use Rattle.mixed_model.specs.Models.{MixedModel}
 use Rattle.mixed_model.specs.declared.origin.Origin.{Origin}
-use Rattle.cert_text.proofs.Pieces.{drop_next}
+use Rattle.text_writer.proofs.Putting.{drop_next}
 use Rattle.report_cli.specs.LayerTexts.{name_at, column_line, column_lines, entry_text, row_entries_text, row_lines}
 
 -- an item that was got stands there

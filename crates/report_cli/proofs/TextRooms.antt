@@ -12,7 +12,7 @@ use Rattle.mixed_model.specs.Models.{MixedModel, IsModel, mixed_matrix_of}
 use Rattle.mixed_model.specs.Layers.{Layers, layered_matrix_of}
 use Rattle.mixed_layering.specs.Layers.{AreLayersOf, origins_of}
 use Rattle.matrix_reader.specs.Models.{GivesModel}
-use Rattle.cert_text.specs.declared.certificate.Certificate.{Certificate}
+use Rattle.cert_text.specs.Contents.{Certificate}
 use Rattle.text_lengths.specs.Rooms.{certificate_room, IsShapeWithin}
 use Rattle.text_lengths.proofs.InputCounts.{few-names}
 use Rattle.text_lengths.proofs.TextLengths.{certificate-short}

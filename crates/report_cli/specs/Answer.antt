@@ -8,7 +8,7 @@ use Rattle.report_cli.specs.Limits.{model_limit}
 use Rattle.report_cli.specs.Reports.{IsReportFor, report_text}
 use Rattle.report_cli.specs.RightFor.{IsRefused}
 use Rattle.report_cli.specs.Words.{AsksFor, AsksForNothing}
-use Rattle.report_cli.specs.Writing.{PartWritten}
+use Rattle.text_writer.specs.Giving.{AppendedPart}
 use Rattle.report_cli.specs.declared.command.Command.{Command}
 use Rattle.report_cli.specs.declared.report.Report.{Report}
 use Rattle.report_cli.specs.declared.status.Status.{Status}
@@ -78,7 +78,7 @@ pub record CutShort (words : List (List ℕ)) (left left' written written' : Opt
   pub text : List ℕ
   pub took : Took left left' read
   pub ended : Ended left'
-  pub cut : PartWritten written written' text
+  pub cut : AppendedPart written written' text
   pub answer : IsAnswer words read Done text
 
 -- where the whole input has an answer, the status is that of the answer, but for want of memory

@@ -1,6 +1,7 @@
 -- The text of a layered matrix, by its lines. Rows and columns are counted from 0 here, and from 1 in the text.
 use Rattle.std.specs.Prelude.{ℕ, ◌+◌, ◌==◌, List, [], ◌∷◌, ◌++◌, codes, slice_index, slice_index_or, if◌then◌else◌}
-use Rattle.cert_text.specs.Texts.{marked, spaced, item, numbers_text}
+use Rattle.text_writer.specs.Numbers.{marked, spaced, item}
+use Rattle.cert_text.specs.Texts.{numbers_text}
 use Rattle.mixed_model.specs.Models.{MixedModel}
 use Rattle.mixed_model.specs.Layers.{Layers}
 use Rattle.mixed_model.specs.declared.origin.Origin.{Origin}

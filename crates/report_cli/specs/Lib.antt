@@ -1,7 +1,6 @@
 pub mod Limits
 pub mod Numbers
 pub mod Words
-pub mod Writing
 pub mod Notes
 pub mod RightFor
 pub mod LayerTexts

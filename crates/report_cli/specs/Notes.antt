@@ -1,9 +1,9 @@
 -- The line that is noted of a status.
 use Rattle.std.specs.Prelude.{◌≡◌, ℕ, ◌⊎◌, List, [], ◌++◌, Option, codes}
-use Rattle.port_io.specs.Bytes.{Appended}
 use Rattle.port_io.specs.Causes.{Rose}
 use Rattle.refusals.specs.Texts.{refusal_text}
-use Rattle.cert_text.specs.Texts.{spaced}
+use Rattle.text_writer.specs.Giving.{AppendedPart}
+use Rattle.text_writer.specs.Numbers.{spaced}
 use Rattle.report_cli.specs.declared.status.Status.{Status}
 use Rattle.report_cli.specs.declared.status.Status.TheVariants.{Done, Usage, Refused, TooLong, ReadFault, WriteFault, Memory}
 
@@ -32,8 +32,5 @@ note_of status = line_of status
 
 -- a line was noted and no call failed, or a part of it and the count of faults rose
 pub record Noted (written written' : Option (List ℕ)) (faults faults' : ℕ) (line : List ℕ) : Type 0 where
-  pub part : List ℕ
-  pub rest : List ℕ
-  pub appended : Appended written written' part
-  pub prefix : line ≡ part ++ rest
-  pub whole : ((rest ≡ []) × (faults' ≡ faults)) ⊎ Rose faults faults'
+  pub has : AppendedPart written written' line
+  pub whole : ((has.rest ≡ []) × (faults' ≡ faults)) ⊎ Rose faults faults'

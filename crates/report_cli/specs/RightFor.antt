@@ -9,7 +9,7 @@ use Rattle.mixed_model.specs.Models.{MixedModel, mixed_matrix_of}
 use Rattle.matrix_reader.specs.Models.{GivesModel, IsRefusal}
 use Rattle.cert_text.specs.Ranges.{IsCcf}
 use Rattle.cert_text.specs.Right.{IsRightCcf}
-use Rattle.cert_text.specs.declared.certificate.Certificate.{Certificate}
+use Rattle.cert_text.specs.Contents.{Certificate}
 use Rattle.cert_text.specs.declared.kind.Kind.TheVariants.{Matrix}
 use Rattle.report_cli.specs.Limits.{model_limit}
 

@@ -1,17 +1,15 @@
 //! What a command writes of an input.
 
-ghost use Rattle.std.specs.Prelude.{◌≡◌, ℕ, ◌+◌, ◌≤◌, length, IfErr, IfOk, IsOk, OnOk};
+ghost use Rattle.std.specs.Prelude.{◌≤◌, length, IfErr, IfOk};
 ghost use Rattle.cert_text.specs.Ranges.{IsCcf};
-ghost use Rattle.cert_text.specs.Writing.{IsCut};
 ghost use Rattle.matrix_reader.specs.Models.{IsRefusal};
 ghost use Rattle.mixed_layering.specs.Layers.{AreLayersOf};
-ghost use Rattle.port_io.specs.Bytes.{Appended};
-ghost use Rattle.port_io.specs.Causes.{HasCause};
 ghost use Rattle.report_cli.specs.LayerTexts.{layer_text};
 ghost use Rattle.residue_field.specs.Modulus.{res_modulus};
 ghost use Rattle.report_cli.specs.Limits.{model_limit};
 ghost use Rattle.report_cli.specs.Reports.{IsReportFor, IsWritable, report_text};
 ghost use Rattle.report_cli.specs.WholeLayers.{AreWholeLayers};
+ghost use Rattle.text_writer.specs.Giving.{IsWritten};
 
 use crate::command::Command;
 use crate::layer_lines::put_layers;
@@ -19,11 +17,12 @@ use ccf_builder::build;
 use cert_text::{Ccf, Certificate, Items, Kind};
 use mixed_layering::layer;
 use mixed_model::{Layered, Mixed};
-use port_io::{PieceBuffer, Sink, WriteFault};
+use port_io::{Sink, WriteFault};
 use refusals::ReadModel;
 use residue_field::Res;
 use row_transform::DenseTableau;
 use std::alloc::Global;
+use text_writer::TextWriter;
 
 /// What a command writes of an input.
 #[derive(Drop)]
@@ -68,12 +67,7 @@ impl Report {
     /// fails, a first part of the text was appended, and `written` counts its bytes.
     pub fn write<K: Sink>(&self, out: &mut K) -> Result<(), WriteFault>
         requires { IsWritable self.now }
-        ensures whole { OnOk result (Appended (K.written out.old) (K.written out.new) (report_text self.now)) }
-        ensures part { IfErr result (IsCut (K.written out.old) (K.written out.new) (report_text self.now)) }
-        ensures cause { HasCause (K.faults out.old) (K.faults out.new) result }
-        ensures no_flush { K.flushes out.new ≡ K.flushes out.old }
-        ensures calm { (more : ℕ) → K.takes out.old (length (report_text self.now) + more) →
-            (K.faults out.new ≡ K.faults out.old) × IsOk result × K.takes out.new more }
+        ensures { IsWritten K.Sink out.old out.new (report_text self.now) result }
     {
         match self {
             Report::Certificate(certificate) => cert_text::write(certificate, out),
@@ -97,16 +91,15 @@ fn is_in_form(ccf: &Ccf<Res>)
 }
 
 // Appends the text of the layered matrix of a model to the sink.
-fn write_layers<K: Sink>(out: &mut K, model: &Mixed<Res>, layered: &Layered<Res>) -> Result<(), WriteFault>
+fn write_layers<K: Sink>(
+    out: &mut K,
+    model: &Mixed<Res>,
+    layered: &Layered<Res>,
+) -> Result<(), WriteFault>
     requires { AreLayersOf model.now layered.now }
-    ensures whole { OnOk result (Appended (K.written out.old) (K.written out.new) (layer_text model.now layered.now)) }
-    ensures part { IfErr result (IsCut (K.written out.old) (K.written out.new) (layer_text model.now layered.now)) }
-    ensures cause { HasCause (K.faults out.old) (K.faults out.new) result }
-    ensures no_flush { K.flushes out.new ≡ K.flushes out.old }
-    ensures calm { (more : ℕ) → K.takes out.old (length (layer_text model.now layered.now) + more) →
-        (K.faults out.new ≡ K.faults out.old) × IsOk result × K.takes out.new more }
+    ensures { IsWritten K.Sink out.old out.new (layer_text model.now layered.now) result }
 {
-    let mut buffer = PieceBuffer::new();
-    put_layers(&mut buffer, out, model, layered)?;
-    buffer.hand_on(out)
+    let mut writer = TextWriter::new(out);
+    put_layers(&mut writer, model, layered);
+    writer.finish()
 }

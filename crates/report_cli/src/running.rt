@@ -9,8 +9,8 @@ ghost use Rattle.report_cli.specs.Answer.{Answered, CutShort, IsComplete, OnlyAn
 ghost use Rattle.report_cli.specs.Limits.{model_limit};
 ghost use Rattle.report_cli.specs.Reports.{IsWritable, report_text};
 ghost use Rattle.report_cli.specs.Rooms.{text_room};
-ghost use Rattle.report_cli.specs.Writing.{PartWritten};
 ghost use Rattle.report_cli.specs.Notes.{Noted, note_of};
+ghost use Rattle.text_writer.specs.Giving.{AppendedPart};
 
 use crate::command::Command;
 use crate::report::Report;
@@ -121,7 +121,7 @@ fn deliver<K: Sink>(out: &mut K, report: &Report) -> Status
     ensures ends { IsDelivered result
         (Appended (K.written out.old) (K.written out.new) (report_text report.now) × IsTrue (K.flushed out.new))
         (Rose (K.faults out.old) (K.faults out.new)
-        × PartWritten (K.written out.old) (K.written out.new) (report_text report.now)) }
+        × AppendedPart (K.written out.old) (K.written out.new) (report_text report.now)) }
     ensures counts { K.faults out.old ≤ K.faults out.new }
     ensures told { result ≢ Status.WriteFault → K.faults out.new ≡ K.faults out.old }
     ensures one_flush { result ≡ Status.Done → K.flushes out.new ≡ one_more (K.flushes out.old) }

@@ -1,5 +1,5 @@
 use Rattle.std.proofs.Common.{◌+◌, ◌<◌, ap, drop, length, arith}
-use Rattle.cert_text.proofs.Puts.{loop_goes_on, loop_breaks, loop_begins, loop_ends, put_failed}
+use Rattle.text_writer.proofs.Putting.{loop_goes_on, loop_begins, loop_ends}
 use Rattle.report_cli.specs.LayerTexts.{column_lines}
 use Rattle.report_cli.proofs.LayerFacts.{column_origin_within}
 use Rattle.report_cli.proofs.LayerPieces.{columns_left, columns_end}
@@ -14,18 +14,11 @@ put_column_line-requires g c =
     let below : c.loop-column.column < c.args.layered.now.q.width = omega (arith, c.cols-column-end.ensures.cols, ap (λ (l : Layers). l.q.width) c.layered.view_is) in
     column_origin_within c.args.model.now c.args.layered.now c.loop-column.column c.column_origin-origin.result c.requires below c.column_origin-origin.ensures
 
-pub returns-in_err-put_column_line : goal.returns-in_err-put_column_line
-returns-in_err-put_column_line g c =
-    let origins = c.args.layered.now.column_origins in
-    let within : c.loop-column.column < length origins = omega (arith, c.cols-column-end.ensures.cols, c.layered.invariant.column_origins, ap (λ (l : Layers). length l.column_origins) c.layered.view_is) in
-    put_failed {x = column_lines c.args.model.now 1 c.args.layered.now.column_origins} c.from_residual.ensures.1
-    (loop_breaks (column_lines c.args.model.now (c.loop-column.column + 1 + 1) (drop (c.loop-column.column + 1) origins)) (columns_left c.args.model.now origins c.loop-column.column c.column_origin-origin.result within c.column_origin-origin.ensures) c.loop-column.invariant c.in_err-put_column_line.ensures)
-
 pub loop-column-preserved : goal.loop-column-preserved
 loop-column-preserved g c =
     let origins = c.args.layered.now.column_origins in
     let within : c.loop-column.column < length origins = omega (arith, c.cols-column-end.ensures.cols, c.layered.invariant.column_origins, ap (λ (l : Layers). length l.column_origins) c.layered.view_is) in
-    loop_goes_on (column_lines c.args.model.now (c.loop-column.column + 1 + 1) (drop (c.loop-column.column + 1) origins)) (columns_left c.args.model.now origins c.loop-column.column c.column_origin-origin.result within c.column_origin-origin.ensures) c.loop-column.invariant c.in_ok-put_column_line.ensures
+    loop_goes_on (columns_left c.args.model.now origins c.loop-column.column c.column_origin-origin.result within c.column_origin-origin.ensures) c.loop-column.invariant c.put_column_line.ensures
 
 pub returns : goal.returns
 returns g c =

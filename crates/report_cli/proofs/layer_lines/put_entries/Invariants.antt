@@ -1,11 +1,10 @@
 use Rattle.std.proofs.Common.{drop, ◌+◌}
-use Rattle.cert_text.specs.Writing.{IsPutUpTo}
+use Rattle.text_writer.specs.Texts.{PutsUpTo}
 use Rattle.dense_q.specs.Tables.{row_at}
 use Rattle.report_cli.specs.LayerTexts.{row_entries_text}
 use Rattle.report_cli.proofs.layer_lines.put_entries.Given as goal
 
 abbrev pub invariant-loop-column : goal.invariant-loop-column
 invariant-loop-column g l =
-    let K = g.K.Sink in
     let row = row_at l.matrix l.row in
-    IsPutUpTo K.written K.faults K.flushes K.takes l.initial.out l.initial.buffer l.out l.buffer (row_entries_text 1 row) (row_entries_text (l.column + 1) (drop l.column row))
+    PutsUpTo g.K.Sink l.initial.out l.out (row_entries_text 1 row) (row_entries_text (l.column + 1) (drop l.column row))

@@ -1,9 +1,6 @@
 use Rattle.std.proofs.Common.{codes}
-use Rattle.cert_text.proofs.Puts.{put_stop, put_failed, put_then}
+use Rattle.text_writer.proofs.Putting.{puts_then}
 use Rattle.report_cli.proofs.layer_lines.put_head.Goals as goal
 
-pub returns-in_err-put_number : goal.returns-in_err-put_number
-returns-in_err-put_number g c = put_failed c.from_residual.ensures.1 (put_stop (codes " ") c.in_err-put_number.ensures)
-
 pub returns : goal.returns
-returns g c = put_then c.in_ok-put_number.ensures c.put_piece.ensures
+returns g c = puts_then c.number.ensures c.piece.ensures

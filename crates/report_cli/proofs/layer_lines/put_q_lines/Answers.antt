@@ -1,5 +1,5 @@
 use Rattle.std.proofs.Common.{◌+◌, ◌<◌, ◌∙◌, ap, drop, length, arith}
-use Rattle.cert_text.proofs.Puts.{loop_goes_on, loop_breaks, loop_begins, loop_ends, put_failed}
+use Rattle.text_writer.proofs.Putting.{loop_goes_on, loop_begins, loop_ends}
 use Rattle.report_cli.specs.LayerTexts.{row_lines, q_line}
 use Rattle.report_cli.proofs.LayerPieces.{rows_left, rows_end}
 use Rattle.mixed_model.specs.Layers.{Layers}
@@ -9,18 +9,11 @@ use Rattle.report_cli.proofs.layer_lines.put_q_lines.Goals as goal
 pub loop-row-init : goal.loop-row-init
 loop-row-init g c = loop_begins (row_lines q_line c.args.model.now.equations c.args.layered.now.q_origins 0 c.args.layered.now.q.rows)
 
-pub returns-in_err-put_q_line : goal.returns-in_err-put_q_line
-returns-in_err-put_q_line g c =
-    let rows = c.args.layered.now.q.rows in
-    let within : c.loop-row.row < length rows = omega (arith, c.rows-row-end.ensures.rows ∙ ap (λ (l : Layers). height l.q) c.layered.view_is) in
-    put_failed {x = row_lines q_line c.args.model.now.equations c.args.layered.now.q_origins 0 c.args.layered.now.q.rows} c.from_residual.ensures.1
-    (loop_breaks (row_lines q_line c.args.model.now.equations c.args.layered.now.q_origins (c.loop-row.row + 1) (drop (c.loop-row.row + 1) rows)) (rows_left q_line c.args.model.now.equations c.args.layered.now.q_origins rows c.loop-row.row within) c.loop-row.invariant c.in_err-put_q_line.ensures)
-
 pub loop-row-preserved : goal.loop-row-preserved
 loop-row-preserved g c =
     let rows = c.args.layered.now.q.rows in
     let within : c.loop-row.row < length rows = omega (arith, c.rows-row-end.ensures.rows ∙ ap (λ (l : Layers). height l.q) c.layered.view_is) in
-    loop_goes_on (row_lines q_line c.args.model.now.equations c.args.layered.now.q_origins (c.loop-row.row + 1) (drop (c.loop-row.row + 1) rows)) (rows_left q_line c.args.model.now.equations c.args.layered.now.q_origins rows c.loop-row.row within) c.loop-row.invariant c.in_ok-put_q_line.ensures
+    loop_goes_on (rows_left q_line c.args.model.now.equations c.args.layered.now.q_origins rows c.loop-row.row within) c.loop-row.invariant c.put_q_line.ensures
 
 pub returns : goal.returns
 returns g c =

@@ -1,5 +1,5 @@
 use Rattle.std.proofs.Common.{◌+◌, ◌<◌, ◌∙◌, ap, drop, length, arith}
-use Rattle.cert_text.proofs.Puts.{loop_goes_on, loop_breaks, loop_begins, loop_ends, put_failed}
+use Rattle.text_writer.proofs.Putting.{loop_goes_on, loop_begins, loop_ends}
 use Rattle.report_cli.specs.LayerTexts.{row_lines, t_line}
 use Rattle.report_cli.proofs.LayerPieces.{rows_left, rows_end}
 use Rattle.mixed_model.specs.Layers.{Layers}
@@ -9,18 +9,11 @@ use Rattle.report_cli.proofs.layer_lines.put_t_lines.Goals as goal
 pub loop-row-init : goal.loop-row-init
 loop-row-init g c = loop_begins (row_lines t_line c.args.model.now.equations c.args.layered.now.t_origins 0 c.args.layered.now.t.rows)
 
-pub returns-in_err-put_t_line : goal.returns-in_err-put_t_line
-returns-in_err-put_t_line g c =
-    let rows = c.args.layered.now.t.rows in
-    let within : c.loop-row.row < length rows = omega (arith, c.rows-row-end.ensures.rows ∙ ap (λ (l : Layers). height l.t) c.layered.view_is) in
-    put_failed {x = row_lines t_line c.args.model.now.equations c.args.layered.now.t_origins 0 c.args.layered.now.t.rows} c.from_residual.ensures.1
-    (loop_breaks (row_lines t_line c.args.model.now.equations c.args.layered.now.t_origins (c.loop-row.row + 1) (drop (c.loop-row.row + 1) rows)) (rows_left t_line c.args.model.now.equations c.args.layered.now.t_origins rows c.loop-row.row within) c.loop-row.invariant c.in_err-put_t_line.ensures)
-
 pub loop-row-preserved : goal.loop-row-preserved
 loop-row-preserved g c =
     let rows = c.args.layered.now.t.rows in
     let within : c.loop-row.row < length rows = omega (arith, c.rows-row-end.ensures.rows ∙ ap (λ (l : Layers). height l.t) c.layered.view_is) in
-    loop_goes_on (row_lines t_line c.args.model.now.equations c.args.layered.now.t_origins (c.loop-row.row + 1) (drop (c.loop-row.row + 1) rows)) (rows_left t_line c.args.model.now.equations c.args.layered.now.t_origins rows c.loop-row.row within) c.loop-row.invariant c.in_ok-put_t_line.ensures
+    loop_goes_on (rows_left t_line c.args.model.now.equations c.args.layered.now.t_origins rows c.loop-row.row within) c.loop-row.invariant c.put_t_line.ensures
 
 pub returns : goal.returns
 returns g c =
