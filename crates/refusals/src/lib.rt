@@ -1,11 +1,12 @@
 //! Why an input is refused, and at which place in it.
 #![tactic(auto)]
 
+mod putting;
+
 ghost use Rattle.std.specs.Prelude.{◌≡◌};
 ghost use Rattle.refusals.specs.Texts.{place_word, place_number, why_text};
 
 use std::alloc::{AllocError, AllocFailed};
-use std::fmt;
 use thiserror::Error;
 
 /// A place in an input. Its number counts from 1.
@@ -49,7 +50,7 @@ pub struct Refused {
 /// Why a model was not read.
 #[derive(Clone, Copy, Debug, PartialEq, Eq, Error)]
 pub enum ReadModel {
-    #[error("{0}")]
+    #[error("the input breaks a rule of its format")]
     Refused(Refused),
     #[error("out of memory")]
     NoMemory,
@@ -83,21 +84,6 @@ impl Place {
     }
 }
 
-impl fmt::Display for Place {
-    ghost use Rattle.std.specs.Prelude.{Some};
-    ghost use Rattle.refusals.specs.Texts.{place_text};
-
-    ghost output = { λ place. Some (place_text place) };
-
-    fn fmt<W: fmt::Write>(&self, f: &mut fmt::Formatter<W>) -> fmt::Result {
-        let word = self.word();
-        match self.number() {
-            None => f.write_str(word),
-            Some(number) => write!(f, "{word} {number}"),
-        }
-    }
-}
-
 impl Why {
     /// The words for this reason.
     pub fn text(self) -> &'static str
@@ -113,31 +99,6 @@ impl Why {
             Why::Twice => "twice",
             Why::TooMany => "too many",
         }
-    }
-}
-
-impl fmt::Display for Why {
-    ghost use Rattle.std.specs.Prelude.{Some};
-    ghost use Rattle.refusals.specs.Texts.{why_text};
-
-    ghost output = { λ why. Some (why_text why) };
-
-    fn fmt<W: fmt::Write>(&self, f: &mut fmt::Formatter<W>) -> fmt::Result {
-        f.write_str(self.text())
-    }
-}
-
-/// The place, a colon and the reason, as in `line 3: bad byte`.
-impl fmt::Display for Refused {
-    ghost use Rattle.std.specs.Prelude.{Some};
-    ghost use Rattle.refusals.specs.Texts.{refusal_text};
-
-    ghost output = { λ refused. Some (refusal_text refused) };
-
-    fn fmt<W: fmt::Write>(&self, f: &mut fmt::Formatter<W>) -> fmt::Result {
-        let place = self.place;
-        let why = self.why;
-        write!(f, "{place}: {why}")
     }
 }
 
@@ -175,29 +136,4 @@ impl<T: Drop> From<AllocFailed<T>> for ReadModel {
 }
 
 #[cfg(test)]
-mod tests {
-    use super::*;
-    use std::test::Fail;
-
-    #[test]
-    fn prints_places_and_reasons(rt: HostRuntime) -> Result<(), Fail> {
-        let cases = [
-            (Place::Line(3), Why::BadByte, "line 3: bad byte"),
-            (Place::Document, Why::BadWord, "document: bad word"),
-            (Place::Component(1), Why::BadShape, "component 1: bad shape"),
-            (Place::Stream(20), Why::BadName, "stream 20: bad name"),
-            (Place::Unit(7), Why::BadNumber, "unit 7: bad number"),
-            (Place::Line(1), Why::Vanish, "line 1: vanishes in the field"),
-            (Place::Line(2), Why::Twice, "line 2: twice"),
-            (Place::Line(4097), Why::TooMany, "line 4097: too many"),
-        ];
-        for (place, why, want) in cases {
-            let refused = Refused { place, why };
-            let text = refused.to_string(rt.alloc())?;
-            assert_eq!(rt; text.as_str(), want);
-            let error = ReadModel::Refused(refused).to_string(rt.alloc())?;
-            assert_eq!(rt; error.as_str(), want);
-        }
-        Ok(())
-    }
-}
+mod tests;

@@ -1,0 +1,28 @@
+//! Tests of the texts of refusals.
+
+use super::*;
+use port_io::MemSink;
+use std::test::Fail;
+use text_writer::TextWriter;
+
+#[test]
+fn puts_places_and_reasons(rt: HostRuntime) -> Result<(), Fail> {
+    let cases = [
+        (Place::Line(3), Why::BadByte, "line 3: bad byte"),
+        (Place::Document, Why::BadWord, "document: bad word"),
+        (Place::Component(1), Why::BadShape, "component 1: bad shape"),
+        (Place::Stream(20), Why::BadName, "stream 20: bad name"),
+        (Place::Unit(7), Why::BadNumber, "unit 7: bad number"),
+        (Place::Line(1), Why::Vanish, "line 1: vanishes in the field"),
+        (Place::Line(2), Why::Twice, "line 2: twice"),
+        (Place::Line(4097), Why::TooMany, "line 4097: too many"),
+    ];
+    for (place, why, want) in cases {
+        let mut sink = MemSink::new(rt.alloc(), 64, 64, &[])?;
+        let mut writer = TextWriter::new(&mut sink);
+        Refused { place, why }.put(&mut writer);
+        assert!(rt; writer.finish().is_ok());
+        assert_eq!(rt; sink.bytes(), want.as_bytes());
+    }
+    Ok(())
+}
