@@ -17,8 +17,8 @@ pub record IsCalm (source : MemorySource) (out : MemorySink) : Type 0 where
 
 -- a run took the bytes `read` from the source, all of them where it tells of the whole input, and this status and the
 -- appended text answer them
-pub record IsAnswered (words : List (List ℕ)) (source source' : MemorySource) (out out' : MemorySink) (status : Status) :
-    Type 0 where
+pub record IsAnswered (words : List (List ℕ)) (source source' : MemorySource) (out out' : MemorySink)
+    (status : Status) : Type 0 where
   pub read : List ℕ
   pub text : List ℕ
   pub took : source.left ≡ read ++ source'.left
@@ -29,3 +29,16 @@ pub record IsAnswered (words : List (List ℕ)) (source source' : MemorySource) 
 -- the run is answered, or memory ran out
 abbrev pub Answers : List (List ℕ) → MemorySource → MemorySource → MemorySink → MemorySink → Status → Type 0
 Answers words source source' out out' status = IsAnswered words source source' out out' status ⊎ (status ≡ Memory)
+
+-- of the input `read` was taken, all of it where the status tells of the whole input, and this status and this text
+-- answer what was taken
+pub record IsAnswerTo (words : List (List ℕ)) (input : List ℕ) (status : Status) (text : List ℕ) : Type 0 where
+  pub read : List ℕ
+  pub rest : List ℕ
+  pub took : input ≡ read ++ rest
+  pub ended : ReadsAll status (rest ≡ [])
+  pub answer : IsAnswer words read status text
+
+-- the input is answered, or memory ran out
+abbrev pub IsAnsweredBy : List (List ℕ) → List ℕ → Status → List ℕ → Type 0
+IsAnsweredBy words input status text = IsAnswerTo words input status text ⊎ (status ≡ Memory)

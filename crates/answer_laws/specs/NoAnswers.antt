@@ -13,7 +13,8 @@ NeverAnswers command input text = (words : List (List ℕ)) → AsksFor words co
 -- the text of a certificate of the empty input, from its first tail on
 abbrev pub empty_certificate : List ℕ → List ℕ
 empty_certificate parts =
-    codes "mixed-certificate 1\nkind matrix\nlength 0\n\nshape 0 0 0 0 0\nrank 0\nbase\nmatch\n" ++ parts ++ codes "end\n"
+    codes "mixed-certificate 1\nkind matrix\nlength 0\n\nshape 0 0 0 0 0\nrank 0\nbase\nmatch\n"
+    ++ parts ++ codes "end\n"
 
 -- the certificate of the empty input
 abbrev pub empty_text : List ℕ

@@ -6,4 +6,5 @@ use Rattle.report_cli.specs.declared.status.Status.TheVariants.{Done}
 
 abbrev pub AnswersFit : Type 0
 AnswersFit =
-    (words : List (List ℕ)) (input text : List ℕ) → IsAnswer words input Done text → length text ≤ text_room (length input)
+    (words : List (List ℕ)) (input text : List ℕ) → IsAnswer words input Done text →
+    length text ≤ text_room (length input)

@@ -4,7 +4,7 @@ ghost use Rattle.std.specs.Prelude.{◌≡◌, ◌≤◌, length, map, Some, IfO
 ghost use Rattle.std.specs.String.{string_bytes};
 ghost use Rattle.report_cli.specs.Answer.{IsComplete, OnlyAnswer};
 ghost use Rattle.report_cli.specs.Rooms.{text_room};
-ghost use Rattle.answer_laws.specs.InMemory.{IsCalm, Answers};
+ghost use Rattle.answer_laws.specs.InMemory.{Answers, IsAnsweredBy, IsCalm};
 
 use port_io::{MemSink, MemSource, Sink};
 use report_cli::{Status, run};
@@ -29,8 +29,8 @@ pub fn run_in_memory<N: Sink>(
     run(alloc, words, source, out, notes)
 }
 
-/// How a run on this input ends, where the room is enough for each answer, and the sink that was handed to it: what the
-/// sink holds is a clause of `run_in_memory`. It is an error that there is no memory for the streams.
+/// How a run on this input ends, where the room is enough for each answer, and the sink, which holds the answer's text. It
+/// is an error that there is no memory for the streams.
 pub fn answer(
     alloc: Global,
     words: &[String],
@@ -38,6 +38,8 @@ pub fn answer(
     room: usize,
 ) -> Result<(Status, MemSink), AllocError>
     requires { text_room (length input.now) ≤ room }
+    ensures answered { IfOk result (λ answer.
+        IsAnsweredBy (map string_bytes words.now) input.now answer.0 answer.1.written) }
     ensures only_answer { IfOk result (λ answer. OnlyAnswer (map string_bytes words.now) (Some input.now) answer.0) }
     ensures complete { IfOk result (λ answer. IsComplete (map string_bytes words.now) (Some input.now) answer.0) }
 {

@@ -1,12 +1,11 @@
 -- Rising lists of numbers.
 use Rattle.std.proofs.Common.{◌≡◌, ℕ, ◌+◌, ◌<◌, ◌≤◌, Bool, true, false, ◌||◌, eqb, List, [], ◌∷◌, ◌++◌, length, get_or, inl, inr, refl, ap, sym, ◌∙◌, subst, arith}
-use Rattle.std.specs.List.{All}
 use Rattle.std.proofs.lemmas.List.{get_or_append_left, get_or_push, length_push}
-use Rattle.std.proofs.lemmas.List.Elements.{All-from_get_or, All-head, All-tail}
+use Rattle.std.proofs.lemmas.List.Elements.{All-from_get_or}
 use Rattle.residue_theory.proofs.SumLaws.{nat_cases}
-use Rattle.residue_theory.proofs.SetLaws.{differ, either_cases, either-first, either-second, eqb_true, eqb_from, lt_cases}
+use Rattle.residue_theory.proofs.SetLaws.{either_cases, either-first, either-second, eqb_true, eqb_from, lt_cases}
 use Rattle.cert_text.specs.Ranges.{AreRising}
-use Rattle.cert_text.specs.Readings.{has}
+use Rattle.residue_theory.specs.Sets.{has}
 use Rattle.cert_text.proofs.PrintedRules.{has-below}
 use Rattle.ccf_builder.specs.Placings.{ListsBelow}
 

@@ -2,7 +2,8 @@
 use Rattle.std.proofs.Common.{◌≡◌, ℕ, zero, suc, ◌+◌, ◌<◌, inl, inr, true, List, [], ◌∷◌, ◌++◌, length, get_or, slice_get, Some, unwrap_or, ap, sym, ◌∙◌, subst, arith}
 use Rattle.std.proofs.lemmas.List.{get_or_append_left, get_or_push, length-append}
 use Rattle.residue_theory.proofs.SetLaws.{lt_cases}
-use Rattle.cert_text.specs.Readings.{has, place_of, StandsOnce}
+use Rattle.residue_theory.specs.Sets.{has}
+use Rattle.cert_text.specs.Readings.{place_of, StandsOnce}
 use Rattle.cert_text.proofs.PrintedRules.{place-is}
 use Rattle.minimiser_lattice.specs.declared.lattice.Part.{Part}
 use Rattle.minimiser_lattice.specs.declared.lattice.Part.TheVariants.{First, Block, Last}

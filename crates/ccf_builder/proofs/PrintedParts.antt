@@ -20,7 +20,8 @@ use Rattle.independent_matching.proofs.EngineLaws.{same-arcs as kept-arcs, same-
 use Rattle.minimiser_lattice.specs.Parts.{Parts, part_in}
 use Rattle.minimiser_lattice.specs.declared.lattice.Part.{Part}
 use Rattle.minimiser_lattice.specs.declared.lattice.Part.TheVariants.{First, Block, Last}
-use Rattle.cert_text.specs.Readings.{has, has_column, row_with, place_of, StandsOnce}
+use Rattle.residue_theory.specs.Sets.{has}
+use Rattle.cert_text.specs.Readings.{has_column, row_with, place_of, StandsOnce}
 use Rattle.cert_text.specs.declared.part.CcfPart.{CcfPart}
 use Rattle.cert_text.specs.declared.part.CcfBlock.{CcfBlock}
 use Rattle.ccf_builder.specs.Decompositions.{IsDecomposition}

@@ -6,12 +6,12 @@ use Rattle.std.proofs.lemmas.List.{get_or_append_left, get_or_push, get_or-map, 
 use Rattle.std.proofs.lemmas.List.Elements.{All-append, All-from_get_or}
 use Rattle.residue_theory.proofs.SumLaws.{nat_cases}
 use Rattle.residue_theory.proofs.SetLaws.{differ, eqb_from, eqb_true, not_true}
-use Rattle.residue_theory.specs.Sets.{has as touched}
+use Rattle.residue_theory.specs.Sets.{has}
 use Rattle.sparse_t.specs.Lists.{IsBelow}
 use Rattle.sparse_t.proofs.ListLaws.{nat_eq-apart, nat_eq-itself}
 use Rattle.cert_text.specs.Contents.{numbered, numbered_rows}
 use Rattle.cert_text.specs.Ranges.{AreEntries, AreRising}
-use Rattle.cert_text.specs.Readings.{entry_at, has}
+use Rattle.cert_text.specs.Readings.{entry_at}
 use Rattle.ccf_builder.specs.Matrices.{PrintsMatrix, PrintsPattern, PrintsRow}
 use Rattle.ccf_builder.proofs.MemberLists.{rising-push}
 use Rattle.ccf_builder.proofs.PairLists.{same-tests}
@@ -120,19 +120,9 @@ rows-push number p m n matrix rows entries prints next =
     subst (PrintsMatrix p (m + 1) n matrix) (sym (numbered_rows-push number rows entries))
     (matrix-push p m n matrix (numbered_rows number rows) (numbered number entries) prints next)
 
--- both words for a list that holds a number
-nat_same : (a b : ℕ) → eqb a b ≡ nat_eq a b
-nat_same a b = same-tests (eqb a b) (nat_eq a b)
-    (λ h. subst (λ x. nat_eq a x ≡ true) (eqb_true a b h) (nat_eq-itself a))
-    (λ h. elim (nat_cases a b) [ inl same ↦ eqb_from a b same | inr other ↦ absurd (differ (nat_eq-apart a b other) h) ])
-
-has-touched : (list : List ℕ) (x : ℕ) → has list x ≡ touched list x
-has-touched [] x = refl
-has-touched (y ∷ list) x = ap (λ b. b || has list x) (nat_same y x) ∙ ap (λ b. nat_eq y x || b) (has-touched list x)
-
 -- the next row of a pattern
 pub pattern-push : (m n : ℕ) (pattern : ℕ → ℕ → Bool) (rows : List (List ℕ)) (row : List ℕ) → PrintsPattern m n pattern rows →
-    IsStrictlyIncreasing row → IsBelow n row → ((j : ℕ) → j < n → touched row j ≡ pattern m j) → PrintsPattern (m + 1) n pattern (rows ++ row ∷ [])
+    IsStrictlyIncreasing row → IsBelow n row → ((j : ℕ) → j < n → has row j ≡ pattern m j) → PrintsPattern (m + 1) n pattern (rows ++ row ∷ [])
 pattern-push m n pattern rows row prints rising below next = record {
   is = record {
     count = let long : length (rows ++ row ∷ []) ≡ length rows + 1 = length_push rows row in omega (arith, long, prints.is.count);
@@ -141,7 +131,7 @@ pattern-push m n pattern rows row prints rising below next = record {
   same = λ i j il jl. elim (nat_cases i m) [
     | inl last ↦
         let at : get_or (rows ++ row ∷ []) i [] ≡ row = get_or_push rows row [] i (prints.is.count ∙ sym last) in
-        ap (λ list. has list j) at ∙ has-touched row j ∙ next j jl ∙ ap (λ r. pattern r j) (sym last)
+        ap (λ list. has list j) at ∙ next j jl ∙ ap (λ r. pattern r j) (sym last)
     | inr other ↦
         let before : i < m = omega (arith, il, other) in
         let at : get_or (rows ++ row ∷ []) i [] ≡ get_or rows i [] = get_or_append_left rows (row ∷ []) [] i (omega (arith, before, prints.is.count)) in

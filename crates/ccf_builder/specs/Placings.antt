@@ -1,7 +1,8 @@
 -- The part of each column and of each row, and the lists of a part.
 use Rattle.std.specs.Prelude.{ℕ, ◌<◌, ◌≡◌, ◌↔◌, true, List, length, slice_get, slice_index_or, Some}
 use Rattle.cert_text.specs.Ranges.{AreRising}
-use Rattle.cert_text.specs.Readings.{has, pair_at}
+use Rattle.residue_theory.specs.Sets.{has}
+use Rattle.cert_text.specs.Readings.{pair_at}
 use Rattle.cert_text.specs.declared.part.CcfPart.{CcfPart}
 use Rattle.cert_text.specs.declared.part.CcfBlock.{CcfBlock}
 use Rattle.ccf_builder.specs.Tabulations.{Tabulates}

@@ -13,7 +13,8 @@ use Rattle.mixed_matrices.specs.Models.{MixedMatrix}
 use Rattle.cert_text.specs.Contents.{Contents}
 use Rattle.cert_text.specs.declared.part.CcfBlock.{CcfBlock}
 use Rattle.cert_text.specs.Ranges.{IsCcf}
-use Rattle.cert_text.specs.Readings.{matrix_of, has, place_of, column_lists, q_row_lists, t_row_lists, parts_of, lower_of, tableau_of, StandsOnce}
+use Rattle.residue_theory.specs.Sets.{has}
+use Rattle.cert_text.specs.Readings.{matrix_of, place_of, column_lists, q_row_lists, t_row_lists, parts_of, lower_of, tableau_of, StandsOnce}
 use Rattle.cert_text.specs.Right.{HasShape, HasProduct, HasUnitColumns}
 use Rattle.cert_text.specs.Rules.{HasMatching, IsInBlock, KeepsRules}
 

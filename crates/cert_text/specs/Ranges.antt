@@ -2,17 +2,18 @@
 use Rattle.std.specs.Prelude.{ℕ, ◌+◌, ◌<◌, ◌≤◌, ◌≡◌, ◌^◌, List, length, map, slice_index_or}
 use Rattle.std.specs.List.{All}
 use Rattle.std.specs.List.Sorted.{IsStrictlyIncreasing}
+use Rattle.limits.specs.Limits.{column_limit, equation_limit}
 use Rattle.cert_text.specs.Contents.{Contents}
 use Rattle.cert_text.specs.declared.shape.Shape.{Shape}
 use Rattle.cert_text.specs.declared.part.CcfPart.{CcfPart}
 use Rattle.cert_text.specs.declared.part.CcfBlock.{CcfBlock}
 
 pub record IsShape (shape : Shape) : Type 0 where
-  pub equations : shape.equations ≤ 4096
-  pub unknowns : shape.unknowns ≤ 4096
-  pub q_rows : shape.q_rows ≤ 4096
-  pub t_rows : shape.t_rows ≤ 4096
-  pub columns : shape.columns ≤ 8192
+  pub equations : shape.equations ≤ equation_limit
+  pub unknowns : shape.unknowns ≤ equation_limit
+  pub q_rows : shape.q_rows ≤ equation_limit
+  pub t_rows : shape.t_rows ≤ equation_limit
+  pub columns : shape.columns ≤ column_limit
 
 -- rising numbers below n
 pub record AreRising (n : ℕ) (numbers : List ℕ) : Type 0 where
@@ -53,7 +54,7 @@ pub record IsBlock (shape : Shape) (k : ℕ) (block : CcfBlock) : Type 0 where
 -- a form with values modulo this number
 pub record IsCcf (modulus : ℕ) (c : Contents) : Type 0 where
   pub shape : IsShape c.shape
-  pub rank : c.rank ≤ 8192
+  pub rank : c.rank ≤ column_limit
   pub base : ArePairs c.shape.q_rows c.shape.columns c.base
   pub mates : ArePairs c.shape.t_rows c.shape.columns c.mates
   pub s : IsMatrix modulus c.shape.q_rows c.shape.q_rows c.s

@@ -1,7 +1,6 @@
 -- The matrices, sets and parts that the lines of a certificate stand for.
 use Rattle.std.specs.Prelude.{ℕ, suc, ◌<◌, ◌≡◌, ◌≢◌, ◌%◌, ◌∷◌, ◌++◌, Bool, true, cond, eqb, List, [], length, map, slice_index_or}
-use Rattle.std.specs.List.{list_any}
-use Rattle.residue_theory.specs.Sets.{some_below}
+use Rattle.residue_theory.specs.Sets.{has, some_below}
 use Rattle.mixed_matrices.specs.Forms.{Parts}
 use Rattle.mixed_matrices.specs.Tableaus.{Tableau}
 use Rattle.cert_text.specs.Contents.{Contents}
@@ -14,10 +13,6 @@ entry_at (entry ∷ entries) j = cond (eqb entry.0 j) entry.1 (entry_at entries 
 -- the matrix of rows of entries
 abbrev pub matrix_of : List (List (ℕ × ℕ)) → ℕ → ℕ → ℕ
 matrix_of rows i j = entry_at (slice_index_or rows i []) j
-
--- whether a list holds a number
-abbrev pub has : List ℕ → ℕ → Bool
-has numbers x = list_any (λ number. eqb number x) numbers
 
 -- the pattern of rows of columns
 abbrev pub pattern_of : List (List ℕ) → ℕ → ℕ → Bool

@@ -1,4 +1,5 @@
--- What makes a canonical form that a certificate prints right for a model M and its layered matrix L (Murota, chapters 2 and 4).
+-- What makes a canonical form that a certificate prints right for a model M and its layered matrix L (Murota, chapters
+-- 2 and 4).
 use Rattle.std.specs.Prelude.{ℕ, ◌+◌, ◌<◌, ◌≡◌, ◌↔◌, Bool, true, length}
 use Rattle.closed_sets.specs.Walks.{ReachesOn}
 use Rattle.linear_algebra.specs.Products.{product, Agree, IsInverse}
@@ -33,10 +34,11 @@ pub record HasTransform (p : ℕ) (L : LayeredMatrix) (c : Contents) : Type 0 wh
 
 -- each base column is a unit column of P at its row
 abbrev pub HasUnitColumns : ℕ → LayeredMatrix → Contents → Type 0
-HasUnitColumns p L c = (k : ℕ) → k < length c.base → IsUnitColumn p L.q_rows (matrix_of c.p) (pair_at c.base k).0 (pair_at c.base k).1
+HasUnitColumns p L c = (k : ℕ) → k < length c.base → IsUnitColumn p L.q_rows (matrix_of c.p) (pair_at c.base k).0
+    (pair_at c.base k).1
 
--- the base columns are unit columns of P and with the matched ones a pair, whose size is the printed rank and one for each split equation;
--- and the printed rank is the structural rank of M
+-- the base columns are unit columns of P and with the matched ones a pair, whose size is the printed rank and one for
+-- each split equation; and the printed rank is the structural rank of M
 pub record HasPairAndRank (p : ℕ) (M : MixedMatrix) (L : LayeredMatrix) (O : Origins) (c : Contents) : Type 0 where
   pub units : HasUnitColumns p L c
   pub differ : ColumnsDiffer c.base c.mates
@@ -54,7 +56,8 @@ pub record HasForm (p : ℕ) (L : LayeredMatrix) (c : Contents) : Type 0 where
 
 -- below tells the order of blocks that the lower lists give by chains
 abbrev pub IsOrderOf : Contents → (ℕ → ℕ → Bool) → Type 0
-IsOrderOf c below = (k l : ℕ) → k < length c.blocks → l < length c.blocks → (below k l ≡ true) ↔ ReachesOn (lower_of c) (length c.blocks) l k
+IsOrderOf c below = (k l : ℕ) → k < length c.blocks → l < length c.blocks → (below k l ≡ true) ↔
+    ReachesOn (lower_of c) (length c.blocks) l k
 
 -- a column set is a minimiser exactly where it is an ideal of the printed blocks
 pub record HasIdeals (p : ℕ) (L : LayeredMatrix) (c : Contents) : Type 0 where
@@ -65,8 +68,10 @@ pub record HasIdeals (p : ℕ) (L : LayeredMatrix) (c : Contents) : Type 0 where
 -- the parts, their listing and their lower lists are the canonical ones
 pub record HasCanonicalListing (p : ℕ) (L : LayeredMatrix) (c : Contents) : Type 0 where
   pub parts : AreCanonical p L (parts_of c)
-  pub order : (k l : ℕ) → k < length c.blocks → l < length c.blocks → ReachesOn (lower_of c) (length c.blocks) l k ↔ IsBlockBelow p L (parts_of c) k l
-  pub lists : (k l : ℕ) → k < length c.blocks → l < length c.blocks → (lower_of c l k ≡ true) ↔ IsLowerBlock p L (parts_of c) k l
+  pub order : (k l : ℕ) → k < length c.blocks → l < length c.blocks → ReachesOn (lower_of c) (length c.blocks) l k ↔
+      IsBlockBelow p L (parts_of c) k l
+  pub lists : (k l : ℕ) → k < length c.blocks → l < length c.blocks → (lower_of c l k ≡ true) ↔
+      IsLowerBlock p L (parts_of c) k l
 
 pub record IsRightCcf (p : ℕ) (M : MixedMatrix) (L : LayeredMatrix) (O : Origins) (c : Contents) : Type 0 where
   pub shape : HasShape M L c

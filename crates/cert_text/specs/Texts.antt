@@ -1,4 +1,5 @@
--- The text of a certificate, by cases on its fields. Rows, columns and blocks are counted from 0 here, and from 1 in the text.
+-- The text of a certificate, by cases on its fields. Rows, columns and blocks are counted from 0 here, and from 1 in
+-- the text.
 use Rattle.std.specs.Prelude.{ℕ, ◌+◌, List, [], ◌∷◌, ◌++◌, length, codes}
 pub use Rattle.text_writer.specs.Numbers.{marked, spaced, item}
 use Rattle.cert_text.specs.Contents.{Contents, Certificate}
@@ -62,7 +63,8 @@ tail_line word part = word ++ part_text part ++ codes "\n"
 
 -- the line of a block
 abbrev pub block_line : ℕ → CcfBlock → List ℕ
-block_line number block = head_text (codes "block") number ++ part_text block.part ++ codes " |" ++ numbers_text block.lower ++ codes "\n"
+block_line number block = head_text (codes "block") number ++ part_text block.part ++ codes " |"
+    ++ numbers_text block.lower ++ codes "\n"
 
 -- the lines of blocks, the first of them with this number
 abbrev pub blocks_text : ℕ → List CcfBlock → List ℕ
@@ -77,19 +79,23 @@ kind_text Flowsheet = codes "flowsheet"
 -- the version, the kind, the length and the echo
 abbrev pub echo_text : Kind → List ℕ → List ℕ
 echo_text kind echo =
-    codes "mixed-certificate 1\nkind " ++ kind_text kind ++ codes "\nlength" ++ spaced (length echo) ++ codes "\n" ++ echo ++ codes "\n"
+    codes "mixed-certificate 1\nkind " ++ kind_text kind ++ codes "\nlength" ++ spaced (length echo) ++ codes "\n"
+    ++ echo ++ codes "\n"
 
 abbrev pub shape_text : Shape → List ℕ
 shape_text shape =
-    codes "shape" ++ spaced shape.equations ++ spaced shape.unknowns ++ spaced shape.q_rows ++ spaced shape.t_rows ++ spaced shape.columns ++ codes "\n"
+    codes "shape" ++ spaced shape.equations ++ spaced shape.unknowns ++ spaced shape.q_rows ++ spaced shape.t_rows
+    ++ spaced shape.columns ++ codes "\n"
 
 -- the lines of the rank, the base and the match
 abbrev pub pair_text : ℕ → List (ℕ × ℕ) → List (ℕ × ℕ) → List ℕ
-pair_text rank base mates = codes "rank" ++ spaced rank ++ codes "\nbase" ++ pairs_text base ++ codes "\nmatch" ++ pairs_text mates ++ codes "\n"
+pair_text rank base mates = codes "rank" ++ spaced rank ++ codes "\nbase" ++ pairs_text base ++ codes "\nmatch"
+    ++ pairs_text mates ++ codes "\n"
 
 -- the lines of S, U, P and T
 abbrev pub matrices_text : List (List (ℕ × ℕ)) → List (List (ℕ × ℕ)) → List (List (ℕ × ℕ)) → List (List ℕ) → List ℕ
-matrices_text s u p t = matrix_text (codes "S") 1 s ++ matrix_text (codes "U") 1 u ++ matrix_text (codes "P") 1 p ++ pattern_text (codes "T") 1 t
+matrices_text s u p t = matrix_text (codes "S") 1 s ++ matrix_text (codes "U") 1 u ++ matrix_text (codes "P") 1 p
+    ++ pattern_text (codes "T") 1 t
 
 -- the lines of the parts
 abbrev pub parts_text : CcfPart → List CcfBlock → CcfPart → List ℕ
@@ -98,7 +104,8 @@ parts_text first blocks last = tail_line (codes "first") first ++ blocks_text 1 
 -- the lines from the shape on
 abbrev pub contents_text : Contents → List ℕ
 contents_text c =
-    shape_text c.shape ++ pair_text c.rank c.base c.mates ++ matrices_text c.s c.u c.p c.t ++ parts_text c.first c.blocks c.last ++ codes "end\n"
+    shape_text c.shape ++ pair_text c.rank c.base c.mates ++ matrices_text c.s c.u c.p c.t
+    ++ parts_text c.first c.blocks c.last ++ codes "end\n"
 
 -- the text of a certificate
 abbrev pub certificate_text : Certificate → List ℕ

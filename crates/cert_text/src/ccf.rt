@@ -17,8 +17,8 @@ use residue_field::Field;
 use std::marker::Model;
 use text_writer::TextWriter;
 
-/// A printed combinatorial canonical form of a layered matrix: what a certificate has besides the input. (Murota, chapter
-/// 4.) With Q rows of constants, T rows of symbols and N columns, all counted from 0:
+/// A printed combinatorial canonical form of a layered matrix: what a certificate has besides the input. (Murota,
+/// chapter 4.) With Q rows of constants, T rows of symbols and N columns, all counted from 0:
 ///
 /// - `rank`, the structural rank of the model, at most 8,192;
 /// - `base`, Q rows and their base columns, by rising row;

@@ -12,7 +12,8 @@ use Rattle.cert_text.specs.Contents.{Contents}
 use Rattle.cert_text.specs.declared.part.CcfBlock.{CcfBlock}
 use Rattle.cert_text.specs.declared.part.CcfPart.{CcfPart}
 use Rattle.cert_text.specs.Ranges.{AreRising, IsCcf}
-use Rattle.cert_text.specs.Readings.{has, place_of, column_lists, q_row_lists, t_row_lists, StandsOnce}
+use Rattle.residue_theory.specs.Sets.{has}
+use Rattle.cert_text.specs.Readings.{place_of, column_lists, q_row_lists, t_row_lists, StandsOnce}
 use Rattle.cert_text.proofs.PrintedRules.{place-is}
 use Rattle.certificate_laws.proofs.RisingLists.{members-counted, same-lists, same-tests}
 

@@ -2,12 +2,11 @@
 use Rattle.std.proofs.Common.{◌≡◌, ℕ, zero, suc, ◌+◌, ◌<◌, ◌≤◌, Bool, true, false, eqb, inl, inr, List, [], ◌∷◌, length, get_or, refl, ap, sym, subst, ◌∙◌, arith}
 use Rattle.std.specs.List.Sorted.{IsStrictlyIncreasing}
 use Rattle.std.proofs.lemmas.List.Kept.{AllPairs-from_increasing}
-use Rattle.residue_theory.specs.Sets.{everything}
+use Rattle.residue_theory.specs.Sets.{everything, has}
 use Rattle.residue_theory.specs.Sums.{size_on}
 use Rattle.residue_theory.proofs.SetLaws.{differ, either_cases, either-first, either-second, eqb_true, eqb_from, lt_cases, not_true}
 use Rattle.residue_theory.proofs.CountLaws.{size-everything, size-injection, size-surjection}
 use Rattle.cert_text.specs.Ranges.{AreRising}
-use Rattle.cert_text.specs.Readings.{has}
 use Rattle.cert_text.proofs.PrintedRules.{has-below}
 
 -- two tests that are true together

@@ -13,8 +13,8 @@ use Rattle.cert_text.specs.Right.{IsRightCcf}
 abbrev pub lower_lists : Contents → List (List ℕ)
 lower_lists c = map (λ block. block.lower) c.blocks
 
--- c and d have the same rank and T rows, and the same parts in one order. S, U, P, the pair, and which Q rows stand in a
--- part may differ.
+-- c and d have the same rank and T rows, and the same parts in one order. S, U, P, the pair, and which Q rows stand in
+-- a part may differ.
 pub record Agree (c d : Contents) : Type 0 where
   pub shape : c.shape ≡ d.shape
   pub rank : c.rank ≡ d.rank

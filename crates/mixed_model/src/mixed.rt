@@ -20,8 +20,8 @@ use std::marker::Model;
 // How many equations have room at first.
 const FIRST_ROOM: usize = 16;
 
-/// A mixed matrix with named equations as rows and named unknowns as columns, both numbered from 0 in the order in
-/// which they were added, at most 4,096 of each: at each place perhaps a constant, and perhaps a symbol of its own.
+/// A mixed matrix over F with named equations as rows and named unknowns as columns, both numbered from 0 in the order
+/// in which they were added, at most 4,096 of each: at each place perhaps a constant, and perhaps a symbol of its own.
 /// (Murota, chapter 4.)
 #[derive(Drop)]
 pub struct Mixed<F: Field> {

@@ -20,7 +20,8 @@ pub fn split_entry_at_examples()
     ensures without_row { IsLayeredRank 65521 (layered_part everything (without everything 0)
         everything split_matrix) 1 }
     ensures without_unknown { IsStructuralRank 65521 (without_unknown 0 split_model) 0 }
-    ensures without_column { IsLayeredRank 65521 (layered_part everything everything (without everything 0) split_matrix) 1 }
+    ensures without_column { IsLayeredRank 65521 (layered_part everything everything (without everything 0)
+        split_matrix) 1 }
     ensures not_surplus { IsSurplus 65521 split_model 0 → ⊥ }
     ensures not_undetermined { IsUndetermined 65521 split_model 0 → ⊥ }
 {}
@@ -38,9 +39,11 @@ pub fn stacked_values_at_examples()
 /// rank of the model is then 1. No equation is surplus, and no unknown undetermined.
 pub fn stacked_removals_at_examples()
     ensures without_constants { IsStructuralRank 65521 (without_equation 0 stacked_model) 1 }
-    ensures without_q_row { IsLayeredRank 65521 (layered_part (without everything 0) everything everything stacked_matrix) 2 }
+    ensures without_q_row { IsLayeredRank 65521 (layered_part (without everything 0) everything everything
+        stacked_matrix) 2 }
     ensures without_split { IsStructuralRank 65521 (without_equation 1 stacked_model) 1 }
-    ensures without_t_row { IsLayeredRank 65521 (layered_part everything (without everything 0) everything stacked_matrix) 2 }
+    ensures without_t_row { IsLayeredRank 65521 (layered_part everything (without everything 0) everything
+        stacked_matrix) 2 }
     ensures constants_not_surplus { IsSurplus 65521 stacked_model 0 → ⊥ }
     ensures split_not_surplus { IsSurplus 65521 stacked_model 1 → ⊥ }
     ensures first_not_undetermined { IsUndetermined 65521 stacked_model 0 → ⊥ }

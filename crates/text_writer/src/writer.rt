@@ -10,7 +10,8 @@ use crate::progress::Progress;
 use port_io::{Sink, WriteFault};
 
 /// Takes the pieces of a long text on their way to a sink, and gathers them, so that the sink is not called for each of
-/// them. Once a call of the sink has failed, no call is made any more, and `finish` tells the fault. It takes no memory.
+/// them. Once a call of the sink has failed, no call is made any more, and `finish` tells the fault. It takes no
+/// memory.
 pub struct TextWriter<'a, K: Sink> {
     out: &'a mut K,
     progress: Progress,

@@ -1,4 +1,4 @@
-use Rattle.std.proofs.Common.{◌+◌, List, ℕ, subst, sym, ap, ◌∙◌}
+use Rattle.std.proofs.Common.{◌+◌, subst, sym, ap, ◌∙◌}
 use Rattle.residue_theory.proofs.SetLaws.{differ}
 use Rattle.dense_q.specs.Tables.{entry}
 use Rattle.cert_text.specs.Contents.{numbered}
