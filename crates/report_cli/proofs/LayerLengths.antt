@@ -1,16 +1,16 @@
 -- The length of a layer text.
-use Rattle.std.proofs.Common.{◌≡◌, ℕ, zero, suc, ◌+◌, ◌-◌, ◌*◌, ◌<◌, ◌≤◌, ◌==◌, Bool, true, false, cond, eqb, List, [], ◌∷◌, ◌++◌, length, get_or, codes, Option, Some, None, unwrap_or, nat_eq, if◌then◌else◌, inl, inr, refl, sym, ap, ◌∙◌, subst, arith, suc-mul, ⊎_elim, slice_index}
+use Rattle.std.proofs.Common.{◌≡◌, ℕ, ◌+◌, ◌-◌, ◌*◌, ◌<◌, ◌≤◌, ◌==◌, Bool, true, false, cond, eqb, List, [], ◌∷◌, ◌++◌, length, get_or, codes, Option, Some, None, unwrap_or, nat_eq, if◌then◌else◌, refl, sym, ap, subst, arith, suc-mul, ⊎_elim, slice_index}
 use Rattle.std.specs.List.{All}
 use Rattle.std.proofs.Math.ListN.{get_or-eq_default}
 use Rattle.std.proofs.lemmas.Bool.{cases_lt, leb-true}
 use Rattle.std.proofs.lemmas.List.{length-append, get_or_default}
-use Rattle.std.proofs.lemmas.List.Elements.{All-head, All-tail, All-get_or}
+use Rattle.std.proofs.lemmas.List.Elements.{All-head, All-tail}
 use Rattle.residue_field.specs.Modulus.{res_modulus}
 use Rattle.residue_theory.proofs.SetLaws.{both-first, both-second}
-use Rattle.dense_q.specs.Tables.{Table, height, row_at, entry}
+use Rattle.dense_q.specs.Tables.{height, row_at, entry}
 use Rattle.mixed_model.specs.Models.{MixedModel, IsModel, constant_at}
 use Rattle.mixed_model.specs.Names.{IsNameList, is_label}
-use Rattle.mixed_model.specs.Rows.{RisesFrom, IsFilled, IsRow, IsWithin, entry_in, constant_in, constant_at_place}
+use Rattle.mixed_model.specs.Rows.{RisesFrom, entry_in, constant_in, constant_at_place}
 use Rattle.mixed_model.specs.Layers.{Layers}
 use Rattle.mixed_model.specs.Entries.{RowEntry}
 use Rattle.mixed_model.specs.declared.origin.Origin.{Origin}

@@ -1,19 +1,17 @@
 -- Each text that may be written for an input fits in the room that its length gives.
-use Rattle.std.proofs.Common.{◌≡◌, ℕ, ◌+◌, ◌*◌, ◌<◌, ◌≤◌, Bool, true, List, length, min, refl, ap, arith}
+use Rattle.std.proofs.Common.{◌≡◌, ℕ, ◌+◌, ◌≤◌, Bool, List, length, refl, ap, arith}
 use Rattle.residue_field.specs.Modulus.{res_modulus}
 use Rattle.residue_theory.specs.Sets.{everything}
-use Rattle.residue_theory.specs.Sums.{size_on}
 use Rattle.residue_theory.proofs.CountLaws.{size-everything}
 use Rattle.residue_theory.proofs.SumLaws.{size_on-within}
 use Rattle.mixed_matrices.specs.LayeredMatrices.{LayeredMatrix}
 use Rattle.mixed_matrices.specs.Layerings.{AreMembers, Origins, IsLayeredMatrixOf}
-use Rattle.mixed_matrices.specs.Models.{MixedMatrix}
 use Rattle.mixed_model.specs.Models.{MixedModel, IsModel, mixed_matrix_of}
 use Rattle.mixed_model.specs.Layers.{Layers, layered_matrix_of}
 use Rattle.mixed_layering.specs.Layers.{AreLayersOf, origins_of}
 use Rattle.matrix_reader.specs.Models.{GivesModel}
 use Rattle.cert_text.specs.Contents.{Certificate}
-use Rattle.text_lengths.specs.Rooms.{certificate_room, IsShapeWithin}
+use Rattle.text_lengths.specs.Rooms.{IsShapeWithin}
 use Rattle.text_lengths.proofs.InputCounts.{few-names}
 use Rattle.text_lengths.proofs.TextLengths.{certificate-short}
 use Rattle.report_cli.specs.Limits.{model_limit}

@@ -1,4 +1,4 @@
-use Rattle.std.proofs.Common.{◌+◌, ◌<◌, ap, drop, length, arith}
+use Rattle.std.proofs.Common.{◌+◌, ◌<◌, ap, length, arith}
 use Rattle.text_writer.proofs.Putting.{loop_goes_on, loop_begins, loop_ends}
 use Rattle.report_cli.specs.LayerTexts.{column_lines}
 use Rattle.report_cli.proofs.LayerFacts.{column_origin_within}

@@ -1,6 +1,5 @@
-use Rattle.std.proofs.Common.{codes, ap, ◌∙◌}
+use Rattle.std.proofs.Common.{ap, ◌∙◌}
 use Rattle.cert_text.specs.Texts.{spaced}
-use Rattle.report_cli.specs.LayerTexts.{column_lines}
 use Rattle.text_writer.proofs.Putting.{puts_then, puts_is}
 use Rattle.mixed_model.specs.Layers.{Layers}
 use Rattle.report_cli.proofs.layer_lines.put_columns.Goals as goal

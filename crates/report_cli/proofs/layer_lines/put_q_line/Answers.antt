@@ -1,4 +1,4 @@
-use Rattle.std.proofs.Common.{codes, ap, sym, slice_index}
+use Rattle.std.proofs.Common.{ap, sym}
 use Rattle.dense_q.specs.Tables.{row_at}
 use Rattle.report_cli.specs.LayerTexts.{name_at, row_entries_text}
 use Rattle.report_cli.proofs.LayerPieces.{got_or}

@@ -1,4 +1,4 @@
-use Rattle.std.proofs.Common.{◌+◌, ◌<◌, ◌∙◌, ap, drop, length, arith}
+use Rattle.std.proofs.Common.{◌<◌, ◌∙◌, ap, length, arith}
 use Rattle.text_writer.proofs.Putting.{loop_goes_on, loop_begins, loop_ends}
 use Rattle.report_cli.specs.LayerTexts.{row_lines, q_line}
 use Rattle.report_cli.proofs.LayerPieces.{rows_left, rows_end}

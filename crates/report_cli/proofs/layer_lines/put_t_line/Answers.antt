@@ -1,4 +1,4 @@
-use Rattle.std.proofs.Common.{codes, ap, sym, ◌∙◌, slice_index}
+use Rattle.std.proofs.Common.{ap, sym, ◌∙◌}
 use Rattle.cert_text.specs.Texts.{numbers_text}
 use Rattle.sparse_t.specs.Incidences.{row_at}
 use Rattle.report_cli.specs.LayerTexts.{name_at}

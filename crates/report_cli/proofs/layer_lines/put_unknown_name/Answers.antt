@@ -1,4 +1,3 @@
-use Rattle.std.proofs.Common.{◌∙◌}
 use Rattle.text_writer.proofs.Putting.{puts_is}
 use Rattle.report_cli.proofs.LayerFacts.{name_is}
 use Rattle.report_cli.proofs.layer_lines.put_unknown_name.Goals as goal

@@ -1,5 +1,3 @@
-use Rattle.std.proofs.Common.{codes}
-use Rattle.cert_text.specs.Texts.{spaced}
 use Rattle.text_writer.proofs.Putting.{puts_then}
 use Rattle.report_cli.proofs.telling.put_limit.Goals as goal
 
