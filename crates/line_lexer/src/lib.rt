@@ -8,7 +8,7 @@ mod numbers;
 mod token;
 
 pub use cuts::{lines, tokens};
-pub use line::{Line, Lines};
+pub use line::{Line, Lines, without_return};
 pub use names::{name, short_name};
 pub use numbers::number;
 pub use token::{Token, Tokens};

@@ -87,8 +87,8 @@ fn first_line_feed(bytes: &[u8]) -> Option<usize>
     bytes.iter().position(|byte| *byte == b'\n')
 }
 
-// A line without the one carriage return at its end, if it has one.
-fn without_return(line: &[u8]) -> &[u8]
+/// A line without the one carriage return at its end, if it has one.
+pub fn without_return(line: &[u8]) -> &[u8]
     ensures { result.now ≡ strip_carriage_return line.now }
 {
     match line.split_last() {

@@ -11,7 +11,8 @@ use Rattle.matrix_reader.specs.EquationLists.{equations_in, unknowns_in}
 use Rattle.matrix_reader.specs.Faults.{fault_of}
 use Rattle.matrix_reader.specs.Models.{IsModelOf, LinesGive}
 use Rattle.matrix_reader.specs.Rules.{term_rule, place_rule, item_rule}
-use Rattle.matrix_reader.specs.ReaderStates.{IsWithin, UnmarkedFrom, PutsValue, AnswersRule, so_far}
+use Rattle.line_reader.specs.Answers.{AnswersRule}
+use Rattle.matrix_reader.specs.ReaderStates.{IsWithin, UnmarkedFrom, PutsValue, so_far}
 use Rattle.matrix_reader.proofs.LineForms.{equation_last, item_seen, lines_name_only}
 use Rattle.matrix_reader.proofs.MarkLaws.{Marks, marked_rule, unmarked_rule}
 use Rattle.matrix_reader.proofs.RuleSteps.{first_kept}

@@ -3,7 +3,6 @@ pub mod ItemSteps
 pub mod LabelLaws
 pub mod LineForms
 pub mod LineSteps
-pub mod ListSteps
 pub mod MarkLaws
 pub mod ModelLaws
 pub mod ModelSteps

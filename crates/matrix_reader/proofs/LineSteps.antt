@@ -11,9 +11,10 @@ use Rattle.mixed_model.proofs.NameLaws.{has_name-Some, has_name-None}
 use Rattle.matrix_reader.specs.EquationLists.{equation_of, equations_in, names_in, unknowns_in}
 use Rattle.matrix_reader.specs.Models.{IsModelOf, LinesGive}
 use Rattle.matrix_reader.specs.Rules.{each_rule, name_rule, room_rule, equation_rule, item_rule, unknown_rule, equation_line_rule, unknown_line_rule}
-use Rattle.matrix_reader.specs.ReaderStates.{IsRead, IsWithin, SeenFrom, UnseenFrom, OnBroken, AnswersRule, AddsEquation, so_far}
-use Rattle.matrix_reader.specs.declared.fault.LineFault.{LineFault}
-use Rattle.matrix_reader.specs.declared.fault.LineFault.TheVariants.{Broken, NoMemory}
+use Rattle.line_reader.specs.Answers.{OnBroken, AnswersRule}
+use Rattle.matrix_reader.specs.ReaderStates.{IsRead, IsWithin, SeenFrom, UnseenFrom, AddsEquation, so_far}
+use Rattle.line_reader.specs.declared.fault.LineFault.{LineFault}
+use Rattle.line_reader.specs.declared.fault.LineFault.TheVariants.{Broken, NoMemory}
 use Rattle.matrix_reader.proofs.LineForms.{name_seen, no_equation, LinesGive-blank, lines_name_only}
 use Rattle.matrix_reader.proofs.ModelSteps.{IsModelOf-unknown}
 use Rattle.matrix_reader.proofs.RuleSteps.{answers_same, answers_fault_same, first_broken, first_kept, each_more, each_broken}

@@ -3,9 +3,9 @@ use Rattle.std.proofs.Common.{◌≡◌, ℕ, List, [], ◌∷◌, ◌++◌, Opt
 use Rattle.std.specs.Option.{option_or}
 use Rattle.refusals.specs.declared.Why.{Why}
 use Rattle.matrix_reader.specs.Rules.{each_rule}
-use Rattle.matrix_reader.specs.ReaderStates.{OnBroken, AnswersRule}
-use Rattle.matrix_reader.specs.declared.fault.LineFault.{LineFault}
-use Rattle.matrix_reader.specs.declared.fault.LineFault.TheVariants.{Broken, NoMemory}
+use Rattle.line_reader.specs.Answers.{OnBroken, AnswersRule}
+use Rattle.line_reader.specs.declared.fault.LineFault.{LineFault}
+use Rattle.line_reader.specs.declared.fault.LineFault.TheVariants.{Broken, NoMemory}
 
 -- what a fault says is the answer to a rule
 pub answers_fault : (rule : Option Why) (Left : Type 0) (P : Why → Type 0) (fault : LineFault) → ((why : Why) → P why → rule ≡ Some why) → OnBroken fault P → AnswersRule rule Left (Err fault)

@@ -2,8 +2,8 @@
 use Rattle.mixed_model.specs.declared.errors.AddError.{AddError}
 use Rattle.mixed_model.specs.declared.errors.AddError.TheVariants.{Twice as ThereAlready, TooMany as IsFull, NoMemory as OutOfMemory}
 use Rattle.refusals.specs.declared.Why.TheVariants.{Twice, TooMany}
-use Rattle.matrix_reader.specs.declared.fault.LineFault.{LineFault}
-use Rattle.matrix_reader.specs.declared.fault.LineFault.TheVariants.{Broken, NoMemory}
+use Rattle.line_reader.specs.declared.fault.LineFault.{LineFault}
+use Rattle.line_reader.specs.declared.fault.LineFault.TheVariants.{Broken, NoMemory}
 
 abbrev pub fault_of : AddError → LineFault
 fault_of ThereAlready = Broken Twice

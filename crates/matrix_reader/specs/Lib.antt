@@ -4,3 +4,4 @@ pub mod Rules
 pub mod Models
 pub mod ReaderStates
 pub mod Faults
+pub mod Feeding

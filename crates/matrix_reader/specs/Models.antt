@@ -1,17 +1,16 @@
 -- The model that a text gives, and the first rule that it breaks.
-use Rattle.std.specs.Prelude.{◌≡◌, ℕ, ◌+◌, ◌<◌, Bool, ◌&&◌, List, [], length, map, take, sum_by, if◌then◌else◌, slice_index_or, Option, Some, None}
+use Rattle.std.specs.Prelude.{◌≡◌, ℕ, ◌<◌, Bool, ◌&&◌, List, [], length, map, sum_by, if◌then◌else◌, slice_index_or}
 use Rattle.std.specs.List.{list_any}
 use Rattle.std.specs.Str.{bytes_eq}
-use Rattle.refusals.specs.declared.Place.TheVariants.{Line}
 use Rattle.refusals.specs.declared.Why.{Why}
 use Rattle.refusals.specs.declared.ReadModel.{ReadModel}
-use Rattle.refusals.specs.declared.ReadModel.TheVariants.{Refused, NoMemory}
 use Rattle.line_lexer.specs.Lines.{lines_of}
 use Rattle.line_lexer.specs.Tokens.{words_of}
+use Rattle.line_reader.specs.LineRules.{KeepsAll, IsFirstBroken as IsFirst, IsRefusal as IsWhy}
 use Rattle.mixed_model.specs.Models.{MixedModel, IsModel, constant_at, symbol_of}
 use Rattle.matrix_reader.specs.Items.{unknown_of, item_constant, item_symbol}
 use Rattle.matrix_reader.specs.EquationLists.{Equation, equations_in, unknowns_in}
-use Rattle.matrix_reader.specs.Rules.{line_rule}
+use Rattle.matrix_reader.specs.Rules.{words_rule}
 
 -- what some items say of an unknown: the sum of their constants there
 abbrev pub said_of : ℕ → List (List ℕ) → List ℕ → ℕ
@@ -40,27 +39,15 @@ pub record IsModelOf (p : ℕ) (list : List Equation) (unknowns : List (List ℕ
 abbrev pub LinesGive : ℕ → List (List (List ℕ)) → MixedModel → Type 0
 LinesGive p lines model = IsModelOf p (equations_in lines) (unknowns_in lines) model
 
--- what the rules say of line k, counted from 0: why it breaks one, if it does
-abbrev pub rule_at : ℕ → List (List ℕ) → ℕ → Option Why
-rule_at p lines k = line_rule p (map words_of (take k lines)) (slice_index_or lines k [])
-
--- the first n lines keep all rules
-abbrev pub KeepBefore : ℕ → ℕ → List (List ℕ) → Type 0
-KeepBefore p n lines = (k : ℕ) → k < n → rule_at p lines k ≡ None
-
 -- A text gives a model: each line keeps the rules, and the model is that of the lines.
 pub record GivesModel (p : ℕ) (text : List ℕ) (model : MixedModel) : Type 0 where
-  pub kept : KeepBefore p (length (lines_of text)) (lines_of text)
+  pub kept : KeepsAll (words_rule p) text
   pub given : LinesGive p (map words_of (lines_of text)) model
 
 -- The first broken rule of a text: line n, counted from 0, is the first that breaks one, and this is why.
-pub record IsFirstBroken (p : ℕ) (text : List ℕ) (n : ℕ) (why : Why) : Type 0 where
-  pub within : n < length (lines_of text)
-  pub before : KeepBefore p n (lines_of text)
-  pub here : rule_at p (lines_of text) n ≡ Some why
+abbrev pub IsFirstBroken : ℕ → List ℕ → ℕ → Why → Type 0
+IsFirstBroken p text n why = IsFirst (words_rule p) text n why
 
 -- Why a text is not read: its first broken rule and the line of it, counted from 1, or memory ran out.
 abbrev pub IsRefusal : ℕ → List ℕ → ReadModel → Type 0
-IsRefusal p text (Refused refused) =
-    (n : ℕ) × (why : Why) × (refused ≡ record { place = Line (n + 1); why = why }) × IsFirstBroken p text n why
-IsRefusal p text NoMemory = Unit {0}
+IsRefusal p text why = IsWhy (words_rule p) text why

@@ -3,14 +3,14 @@ use Rattle.std.specs.Prelude.{◌≡◌, ◌≢◌, ℕ, ◌+◌, ◌<◌, ◌�
 use Rattle.limits.specs.Limits.{equation_limit}
 use Rattle.refusals.specs.declared.Why.{Why}
 use Rattle.refusals.specs.declared.Why.TheVariants.{Twice, TooMany}
-use Rattle.line_lexer.specs.Tokens.{words_of}
+use Rattle.line_reader.specs.Answers.{AnswersRule}
 use Rattle.mixed_model.specs.Names.{has_name}
 use Rattle.mixed_model.specs.Models.{MixedModel, IsModel, constant_of, symbol_of, with_unknown}
 use Rattle.matrix_reader.specs.EquationLists.{equations_in, names_in}
 use Rattle.matrix_reader.specs.Models.{LinesGive}
-use Rattle.matrix_reader.specs.Rules.{each_rule, equation_rule, item_rule, unknown_rule, equation_line_rule, unknown_line_rule, line_rule}
-use Rattle.matrix_reader.specs.declared.fault.LineFault.{LineFault}
-use Rattle.matrix_reader.specs.declared.fault.LineFault.TheVariants.{Broken, NoMemory}
+use Rattle.matrix_reader.specs.Rules.{each_rule, equation_rule, item_rule, unknown_rule, equation_line_rule, unknown_line_rule, words_rule}
+use Rattle.line_reader.specs.declared.fault.LineFault.{LineFault}
+use Rattle.line_reader.specs.declared.fault.LineFault.TheVariants.{Broken, NoMemory}
 
 -- lines are read: the model is theirs, and the unknowns last stood in lines with a lower number than the next
 pub record IsRead
@@ -30,17 +30,6 @@ pub record IsWithin
   pub read : IsRead p (before ++ words ∷ []) (line + 1) model last_lines
   pub marks : (j : ℕ) → j < length model.unknowns
       → nat_eq (slice_index last_lines j) line ≡ has_name (names_in words) (slice_index_or model.unknowns j [])
-
--- where a rule is kept, this is left; else the answer is why it is broken, or memory ran out
-abbrev pub AnswersRule : Option Why → Type 0 → Result (Unit {0}) LineFault → Type 0
-AnswersRule rule Left (Ok _) = (rule ≡ None) × Left
-AnswersRule rule Left (Err (Broken why)) = rule ≡ Some why
-AnswersRule rule Left (Err NoMemory) = Unit {0}
-
--- what a fault says where it is a broken rule
-abbrev pub OnBroken : LineFault → (Why → Type 0) → Type 0
-OnBroken (Broken why) P = P why
-OnBroken NoMemory P = Unit {0}
 
 -- the column of an unknown after it is marked in a line, and what the marking leaves: by where the unknown stood
 abbrev pub MarkedFrom : ℕ → Option ℕ → ℕ → MixedModel → MixedModel → List ℕ → List ℕ → List ℕ → ℕ → Type 0
@@ -140,8 +129,9 @@ ReadsUnknowns p line old new old_lines new_lines words result =
     → AnswersRule (unknown_line_rule before words)
     (IsRead p (before ++ (codes "unknown" ∷ words) ∷ []) (line + 1) new new_lines) result
 
--- What reading a line answers and leaves.
-abbrev pub ReadsLine : ℕ → ℕ → MixedModel → MixedModel → List ℕ → List ℕ → List ℕ → Result (Unit {0}) LineFault → Type 0
-ReadsLine p number old new old_lines new_lines line result =
-    (before : List (List (List ℕ))) → IsRead p before number old old_lines
-    → AnswersRule (line_rule p before line) (IsRead p (before ++ words_of line ∷ []) (number + 1) new new_lines) result
+-- What reading a line by its words answers and leaves.
+abbrev pub ReadsLine : ℕ → ℕ → MixedModel → MixedModel → List ℕ → List ℕ → List (List ℕ)
+    → Result (Unit {0}) LineFault → Type 0
+ReadsLine p line old new old_lines new_lines words result =
+    (before : List (List (List ℕ))) → IsRead p before line old old_lines
+    → AnswersRule (words_rule p before words) (IsRead p (before ++ words ∷ []) (line + 1) new new_lines) result

@@ -6,10 +6,9 @@ use Rattle.std.specs.Result.{result_err}
 use Rattle.std.specs.Str.{bytes_eq}
 use Rattle.limits.specs.Limits.{equation_limit}
 use Rattle.refusals.specs.declared.Why.{Why}
-use Rattle.refusals.specs.declared.Why.TheVariants.{BadByte, BadWord, BadShape, BadName, Twice, TooMany}
+use Rattle.refusals.specs.declared.Why.TheVariants.{BadWord, BadShape, BadName, Twice, TooMany}
 use Rattle.line_lexer.specs.Names.{is_name}
 use Rattle.line_lexer.specs.Numbers.{number_of}
-use Rattle.line_lexer.specs.Tokens.{is_clean, words_of}
 use Rattle.mixed_model.specs.Names.{has_name}
 use Rattle.matrix_reader.specs.Items.{has_equals_sign, unknown_of, value_of, is_symbol, number_text}
 use Rattle.matrix_reader.specs.EquationLists.{equation_names, names_in, unknowns_in}
@@ -69,13 +68,9 @@ abbrev pub unknown_line_rule : List (List (List ℕ)) → List (List ℕ) → Op
 unknown_line_rule before [] = Some BadShape
 unknown_line_rule before (name ∷ names) = each_rule (unknown_rule before) (codes "unknown" ∷ []) (name ∷ names)
 
--- a line, by its words
+-- A line by its words, given the words of the lines before it.
 abbrev pub words_rule : ℕ → List (List (List ℕ)) → List (List ℕ) → Option Why
 words_rule p before [] = None
 words_rule p before (word ∷ words) =
     if bytes_eq word (codes "eq") then equation_line_rule p before words
     else (if bytes_eq word (codes "unknown") then unknown_line_rule before words else Some BadWord)
-
--- A line, given the words of the lines before it.
-abbrev pub line_rule : ℕ → List (List (List ℕ)) → List ℕ → Option Why
-line_rule p before line = if is_clean line then words_rule p before (words_of line) else Some BadByte

@@ -1,16 +1,52 @@
 //! The model of an equation list.
 
-ghost use Rattle.std.specs.Prelude.{◌≤◌, length, IfOk, IfErr};
+ghost use Rattle.std.specs.Prelude.{◌≡◌, ◌≤◌, ◌++◌, ℕ, List, [], length, IfOk, IfErr};
 ghost use Rattle.limits.specs.Limits.{input_limit};
 ghost use Rattle.matrix_reader.specs.Models.{GivesModel, IsRefusal};
+ghost use Rattle.matrix_reader.specs.Feeding.{IsFed};
 
-use crate::fault::LineFault;
 use crate::reader::Reader;
-use line_lexer::lines;
-use mixed_model::Mixed;
-use refusals::{Place, ReadModel, Refused};
+use line_reader::LineReader;
+use mixed_model::{Mixed, NoMemory};
+use refusals::ReadModel;
 use residue_field::Field;
 use std::alloc::Global;
+
+/// Reads an equation list of at most 8,388,608 bytes that comes in pieces, whatever the pieces are.
+#[derive(Drop)]
+pub struct MatrixReader<F: Field> {
+    lines: LineReader<Reader<F>>,
+}
+
+impl<F: Field> MatrixReader<F> {
+    /// A reader that was fed nothing.
+    pub fn new(alloc: Global) -> Result<MatrixReader<F>, NoMemory>
+        ensures { IfOk result (λ reader. IsFed F.modulus reader []) }
+    {
+        let reader = Reader::new(alloc)?;
+        Ok(MatrixReader {
+            lines: LineReader::new(alloc, reader),
+        })
+    }
+
+    /// Reads the lines that a piece ends. Where memory runs out the reader is given up.
+    pub fn feed(self, piece: &[u8]) -> Result<MatrixReader<F>, NoMemory>
+        ensures { IfOk result (λ fed. (text : List ℕ) → IsFed F.modulus self text
+            → length (text ++ piece.now) ≤ input_limit → IsFed F.modulus fed (text ++ piece.now)) }
+    {
+        let lines = self.lines.feed(piece)?;
+        Ok(MatrixReader { lines })
+    }
+
+    /// The model of the list, or why it has none, as `read` answers.
+    pub fn finish(self) -> Result<Mixed<F>, ReadModel>
+        ensures model { IfOk result (λ m. (text : List ℕ) → IsFed F.modulus self text → GivesModel F.modulus text m) }
+        ensures refused { IfErr result (λ why. (text : List ℕ) → IsFed F.modulus self text
+            → IsRefusal F.modulus text why) }
+    {
+        Ok(self.lines.finish()?.model)
+    }
+}
 
 /// The model of an equation list. A line `eq NAME ITEM ..` gives an equation, and each item `UNKNOWN=VALUE` gives it
 /// what stands at the unknown: a number is a constant, where it is not 0, `?` is a symbol, and a number followed by
@@ -27,18 +63,11 @@ pub fn read<F: Field>(alloc: Global, bytes: &[u8]) -> Result<Mixed<F>, ReadModel
     ensures model { IfOk result (λ m. GivesModel F.modulus bytes.now m) }
     ensures refused { IfErr result (λ why. IsRefusal F.modulus bytes.now why) }
 {
-    let Ok(mut reader) = Reader::new(alloc) else {
+    let Ok(reader) = MatrixReader::new(alloc) else {
         return Err(ReadModel::NoMemory);
     };
-    for line in lines(bytes) {
-        match reader.read_line(line) {
-            Ok(()) => {}
-            Err(LineFault::Broken(why)) => {
-                let place = Place::Line(line.number);
-                return Err(ReadModel::Refused(Refused { place, why }));
-            }
-            Err(LineFault::NoMemory) => return Err(ReadModel::NoMemory),
-        }
-    }
-    Ok(reader.model)
+    let Ok(reader) = reader.feed(bytes) else {
+        return Err(ReadModel::NoMemory);
+    };
+    reader.finish()
 }

@@ -4,12 +4,14 @@ ghost use Rattle.std.specs.Prelude.{◌≡◌, ◌<◌, ℕ, [], length, map, ve
 ghost use Rattle.std.specs.Str.{bytes_eq};
 ghost use Rattle.mixed_model.specs.Names.{is_label};
 ghost use Rattle.mixed_model.specs.Models.{IsModel, empty_model};
-ghost use Rattle.matrix_reader.specs.ReaderStates.{MarkedFrom, UnmarkedFrom, SeenFrom, UnseenFrom, OnBroken, ReadsItem, ReadsItems, AddsEquation, ReadsEquation, SeesUnknown, SeesUnknowns, ReadsUnknowns, ReadsLine};
+ghost use Rattle.line_reader.specs.Answers.{OnBroken};
+ghost use Rattle.matrix_reader.specs.ReaderStates.{MarkedFrom, UnmarkedFrom, SeenFrom, UnseenFrom, ReadsItem, ReadsItems, AddsEquation, ReadsEquation, SeesUnknown, SeesUnknowns, ReadsUnknowns, ReadsLine};
 
-use crate::fault::LineFault;
+use crate::fault::fault_of;
 use crate::item::read_term;
 use crate::place::put_value;
-use line_lexer::{Line, Tokens, name, tokens};
+use line_lexer::{Tokens, name};
+use line_reader::{LineFault, LineFormat};
 use mixed_model::{Mixed, NoMemory};
 use refusals::Why;
 use residue_field::Field;
@@ -21,6 +23,22 @@ use std::alloc::Global;
 pub(crate) struct Reader<F: Field> {
     pub model: Mixed<F>,
     pub last_lines: Vec<u32>,
+}
+
+impl<F: Field> LineFormat for Reader<F> {
+    ghost use Rattle.std.specs.Prelude.{◌≡◌, length, vec_len};
+    ghost use Rattle.matrix_reader.specs.Rules.{words_rule};
+    ghost use Rattle.matrix_reader.specs.Feeding.{HasRead};
+
+    ghost rule = { words_rule F.modulus };
+
+    ghost has_read = { HasRead F.modulus };
+
+    ghost is_ready = { λ reader. vec_len reader.last_lines ≡ length reader.model.unknowns };
+
+    fn read_line(&mut self, number: u32, words: Tokens<'_>) -> Result<(), LineFault> {
+        self.read_words(number, words)
+    }
 }
 
 impl<F: Field> Reader<F> {
@@ -35,24 +53,21 @@ impl<F: Field> Reader<F> {
         })
     }
 
-    pub(crate) fn read_line(&mut self, line: Line<'_>) -> Result<(), LineFault>
+    // Reads the line of this number by its words.
+    fn read_words(&mut self, line: u32, mut words: Tokens<'_>) -> Result<(), LineFault>
         requires { vec_len self.old.last_lines ≡ length self.old.model.unknowns }
         ensures lengths { OnOk result (vec_len self.new.last_lines ≡ length self.new.model.unknowns) }
-        ensures read { ReadsLine F.modulus line.entry.number
-            self.old.model self.new.model
-            self.old.last_lines.items self.new.last_lines.items line.entry.bytes.now result }
+        ensures read { ReadsLine F.modulus line
+            self.old.model self.new.model self.old.last_lines.items self.new.last_lines.items
+            (map (λ word. word.1) words.entry) result }
     {
-        let mut words = match tokens(line) {
-            Ok(words) => words,
-            Err(why) => return Err(LineFault::Broken(why)),
-        };
         let Some(word) = words.next() else {
             return Ok(());
         };
         if word.text == "eq" {
-            self.read_equation(line.number, words)
+            self.read_equation(line, words)
         } else if word.text == "unknown" {
-            self.read_unknowns(line.number, words)
+            self.read_unknowns(line, words)
         } else {
             Err(LineFault::Broken(Why::BadWord))
         }
@@ -83,7 +98,10 @@ impl<F: Field> Reader<F> {
             self.old.model self.new.model self.old.last_lines.items equation.now result }
     {
         name(equation)?;
-        Ok(self.model.add_equation(equation)?)
+        match self.model.add_equation(equation) {
+            Ok(i) => Ok(i),
+            Err(error) => Err(fault_of(error)),
+        }
     }
 
     // Puts what some items say into equation `i`, in the line of this number.
@@ -116,8 +134,10 @@ impl<F: Field> Reader<F> {
             Err(why) => return Err(LineFault::Broken(why)),
         };
         let j = self.mark(line, term.unknown)?;
-        put_value(&mut self.model, i, j, term.value)?;
-        Ok(())
+        match put_value(&mut self.model, i, j, term.value) {
+            Ok(()) => Ok(()),
+            Err(error) => Err(fault_of(error)),
+        }
     }
 
     // The column of an unknown, which now stands in this equation line. It may not have stood there before.
@@ -135,7 +155,10 @@ impl<F: Field> Reader<F> {
             self.old.last_lines.items)) }
     {
         let known = self.last_lines.len();
-        let j = self.model.find_or_add_unknown(unknown)?;
+        let j = match self.model.find_or_add_unknown(unknown) {
+            Ok(j) => j,
+            Err(error) => return Err(fault_of(error)),
+        };
         if j == known {
             self.last_lines.push(line)?;
             return Ok(j);
@@ -196,7 +219,10 @@ impl<F: Field> Reader<F> {
         ensures unseen { IfErr result (λ fault. OnBroken fault
             (UnseenFrom (position (bytes_eq unknown.now) self.old.model.unknowns) self.old.model)) }
     {
-        let j = self.model.find_or_add_unknown(unknown)?;
+        let j = match self.model.find_or_add_unknown(unknown) {
+            Ok(j) => j,
+            Err(error) => return Err(fault_of(error)),
+        };
         if j == self.last_lines.len() {
             self.last_lines.push(line)?;
         }

@@ -1,7 +1,8 @@
 use Rattle.std.proofs.Common.{◌+◌, ◌++◌, ◌∷◌, [], Err, codes, ap, sym, subst}
 use Rattle.std.proofs.lemmas.Result.{err_from_is_err_and}
 use Rattle.matrix_reader.specs.Rules.{equation_line_rule}
-use Rattle.matrix_reader.specs.ReaderStates.{IsRead, IsWithin, AnswersRule, so_far}
+use Rattle.line_reader.specs.Answers.{AnswersRule}
+use Rattle.matrix_reader.specs.ReaderStates.{IsRead, IsWithin, so_far}
 use Rattle.matrix_reader.proofs.LineSteps.{equation_answer, words, equation_fault}
 use Rattle.matrix_reader.proofs.reader.Reader.read_equation.Goals as goal
 

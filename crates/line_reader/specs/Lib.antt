@@ -1,0 +1,3 @@
+pub mod LineRules
+pub mod Answers
+pub mod Readings

@@ -1,0 +1,73 @@
+-- What a reader of lines knows of the text so far.
+use Rattle.std.specs.Prelude.{◌≡◌, ℕ, ◌+◌, Bool, true, false, List, [], ◌∷◌, ◌++◌, length, map, Option, Some, None}
+use Rattle.std.specs.List.{list_any}
+use Rattle.std.specs.Str.Lines.{strip_carriage_return}
+use Rattle.refusals.specs.declared.Place.TheVariants.{Line}
+use Rattle.refusals.specs.declared.Why.{Why}
+use Rattle.refusals.specs.declared.Refused.{Refused}
+use Rattle.refusals.specs.declared.ReadModel.TheVariants.{Refused as IsRefused}
+use Rattle.line_lexer.specs.Lines.{is_line_feed, lines_of}
+use Rattle.line_lexer.specs.Tokens.{is_comment_sign, uncommented, words_of}
+use Rattle.line_reader.specs.LineRules.{WordsRule, KeepBefore, IsRefusal, line_rule}
+
+-- The fields of a reader: what its format has, the number of the line that is not ended, that line so far without its
+-- comment, whether a comment has begun in it, and the first refusal.
+pub record Reading (R : Type 0) : Type 0 where
+  pub format : R
+  pub number : ℕ
+  pub line : List ℕ
+  pub commented : Bool
+  pub refused : Option Refused
+
+abbrev pub reading : {R : Type 0} → R → ℕ → List ℕ → Bool → Option Refused → Reading R
+reading what n bytes sign why = record { format = what; number = n; line = bytes; commented = sign; refused = why }
+
+-- A text begins with these lines, each of which is ended by a line feed, and then has this rest, in which none stands.
+-- However the text goes on, the lines stay, and the rest goes on with it.
+pub record IsCut (text : List ℕ) (lines : List (List ℕ)) (rest : List ℕ) : Type 0 where
+  pub whole : (more : List ℕ) → lines_of (text ++ more) ≡ lines ++ lines_of (rest ++ more)
+  pub unended : list_any is_line_feed rest ≡ false
+
+-- So far each ended line was read and keeps the rules, and of the rest what stands before a comment is kept.
+pub record IsProgress {R : Type 0}
+    (rule : WordsRule) (has_read : R → List (List (List ℕ)) → Type 0) (reading : Reading R) (text : List ℕ)
+    : Type 0 where
+  pub lines : List (List ℕ)
+  pub rest : List ℕ
+  pub cut : IsCut text lines rest
+  pub kept : KeepBefore rule (length lines) lines
+  pub read : has_read reading.format (map words_of lines)
+  pub number_is : reading.number ≡ length lines + 1
+  pub line_is : reading.line ≡ uncommented rest
+  pub commented_is : reading.commented ≡ list_any is_comment_sign rest
+
+-- however a text goes on, this is its refusal
+abbrev pub IsBroken : WordsRule → List ℕ → Refused → Type 0
+IsBroken rule text refused = (more : List ℕ) → IsRefusal rule (text ++ more) (IsRefused refused)
+
+-- a reader with this refusal, or none
+abbrev pub IsFedBy : {R : Type 0} → WordsRule → (R → List (List (List ℕ)) → Type 0) → Reading R → List ℕ
+    → Option Refused → Type 0
+IsFedBy rule has_read reading text None = IsProgress rule has_read reading text
+IsFedBy rule has_read reading text (Some refused) = IsBroken rule text refused
+
+-- A reader was fed this text.
+abbrev pub IsFed : {R : Type 0} → WordsRule → (R → List (List (List ℕ)) → Type 0) → Reading R → List ℕ → Type 0
+IsFed rule has_read reading text = IsFedBy rule has_read reading text reading.refused
+
+-- What ending a line leaves, where these lines came before and these are its bytes: it was read, or this is why it
+-- was not.
+abbrev pub EndsLine : {R : Type 0} → WordsRule → (R → List (List (List ℕ)) → Type 0) → ℕ → R → List (List (List ℕ))
+    → List ℕ → Option Refused → Type 0
+EndsLine rule has_read number new before bytes None =
+    (line_rule rule before bytes ≡ None) × has_read new (before ++ words_of bytes ∷ [])
+EndsLine rule has_read number new before bytes (Some refused) =
+    (why : Why) × (refused ≡ record { place = Line number; why = why }) × (line_rule rule before bytes ≡ Some why)
+
+-- What ending a line leaves, by what was kept of it, whatever was read before and whatever its bytes were.
+abbrev pub ReadsEnded : {R : Type 0} → WordsRule → (R → List (List (List ℕ)) → Type 0) → ℕ → List ℕ → Bool → R → R
+    → Option Refused → Type 0
+ReadsEnded rule has_read number line commented old new refused =
+    (before : List (List (List ℕ))) (bytes : List ℕ) → has_read old before → length before + 1 ≡ number
+    → line ≡ uncommented bytes → commented ≡ list_any is_comment_sign bytes
+    → EndsLine rule has_read number new before (strip_carriage_return bytes) refused

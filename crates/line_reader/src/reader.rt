@@ -1,0 +1,214 @@
+//! A reader of lines, which is fed a text piece by piece.
+
+ghost use Rattle.std.specs.Prelude.{◌≡◌, ◌≢◌, ◌∷◌, ◌++◌, ◌+◌, ◌<◌, ◌≤◌, ℕ, List, [], None, true, false, length, map, min, if◌then◌else◌, IfOk, IfErr, OnOk};
+ghost use Rattle.std.specs.Str.Lines.{strip_carriage_return};
+ghost use Rattle.limits.specs.Limits.{input_limit};
+ghost use Rattle.line_lexer.specs.Lines.{lines_of};
+ghost use Rattle.line_lexer.specs.Tokens.{words_of};
+ghost use Rattle.line_reader.specs.LineRules.{KeepsAll, IsRefusal};
+ghost use Rattle.line_reader.specs.Answers.{ReadsBytes};
+ghost use Rattle.line_reader.specs.Readings.{IsFed, ReadsEnded, reading};
+
+use crate::fault::LineFault;
+use crate::format::LineFormat;
+use line_lexer::{Line, tokens, without_return};
+use out_of_memory::NoMemory;
+use refusals::{Place, ReadModel, Refused};
+use std::alloc::Global;
+use std::marker::Model;
+
+/// Reads the lines of a text of at most 8,388,608 bytes, which comes in pieces: it keeps no more of the text than the
+/// line that is not ended, and of that no comment.
+#[derive(Drop)]
+pub struct LineReader<R: LineFormat> {
+    progress: Progress<R>,
+}
+
+impl<R: LineFormat> Model for LineReader<R> {
+    ghost use Rattle.std.specs.Prelude.{◌≡◌, None};
+    ghost use Rattle.line_reader.specs.Readings.{Reading, reading};
+
+    ghost Value = { Reading R };
+
+    ghost view = { λ l. reading l.progress.format l.progress.number l.progress.line.items l.progress.commented
+        l.progress.refused };
+
+    ghost invariant = { λ l. l.progress.refused ≡ None → R.is_ready l.progress.format };
+}
+
+impl<R: LineFormat> LineReader<R> {
+    /// A reader that was fed nothing.
+    pub fn new(alloc: Global, format: R) -> LineReader<R>
+        requires ready { R.is_ready format }
+        requires unread { R.has_read format [] }
+        ensures { IsFed R.rule R.has_read result [] }
+    {
+        LineReader {
+            progress: Progress {
+                format,
+                number: 1,
+                line: Vec::new(alloc),
+                commented: false,
+                refused: None,
+            },
+        }
+    }
+
+    /// Reads the lines that a piece ends. After the first refusal no byte is looked at. Where memory runs out the
+    /// reader is given up.
+    pub fn feed(self, piece: &[u8]) -> Result<LineReader<R>, NoMemory>
+        ensures { IfOk result (λ fed. (text : List ℕ) → IsFed R.rule R.has_read self text
+            → length (text ++ piece.now) ≤ input_limit → IsFed R.rule R.has_read fed (text ++ piece.now)) }
+    {
+        let mut progress = self.progress;
+        for byte in piece {
+            progress.take(*byte)?;
+        }
+        Ok(LineReader { progress })
+    }
+
+    /// Reads the line that is not ended, if there is one, and answers what was read or the first refusal.
+    pub fn finish(self) -> Result<R, ReadModel>
+        ensures kept { IfOk result (λ format. (text : List ℕ) → IsFed R.rule R.has_read self text
+            → KeepsAll R.rule text) }
+        ensures read { IfOk result (λ format. (text : List ℕ) → IsFed R.rule R.has_read self text
+            → R.has_read format (map words_of (lines_of text))) }
+        ensures refused { IfErr result (λ why. (text : List ℕ) → IsFed R.rule R.has_read self text
+            → IsRefusal R.rule text why) }
+    {
+        self.progress.finish()
+    }
+}
+
+// A reader between two bytes: what was read, the number of the line that is not ended, that line so far without its
+// comment, whether a comment has begun in it, and the first refusal.
+#[derive(Drop)]
+struct Progress<R: LineFormat> {
+    format: R,
+    number: u32,
+    line: Vec<u8>,
+    commented: bool,
+    refused: Option<Refused>,
+}
+
+impl<R: LineFormat> Progress<R> {
+    fn take(&mut self, byte: u8) -> Result<(), NoMemory>
+        requires { self.old.refused ≡ None → R.is_ready self.old.format }
+        ensures ready { OnOk result (self.new.refused ≡ None → R.is_ready self.new.format) }
+        ensures fed { OnOk result ((text : List ℕ) → length text < input_limit
+            → IsFed R.rule R.has_read (reading self.old.format self.old.number self.old.line.items self.old.commented
+            self.old.refused) text
+            → IsFed R.rule R.has_read (reading self.new.format self.new.number self.new.line.items self.new.commented
+            self.new.refused) (text ++ byte ∷ [])) }
+    {
+        if self.refused.is_some() {
+            return Ok(());
+        }
+        if byte == b'\n' {
+            return self.end_line();
+        }
+        if byte == b'#' {
+            self.commented = true;
+        } else if !self.commented {
+            self.line.push(byte)?;
+        }
+        Ok(())
+    }
+
+    fn finish(mut self) -> Result<R, ReadModel>
+        requires { self.refused ≡ None → R.is_ready self.format }
+        ensures kept { IfOk result (λ format. (text : List ℕ) → IsFed R.rule R.has_read
+            (reading self.format self.number self.line.items self.commented self.refused)
+            text → KeepsAll R.rule text) }
+        ensures read { IfOk result (λ format. (text : List ℕ) → IsFed R.rule R.has_read
+            (reading self.format self.number self.line.items self.commented self.refused)
+            text → R.has_read format (map words_of (lines_of text))) }
+        ensures refused { IfErr result (λ why. (text : List ℕ) → IsFed R.rule R.has_read
+            (reading self.format self.number self.line.items self.commented self.refused)
+            text → IsRefusal R.rule text why) }
+    {
+        if let Some(refused) = self.refused {
+            return Err(ReadModel::Refused(refused));
+        }
+        if !self.is_within_line() {
+            return Ok(self.format);
+        }
+        let Ok(()) = self.read_ended() else {
+            return Err(ReadModel::NoMemory);
+        };
+        match self.refused {
+            Some(refused) => Err(ReadModel::Refused(refused)),
+            None => Ok(self.format),
+        }
+    }
+
+    // Whether a byte came after the last line feed.
+    fn is_within_line(&self) -> bool
+        ensures within { result ≡ true → self.now.commented ≡ false → self.now.line.items ≢ [] }
+        ensures line { result ≡ false → self.now.line.items ≡ [] }
+        ensures commented { result ≡ false → self.now.commented ≡ false }
+    {
+        self.commented || !self.line.is_empty()
+    }
+
+    // Reads the line that a line feed ends, and begins the next one.
+    fn end_line(&mut self) -> Result<(), NoMemory>
+        requires none { self.old.refused ≡ None }
+        requires ready { R.is_ready self.old.format }
+        ensures ready { OnOk result (self.new.refused ≡ None → R.is_ready self.new.format) }
+        ensures number { OnOk result (self.new.number ≡ min (self.old.number + 1) 4294967295) }
+        ensures line { OnOk result (self.new.line.items ≡ []) }
+        ensures commented { OnOk result (self.new.commented ≡ false) }
+        ensures read { OnOk result (ReadsEnded R.rule R.has_read self.old.number self.old.line.items self.old.commented
+            self.old.format self.new.format self.new.refused) }
+    {
+        self.read_ended()?;
+        self.number = self.number.saturating_add(1);
+        self.line.clear();
+        self.commented = false;
+        Ok(())
+    }
+
+    // Reads the line that is not ended, or keeps why it breaks a rule.
+    fn read_ended(&mut self) -> Result<(), NoMemory>
+        requires none { self.old.refused ≡ None }
+        requires ready { R.is_ready self.old.format }
+        ensures number { OnOk result (self.new.number ≡ self.old.number) }
+        ensures ready { OnOk result (self.new.refused ≡ None → R.is_ready self.new.format) }
+        ensures read { OnOk result (ReadsEnded R.rule R.has_read self.old.number self.old.line.items self.old.commented
+            self.old.format self.new.format self.new.refused) }
+    {
+        let line = ended_line(&self.line, self.commented);
+        match read_bytes(&mut self.format, self.number, line) {
+            Ok(()) => Ok(()),
+            Err(LineFault::Broken(why)) => {
+                let place = Place::Line(self.number);
+                self.refused = Some(Refused { place, why });
+                Ok(())
+            }
+            Err(LineFault::NoMemory) => Err(NoMemory),
+        }
+    }
+}
+
+// A line by its bytes before a comment: a carriage return at the end of a comment is the comment's.
+fn ended_line(line: &[u8], commented: bool) -> &[u8]
+    ensures { result.now ≡ (if commented then line.now else strip_carriage_return line.now) }
+{
+    if commented {
+        return line;
+    }
+    without_return(line)
+}
+
+// Reads a line by its bytes.
+fn read_bytes<R: LineFormat>(format: &mut R, number: u32, bytes: &[u8]) -> Result<(), LineFault>
+    requires { R.is_ready format.old }
+    ensures ready { OnOk result (R.is_ready format.new) }
+    ensures read { ReadsBytes R.rule R.has_read number format.old format.new bytes.now result }
+{
+    match tokens(Line { number, bytes }) {
+        Ok(words) => format.read_line(number, words),
+        Err(why) => Err(LineFault::Broken(why)),
+    }
+}
