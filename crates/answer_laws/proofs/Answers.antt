@@ -10,7 +10,7 @@ use Rattle.matrix_reader.proofs.ModelLaws.{text_gives_one}
 use Rattle.mixed_matrices.specs.Layerings.{IsLayeredMatrixOf}
 use Rattle.cert_text.specs.Right.{IsRightCcf}
 use Rattle.cert_text.specs.Texts.{certificate_text}
-use Rattle.cert_text.specs.declared.certificate.Certificate.{Certificate}
+use Rattle.cert_text.specs.Contents.{Certificate}
 use Rattle.certificate_laws.proofs.AgreedForms.{agreed}
 use Rattle.report_cli.specs.Answer.{IsAnswer, IsReported}
 use Rattle.report_cli.specs.LayerTexts.{layer_text}

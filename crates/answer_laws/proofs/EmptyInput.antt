@@ -3,10 +3,9 @@ use Rattle.std.proofs.Common.{◌≡◌, ℕ, ◌<◌, List, [], ◌∷◌, ◌+
 use Rattle.std.specs.Fmt.{digits}
 use Rattle.std.proofs.lemmas.List.Elements.{All-head}
 use Rattle.residue_field.specs.Modulus.{res_modulus}
-use Rattle.cert_text.specs.Contents.{Contents}
+use Rattle.cert_text.specs.Contents.{Contents, Certificate}
 use Rattle.cert_text.specs.Ranges.{IsCcf, IsPart, IsBlock, AreRising, ArePairs}
 use Rattle.cert_text.specs.Texts.{shape_text, pair_text, matrices_text, parts_text, echo_text, certificate_text}
-use Rattle.cert_text.specs.declared.certificate.Certificate.{Certificate}
 use Rattle.cert_text.specs.declared.kind.Kind.{Kind}
 use Rattle.cert_text.specs.declared.kind.Kind.TheVariants.{Matrix}
 use Rattle.cert_text.specs.declared.part.CcfBlock.{CcfBlock}

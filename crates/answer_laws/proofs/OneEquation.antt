@@ -17,7 +17,7 @@ use Rattle.matrix_reader.specs.Models.{GivesModel, symbol_said}
 use Rattle.dense_q.specs.Tables.{height}
 use Rattle.cert_text.specs.Ranges.{ArePairs}
 use Rattle.cert_text.specs.Texts.{certificate_text, matrices_text, parts_text}
-use Rattle.cert_text.specs.declared.certificate.Certificate.{Certificate}
+use Rattle.cert_text.specs.Contents.{Certificate}
 use Rattle.cert_text.specs.declared.kind.Kind.TheVariants.{Matrix}
 use Rattle.cert_text.specs.declared.shape.Shape.{Shape}
 use Rattle.report_cli.specs.LayerTexts.{column_lines, layer_text, q_line, row_lines, t_line}

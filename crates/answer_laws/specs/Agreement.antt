@@ -1,7 +1,7 @@
 -- What any two answers to one input share.
 use Rattle.std.specs.Prelude.{◌≡◌, ℕ, List}
 use Rattle.cert_text.specs.Texts.{certificate_text}
-use Rattle.cert_text.specs.declared.certificate.Certificate.{Certificate}
+use Rattle.cert_text.specs.Contents.{Certificate}
 use Rattle.certificate_laws.specs.Agreement.{Agree}
 use Rattle.report_cli.specs.Answer.{IsAnswer}
 use Rattle.report_cli.specs.RightFor.{IsRightFor}
