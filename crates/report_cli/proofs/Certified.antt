@@ -10,11 +10,11 @@ use Rattle.cert_text.specs.Contents.{Contents}
 use Rattle.cert_text.specs.Ranges.{IsCcf}
 use Rattle.cert_text.specs.Right.{HasShape, HasTransform, HasPairAndRank, HasForm, HasIdeals, HasCanonicalListing}
 use Rattle.cert_text.specs.declared.kind.Kind.TheVariants.{Matrix}
-use Rattle.report_cli.specs.Limits.{model_limit}
+use Rattle.limits.specs.Limits.{input_limit}
 use Rattle.report_cli.specs.RightFor.{IsRightFor}
 
 -- a form that is right for the layers makes a certificate that is right for the text
-pub right_for : (text : List ℕ) (model : MixedModel) (layers : Layers) (echo : List ℕ) (ccf : Contents) → GivesModel res_modulus text model → AreLayersOf model layers → echo ≡ text → length text ≤ model_limit → IsCcf res_modulus ccf →
+pub right_for : (text : List ℕ) (model : MixedModel) (layers : Layers) (echo : List ℕ) (ccf : Contents) → GivesModel res_modulus text model → AreLayersOf model layers → echo ≡ text → length text ≤ input_limit → IsCcf res_modulus ccf →
     OfEachModel res_modulus layers (λ M O. HasShape M (layered_matrix_of layers) ccf) → HasTransform res_modulus (layered_matrix_of layers) ccf →
     OfEachModel res_modulus layers (λ M O. HasPairAndRank res_modulus M (layered_matrix_of layers) O ccf) → HasForm res_modulus (layered_matrix_of layers) ccf →
     HasIdeals res_modulus (layered_matrix_of layers) ccf → HasCanonicalListing res_modulus (layered_matrix_of layers) ccf →
@@ -24,7 +24,7 @@ right_for text model layers echo ccf gives are same short form shape transform p
   gives = gives;
   kind = refl;
   echo = same;
-  short = subst (λ t. length t ≤ model_limit) (sym same) short;
+  short = subst (λ t. length t ≤ input_limit) (sym same) short;
   form = form;
   layered = layered_matrix_of layers;
   origins = origins_of layers are.split;

@@ -7,3 +7,5 @@ pub mod LayerFacts
 pub mod LayerLengths
 pub mod TextRooms
 pub mod Reported
+pub mod Pumped
+pub mod Unread

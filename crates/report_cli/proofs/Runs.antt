@@ -12,7 +12,7 @@ use Rattle.report_cli.specs.Words.{AsksForNothing}
 use Rattle.report_cli.specs.RightFor.{IsRefused}
 use Rattle.report_cli.proofs.Refusals.{given-unrefused, refused-alone}
 use Rattle.report_cli.specs.Answer.{IsAnswer, IsReported, IsComplete, AsksForCommand, Answered, OnlyAnswer, Tells}
-use Rattle.report_cli.specs.Limits.{model_limit}
+use Rattle.limits.specs.Limits.{input_limit}
 use Rattle.report_cli.proofs.Reported.{gives_model}
 
 -- what was taken of a known input is no longer than it
@@ -31,7 +31,7 @@ at_input left after input read is took = let P : Option (List ℕ) → Type 0 = 
 pub read_is : (left after : Option (List ℕ)) (input read : List ℕ) → left ≡ Some input → Took left after read → Ended after → read ≡ input
 read_is left after input read is took ended = took_whole input after read (at_input left after input read is took) ended
 
-too_long : {A : Type 0} (input : List ℕ) → model_limit < length input → length input ≤ model_limit → A
+too_long : {A : Type 0} (input : List ℕ) → input_limit < length input → length input ≤ input_limit → A
 too_long {A} input long short = absurd (omega (arith, long, short))
 
 -- the model of an input that has a report
@@ -49,7 +49,7 @@ usage_only words input WriteFault text never a = absurd a
 usage_only words input Memory text never a = absurd a
 
 -- an input past the limit
-long_only : (words : List (List ℕ)) (input : List ℕ) (limit : ℕ) (answer : Status) (text : List ℕ) → AsksForCommand words → limit ≡ model_limit → model_limit < length input →
+long_only : (words : List (List ℕ)) (input : List ℕ) (limit : ℕ) (answer : Status) (text : List ℕ) → AsksForCommand words → limit ≡ input_limit → input_limit < length input →
     IsAnswer words input answer text → TooLong limit ≡ answer
 long_only words input limit Usage text asks is long a = absurd (a.0 asks.0 asks.1)
 long_only words input limit Done text asks is long a = too_long input long a.0
@@ -60,7 +60,7 @@ long_only words input limit WriteFault text asks is long a = absurd a
 long_only words input limit Memory text asks is long a = absurd a
 
 -- an input that breaks a rule
-refused_only : (words : List (List ℕ)) (input : List ℕ) (refused : Refusal) (answer : Status) (text : List ℕ) → AsksForCommand words → length input ≤ model_limit → IsRefused input refused →
+refused_only : (words : List (List ℕ)) (input : List ℕ) (refused : Refusal) (answer : Status) (text : List ℕ) → AsksForCommand words → length input ≤ input_limit → IsRefused input refused →
     IsAnswer words input answer text → Refused refused ≡ answer
 refused_only words input refused Usage text asks short is a = absurd (a.0 asks.0 asks.1)
 refused_only words input refused Done text asks short is a = let model = model_of words input text a.1 in given-unrefused input refused model.0 model.1 is
@@ -71,7 +71,7 @@ refused_only words input refused WriteFault text asks short is a = absurd a
 refused_only words input refused Memory text asks short is a = absurd a
 
 -- an input that gives a model
-done_only : (words : List (List ℕ)) (input : List ℕ) (model : MixedModel) (answer : Status) (text : List ℕ) → AsksForCommand words → length input ≤ model_limit → GivesModel res_modulus input model →
+done_only : (words : List (List ℕ)) (input : List ℕ) (model : MixedModel) (answer : Status) (text : List ℕ) → AsksForCommand words → length input ≤ input_limit → GivesModel res_modulus input model →
     IsAnswer words input answer text → Done ≡ answer
 done_only words input model Usage text asks short gives a = absurd (a.0 asks.0 asks.1)
 done_only words input model Done text asks short gives a = refl
@@ -87,7 +87,7 @@ pub only : (words : List (List ℕ)) (left after written written' : Option (List
 only words left after written written' Usage a no_read no_write = λ input answer text is given. inl (usage_only words input answer text a.answer.0 given)
 only words left after written written' (TooLong limit) a no_read no_write = λ input answer text is given.
     let short : length a.read ≤ length input = took_prefix input after a.read (at_input left after input a.read is a.took) in
-    let long : model_limit < length a.read = a.answer.2 in
+    let long : input_limit < length a.read = a.answer.2 in
     inl (long_only words input limit answer text a.answer.0 a.answer.1 (omega (arith, short, long)) given)
 only words left after written written' (Refused refused) a no_read no_write = λ input answer text is given.
     let same : a.read ≡ input = read_is left after input a.read is a.took a.ended in
@@ -108,7 +108,7 @@ pub done_where_given : (words : List (List ℕ)) (left after written written' : 
 done_where_given words left after written written' Usage a no_read no_write = λ input model is asks short gives. absurd (a.answer.0 asks.0 asks.1)
 done_where_given words left after written written' (TooLong limit) a no_read no_write = λ input model is asks short gives.
     let part : length a.read ≤ length input = took_prefix input after a.read (at_input left after input a.read is a.took) in
-    let long : model_limit < length a.read = a.answer.2 in
+    let long : input_limit < length a.read = a.answer.2 in
     too_long input (omega (arith, part, long)) short
 done_where_given words left after written written' (Refused refused) a no_read no_write = λ input model is asks short gives.
     let same : a.read ≡ input = read_is left after input a.read is a.took a.ended in

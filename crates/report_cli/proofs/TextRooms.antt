@@ -14,7 +14,7 @@ use Rattle.cert_text.specs.Contents.{Certificate}
 use Rattle.text_lengths.specs.Rooms.{IsShapeWithin}
 use Rattle.text_lengths.proofs.InputCounts.{few-names}
 use Rattle.text_lengths.proofs.TextLengths.{certificate-short}
-use Rattle.report_cli.specs.Limits.{model_limit}
+use Rattle.limits.specs.Limits.{input_limit}
 use Rattle.report_cli.specs.RightFor.{IsRightFor}
 use Rattle.report_cli.specs.Reports.{IsReportFor, report_text}
 use Rattle.report_cli.specs.Rooms.{columns_within, text_room}
@@ -54,7 +54,7 @@ narrow text model L O gives are =
 few_columns : (n : ℕ) → columns_within n ≤ 8192
 few_columns n = omega arith
 
-certificate-fits : (input : List ℕ) (c : Certificate) → IsRightFor input c → length input ≤ model_limit → length (report_text (Certified c)) ≤ text_room (length input)
+certificate-fits : (input : List ℕ) (c : Certificate) → IsRightFor input c → length input ≤ input_limit → length (report_text (Certified c)) ≤ text_room (length input)
 certificate-fits input c right short =
     let low = narrow input right.model right.layered right.origins right.gives right.layers in
     let shape = (right.right).shape in
@@ -76,7 +76,7 @@ layers-fit input model layers gives are whole =
     let low = narrow input model (layered_matrix_of layers) (origins_of layers are.split) gives are.layered in
     omega (arith, layer-text-short model (gives.given).is_model layers are whole (columns_within (length input)) (few_columns (length input)) low.q_rows low.t_rows low.columns)
 
-pub report_fits : (command : Command) (input : List ℕ) (report : Report) → IsReportFor command input report → length input ≤ model_limit →
+pub report_fits : (command : Command) (input : List ℕ) (report : Report) → IsReportFor command input report → length input ≤ input_limit →
     length (report_text report) ≤ text_room (length input)
 report_fits Analyse input (Certified c) right short = certificate-fits input c right short
 report_fits Analyse input (Layering model layers) right short = absurd right

@@ -4,7 +4,7 @@ use Rattle.residue_field.specs.Modulus.{res_modulus}
 use Rattle.port_io.specs.Bytes.{Took, TookAtMost, TookExactly, Appended, Ended}
 use Rattle.mixed_model.specs.Models.{MixedModel}
 use Rattle.matrix_reader.specs.Models.{GivesModel}
-use Rattle.report_cli.specs.Limits.{model_limit}
+use Rattle.limits.specs.Limits.{input_limit}
 use Rattle.report_cli.specs.Reports.{IsReportFor, report_text}
 use Rattle.report_cli.specs.RightFor.{IsRefused}
 use Rattle.report_cli.specs.Words.{AsksFor, AsksForNothing}
@@ -30,10 +30,10 @@ pub record IsReported (words : List (List ℕ)) (input text : List ℕ) : Type 0
 abbrev pub IsAnswer : List (List ℕ) → List ℕ → Status → List ℕ → Type 0
 IsAnswer words input Usage text = AsksForNothing words × (text ≡ [])
 IsAnswer words input (TooLong limit) text =
-    AsksForCommand words × (limit ≡ model_limit) × (model_limit < length input) × (text ≡ [])
+    AsksForCommand words × (limit ≡ input_limit) × (input_limit < length input) × (text ≡ [])
 IsAnswer words input (Refused refusal) text =
-    AsksForCommand words × (length input ≤ model_limit) × IsRefused input refusal × (text ≡ [])
-IsAnswer words input Done text = (length input ≤ model_limit) × IsReported words input text
+    AsksForCommand words × (length input ≤ input_limit) × IsRefused input refusal × (text ≡ [])
+IsAnswer words input Done text = (length input ≤ input_limit) × IsReported words input text
 IsAnswer words input ReadFault text = ⊥
 IsAnswer words input WriteFault text = ⊥
 IsAnswer words input Memory text = ⊥
@@ -46,8 +46,8 @@ ReadsAll _ p = Unit {0}
 
 -- what was taken, by the status: one byte past the limit exactly where the input is too long
 abbrev pub TakesBy : Status → Option (List ℕ) → Option (List ℕ) → Type 0
-TakesBy (TooLong limit) left left' = TookExactly (model_limit + 1) left left'
-TakesBy _ left left' = TookAtMost model_limit left left'
+TakesBy (TooLong limit) left left' = TookExactly (input_limit + 1) left left'
+TakesBy _ left left' = TookAtMost input_limit left left'
 
 -- the status is no fault and no want of memory
 abbrev pub Tells : Status → Type 0 → Type 0
@@ -90,7 +90,7 @@ OnlyAnswer words left status =
 -- where the words ask for a command and the whole input keeps each rule, the run is done, but for want of memory
 abbrev pub IsComplete : List (List ℕ) → Option (List ℕ) → Status → Type 0
 IsComplete words left status =
-    (input : List ℕ) (model : MixedModel) → left ≡ Some input → AsksForCommand words → length input ≤ model_limit →
+    (input : List ℕ) (model : MixedModel) → left ≡ Some input → AsksForCommand words → length input ≤ input_limit →
     GivesModel res_modulus input model → (status ≡ Done) ⊎ (status ≡ Memory)
 
 -- a text was written whole, or the sink failed

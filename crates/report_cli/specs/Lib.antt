@@ -1,4 +1,3 @@
-pub mod Limits
 pub mod Numbers
 pub mod Words
 pub mod Notes
@@ -8,4 +7,6 @@ pub mod Columns
 pub mod WholeLayers
 pub mod Rooms
 pub mod Reports
+pub mod Reading
+pub mod Statuses
 pub mod Answer

@@ -5,7 +5,7 @@ use Rattle.cert_text.specs.Texts.{certificate_text}
 use Rattle.matrix_reader.specs.Models.{GivesModel}
 use Rattle.mixed_layering.specs.Layers.{AreLayersOf}
 use Rattle.report_cli.specs.LayerTexts.{layer_text}
-use Rattle.report_cli.specs.Limits.{model_limit}
+use Rattle.limits.specs.Limits.{input_limit}
 use Rattle.report_cli.specs.RightFor.{IsRightFor}
 use Rattle.report_cli.specs.WholeLayers.{AreWholeLayers}
 use Rattle.report_cli.specs.declared.command.Command.{Command}
@@ -28,5 +28,5 @@ IsReportFor Layer input (Layers model layers) =
 
 -- the echo is no longer than an input may be, and the layers are those of the model
 abbrev pub IsWritable : Report → Type 0
-IsWritable (Certificate certificate) = length certificate.echo ≤ model_limit
+IsWritable (Certificate certificate) = length certificate.echo ≤ input_limit
 IsWritable (Layers model layers) = AreLayersOf model layers

@@ -11,7 +11,7 @@ use Rattle.cert_text.specs.Ranges.{IsCcf}
 use Rattle.cert_text.specs.Right.{IsRightCcf}
 use Rattle.cert_text.specs.Contents.{Certificate}
 use Rattle.cert_text.specs.declared.kind.Kind.TheVariants.{Matrix}
-use Rattle.report_cli.specs.Limits.{model_limit}
+use Rattle.limits.specs.Limits.{input_limit}
 
 -- the input keeps each rule and gives a model, and the certificate repeats the input, keeps the ranges and orders of
 -- its lines, and has a right canonical form of the model's layered matrix
@@ -20,7 +20,7 @@ pub record IsRightFor (input : List ℕ) (certificate : Certificate) : Type 0 wh
   pub gives : GivesModel res_modulus input model
   pub kind : certificate.kind ≡ Matrix
   pub echo : certificate.echo ≡ input
-  pub short : length certificate.echo ≤ model_limit
+  pub short : length certificate.echo ≤ input_limit
   pub form : IsCcf res_modulus certificate.ccf
   pub layered : LayeredMatrix
   pub origins : Origins

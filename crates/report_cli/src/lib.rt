@@ -3,6 +3,7 @@
 
 mod command;
 mod layer_lines;
+mod reading;
 mod report;
 mod running;
 mod status;

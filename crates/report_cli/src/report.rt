@@ -1,23 +1,27 @@
 //! What a command writes of an input.
 
-ghost use Rattle.std.specs.Prelude.{◌≤◌, length, IfErr, IfOk};
+ghost use Rattle.std.specs.Prelude.{◌≤◌, ℕ, List, length, IfErr, IfOk};
 ghost use Rattle.cert_text.specs.Ranges.{IsCcf};
-ghost use Rattle.matrix_reader.specs.Models.{IsRefusal};
+ghost use Rattle.matrix_reader.specs.Models.{GivesModel, IsRefusal};
 ghost use Rattle.mixed_layering.specs.Layers.{AreLayersOf};
 ghost use Rattle.report_cli.specs.LayerTexts.{layer_text};
 ghost use Rattle.residue_field.specs.Modulus.{res_modulus};
-ghost use Rattle.report_cli.specs.Limits.{model_limit};
+ghost use Rattle.limits.specs.Limits.{input_limit};
+ghost use Rattle.report_cli.specs.Reading.{IsUnread, ReadsWhole, TellsOfSource};
 ghost use Rattle.report_cli.specs.Reports.{IsReportFor, IsWritable, report_text};
 ghost use Rattle.report_cli.specs.WholeLayers.{AreWholeLayers};
 ghost use Rattle.text_writer.specs.Giving.{IsWritten};
 
 use crate::command::Command;
 use crate::layer_lines::put_layers;
+use crate::reading::{read_model, read_text};
+use crate::status::Status;
 use ccf_builder::build;
 use cert_text::{Ccf, Certificate, Items, Kind};
 use mixed_layering::layer;
 use mixed_model::{Layered, Mixed};
-use port_io::{Sink, WriteFault};
+use out_of_memory::NoMemory;
+use port_io::{Sink, Source, WriteFault};
 use refusals::ReadModel;
 use residue_field::Res;
 use row_transform::DenseTableau;
@@ -34,33 +38,58 @@ pub enum Report {
 }
 
 impl Report {
-    /// What the command writes of an equation list of at most 8,388,608 bytes, or why the list is refused.
-    pub fn of(alloc: Global, command: Command, input: Vec<u8>) -> Result<Report, ReadModel>
-        requires { length input.items ≤ model_limit }
-        ensures right { IfOk result (IsReportFor command input.items) }
-        ensures refused { IfErr result (IsRefusal res_modulus input.items) }
+    /// What the command writes of the input that the source gives, or how the run ends without it.
+    pub fn read<S: Source>(
+        alloc: Global,
+        command: Command,
+        source: &mut S,
+    ) -> Result<Report, Status>
+        ensures right { IfOk result (λ report. ReadsWhole (S.left source.old) (S.left source.new)
+            (λ input. IsReportFor command input report)) }
+        ensures unread { IfErr result (λ status. IsUnread status (S.left source.old) (S.left source.new)) }
+        ensures source { TellsOfSource S.Source source.old source.new result }
     {
-        let model = matrix_reader::read(alloc, &input)?;
+        match command {
+            Command::Layer => {
+                let model = read_model(alloc, source)?;
+                Ok(Report::layers(alloc, model)?)
+            }
+            Command::Analyse => {
+                let text = read_text(alloc, source)?;
+                Ok(Report::certificate(alloc, text)?)
+            }
+        }
+    }
+
+    // The layered matrix of a model.
+    fn layers(alloc: Global, model: Mixed<Res>) -> Result<Report, NoMemory>
+        ensures { IfOk result (λ report. (input : List ℕ) → GivesModel res_modulus input model →
+            IsReportFor Command.Layer input report) }
+    {
+        let layered = layer(alloc, &model)?;
+        is_whole(&layered);
+        Ok(Report::Layers(model, layered))
+    }
+
+    // The certificate of a text of at most 8,388,608 bytes, or why the text is refused.
+    fn certificate(alloc: Global, text: Vec<u8>) -> Result<Report, ReadModel>
+        requires { length text.items ≤ input_limit }
+        ensures right { IfOk result (IsReportFor Command.Analyse text.items) }
+        ensures refused { IfErr result (IsRefusal res_modulus text.items) }
+    {
+        let model = matrix_reader::read(alloc, &text)?;
         let Ok(layered) = layer(alloc, &model) else {
             return Err(ReadModel::NoMemory);
         };
-        match command {
-            Command::Layer => {
-                is_whole(&layered);
-                Ok(Report::Layers(model, layered))
-            }
-            Command::Analyse => {
-                let Ok(ccf) = build::<Res, DenseTableau<Res>>(alloc, &layered) else {
-                    return Err(ReadModel::NoMemory);
-                };
-                is_in_form(&ccf);
-                Ok(Report::Certificate(Certificate {
-                    kind: Kind::Matrix,
-                    echo: Items::from_vec(input),
-                    ccf,
-                }))
-            }
-        }
+        let Ok(ccf) = build::<Res, DenseTableau<Res>>(alloc, &layered) else {
+            return Err(ReadModel::NoMemory);
+        };
+        is_in_form(&ccf);
+        Ok(Report::Certificate(Certificate {
+            kind: Kind::Matrix,
+            echo: Items::from_vec(text),
+            ccf,
+        }))
     }
 
     /// Appends the whole text to the sink, in pieces of some KiB, and takes no memory. It does not flush. Where the sink

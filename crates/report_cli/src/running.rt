@@ -6,7 +6,7 @@ ghost use Rattle.port_io.specs.Causes.{Rose, one_more};
 ghost use Rattle.port_io.specs.Asking.{AsksWithin};
 ghost use Rattle.port_io.specs.Bytes.{Appended};
 ghost use Rattle.report_cli.specs.Answer.{Answered, CutShort, IsComplete, OnlyAnswer, TakesBy, Tells, WritesNothing, IsDelivered};
-ghost use Rattle.report_cli.specs.Limits.{model_limit};
+ghost use Rattle.limits.specs.Limits.{input_limit};
 ghost use Rattle.report_cli.specs.Reports.{IsWritable, report_text};
 ghost use Rattle.report_cli.specs.Rooms.{text_room};
 ghost use Rattle.report_cli.specs.Notes.{Noted, note_of};
@@ -16,12 +16,8 @@ use crate::command::Command;
 use crate::report::Report;
 use crate::status::Status;
 use crate::telling::tell;
-use port_io::{ReadError, Sink, Source, read_all};
-use refusals::ReadModel;
+use port_io::{Sink, Source};
 use std::alloc::Global;
-
-/// The most bytes of a model's text.
-const MODEL_LIMIT: u64 = 8_388_608;
 
 /// Runs the command that the words name: reads the source to its end, writes the whole text to `out`, and notes in
 /// one line why where that was not done. The first word is the program's own name.
@@ -61,7 +57,7 @@ pub fn run<S: Source, K: Sink, N: Sink>(
         (note_of result) }
     ensures taken { TakesBy result (S.left source.old) (S.left source.new) }
     ensures taken_usage { result ≡ Status.Usage → S.left source.new ≡ S.left source.old }
-    ensures asked { AsksWithin 65536 (model_limit + 1) (S.asked source.old) (S.asked source.new) }
+    ensures asked { AsksWithin 65536 (input_limit + 1) (S.asked source.old) (S.asked source.new) }
     ensures asked_usage { result ≡ Status.Usage → S.asked source.new ≡ S.asked source.old }
 
     // counts of faults: none falls, and none rises over what is known not to fail
@@ -91,7 +87,7 @@ fn work<S: Source, K: Sink>(alloc: Global, words: &[String], source: &mut S, out
     ensures nothing_written { WritesNothing result (K.written out.new ≡ K.written out.old) }
     ensures taken { TakesBy result (S.left source.old) (S.left source.new) }
     ensures taken_usage { result ≡ Status.Usage → S.left source.new ≡ S.left source.old }
-    ensures asked { AsksWithin 65536 (model_limit + 1) (S.asked source.old) (S.asked source.new) }
+    ensures asked { AsksWithin 65536 (input_limit + 1) (S.asked source.old) (S.asked source.new) }
     ensures asked_usage { result ≡ Status.Usage → S.asked source.new ≡ S.asked source.old }
     ensures counts_source { S.faults source.old ≤ S.faults source.new }
     ensures counts_out { K.faults out.old ≤ K.faults out.new }
@@ -102,16 +98,9 @@ fn work<S: Source, K: Sink>(alloc: Global, words: &[String], source: &mut S, out
     let Some(command) = Command::of(words) else {
         return Status::Usage;
     };
-    let input = match read_all(alloc, source, MODEL_LIMIT) {
-        Ok(input) => input,
-        Err(ReadError::ReadFault) => return Status::ReadFault,
-        Err(ReadError::TooLong) => return Status::TooLong(MODEL_LIMIT),
-        Err(ReadError::NoMemory) => return Status::Memory,
-    };
-    match Report::of(alloc, command, input) {
+    match Report::read(alloc, command, source) {
         Ok(report) => deliver(out, &report),
-        Err(ReadModel::Refused(refused)) => Status::Refused(refused),
-        Err(ReadModel::NoMemory) => Status::Memory,
+        Err(status) => status,
     }
 }
 

@@ -3,6 +3,12 @@
 ghost use Rattle.std.specs.Prelude.{◌≡◌};
 ghost use Rattle.report_cli.specs.Numbers.{number_of};
 
+use limits::INPUT_LIMIT;
+use out_of_memory::NoMemory;
+use port_io::ReadError;
+use refusals::ReadModel;
+use std::alloc::AllocError;
+
 /// How a run ends.
 #[derive(Clone, Copy, Debug, PartialEq, Eq)]
 pub enum Status {
@@ -35,5 +41,56 @@ impl Status {
             Status::WriteFault => 5,
             Status::Memory => 6,
         }
+    }
+}
+
+impl From<ReadError> for Status {
+    ghost use Rattle.std.specs.Prelude.{◌≡◌};
+    ghost use Rattle.report_cli.specs.Statuses.{status_of_error};
+
+    ghost from_gives = { λ error status. status ≡ status_of_error error };
+
+    fn from(error: ReadError) -> Status {
+        match error {
+            ReadError::ReadFault => Status::ReadFault,
+            ReadError::TooLong => Status::TooLong(INPUT_LIMIT as u64),
+            ReadError::NoMemory => Status::Memory,
+        }
+    }
+}
+
+impl From<ReadModel> for Status {
+    ghost use Rattle.std.specs.Prelude.{◌≡◌};
+    ghost use Rattle.report_cli.specs.Statuses.{status_of_refusal};
+
+    ghost from_gives = { λ why status. status ≡ status_of_refusal why };
+
+    fn from(why: ReadModel) -> Status {
+        match why {
+            ReadModel::Refused(refused) => Status::Refused(refused),
+            ReadModel::NoMemory => Status::Memory,
+        }
+    }
+}
+
+impl From<NoMemory> for Status {
+    ghost use Rattle.std.specs.Prelude.{◌≡◌};
+    ghost use Rattle.report_cli.specs.declared.status.Status.TheVariants.{Memory};
+
+    ghost from_gives = { λ _ status. status ≡ Memory };
+
+    fn from(_error: NoMemory) -> Status {
+        Status::Memory
+    }
+}
+
+impl From<AllocError> for Status {
+    ghost use Rattle.std.specs.Prelude.{◌≡◌};
+    ghost use Rattle.report_cli.specs.declared.status.Status.TheVariants.{Memory};
+
+    ghost from_gives = { λ _ status. status ≡ Memory };
+
+    fn from(_error: AllocError) -> Status {
+        Status::Memory
     }
 }

@@ -14,6 +14,8 @@ const ROOM: usize = 9_000_000;
 struct Case<'a> {
     words: [&'a str; 3],
     input: &'a [u8],
+    /// The most bytes that the source gives in one call.
+    step: usize,
     /// The most bytes that the sink takes in one call.
     most: usize,
     /// The calls of the source, the sink and the notes that fail.
@@ -39,6 +41,7 @@ fn calm<'a>(
     Case {
         words: ["mixed", "analyse", "matrix"],
         input,
+        step: ROOM,
         most: ROOM,
         source_fails: &[],
         out_fails: &[],
@@ -72,7 +75,7 @@ fn holds(text: &[u8], piece: &[u8]) -> bool {
 // Runs a case, and compares what it leaves. A run of status 2 takes no byte.
 fn expect_case(rt: &impl Abort, alloc: Global, case: &Case) -> Result<(), Fail> {
     let words = words_of(alloc, &case.words)?;
-    let mut source = MemSource::new(alloc, case.input, ROOM, case.source_fails)?;
+    let mut source = MemSource::new(alloc, case.input, case.step.max(1), case.source_fails)?;
     let mut out = MemSink::new(alloc, case.most.max(1), ROOM, case.out_fails)?;
     let mut notes = MemSink::new(alloc, ROOM, ROOM, case.notes_fail)?;
     let status = run(alloc, &words, &mut source, &mut out, &mut notes);
@@ -387,6 +390,41 @@ fn streams_that_fail(rt: HostRuntime) -> Result<(), Fail> {
                 b"P 1: 1=1\nfirst |\nblock 1: 1 | q1 |\nlast |\nend\n",
                 b"",
             )
+        },
+    ];
+    for case in cases {
+        expect_case(&rt, rt.alloc(), &case)?;
+    }
+    Ok(())
+}
+
+#[test]
+fn inputs_that_come_in_pieces(rt: HostRuntime) -> Result<(), Fail> {
+    let returned =
+        b"mixed-certificate 1\nkind matrix\nlength 10\neq a x=1\r\n\nshape 1 1 1 0 1\nrank 1\nbase 1=1\nmatch\nS 1: 1=1\nU 1: 1=1\nP 1: 1=1\nfirst |\nblock 1: 1 | q1 |\nlast |\nend\n";
+    let split = b"columns 2\nc1 x\nc2 *a\nq1 a 1=1 2=1\nt1 a 1 2\n";
+    let cases = [
+        Case {
+            step: 1,
+            ..calm(b"eq a x=1\r\n", 0, returned, returned, b"")
+        },
+        Case {
+            step: 1,
+            ..layered(b"eq a x=1+? # both\r\n#", split, split)
+        },
+        Case {
+            source_fails: &[2],
+            ..calm(b"foo\n", 4, b"", b"", b"mixed: read fault\n")
+        },
+        Case {
+            words: ["mixed", "layer", "matrix"],
+            source_fails: &[2],
+            ..calm(b"foo\n", 4, b"", b"", b"mixed: read fault\n")
+        },
+        Case {
+            words: ["mixed", "layer", "matrix"],
+            step: 1,
+            ..refused(b"foo\nbar\n", b"mixed: line 1: bad word\n")
         },
     ];
     for case in cases {

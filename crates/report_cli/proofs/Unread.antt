@@ -1,0 +1,49 @@
+-- Inputs that give no report.
+use Rattle.std.proofs.Common.{◌≡◌, ℕ, List, Option, Result, Ok, Err, sym, ◌∙◌, refl, subst}
+use Rattle.std.specs.Result.{IfErr, IsErr, IsErrAnd}
+use Rattle.port_io.specs.declared.ports.Source.{Ghosts}
+use Rattle.refusals.specs.declared.ReadModel.{ReadModel}
+use Rattle.refusals.specs.declared.ReadModel.TheVariants.{Refused as Broken, NoMemory}
+use Rattle.residue_field.specs.Modulus.{res_modulus}
+use Rattle.matrix_reader.specs.Models.{IsRefusal}
+use Rattle.report_cli.specs.Reading.{IsUnread, ReadsWhole, TellsOfSource}
+use Rattle.report_cli.specs.Statuses.{status_of_refusal}
+use Rattle.report_cli.specs.declared.status.Status.{Status}
+
+-- what holds of a status holds of the answer with it
+pub with_status : {T : Type 0} (P : Status → Type 0) (result : Result T Status) (status : Status) → IsErr result →
+    IsErrAnd result (λ other. other ≡ status) → P status → IfErr result P
+with_status P (Ok it) status failed is holds = absurd is
+with_status P (Err other) status failed is holds = subst P (sym is) holds
+
+-- an answer that is no error
+pub answered : {T E : Type 0} {result : Result T E} {it : T} {error : E} → result ≡ Ok it → result ≡ Err error → ⊥
+answered is not = let both = sym is ∙ not in cc
+
+-- an input that was read whole, and is refused or finds no memory
+pub unread_by_refusal : (left left' : Option (List ℕ)) (Holds : List ℕ → Type 0) (whole : ReadsWhole left left' Holds) (why : ReadModel) →
+    IsRefusal res_modulus whole.input why → IsUnread (status_of_refusal why) left left'
+unread_by_refusal left left' Holds whole (Broken refused) is =
+    record { input = whole.input; took = whole.took; ended = whole.ended; short = whole.short; holds = is }
+unread_by_refusal left left' Holds whole NoMemory is = (whole.input, whole.short, whole.took)
+
+-- what holds of each input of which this holds, holds of the one that was read
+pub reads_so : (left left' : Option (List ℕ)) (Holds Next : List ℕ → Type 0) → ((input : List ℕ) → Holds input → Next input) →
+    ReadsWhole left left' Holds → ReadsWhole left left' Next
+reads_so left left' Holds Next next whole = record {
+  input = whole.input;
+  took = whole.took;
+  ended = whole.ended;
+  short = whole.short;
+  holds = next whole.input whole.holds;
+}
+
+-- what is told of the source where nothing was refused is told of any such answer
+pub tells_still : {S T R : Type 0} (K : Ghosts S) (old new : S) (it : T) (other : R) → TellsOfSource K old new (Ok it) → TellsOfSource K old new (Ok other)
+tells_still K old new it other tells = record {
+  fault = λ e. absurd (answered refl e);
+  told = λ _. tells.told (answered refl);
+  later = tells.later;
+  asked = tells.asked;
+  steady = tells.steady;
+}
