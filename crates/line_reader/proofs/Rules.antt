@@ -1,5 +1,5 @@
 -- Rules of lines that go on, and the first broken one.
-use Rattle.std.proofs.Common.{◌≡◌, ℕ, suc, ◌+◌, ◌<◌, ◌≤◌, List, [], ◌∷◌, ◌++◌, length, map, take, get_or, Option, Some, None, if◌then◌else◌, sym, ap, subst, ◌∙◌, inl, inr, arith, below_more, length-append}
+use Rattle.std.proofs.Common.{◌≡◌, ℕ, ◌<◌, List, [], ◌∷◌, ◌++◌, length, map, take, get_or, Some, None, if◌then◌else◌, sym, ap, subst, ◌∙◌, inl, inr, arith, below_more, length-append}
 use Rattle.std.specs.List.{list_all}
 use Rattle.std.proofs.Math.Seq.{take-append_seam, get_or-append_seam}
 use Rattle.std.proofs.lemmas.Bool.{cases_order}

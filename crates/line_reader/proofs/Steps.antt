@@ -1,5 +1,5 @@
 -- A reader that is fed one byte more, and one that ends.
-use Rattle.std.proofs.Common.{◌≡◌, ◌≢◌, ℕ, ◌+◌, ◌<◌, ◌≤◌, Bool, true, false, ◌||◌, is_some, List, [], ◌∷◌, ◌++◌, length, map, min, if◌then◌else◌, Option, Some, None, Result, Ok, Err, OnOk, refl, sym, ap, subst, ◌∙◌, arith, append_assoc, append-nil, length-append}
+use Rattle.std.proofs.Common.{◌≡◌, ◌≢◌, ℕ, ◌+◌, ◌<◌, Bool, true, false, ◌||◌, is_some, List, [], ◌∷◌, ◌++◌, length, map, min, if◌then◌else◌, Option, Some, None, Result, Ok, Err, OnOk, refl, sym, ap, subst, ◌∙◌, arith, append_assoc, append-nil, length-append}
 use Rattle.std.specs.List.{list_any}
 use Rattle.std.specs.Str.Lines.{strip_carriage_return}
 use Rattle.std.proofs.lemmas.List.{map-append, length-map}
@@ -10,9 +10,9 @@ use Rattle.refusals.specs.declared.Refused.{Refused}
 use Rattle.refusals.specs.declared.ReadModel.TheVariants.{Refused as IsRefused}
 use Rattle.line_lexer.specs.Lines.{is_line_feed, lines_of}
 use Rattle.line_lexer.specs.Tokens.{is_comment_sign, uncommented, words_of}
-use Rattle.line_reader.specs.LineRules.{WordsRule, KeepBefore, KeepsAll, IsRefusal, line_rule}
+use Rattle.line_reader.specs.LineRules.{WordsRule, KeepBefore, KeepsAll, IsRefusal}
 use Rattle.line_reader.specs.Answers.{ReadsBytes}
-use Rattle.line_reader.specs.Readings.{Reading, reading, IsCut, IsProgress, IsBroken, IsFed, EndsLine, ReadsEnded}
+use Rattle.line_reader.specs.Readings.{reading, IsProgress, IsBroken, IsFed, EndsLine, ReadsEnded}
 use Rattle.line_reader.specs.declared.fault.LineFault.TheVariants.{Broken}
 use Rattle.line_reader.proofs.Comments.{uncommented-commented, uncommented-whole, uncommented-sign, uncommented-byte, ended-same}
 use Rattle.line_reader.proofs.Cuts.{lines_last, cut-lines_within, cut-none, cut-byte, cut-feed, cut-end}

@@ -1,5 +1,5 @@
 -- What a reader of lines knows of the text so far.
-use Rattle.std.specs.Prelude.{◌≡◌, ℕ, ◌+◌, Bool, true, false, List, [], ◌∷◌, ◌++◌, length, map, Option, Some, None}
+use Rattle.std.specs.Prelude.{◌≡◌, ℕ, ◌+◌, Bool, false, List, [], ◌∷◌, ◌++◌, length, map, Option, Some, None}
 use Rattle.std.specs.List.{list_any}
 use Rattle.std.specs.Str.Lines.{strip_carriage_return}
 use Rattle.refusals.specs.declared.Place.TheVariants.{Line}
@@ -19,6 +19,7 @@ pub record Reading (R : Type 0) : Type 0 where
   pub commented : Bool
   pub refused : Option Refused
 
+-- the reading of these fields
 abbrev pub reading : {R : Type 0} → R → ℕ → List ℕ → Bool → Option Refused → Reading R
 reading what n bytes sign why = record { format = what; number = n; line = bytes; commented = sign; refused = why }
 

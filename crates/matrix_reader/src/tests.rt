@@ -4,6 +4,7 @@ use super::*;
 use mixed_model::Mixed;
 use refusals::{Place, ReadModel, Refused, Why};
 use residue_field::{Field, Res};
+use std::alloc::Global;
 use std::test::Fail;
 
 #[test]
@@ -98,5 +99,92 @@ fn the_first_broken_rule_is_the_answer(rt: HostRuntime) -> Result<(), Fail> {
 fn an_empty_text_gives_an_empty_model(rt: HostRuntime) -> Result<(), Fail> {
     let model: Mixed<Res> = read(rt.alloc(), b"")?;
     assert_eq!(rt; (model.equations(), model.unknowns()), (0, 0));
+    Ok(())
+}
+
+fn read_pieces(alloc: Global, pieces: &[&[u8]]) -> Result<Mixed<Res>, ReadModel> {
+    let Ok(mut reader) = MatrixReader::new(alloc) else {
+        return Err(ReadModel::NoMemory);
+    };
+    for piece in pieces {
+        reader = match reader.feed(piece) {
+            Ok(reader) => reader,
+            Err(_) => return Err(ReadModel::NoMemory),
+        };
+    }
+    reader.finish()
+}
+
+// What stands at each place: the number of the constant, or -1 for none, and whether a symbol does.
+fn places(alloc: Global, model: &Mixed<Res>) -> Result<Vec<(i64, bool)>, Fail> {
+    let mut found = Vec::new(alloc);
+    for i in 0..model.equations() {
+        for j in 0..model.unknowns() {
+            let constant = match model.constant(i, j) {
+                Some(residue) => i64::from(residue.value()),
+                None => -1,
+            };
+            found.push((constant, model.symbol(i, j)))?;
+        }
+    }
+    Ok(found)
+}
+
+#[test]
+fn a_model_is_the_same_wherever_its_text_is_cut(rt: HostRuntime) -> Result<(), Fail> {
+    let text = b"# a\r\neq e x=1+? y=-1/2 z=0+?\r\n\nunknown w # b\neq f w=3 x=?\r";
+    let want = [
+        (1, true),
+        (32_760, false),
+        (-1, true),
+        (-1, false),
+        (-1, true),
+        (-1, false),
+        (-1, false),
+        (3, false),
+    ];
+    for cut in 0..=text.len() {
+        let (front, back) = text.split_at(cut);
+        let model = read_pieces(rt.alloc(), &[front, back])?;
+        assert_eq!(rt; (model.equations(), model.unknowns()), (2, 4), "{cut}");
+        let found = places(rt.alloc(), &model)?;
+        assert_eq!(rt; found.as_slice(), want.as_slice(), "{cut}");
+    }
+    Ok(())
+}
+
+#[test]
+fn a_list_may_come_byte_by_byte(rt: HostRuntime) -> Result<(), Fail> {
+    let text = b"eq a x=1\r\neq b y=?\r\n";
+    let mut reader: MatrixReader<Res> = MatrixReader::new(rt.alloc())?;
+    for place in 0..text.len() {
+        reader = reader.feed(&text[place..place + 1])?;
+    }
+    let model = reader.finish()?;
+    let found = places(rt.alloc(), &model)?;
+    let want = [(1, false), (-1, false), (-1, false), (-1, true)];
+    assert_eq!(rt; found.as_slice(), want.as_slice());
+    Ok(())
+}
+
+#[test]
+fn a_comment_may_go_over_pieces(rt: HostRuntime) -> Result<(), Fail> {
+    let model = read_pieces(
+        rt.alloc(),
+        &[b"eq a x=1 # one", b" y=2 \xff", b" z=3\nunknown u"],
+    )?;
+    assert_eq!(rt; (model.equations(), model.unknowns()), (1, 2));
+    Ok(())
+}
+
+#[test]
+fn a_later_piece_changes_no_refusal(rt: HostRuntime) -> Result<(), Fail> {
+    let place = Place::Line(2);
+    let why = Why::BadShape;
+    let pieces: [&[u8]; 3] = [b"eq a x=1\neq b x", b"\neq", b"\nsum c\n"];
+    match read_pieces(rt.alloc(), &pieces) {
+        Ok(_) => assert!(rt; false),
+        Err(error) => assert_eq!(rt; error, ReadModel::Refused(Refused { place, why })),
+    }
     Ok(())
 }

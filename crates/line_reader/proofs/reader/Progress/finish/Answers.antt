@@ -1,4 +1,4 @@
-use Rattle.std.proofs.Common.{◌≡◌, ◌≢◌, [], None, Some, false, sym, subst, ◌∙◌}
+use Rattle.std.proofs.Common.{subst}
 use Rattle.line_reader.specs.Readings.{IsFed, ReadsEnded, reading}
 use Rattle.line_reader.proofs.Steps.{refused-end, keeps-fed, reads-fed, keeps-left, reads-left, refused-left}
 use Rattle.line_reader.proofs.reader.Progress.finish.Goals as goal

@@ -1,5 +1,5 @@
 use Rattle.std.proofs.Common.{◌≡◌, ◌∷◌, ◌++◌, [], true, sym, subst, ◌∙◌, false, Option, None, Some, is_some, refl}
-use Rattle.std.proofs.lemmas.Bool.{ne_eqb, not-true}
+use Rattle.std.proofs.lemmas.Bool.{ne_eqb}
 use Rattle.refusals.specs.declared.Refused.{Refused}
 use Rattle.line_lexer.specs.Lines.{is_line_feed}
 use Rattle.line_lexer.specs.Tokens.{is_comment_sign}
