@@ -18,7 +18,8 @@ use std::alloc::Global;
 
 /// The text of an input.
 pub fn read_text<S: Source>(alloc: Global, source: &mut S) -> Result<Vec<u8>, Status>
-    ensures read { IfOk result (λ text. ReadsWhole (S.left source.old) (S.left source.new) (λ input. input ≡ text.items)) }
+    ensures read { IfOk result (λ text.
+        ReadsWhole (S.left source.old) (S.left source.new) (λ input. input ≡ text.items)) }
     ensures unread { IfErr result (λ status. IsUnread status (S.left source.old) (S.left source.new)) }
     ensures source { TellsOfSource S.Source source.old source.new result }
 {

@@ -92,8 +92,8 @@ impl Report {
         }))
     }
 
-    /// Appends the whole text to the sink, in pieces of some KiB, and takes no memory. It does not flush. Where the sink
-    /// fails, a first part of the text was appended, and `written` counts its bytes.
+    /// Appends the whole text to the sink, in pieces of some KiB, and takes no memory. It does not flush. Where the
+    /// sink fails, a first part of the text was appended, and `written` counts its bytes.
     pub fn write<K: Sink>(&self, out: &mut K) -> Result<(), WriteFault>
         requires { IsWritable self.now }
         ensures { IsWritten K.Sink out.old out.new (report_text self.now) result }
