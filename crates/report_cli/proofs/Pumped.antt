@@ -1,10 +1,10 @@
 -- What is known between two pieces of an input.
-use Rattle.std.proofs.Common.{◌≡◌, ℕ, ◌+◌, ◌-◌, ◌≤◌, List, ◌++◌, length, Bool, true, false, ◌<◌, refl, ap, arith, Option, Some, None, Result, Ok, Err, sym, ◌∙◌, subst}
+use Rattle.std.proofs.Common.{◌≡◌, ℕ, ◌+◌, ◌-◌, ◌≤◌, List, ◌++◌, length, Bool, true, false, ◌<◌, refl, ap, arith, Option, Some, None, Result, Err, sym, ◌∙◌, subst}
 use Rattle.std.proofs.lemmas.List.{length-append}
 use Rattle.std.specs.Io.KnownBytes.{Keeps}
 use Rattle.limits.specs.Limits.{input_limit}
 use Rattle.port_io.specs.Asking.{AsksWithin}
-use Rattle.port_io.specs.Bytes.{Took, TookAtMost, TookExactly}
+use Rattle.port_io.specs.Bytes.{Took, TookExactly}
 use Rattle.port_io.specs.Pumping.{Pumping}
 use Rattle.port_io.specs.declared.ports.Source.{Ghosts}
 use Rattle.port_io.specs.declared.reading.ReadError.{ReadError}

@@ -7,7 +7,7 @@ use Rattle.port_io.specs.Causes.{Rose}
 use Rattle.port_io.specs.declared.ports.Source.{Ghosts}
 use Rattle.report_cli.specs.RightFor.{IsRefused}
 use Rattle.report_cli.specs.declared.status.Status.{Status}
-use Rattle.report_cli.specs.declared.status.Status.TheVariants.{Done, Usage, Refused, TooLong, ReadFault, WriteFault, Memory}
+use Rattle.report_cli.specs.declared.status.Status.TheVariants.{Refused, TooLong, ReadFault, Memory}
 
 -- the whole input was taken, it is no longer than an input may be, and this holds of it
 pub record ReadsWhole (left left' : Option (List ℕ)) (Holds : List ℕ → Type 0) : Type 0 where
