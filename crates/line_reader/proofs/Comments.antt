@@ -1,20 +1,20 @@
 -- What stands before a comment in a line that goes on.
-use Rattle.std.proofs.Common.{◌≡◌, ℕ, ◌+◌, ◌-◌, ◌<◌, ◌==◌, Bool, true, false, ◌||◌, List, [], ◌∷◌, ◌++◌, length, take, refl, sym, ap, ◌∙◌, arith, cond, slice_index, one-add, if◌then◌else◌}
+use Rattle.std.proofs.Common.{◌≡◌, ℕ, ◌+◌, ◌-◌, ◌<◌, ◌==◌, Bool, true, false, ◌||◌, List, [], ◌∷◌, ◌++◌, length, take, refl, sym, ap, ◌∙◌, arith, cond, nat_lt, lt-ltb, slice_index, one-add, if◌then◌else◌}
 use Rattle.std.specs.List.{list_any}
 use Rattle.std.specs.Str.Lines.{strip_carriage_return}
 use Rattle.std.proofs.Math.Seq.{take-length}
 use Rattle.std.proofs.lemmas.List.{take_more}
-use Rattle.std.proofs.lemmas.Bool.{eqb-true}
+use Rattle.std.proofs.lemmas.Bool.{eqb-true, le-ltb}
 use Rattle.std.proofs.lemmas.List.Folds.{list_any-append}
 use Rattle.line_lexer.specs.Tokens.{is_comment_sign, uncommented}
 use Rattle.line_reader.proofs.Cuts.{or_false-first, or_false-second}
 
 -- in a comment
-pub uncommented-commented : (line : List ℕ) (byte : ℕ) → list_any is_comment_sign line ≡ true → uncommented (line ++ byte ∷ []) ≡ uncommented line
-uncommented-commented [] byte some = let f : ⊥ = cc in absurd f
-uncommented-commented (first ∷ line) byte some = by (is_comment_sign first) refl some (λ rest. uncommented-commented line byte rest)
+uncommented-commented : (line part : List ℕ) → list_any is_comment_sign line ≡ true → uncommented (line ++ part) ≡ uncommented line
+uncommented-commented [] part some = let f : ⊥ = cc in absurd f
+uncommented-commented (first ∷ line) part some = by (is_comment_sign first) refl some (λ rest. uncommented-commented line part rest)
   where
-    by : (b : Bool) → is_comment_sign first ≡ b → (b || list_any is_comment_sign line) ≡ true → (list_any is_comment_sign line ≡ true → uncommented (line ++ byte ∷ []) ≡ uncommented line) → uncommented ((first ∷ line) ++ byte ∷ []) ≡ uncommented (first ∷ line)
+    by : (b : Bool) → is_comment_sign first ≡ b → (b || list_any is_comment_sign line) ≡ true → (list_any is_comment_sign line ≡ true → uncommented (line ++ part) ≡ uncommented line) → uncommented ((first ∷ line) ++ part) ≡ uncommented (first ∷ line)
     by true e h more = rw e refl
     by false e h more = rw e (simp one-add (ap (λ bytes. first ∷ bytes) (more h)))
 
@@ -26,17 +26,35 @@ uncommented-whole (first ∷ line) none =
     let rest = uncommented-whole line (or_false-second (is_comment_sign first) (list_any is_comment_sign line) none) in
     rw here (simp one-add (ap (λ bytes. first ∷ bytes) rest))
 
--- where a comment begins at the end
-pub uncommented-sign : (line : List ℕ) → list_any is_comment_sign line ≡ false → uncommented (line ++ 35 ∷ []) ≡ line
-uncommented-sign [] none = refl
-uncommented-sign (first ∷ line) none =
+-- behind a line in which none begins
+uncommented-behind : (line part : List ℕ) → list_any is_comment_sign line ≡ false → uncommented (line ++ part) ≡ line ++ uncommented part
+uncommented-behind [] part none = refl
+uncommented-behind (first ∷ line) part none =
     let here = or_false-first (is_comment_sign first) (list_any is_comment_sign line) none in
-    let rest = uncommented-sign line (or_false-second (is_comment_sign first) (list_any is_comment_sign line) none) in
+    let rest = uncommented-behind line part (or_false-second (is_comment_sign first) (list_any is_comment_sign line) none) in
     rw here (simp one-add (ap (λ bytes. first ∷ bytes) rest))
 
--- where none begins, and the byte after it begins none
-pub uncommented-byte : (line : List ℕ) (byte : ℕ) → list_any is_comment_sign line ≡ false → is_comment_sign byte ≡ false → uncommented (line ++ byte ∷ []) ≡ line ++ byte ∷ []
-uncommented-byte line byte none other = uncommented-whole (line ++ byte ∷ []) (list_any-append is_comment_sign line (byte ∷ []) ∙ rw (none, other) refl)
+-- what is kept of a line, where a part more of it comes
+pub uncommented-part : (line part bytes : List ℕ) (sign : Bool) → bytes ≡ uncommented line → sign ≡ list_any is_comment_sign line → (if sign then bytes else bytes ++ uncommented part) ≡ uncommented (line ++ part)
+uncommented-part line part bytes true bytes_are sign_is = bytes_are ∙ sym (uncommented-commented line part (sym sign_is))
+uncommented-part line part bytes false bytes_are sign_is =
+    ap (λ front. front ++ uncommented part) (bytes_are ∙ uncommented-whole line (sym sign_is)) ∙ sym (uncommented-behind line part (sym sign_is))
+
+shorter-commented : (part : List ℕ) → list_any is_comment_sign part ≡ true → length (uncommented part) < length part
+shorter-commented [] some = let f : ⊥ = cc in absurd f
+shorter-commented (byte ∷ part) some = by (is_comment_sign byte) refl some (λ rest. shorter-commented part rest)
+  where
+    by : (b : Bool) → is_comment_sign byte ≡ b → (b || list_any is_comment_sign part) ≡ true → (list_any is_comment_sign part ≡ true → length (uncommented part) < length part) → length (uncommented (byte ∷ part)) < length (byte ∷ part)
+    by true e h more = rw e (omega arith)
+    by false e h more = rw e (simp one-add (omega (arith, more h)))
+
+-- a comment begins where fewer bytes stand before it
+pub uncommented-shorter : (part : List ℕ) → nat_lt (length (uncommented part)) (length part) ≡ list_any is_comment_sign part
+uncommented-shorter part = by (list_any is_comment_sign part) refl
+  where
+    by : (b : Bool) → list_any is_comment_sign part ≡ b → nat_lt (length (uncommented part)) (length part) ≡ b
+    by true e = lt-ltb (length (uncommented part)) (length part) (shorter-commented part e)
+    by false e = le-ltb (length (uncommented part)) (length part) (omega (arith, ap length (uncommented-whole part e)))
 
 or_false : (b : Bool) → (b || false) ≡ b
 or_false true = refl
@@ -53,7 +71,7 @@ stripped-front : (front line : List ℕ) → line ≡ front ++ 13 ∷ [] → lis
 stripped-front front line same some =
     let both : (list_any is_comment_sign front || false) ≡ true = sym (list_any-append is_comment_sign front (13 ∷ [])) ∙ ap (list_any is_comment_sign) (sym same) ∙ some in
     let inside : list_any is_comment_sign front ≡ true = sym (or_false (list_any is_comment_sign front)) ∙ both in
-    sym (ap uncommented same ∙ uncommented-commented front 13 inside)
+    sym (ap uncommented same ∙ uncommented-commented front (13 ∷ []) inside)
 
 uncommented-strip : (line : List ℕ) → list_any is_comment_sign line ≡ true → uncommented (strip_carriage_return line) ≡ uncommented line
 uncommented-strip [] some = refl
@@ -78,3 +96,11 @@ ended-same line = by (list_any is_comment_sign line) refl
     by : (b : Bool) → list_any is_comment_sign line ≡ b → uncommented (if b then uncommented line else strip_carriage_return (uncommented line)) ≡ uncommented (strip_carriage_return line)
     by true e = uncommented-twice line ∙ sym (uncommented-strip line e)
     by false e = ap (λ bytes. uncommented (strip_carriage_return bytes)) (uncommented-whole line e)
+
+-- lines of which the same is kept
+pub stripped-same : (line bytes : List ℕ) → uncommented line ≡ uncommented bytes → list_any is_comment_sign line ≡ list_any is_comment_sign bytes → uncommented (strip_carriage_return line) ≡ uncommented (strip_carriage_return bytes)
+stripped-same line bytes same sign =
+    sym (ended-same line)
+    ∙ ap (λ kept. uncommented (if list_any is_comment_sign line then kept else strip_carriage_return kept)) same
+    ∙ ap (λ b. uncommented (if b then uncommented bytes else strip_carriage_return (uncommented bytes))) sign
+    ∙ ended-same bytes

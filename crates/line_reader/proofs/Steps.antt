@@ -1,39 +1,24 @@
--- A reader that is fed one byte more, and one that ends.
+-- A reader that is fed a part more, and one that ends.
 use Rattle.std.proofs.Common.{◌≡◌, ◌≢◌, ℕ, ◌+◌, ◌<◌, Bool, true, false, ◌||◌, is_some, List, [], ◌∷◌, ◌++◌, length, map, min, if◌then◌else◌, Option, Some, None, Result, Ok, Err, OnOk, refl, sym, ap, subst, ◌∙◌, arith, append_assoc, append-nil, length-append}
 use Rattle.std.specs.List.{list_any}
 use Rattle.std.specs.Str.Lines.{strip_carriage_return}
 use Rattle.std.proofs.lemmas.List.{map-append, length-map}
 use Rattle.limits.specs.Limits.{input_limit}
 use Rattle.refusals.specs.declared.Place.TheVariants.{Line}
-use Rattle.refusals.specs.declared.Why.{Why}
 use Rattle.refusals.specs.declared.Refused.{Refused}
 use Rattle.refusals.specs.declared.ReadModel.TheVariants.{Refused as IsRefused}
 use Rattle.line_lexer.specs.Lines.{is_line_feed, lines_of}
 use Rattle.line_lexer.specs.Tokens.{is_comment_sign, uncommented, words_of}
 use Rattle.line_reader.specs.LineRules.{WordsRule, KeepBefore, KeepsAll, IsRefusal}
-use Rattle.line_reader.specs.Answers.{ReadsBytes}
-use Rattle.line_reader.specs.Readings.{reading, IsProgress, IsBroken, IsFed, EndsLine, ReadsEnded}
-use Rattle.line_reader.specs.declared.fault.LineFault.TheVariants.{Broken}
-use Rattle.line_reader.proofs.Comments.{uncommented-commented, uncommented-whole, uncommented-sign, uncommented-byte, ended-same}
-use Rattle.line_reader.proofs.Cuts.{lines_last, cut-lines_within, cut-none, cut-byte, cut-feed, cut-end}
+use Rattle.line_reader.specs.Readings.{reading, IsProgress, IsBroken, IsFed, EndsLine, ReadsEnded, ReadsLine}
+use Rattle.line_reader.proofs.Comments.{uncommented-part, uncommented-whole, ended-same, stripped-same}
+use Rattle.line_reader.proofs.Cuts.{lines_last, cut-lines_within, cut-none, cut-part, cut-feed, cut-end}
 use Rattle.line_reader.proofs.Rules.{line_rule-same, words_of-same, KeepBefore-more, first_broken-here}
 use Rattle.std.proofs.lemmas.List.Folds.{list_any-append}
-
-or_true : (b : Bool) → (b || true) ≡ true
-or_true true = refl
-or_true false = refl
 
 -- a refusal stays
 broken-more : (rule : WordsRule) (text more : List ℕ) (refused : Refused) → IsBroken rule text refused → IsBroken rule (text ++ more) refused
 broken-more rule text more refused broken = λ rest. subst (λ all. IsRefusal rule all (IsRefused refused)) (sym (append_assoc text more rest)) (broken (more ++ rest))
-
--- the bytes before a comment stay where the sign of one comes
-uncommented-sign_comes : (rest : List ℕ) → uncommented (rest ++ 35 ∷ []) ≡ uncommented rest
-uncommented-sign_comes rest = by (list_any is_comment_sign rest) refl
-  where
-    by : (b : Bool) → list_any is_comment_sign rest ≡ b → uncommented (rest ++ 35 ∷ []) ≡ uncommented rest
-    by true e = uncommented-commented rest 35 e
-    by false e = uncommented-sign rest e ∙ sym (uncommented-whole rest e)
 
 -- the words of one line more
 words_more : (lines : List (List ℕ)) (line : List ℕ) → map words_of (lines ++ line ∷ []) ≡ map words_of lines ++ words_of line ∷ []
@@ -53,45 +38,19 @@ module _ {R : Type 0} (rule : WordsRule) (has_read : R → List (List (List ℕ)
     commented_is = plain;
   }
 
-  progress-sign : IsProgress rule has_read (reading what n bytes sign None) text → IsProgress rule has_read (reading what n bytes true None) (text ++ 35 ∷ [])
-  progress-sign progress = record {
+  -- a part that ends no line
+  progress-part : (part line : List ℕ) (commented : Bool) → list_any is_line_feed part ≡ false → line ≡ (if sign then bytes else bytes ++ uncommented part) → commented ≡ (sign || list_any is_comment_sign part)
+      → IsProgress rule has_read (reading what n bytes sign None) text → IsProgress rule has_read (reading what n line commented None) (text ++ part)
+  progress-part part line commented unended line_is commented_is progress = record {
     lines = progress.lines;
-    rest = progress.rest ++ 35 ∷ [];
-    cut = cut-byte text progress.lines progress.rest 35 progress.cut refl;
+    rest = progress.rest ++ part;
+    cut = cut-part text progress.lines progress.rest part progress.cut unended;
     kept = progress.kept;
     read = progress.read;
     number_is = progress.number_is;
-    line_is = progress.line_is ∙ sym (uncommented-sign_comes progress.rest);
-    commented_is = sym (list_any-append is_comment_sign progress.rest (35 ∷ []) ∙ or_true (list_any is_comment_sign progress.rest));
+    line_is = line_is ∙ uncommented-part progress.rest part bytes sign progress.line_is progress.commented_is;
+    commented_is = commented_is ∙ ap (λ b. b || list_any is_comment_sign part) progress.commented_is ∙ sym (list_any-append is_comment_sign progress.rest part);
   }
-
-  progress-commented : (byte : ℕ) → is_line_feed byte ≡ false → sign ≡ true → IsProgress rule has_read (reading what n bytes sign None) text → IsProgress rule has_read (reading what n bytes sign None) (text ++ byte ∷ [])
-  progress-commented byte no_feed commented progress =
-      let inside : list_any is_comment_sign progress.rest ≡ true = sym progress.commented_is ∙ commented in
-      record {
-        lines = progress.lines;
-        rest = progress.rest ++ byte ∷ [];
-        cut = cut-byte text progress.lines progress.rest byte progress.cut no_feed;
-        kept = progress.kept;
-        read = progress.read;
-        number_is = progress.number_is;
-        line_is = progress.line_is ∙ sym (uncommented-commented progress.rest byte inside);
-        commented_is = commented ∙ sym (list_any-append is_comment_sign progress.rest (byte ∷ []) ∙ rw inside refl);
-      }
-
-  progress-byte : (byte : ℕ) → is_line_feed byte ≡ false → is_comment_sign byte ≡ false → sign ≡ false → IsProgress rule has_read (reading what n bytes sign None) text → IsProgress rule has_read (reading what n (bytes ++ byte ∷ []) sign None) (text ++ byte ∷ [])
-  progress-byte byte no_feed no_sign plain progress =
-      let none : list_any is_comment_sign progress.rest ≡ false = sym progress.commented_is ∙ plain in
-      record {
-        lines = progress.lines;
-        rest = progress.rest ++ byte ∷ [];
-        cut = cut-byte text progress.lines progress.rest byte progress.cut no_feed;
-        kept = progress.kept;
-        read = progress.read;
-        number_is = progress.number_is;
-        line_is = ap (λ line. line ++ byte ∷ []) (progress.line_is ∙ uncommented-whole progress.rest none) ∙ sym (uncommented-byte progress.rest byte none no_sign);
-        commented_is = plain ∙ sym (list_any-append is_comment_sign progress.rest (byte ∷ []) ∙ rw (none, no_sign) refl);
-      }
 
   -- a line is ended
   fed-ended : (new : R) (later : ℕ) (refused : Option Refused) → length text < input_limit → later ≡ min (n + 1) 4294967295 → ReadsEnded rule has_read n bytes sign what new refused → IsProgress rule has_read (reading what n bytes sign None) text → IsFed rule has_read (reading new later [] false refused) (text ++ 10 ∷ [])
@@ -120,21 +79,18 @@ module _ {R : Type 0} (rule : WordsRule) (has_read : R → List (List (List ℕ)
 
 -- what a reader was fed, with its refusal, if it has one
 module _ {R : Type 0} (rule : WordsRule) (has_read : R → List (List (List ℕ)) → Type 0) (text : List ℕ) (what : R) (n : ℕ) (bytes : List ℕ) (sign : Bool) where
-  pub fed-sign : (refused : Option Refused) → IsFed rule has_read (reading what n bytes sign refused) text → IsFed rule has_read (reading what n bytes true refused) (text ++ 35 ∷ [])
-  fed-sign None fed = progress-sign rule has_read text what n bytes sign fed
-  fed-sign (Some why) fed = broken-more rule text (35 ∷ []) why fed
+  pub fed-part : (refused : Option Refused) (part line : List ℕ) (commented : Bool) → (refused ≡ None → list_any is_line_feed part ≡ false) → sign ≡ false → line ≡ bytes ++ uncommented part → commented ≡ list_any is_comment_sign part
+      → IsFed rule has_read (reading what n bytes sign refused) text → IsFed rule has_read (reading what n line commented refused) (text ++ part)
+  fed-part None part line commented unended plain line_is commented_is fed =
+      progress-part rule has_read text what n bytes sign part line commented (unended refl) (rw plain line_is) (rw plain commented_is) fed
+  fed-part (Some why) part line commented unended plain line_is commented_is fed = broken-more rule text part why fed
 
-  pub fed-commented : (refused : Option Refused) (byte : ℕ) → is_line_feed byte ≡ false → sign ≡ true → IsFed rule has_read (reading what n bytes sign refused) text → IsFed rule has_read (reading what n bytes sign refused) (text ++ byte ∷ [])
-  fed-commented None byte no_feed commented fed = progress-commented rule has_read text what n bytes sign byte no_feed commented fed
-  fed-commented (Some why) byte no_feed commented fed = broken-more rule text (byte ∷ []) why fed
-
-  pub fed-byte : (refused : Option Refused) (byte : ℕ) → is_line_feed byte ≡ false → is_comment_sign byte ≡ false → sign ≡ false → IsFed rule has_read (reading what n bytes sign refused) text → IsFed rule has_read (reading what n (bytes ++ byte ∷ []) sign refused) (text ++ byte ∷ [])
-  fed-byte None byte no_feed no_sign plain fed = progress-byte rule has_read text what n bytes sign byte no_feed no_sign plain fed
-  fed-byte (Some why) byte no_feed no_sign plain fed = broken-more rule text (byte ∷ []) why fed
-
-  pub fed-refused : (refused : Option Refused) (byte : ℕ) → is_some refused ≡ true → IsFed rule has_read (reading what n bytes sign refused) text → IsFed rule has_read (reading what n bytes sign refused) (text ++ byte ∷ [])
-  fed-refused None byte some fed = let f : ⊥ = cc in absurd f
-  fed-refused (Some why) byte some fed = broken-more rule text (byte ∷ []) why fed
+  -- after a refusal, or in a comment
+  pub fed-left : (refused : Option Refused) (part : List ℕ) → (refused ≡ None → list_any is_line_feed part ≡ false) → (is_some refused || sign) ≡ true
+      → IsFed rule has_read (reading what n bytes sign refused) text → IsFed rule has_read (reading what n bytes sign refused) (text ++ part)
+  fed-left None part unended commented fed =
+      progress-part rule has_read text what n bytes sign part bytes sign (unended refl) (rw commented refl) (rw commented refl) fed
+  fed-left (Some why) part unended commented fed = broken-more rule text part why fed
 
   -- a reader that has a refusal
   pub refused-end : (refused : Option Refused) (why : Refused) → refused ≡ Some why → IsFed rule has_read (reading what n bytes sign refused) text → IsRefusal rule text (IsRefused why)
@@ -143,17 +99,44 @@ module _ {R : Type 0} (rule : WordsRule) (has_read : R → List (List (List ℕ)
       let same : other ≡ why = cc in
       subst (λ all. IsRefusal rule all (IsRefused why)) (append-nil text) (subst (λ r. IsBroken rule text r) same fed [])
 
+-- what is read of a line, by the bytes of another one that differs in its comment alone
+ends-same : {R : Type 0} (rule : WordsRule) (has_read : R → List (List (List ℕ)) → Type 0) (n : ℕ) (new : R) (before : List (List (List ℕ))) (line bytes : List ℕ) (refused : Option Refused) → uncommented line ≡ uncommented bytes
+    → EndsLine rule has_read n new before line refused → EndsLine rule has_read n new before bytes refused
+ends-same rule has_read n new before line bytes None same ended = (
+  line_rule-same rule before bytes line (sym same) ∙ ended.0,
+  subst (λ words. has_read new (before ++ words ∷ [])) (words_of-same line bytes same) ended.1,
+)
+ends-same rule has_read n new before line bytes (Some refused) same ended = (ended.0, ended.1, line_rule-same rule before bytes line (sym same) ∙ ended.2)
+
 -- a line feed
 module _ {R : Type 0} (rule : WordsRule) (has_read : R → List (List (List ℕ)) → Type 0) (what : R) (n : ℕ) (bytes : List ℕ) (sign : Bool) where
-  pub fed-feed : {E : Type 0} (result : Result (Unit {0}) E) (refused : Option Refused) (new : R) (later : ℕ) (left : List ℕ) (commented : Bool) (why : Option Refused) (byte : ℕ) → refused ≡ None → byte ≡ 10
+  -- after the last part of a line
+  pub fed-feed : {E : Type 0} (result : Result (Unit {0}) E) (part : List ℕ) (WasFed : List ℕ → Type 0) (refused : Option Refused) (new : R) (later : ℕ) (left : List ℕ) (commented : Bool) (why : Option Refused) → refused ≡ None
+      → ((text : List ℕ) → WasFed text → IsFed rule has_read (reading what n bytes sign refused) (text ++ part))
       → OnOk result (later ≡ min (n + 1) 4294967295) → OnOk result (left ≡ []) → OnOk result (commented ≡ false) → OnOk result (ReadsEnded rule has_read n bytes sign what new why)
-      → OnOk result ((text : List ℕ) → length text < input_limit → IsFed rule has_read (reading what n bytes sign refused) text → IsFed rule has_read (reading new later left commented why) (text ++ byte ∷ []))
-  fed-feed (Ok done) refused new later left commented why byte none feed next empty plain reads = λ text short fed.
-      subst (λ b. IsFed rule has_read (reading new later left b why) (text ++ byte ∷ [])) (sym plain)
-      (subst (λ l. IsFed rule has_read (reading new later l false why) (text ++ byte ∷ [])) (sym empty)
-      (subst (λ b. IsFed rule has_read (reading new later [] false why) (text ++ b ∷ [])) (sym feed)
-      (fed-ended rule has_read text what n bytes sign new later why short next reads (subst (λ r. IsFed rule has_read (reading what n bytes sign r) text) none fed))))
-  fed-feed (Err fault) refused new later left commented why byte none feed next empty plain reads = tt
+      → OnOk result ((text : List ℕ) → length (text ++ part) < input_limit → WasFed text → IsFed rule has_read (reading new later left commented why) (text ++ part ++ 10 ∷ []))
+  fed-feed (Ok done) part WasFed refused new later left commented why none step next empty plain reads = λ text short fed.
+      subst (λ b. IsFed rule has_read (reading new later left b why) (text ++ part ++ 10 ∷ [])) (sym plain)
+      (subst (λ l. IsFed rule has_read (reading new later l false why) (text ++ part ++ 10 ∷ [])) (sym empty)
+      (fed-ended rule has_read (text ++ part) what n bytes sign new later why short next reads (subst (λ r. IsFed rule has_read (reading what n bytes sign r) (text ++ part)) none (step text fed))))
+  fed-feed (Err fault) part WasFed refused new later left commented why none step next empty plain reads = tt
+
+  -- after a whole line
+  pub fed-whole : (part line : List ℕ) (refused : Option Refused) (new : R) (later : ℕ) (why : Option Refused) → refused ≡ None → bytes ≡ [] → sign ≡ false → list_any is_line_feed part ≡ false → line ≡ strip_carriage_return part
+      → later ≡ min (n + 1) 4294967295 → ReadsLine rule has_read n what new line why
+      → (text : List ℕ) → length (text ++ part) < input_limit → IsFed rule has_read (reading what n bytes sign refused) text → IsFed rule has_read (reading new later bytes sign why) (text ++ part ++ 10 ∷ [])
+  fed-whole part line refused new later why none empty plain unended line_is next reads text short fed =
+      subst (λ b. IsFed rule has_read (reading new later bytes b why) (text ++ part ++ 10 ∷ [])) (sym plain)
+      (subst (λ l. IsFed rule has_read (reading new later l false why) (text ++ part ++ 10 ∷ [])) (sym empty)
+      (fed-ended rule has_read (text ++ part) what n (uncommented part) (list_any is_comment_sign part) new later why short next ended progress))
+    where
+      ended : ReadsEnded rule has_read n (uncommented part) (list_any is_comment_sign part) what new why
+      ended = λ before other read counted same sign_is. ends-same rule has_read n new before line (strip_carriage_return other) why
+          (ap uncommented line_is ∙ stripped-same part other same sign_is) (reads before read counted)
+
+      progress : IsProgress rule has_read (reading what n (uncommented part) (list_any is_comment_sign part) None) (text ++ part)
+      progress = progress-part rule has_read text what n bytes sign part (uncommented part) (list_any is_comment_sign part) unended (rw (plain, empty) refl) (rw plain refl)
+          (subst (λ r. IsFed rule has_read (reading what n bytes sign r) text) none fed)
 
 -- a text that ends
 module _ {R : Type 0} (rule : WordsRule) (has_read : R → List (List (List ℕ)) → Type 0) (text : List ℕ) (what : R) (n : ℕ) (bytes : List ℕ) (sign : Bool) where
@@ -204,28 +187,12 @@ module _ {R : Type 0} (rule : WordsRule) (has_read : R → List (List (List ℕ)
       )
 
 -- What reading an ended line by what was kept of it answers.
-module _ {R : Type 0} (rule : WordsRule) (has_read : R → List (List (List ℕ)) → Type 0) (n : ℕ) (line : List ℕ) (sign : Bool) (old new : R) where
-  abbrev kept_bytes : List ℕ
-  kept_bytes = if sign then line else strip_carriage_return line
-
-  same : (bytes : List ℕ) → line ≡ uncommented bytes → sign ≡ list_any is_comment_sign bytes → uncommented (if sign then line else strip_carriage_return line) ≡ uncommented (strip_carriage_return bytes)
-  same bytes line_is sign_is =
-      ap (λ l. uncommented (if sign then l else strip_carriage_return l)) line_is
-      ∙ ap (λ b. uncommented (if b then uncommented bytes else strip_carriage_return (uncommented bytes))) sign_is
-      ∙ ended-same bytes
-
-  pub ended-read : (given : List ℕ) → given ≡ (if sign then line else strip_carriage_return line) → ReadsBytes rule has_read n old new given (Ok tt) → ReadsEnded rule has_read n line sign old new None
-  ended-read given given_is reads = λ before bytes read counted line_is sign_is.
-      let both = ap uncommented given_is ∙ same bytes line_is sign_is in
-      let answer = reads before read counted in (
-        line_rule-same rule before (strip_carriage_return bytes) given (sym both) ∙ answer.0,
-        subst (λ words. has_read new (before ++ words ∷ [])) (words_of-same given (strip_carriage_return bytes) both) answer.1,
-      )
-
-  pub ended-broken : (given : List ℕ) (why : Why) (refused : Refused) → given ≡ (if sign then line else strip_carriage_return line) → refused ≡ record { place = Line n; why = why } → ReadsBytes rule has_read n old new given (Err (Broken why)) → ReadsEnded rule has_read n line sign old new (Some refused)
-  ended-broken given why refused given_is refused_is reads = λ before bytes read counted line_is sign_is.
-      let both = ap uncommented given_is ∙ same bytes line_is sign_is in (
-        why,
-        refused_is,
-        line_rule-same rule before (strip_carriage_return bytes) given (sym both) ∙ reads before read counted,
-      )
+pub ended-reads : {R : Type 0} (rule : WordsRule) (has_read : R → List (List (List ℕ)) → Type 0) (n : ℕ) (line : List ℕ) (sign : Bool) (old new : R) (given : List ℕ) (refused : Option Refused) → given ≡ (if sign then line else strip_carriage_return line)
+    → ReadsLine rule has_read n old new given refused → ReadsEnded rule has_read n line sign old new refused
+ended-reads rule has_read n line sign old new given refused given_is reads = λ before bytes read counted line_is sign_is.
+    let same : uncommented given ≡ uncommented (strip_carriage_return bytes) =
+    ap uncommented given_is
+    ∙ ap (λ l. uncommented (if sign then l else strip_carriage_return l)) line_is
+    ∙ ap (λ b. uncommented (if b then uncommented bytes else strip_carriage_return (uncommented bytes))) sign_is
+    ∙ ended-same bytes in
+    ends-same rule has_read n new before given (strip_carriage_return bytes) refused same (reads before read counted)

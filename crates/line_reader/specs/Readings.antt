@@ -65,6 +65,13 @@ EndsLine rule has_read number new before bytes None =
 EndsLine rule has_read number new before bytes (Some refused) =
     (why : Why) × (refused ≡ record { place = Line number; why = why }) × (line_rule rule before bytes ≡ Some why)
 
+-- What reading a line by its bytes leaves, whatever was read before it. It has this number.
+abbrev pub ReadsLine : {R : Type 0} → WordsRule → (R → List (List (List ℕ)) → Type 0) → ℕ → R → R → List ℕ
+    → Option Refused → Type 0
+ReadsLine rule has_read number old new bytes refused =
+    (before : List (List (List ℕ))) → has_read old before → length before + 1 ≡ number
+    → EndsLine rule has_read number new before bytes refused
+
 -- What ending a line leaves, by what was kept of it, whatever was read before and whatever its bytes were.
 abbrev pub ReadsEnded : {R : Type 0} → WordsRule → (R → List (List (List ℕ)) → Type 0) → ℕ → List ℕ → Bool → R → R
     → Option Refused → Type 0

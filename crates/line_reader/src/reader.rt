@@ -1,13 +1,14 @@
 //! A reader of lines, which is fed a text piece by piece.
 
-ghost use Rattle.std.specs.Prelude.{◌≡◌, ◌≢◌, ◌∷◌, ◌++◌, ◌+◌, ◌<◌, ◌≤◌, ℕ, List, [], None, true, false, length, map, min, if◌then◌else◌, IfOk, IfErr, OnOk};
+ghost use Rattle.std.specs.Prelude.{◌≡◌, ◌≢◌, ◌∷◌, ◌++◌, ◌+◌, ◌<◌, ◌≤◌, ℕ, List, [], None, true, false, length, map, min, position, if◌then◌else◌, IfOk, IfErr, OnOk, IfSome, IfNone, OnSome};
+ghost use Rattle.std.specs.List.{list_any};
 ghost use Rattle.std.specs.Str.Lines.{strip_carriage_return};
 ghost use Rattle.limits.specs.Limits.{input_limit};
-ghost use Rattle.line_lexer.specs.Lines.{lines_of};
-ghost use Rattle.line_lexer.specs.Tokens.{words_of};
+ghost use Rattle.line_lexer.specs.Lines.{is_line_feed, lines_of};
+ghost use Rattle.line_lexer.specs.Tokens.{is_comment_sign, uncommented, words_of};
 ghost use Rattle.line_reader.specs.LineRules.{KeepsAll, IsRefusal};
 ghost use Rattle.line_reader.specs.Answers.{ReadsBytes};
-ghost use Rattle.line_reader.specs.Readings.{IsFed, ReadsEnded, reading};
+ghost use Rattle.line_reader.specs.Readings.{IsFed, ReadsEnded, ReadsLine, reading};
 
 use crate::fault::LineFault;
 use crate::format::LineFormat;
@@ -61,9 +62,12 @@ impl<R: LineFormat> LineReader<R> {
             → length (text ++ piece.now) ≤ input_limit → IsFed R.rule R.has_read fed (text ++ piece.now)) }
     {
         let mut progress = self.progress;
-        for byte in piece {
-            progress.take(*byte)?;
+        let mut rest = piece;
+        while let Some((line, others)) = progress.next_line(rest) {
+            progress.take_line(line)?;
+            rest = others;
         }
+        progress.take_part(rest)?;
         Ok(LineReader { progress })
     }
 
@@ -92,26 +96,61 @@ struct Progress<R: LineFormat> {
 }
 
 impl<R: LineFormat> Progress<R> {
-    fn take(&mut self, byte: u8) -> Result<(), NoMemory>
-        requires { self.old.refused ≡ None → R.is_ready self.old.format }
+    // What stands before the next line feed of a piece, and what follows it. After a refusal no byte is looked at.
+    fn next_line<'a>(&self, piece: &'a [u8]) -> Option<(&'a [u8], &'a [u8])>
+        ensures open { OnSome result (self.now.refused ≡ None) }
+        ensures cut { IfSome result (λ parts. piece.now ≡ parts.0.now ++ 10 ∷ parts.1.now) }
+        ensures unended { IfSome result (λ parts. list_any is_line_feed parts.0.now ≡ false) }
+        ensures last { IfNone result (self.now.refused ≡ None → list_any is_line_feed piece.now ≡ false) }
+    {
+        if self.refused.is_some() {
+            return None;
+        }
+        match first_line_feed(piece) {
+            Some(end) => Some((&piece[..end], &piece[end + 1..])),
+            None => None,
+        }
+    }
+
+    // Takes what comes next, up to a line feed, and reads the line that this ends.
+    fn take_line(&mut self, part: &[u8]) -> Result<(), NoMemory>
+        requires none { self.old.refused ≡ None }
+        requires ready { R.is_ready self.old.format }
+        requires unended { list_any is_line_feed part.now ≡ false }
         ensures ready { OnOk result (self.new.refused ≡ None → R.is_ready self.new.format) }
-        ensures fed { OnOk result ((text : List ℕ) → length text < input_limit
+        ensures fed { OnOk result ((text : List ℕ) → length (text ++ part.now) < input_limit
             → IsFed R.rule R.has_read (reading self.old.format self.old.number self.old.line.items self.old.commented
             self.old.refused) text
             → IsFed R.rule R.has_read (reading self.new.format self.new.number self.new.line.items self.new.commented
-            self.new.refused) (text ++ byte ∷ [])) }
+            self.new.refused) (text ++ part.now ++ 10 ∷ [])) }
     {
-        if self.refused.is_some() {
-            return Ok(());
-        }
-        if byte == b'\n' {
+        if self.is_within_line() {
+            self.take_part(part)?;
             return self.end_line();
         }
-        if byte == b'#' {
-            self.commented = true;
-        } else if !self.commented {
-            self.line.push(byte)?;
+        self.refused = read_or_refuse(&mut self.format, self.number, without_return(part))?;
+        self.number = self.number.saturating_add(1);
+        Ok(())
+    }
+
+    // Puts what comes next, where no line feed stands, behind the line that is not ended.
+    fn take_part(&mut self, part: &[u8]) -> Result<(), NoMemory>
+        requires unended { self.old.refused ≡ None → list_any is_line_feed part.now ≡ false }
+        requires ready { self.old.refused ≡ None → R.is_ready self.old.format }
+        ensures ready { OnOk result (self.new.refused ≡ None → R.is_ready self.new.format) }
+        ensures refused { OnOk result (self.new.refused ≡ self.old.refused) }
+        ensures fed { OnOk result ((text : List ℕ)
+            → IsFed R.rule R.has_read (reading self.old.format self.old.number self.old.line.items self.old.commented
+            self.old.refused) text
+            → IsFed R.rule R.has_read (reading self.new.format self.new.number self.new.line.items self.new.commented
+            self.new.refused) (text ++ part.now)) }
+    {
+        if self.refused.is_some() || self.commented {
+            return Ok(());
         }
+        let plain = before_comment(part);
+        self.line.extend_from_slice(plain)?;
+        self.commented = plain.len() < part.len();
         Ok(())
     }
 
@@ -179,16 +218,31 @@ impl<R: LineFormat> Progress<R> {
             self.old.format self.new.format self.new.refused) }
     {
         let line = ended_line(&self.line, self.commented);
-        match read_bytes(&mut self.format, self.number, line) {
-            Ok(()) => Ok(()),
-            Err(LineFault::Broken(why)) => {
-                let place = Place::Line(self.number);
-                self.refused = Some(Refused { place, why });
-                Ok(())
-            }
-            Err(LineFault::NoMemory) => Err(NoMemory),
-        }
+        self.refused = read_or_refuse(&mut self.format, self.number, line)?;
+        Ok(())
     }
+}
+
+fn first_line_feed(piece: &[u8]) -> Option<usize>
+    ensures { result ≡ position is_line_feed piece.now }
+{
+    piece.iter().position(|byte| *byte == b'\n')
+}
+
+#[tactic(auto, using(line_lexer::proofs::TokenLaws::uncommented_is))]
+fn before_comment(part: &[u8]) -> &[u8]
+    ensures { result.now ≡ uncommented part.now }
+{
+    match comment_sign(part) {
+        Some(end) => &part[..end],
+        None => part,
+    }
+}
+
+fn comment_sign(part: &[u8]) -> Option<usize>
+    ensures { result ≡ position is_comment_sign part.now }
+{
+    part.iter().position(|byte| *byte == b'#')
 }
 
 // A line by its bytes before a comment: a carriage return at the end of a comment is the comment's.
@@ -199,6 +253,27 @@ fn ended_line(line: &[u8], commented: bool) -> &[u8]
         return line;
     }
     without_return(line)
+}
+
+// Reads a line by its bytes, and answers why it breaks a rule, if it does.
+fn read_or_refuse<R: LineFormat>(
+    format: &mut R,
+    number: u32,
+    bytes: &[u8],
+) -> Result<Option<Refused>, NoMemory>
+    requires { R.is_ready format.old }
+    ensures ready { IfOk result (λ refused. refused ≡ None → R.is_ready format.new) }
+    ensures read { IfOk result (λ refused.
+        ReadsLine R.rule R.has_read number format.old format.new bytes.now refused) }
+{
+    match read_bytes(format, number, bytes) {
+        Ok(()) => Ok(None),
+        Err(LineFault::Broken(why)) => {
+            let place = Place::Line(number);
+            Ok(Some(Refused { place, why }))
+        }
+        Err(LineFault::NoMemory) => Err(NoMemory),
+    }
 }
 
 // Reads a line by its bytes.
