@@ -154,6 +154,23 @@ fn a_model_is_the_same_wherever_its_text_is_cut(rt: HostRuntime) -> Result<(), F
 }
 
 #[test]
+fn constants_over_a_mixed_row_are_the_same_wherever_they_are_cut(
+    rt: HostRuntime,
+) -> Result<(), Fail> {
+    let text = b"eq a x=1 y=1\neq b x=1 y=?\n";
+    let want = [(1, false), (1, false), (1, false), (-1, true)];
+    assert_eq!(rt; text.len(), 26);
+    for cut in 0..=text.len() {
+        let (front, back) = text.split_at(cut);
+        let model = read_pieces(rt.alloc(), &[front, back])?;
+        assert_eq!(rt; (model.equations(), model.unknowns()), (2, 2), "{cut}");
+        let found = places(rt.alloc(), &model)?;
+        assert_eq!(rt; found.as_slice(), want.as_slice(), "{cut}");
+    }
+    Ok(())
+}
+
+#[test]
 fn a_list_may_come_byte_by_byte(rt: HostRuntime) -> Result<(), Fail> {
     let text = b"eq a x=1\r\neq b y=?\r\n";
     let mut reader: MatrixReader<Res> = MatrixReader::new(rt.alloc())?;
