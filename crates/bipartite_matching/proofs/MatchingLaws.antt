@@ -3,7 +3,7 @@ use Rattle.std.proofs.Common.{◌≡◌, ◌≢◌, ℕ, ◌<◌, ◌≤◌, tru
 use Rattle.std.proofs.lemmas.List.{get_or_past, get_or-set_same, get_or-set_other, length-set, length-replicate}
 use Rattle.std.proofs.lemmas.List.Elements.{All-replicate}
 use Rattle.std.proofs.lemmas.Grind.{common_steps}
-use Rattle.sparse_t.specs.Incidences.{Incidence, height, touches}
+use Rattle.sparse_t.specs.Incidences.{Incidence, row_count, touches}
 use Rattle.bipartite_matching.specs.Matchings.{Matching, HasPair, IsRowFree, mate_at, IsStored}
 
 nat_cases : (i j : ℕ) → (i ≡ j) ⊎ (i ≢ j)
@@ -34,7 +34,7 @@ none-replicate n i = elim (lt_cases i n) [
   | inr ge ↦ get_or_past (replicate n nobody) i nobody (omega (arith, length-replicate n nobody))
 ]
 
-pub stored-empty : (p : Incidence) (columns mates : List (Option ℕ)) → columns ≡ replicate (height p) None → mates ≡ replicate p.width None → IsStored p columns mates
+pub stored-empty : (p : Incidence) (columns mates : List (Option ℕ)) → columns ≡ replicate (row_count p) None → mates ≡ replicate p.width None → IsStored p columns mates
 stored-empty p columns mates e f = record {
   matching = record {
     count = ap length f ∙ length-replicate p.width None;
@@ -43,16 +43,16 @@ stored-empty p columns mates e f = record {
     symbol = λ r c h. absurd (none r c h);
     one_column = λ r c d h _. absurd (none r c h);
   };
-  rows = ap length e ∙ length-replicate (height p) None;
+  rows = ap length e ∙ length-replicate (row_count p) None;
   column = λ r c h. absurd (none r c h);
-  pair = λ r c h. absurd (none_is_no_some c (sym (ap (λ xs. get_or xs r None) e ∙ none-replicate (height p) r) ∙ h));
+  pair = λ r c h. absurd (none_is_no_some c (sym (ap (λ xs. get_or xs r None) e ∙ none-replicate (row_count p) r) ∙ h));
 }
   where
     none : (r c : ℕ) → HasPair (paired p mates) r c → ⊥
     none r c h = none_is_no_some r (sym (ap (λ xs. get_or xs c None) f ∙ none-replicate p.width c) ∙ h)
 
 -- a row and a column, neither of them matched, are linked
-module _ (p : Incidence) (columns mates : List (Option ℕ)) (row col : ℕ) (S : IsStored p columns mates) (rl : row < height p) (cl : col < p.width) (symbol : touches p row col ≡ true)
+module _ (p : Incidence) (columns mates : List (Option ℕ)) (row col : ℕ) (S : IsStored p columns mates) (rl : row < row_count p) (cl : col < p.width) (symbol : touches p row col ≡ true)
     (row_free : IsRowFree (paired p mates) row) (col_free : mate_at (paired p mates) col ≡ None) where
   linked : List (Option ℕ)
   linked = slice_set mates col (Some row)
@@ -70,7 +70,7 @@ module _ (p : Incidence) (columns mates : List (Option ℕ)) (row col : ℕ) (S 
   stored-link = record {
     matching = record {
       count = length-set mates col (Some row) ∙ S.matching.count;
-      row = λ r c h. elim (new_or_old r c h) [ inl q ↦ subst (λ k. k < height p) (sym q.0) rl | inr old ↦ S.matching.row r c old ];
+      row = λ r c h. elim (new_or_old r c h) [ inl q ↦ subst (λ k. k < row_count p) (sym q.0) rl | inr old ↦ S.matching.row r c old ];
       column = λ r c h. elim (new_or_old r c h) [ inl q ↦ subst (λ k. k < p.width) (sym q.1) cl | inr old ↦ S.matching.column r c old ];
       symbol = λ r c h. elim (new_or_old r c h) [
         | inl q ↦ subst (λ k. touches p k c ≡ true) (sym q.0) (subst (λ k. touches p row k ≡ true) (sym q.1) symbol)

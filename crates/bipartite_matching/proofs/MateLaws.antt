@@ -1,7 +1,7 @@
 -- A matching as a test of columns, is_some (mate_at m col), with the row of each matched one, unwrap_or (mate_at m col) 0.
 use Rattle.std.proofs.Common.{◌≡◌, ◌≢◌, ℕ, ◌<◌, true, false, Option, Some, None, is_some, unwrap_or, refl, sym, ap, subst, arith}
 use Rattle.std.proofs.lemmas.List.{get_or-set_same, get_or-set_other}
-use Rattle.sparse_t.specs.Incidences.{height, touches}
+use Rattle.sparse_t.specs.Incidences.{row_count, touches}
 use Rattle.bipartite_matching.specs.Matchings.{Matching, IsMatching, HasPair, IsRowFree, mate_at, with_pair, without_column}
 
 pub pair-matched : (m : Matching) (row col : ℕ) → HasPair m row col → (is_some (mate_at m col) ≡ true) × (unwrap_or (mate_at m col) 0 ≡ row)
@@ -32,7 +32,7 @@ pub free-row : (m : Matching) (row col : ℕ) → IsRowFree m row → is_some (m
 free-row m row col free h q = free col (subst (λ r. HasPair m r col) q (matched-pair m col h))
 
 -- the three facts of a matching in these words
-pub mate-below : (m : Matching) → IsMatching m → (col : ℕ) → is_some (mate_at m col) ≡ true → unwrap_or (mate_at m col) 0 < height m.pattern
+pub mate-below : (m : Matching) → IsMatching m → (col : ℕ) → is_some (mate_at m col) ≡ true → unwrap_or (mate_at m col) 0 < row_count m.pattern
 mate-below m M col h = M.row (unwrap_or (mate_at m col) 0) col (matched-pair m col h)
 
 pub mate-touches : (m : Matching) → IsMatching m → (col : ℕ) → is_some (mate_at m col) ≡ true → touches m.pattern (unwrap_or (mate_at m col) 0) col ≡ true

@@ -1,7 +1,7 @@
 //! Matchings of a bipartite graph: rows, columns and the symbol places that join them.
 
 ghost use Rattle.std.specs.Prelude.{◌≡◌, ◌<◌, ℕ, true, None, IfOk, IfSome, IfNone};
-ghost use Rattle.sparse_t.specs.Incidences.{height, touches};
+ghost use Rattle.sparse_t.specs.Incidences.{row_count, touches};
 ghost use Rattle.bipartite_matching.specs.Matchings.{Matching, IsMatching, HasPair, IsRowMatched, IsRowFree, mate_at, empty_matching, with_pair, without_column};
 
 use out_of_memory::NoMemory;
@@ -54,7 +54,7 @@ impl Match {
 
     /// The column that the row is matched with, if there is one.
     pub fn mate_of_row(&self, row: usize) -> Option<usize>
-        requires { row < height self.now.pattern }
+        requires { row < row_count self.now.pattern }
         ensures some { IfSome result (λ col. HasPair self.now row col) }
         ensures none { IfNone result (IsRowFree self.now row) }
         ensures matching { IsMatching self.now }
@@ -73,7 +73,7 @@ impl Match {
 
     /// Matches a row with a column that it touches, where neither is matched.
     pub fn link(&mut self, row: usize, col: usize)
-        requires row { row < height self.old.pattern }
+        requires row { row < row_count self.old.pattern }
         requires col { col < self.old.pattern.width }
         requires touches { touches self.old.pattern row col ≡ true }
         requires row_free { IsRowFree self.old row }

@@ -2,7 +2,7 @@
 use Rattle.std.proofs.Common.{◌≡◌, ◌≢◌, ◌%◌, ◌<◌, ◌∙◌, ◌||◌, ℕ, Bool, true, false, List, Option, is_some, inl, inr, sym, ap, subst}
 use Rattle.residue_theory.proofs.SetLaws.{differ, zero_cases}
 use Rattle.residue_theory.proofs.SumLaws.{nat_cases}
-use Rattle.sparse_t.specs.Incidences.{height, touches}
+use Rattle.sparse_t.specs.Incidences.{row_count, touches}
 use Rattle.bipartite_matching.specs.Matchings.{Matching}
 use Rattle.row_transform.specs.Tableaus.{State}
 use Rattle.exchange_graph.specs.Marks.{members_of}
@@ -82,7 +82,7 @@ module _ (p : ℕ) (S S' : State) (M M' : Matching) (v : ℕ) (below : v < S.col
 
 -- ---- the marks for T after a walk
 module _ (S S' : State) (M M' : Matching) (layers : layers_of S' M' ≡ layers_of S M) (end : Row) (rows : AreRowsLeft M M' end) where
-  same_height : height M'.pattern ≡ height M.pattern
+  same_height : row_count M'.pattern ≡ row_count M.pattern
   same_height = ap (λ (L : LayeredMatrix). L.t_rows) layers
 
   same_touches : (i x : ℕ) → touches M'.pattern i x ≡ touches M.pattern i x

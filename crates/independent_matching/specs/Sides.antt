@@ -1,7 +1,7 @@
 -- A tableau of Q and a matching in T, read as a tableau of the layered matrix of Q and T.
 use Rattle.std.specs.Prelude.{ℕ, ◌+◌, ◌<◌, ◌≤◌, ◌≡◌, ◌≢◌, ◌%◌, ◌&&◌, ◌↔◌, Bool, eqb, not, true, false, Option, Some, None, cond, is_some, unwrap_or}
 use Rattle.linear_algebra.specs.Bases.{HasNoBase}
-use Rattle.sparse_t.specs.Incidences.{height, touches}
+use Rattle.sparse_t.specs.Incidences.{row_count, touches}
 use Rattle.bipartite_matching.specs.Matchings.{Matching, mate_at}
 use Rattle.row_transform.specs.Tableaus.{State, IsBare, has_entry}
 use Rattle.mixed_matrices.specs.Arcs.{is_free}
@@ -46,7 +46,7 @@ pub record IsFreeQRow (p : ℕ) (S : State) (x row : ℕ) : Type 0 where
 
 -- no column has the T row, and it touches x
 pub record IsFreeTRow (M : Matching) (x row : ℕ) : Type 0 where
-  pub below : row < height M.pattern
+  pub below : row < row_count M.pattern
   pub touching : touches M.pattern row x ≡ true
   pub loose : HasNoMate M row
 
@@ -54,7 +54,7 @@ pub record IsFreeTRow (M : Matching) (x row : ℕ) : Type 0 where
 abbrev pub layers_of : State → Matching → LayeredMatrix
 layers_of S M = record {
   q_rows = S.rows;
-  t_rows = height M.pattern;
+  t_rows = row_count M.pattern;
   columns = S.columns;
   q = S.q;
   t = λ i j. touches M.pattern i j;

@@ -4,7 +4,7 @@ ghost use Rattle.std.specs.Prelude.{◌≡◌, ◌≤◌, ℕ, ◌+◌, ◌*◌,
 ghost use Rattle.residue_theory.specs.Sums.{size_on};
 ghost use Rattle.dense_q.specs.Tables.{entry};
 ghost use Rattle.std.specs.Prelude.{IfSome, IfNone};
-ghost use Rattle.sparse_t.specs.Incidences.{height};
+ghost use Rattle.sparse_t.specs.Incidences.{row_count};
 ghost use Rattle.bipartite_matching.specs.Matchings.{HasPair, IsMatching, IsRowFree, mate_at};
 ghost use Rattle.mixed_matrices.specs.Arcs.{is_end, is_free, leads_to};
 ghost use Rattle.exchange_graph.specs.Results.{reached_of};
@@ -267,7 +267,7 @@ impl<F: Field, T: Tableau<F>> Engine<F, T> {
 
     /// The column that the T row is matched with, if it is.
     pub fn mate_of_row(&self, row: usize) -> Option<usize>
-        requires { row < height self.now.matching.pattern }
+        requires { row < row_count self.now.matching.pattern }
         ensures some { IfSome result (λ col. HasPair self.now.matching row col) }
         ensures below { IfSome result (λ col. col < (T.state self.now.tableau).columns) }
         ensures none { IfNone result (IsRowFree self.now.matching row) }

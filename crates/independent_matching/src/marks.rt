@@ -1,7 +1,7 @@
 //! What makes a column free or an end, kept up to date from walk to walk.
 
 ghost use Rattle.std.specs.Prelude.{◌≡◌, ◌≢◌, ℕ, ◌<◌, Bool, true, false, Some, IfOk, IfSome, is_some, length};
-ghost use Rattle.sparse_t.specs.Incidences.{height, touches};
+ghost use Rattle.sparse_t.specs.Incidences.{row_count, touches};
 ghost use Rattle.exchange_graph.specs.Marks.{members_of};
 ghost use Rattle.mixed_augmentation.specs.Moves.{IsFreeRow};
 ghost use Rattle.mixed_matrices.specs.Arcs.{is_end, is_free};
@@ -183,7 +183,7 @@ impl Marks {
     pub fn close<F: Field, T: Tableau<F>>(&mut self, pair: &Pair<F, T>, first: usize, end: Row)
         requires width { pair.now.mates.pattern.width ≡ (T.state pair.now.tableau).columns }
         requires first { first < (T.state pair.now.tableau).columns }
-        requires row { in_q end ≡ false → number end < height pair.now.mates.pattern }
+        requires row { in_q end ≡ false → number end < row_count pair.now.mates.pattern }
         requires of_q { AreMarksOfQ F.modulus (T.state pair.now.tableau) self.old }
         requires by_t { (x : ℕ) → x < (T.state pair.now.tableau).columns →
             (in_q end ≡ false → touches pair.now.mates.pattern (number end) x ≡ false) →
@@ -201,7 +201,7 @@ impl Marks {
 
     // Looks anew at the columns that touch the T row, which a column has now.
     fn take_t_row<F: Field, T: Tableau<F>>(&mut self, pair: &Pair<F, T>, row: usize)
-        requires row { row < height pair.now.mates.pattern }
+        requires row { row < row_count pair.now.mates.pattern }
         requires width { pair.now.mates.pattern.width ≡ (T.state pair.now.tableau).columns }
         requires of_q { AreMarksOfQ F.modulus (T.state pair.now.tableau) self.old }
         requires others { (x : ℕ) → x < pair.now.mates.pattern.width → touches pair.now.mates.pattern row x ≡ false →

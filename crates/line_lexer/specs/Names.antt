@@ -1,4 +1,4 @@
--- Names.
+-- Names and nodes.
 use Rattle.std.specs.Prelude.{ℕ, Bool, false, not, ◌&&◌, ◌||◌, List, [], ◌∷◌, length, nat_eq, nat_le}
 use Rattle.std.specs.Char.{is_ascii_alphabetic, is_ascii_digit}
 use Rattle.std.specs.List.{list_all}
@@ -16,6 +16,10 @@ continues_name byte = begins_name byte || is_ascii_digit byte || nat_eq byte 46
 abbrev pub is_name : List ℕ → Bool
 is_name [] = false
 is_name (byte ∷ bytes) = begins_name byte && list_all continues_name bytes && nat_le (length (byte ∷ bytes)) 64
+
+-- A node of a circuit: letters, digits, _ and points; 1 to 64 bytes.
+abbrev pub is_node : List ℕ → Bool
+is_node node = nat_le 1 (length node) && nat_le (length node) 64 && list_all continues_name node
 
 -- A short name: a name without points, of at most 30 bytes.
 abbrev pub is_short_name : List ℕ → Bool

@@ -1,24 +1,13 @@
-//! Texts cut into lines, and lines into tokens.
+//! Lines cut into tokens.
 
-ghost use Rattle.std.specs.Prelude.{◌≡◌, ◌≤◌, ℕ, true, false, length, position, MatchResult};
-ghost use Rattle.std.specs.List.{enumerate_from, list_all};
-ghost use Rattle.limits.specs.Limits.{input_limit};
-ghost use Rattle.line_lexer.specs.Lines.{lines_of};
+ghost use Rattle.std.specs.Prelude.{◌≡◌, true, false, position, MatchResult};
+ghost use Rattle.std.specs.List.{list_all};
 ghost use Rattle.line_lexer.specs.Tokens.{is_text_byte, is_comment_sign, is_clean, tokens_of, uncommented};
 
-use crate::line::{Line, Lines};
+use crate::line::Line;
 use crate::token::Tokens;
 use refusals::Why;
 use std::str;
-
-/// The lines of a text, numbered from 1: the bytes are cut at each line feed, and what follows the last one is
-/// a line if it is not empty. One carriage return at the end of a line is dropped.
-pub fn lines(bytes: &[u8]) -> Lines<'_>
-    requires { length bytes.now ≤ input_limit }
-    ensures { result ≡ enumerate_from 1 (lines_of bytes.now) }
-{
-    Lines::new(bytes)
-}
 
 /// The tokens of a line: the longest runs of bytes that are no space and no tab, up to a `#`, which starts a
 /// comment. Outside the comment each byte is a tab or from 32 to 126, else the line is `Why::BadByte`.
@@ -38,8 +27,9 @@ pub fn tokens<'a>(line: Line<'a>) -> Result<Tokens<'a>, Why>
     }
 }
 
+/// What stands in a line before its comment: the whole line where it has none.
 #[tactic(auto, using(crate::proofs::TokenLaws::uncommented_is))]
-fn before_comment(line: &[u8]) -> &[u8]
+pub fn before_comment(line: &[u8]) -> &[u8]
     ensures { result.now ≡ uncommented line.now }
 {
     match comment_sign(line) {

@@ -7,9 +7,9 @@ mod names;
 mod numbers;
 mod token;
 
-pub use cuts::{lines, tokens};
-pub use line::{Line, Lines, without_return};
-pub use names::{name, short_name};
+pub use cuts::{before_comment, tokens};
+pub use line::{Line, first_line_feed, without_return};
+pub use names::{name, node, short_name};
 pub use numbers::number;
 pub use token::{Token, Tokens};
 

@@ -2,7 +2,7 @@
 
 ghost use Rattle.std.specs.Prelude.{◌≡◌, true, false, not, MatchResult};
 ghost use Rattle.std.specs.List.{list_all};
-ghost use Rattle.line_lexer.specs.Names.{begins_name, continues_name, is_name, is_short_name};
+ghost use Rattle.line_lexer.specs.Names.{begins_name, continues_name, is_name, is_node, is_short_name};
 ghost use Rattle.line_lexer.specs.Numbers.{is_point};
 
 use refusals::Why;
@@ -19,6 +19,20 @@ pub fn name(text: &str) -> Result<(), Why>
         (λ why. (is_name text.now ≡ false) × (why ≡ Why.BadName)) }
 {
     if is_name(text.as_bytes()) {
+        Ok(())
+    } else {
+        Err(Why::BadName)
+    }
+}
+
+/// Whether a text is a node of a circuit: letters, digits, `_` and `.`, 1 to 64 bytes in all. What is none is
+/// `Why::BadName`.
+pub fn node(text: &str) -> Result<(), Why>
+    ensures { MatchResult result
+        (λ _. is_node text.now ≡ true)
+        (λ why. (is_node text.now ≡ false) × (why ≡ Why.BadName)) }
+{
+    if is_node(text.as_bytes()) {
         Ok(())
     } else {
         Err(Why::BadName)
@@ -58,6 +72,12 @@ fn is_name(text: &[u8]) -> bool
         return false;
     };
     begins_name(*first) && all_continue_name(others) && text.len() <= LONGEST_NAME
+}
+
+fn is_node(text: &[u8]) -> bool
+    ensures { result ≡ is_node text.now }
+{
+    !text.is_empty() && text.len() <= LONGEST_NAME && all_continue_name(text)
 }
 
 fn all_continue_name(bytes: &[u8]) -> bool

@@ -6,21 +6,6 @@ use residue_field::{Field, Res};
 use std::test::Fail;
 
 #[test]
-fn lines_are_cut_at_line_feeds(rt: HostRuntime) -> Result<(), Fail> {
-    let mut found = Vec::new(rt.alloc());
-    for line in lines(b"a\n\nb\r\nc") {
-        found.push((line.number, line.bytes.len()))?;
-    }
-    assert_eq!(rt;
-        found.as_slice(),
-        [(1, 1), (2, 0), (3, 1), (4, 1)].as_slice()
-    );
-    assert_eq!(rt; lines(b"x\n").count(), 1);
-    assert_eq!(rt; lines(b"").count(), 0);
-    Ok(())
-}
-
-#[test]
 fn tokens_stand_between_blanks(rt: HostRuntime) -> Result<(), Fail> {
     let bytes = b"\teq  a x=1 # no\xfftes";
     let line = Line { number: 1, bytes };
@@ -36,16 +21,6 @@ fn tokens_stand_between_blanks(rt: HostRuntime) -> Result<(), Fail> {
 }
 
 #[test]
-fn one_carriage_return_ends_a_line(rt: HostRuntime) -> Result<(), Fail> {
-    let mut found = Vec::new(rt.alloc());
-    for line in lines(b"a\r\r\n\r\n\ra\r") {
-        found.push(line.bytes.len())?;
-    }
-    assert_eq!(rt; found.as_slice(), [2, 0, 2].as_slice());
-    Ok(())
-}
-
-#[test]
 fn names_are_told(rt: HostRuntime) {
     for text in ["x", "_", "v.R1", "A_9."] {
         assert_eq!(rt; name(text), Ok(()), "{text}");
@@ -53,6 +28,20 @@ fn names_are_told(rt: HostRuntime) {
     for text in ["", "1a", ".a", "a-b", "a b"] {
         assert_eq!(rt; name(text), Err(Why::BadName), "{text}");
     }
+}
+
+#[test]
+fn nodes_are_told(rt: HostRuntime) {
+    for text in ["0", "a", "_", "1.5", "out_2"] {
+        assert_eq!(rt; node(text), Ok(()), "{text}");
+    }
+    for text in ["", "-", "a-b", "a b", "="] {
+        assert_eq!(rt; node(text), Err(Why::BadName), "{text}");
+    }
+    let longest = "a234567890123456789012345678901234567890123456789012345678901234";
+    assert_eq!(rt; node(longest), Ok(()));
+    let longer = "a2345678901234567890123456789012345678901234567890123456789012345";
+    assert_eq!(rt; node(longer), Err(Why::BadName));
 }
 
 #[test]

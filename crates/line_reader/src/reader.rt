@@ -1,18 +1,18 @@
 //! A reader of lines, which is fed a text piece by piece.
 
-ghost use Rattle.std.specs.Prelude.{◌≡◌, ◌≢◌, ◌∷◌, ◌++◌, ◌+◌, ◌<◌, ◌≤◌, ℕ, List, [], None, true, false, length, map, min, position, if◌then◌else◌, IfOk, IfErr, OnOk, IfSome, IfNone, OnSome};
+ghost use Rattle.std.specs.Prelude.{◌≡◌, ◌≢◌, ◌∷◌, ◌++◌, ◌+◌, ◌<◌, ◌≤◌, ℕ, List, [], None, true, false, length, map, min, if◌then◌else◌, IfOk, IfErr, OnOk, IfSome, IfNone, OnSome};
 ghost use Rattle.std.specs.List.{list_any};
 ghost use Rattle.std.specs.Str.Lines.{strip_carriage_return};
 ghost use Rattle.limits.specs.Limits.{input_limit};
 ghost use Rattle.line_lexer.specs.Lines.{is_line_feed, lines_of};
-ghost use Rattle.line_lexer.specs.Tokens.{is_comment_sign, uncommented, words_of};
+ghost use Rattle.line_lexer.specs.Tokens.{words_of};
 ghost use Rattle.line_reader.specs.LineRules.{KeepsAll, IsRefusal};
 ghost use Rattle.line_reader.specs.Answers.{ReadsBytes};
 ghost use Rattle.line_reader.specs.Readings.{IsFed, ReadsEnded, ReadsLine, reading};
 
 use crate::fault::LineFault;
 use crate::format::LineFormat;
-use line_lexer::{Line, tokens, without_return};
+use line_lexer::{Line, before_comment, first_line_feed, tokens, without_return};
 use out_of_memory::NoMemory;
 use refusals::{Place, ReadModel, Refused};
 use std::alloc::Global;
@@ -221,28 +221,6 @@ impl<R: LineFormat> Progress<R> {
         self.refused = read_or_refuse(&mut self.format, self.number, line)?;
         Ok(())
     }
-}
-
-fn first_line_feed(piece: &[u8]) -> Option<usize>
-    ensures { result ≡ position is_line_feed piece.now }
-{
-    piece.iter().position(|byte| *byte == b'\n')
-}
-
-#[tactic(auto, using(line_lexer::proofs::TokenLaws::uncommented_is))]
-fn before_comment(part: &[u8]) -> &[u8]
-    ensures { result.now ≡ uncommented part.now }
-{
-    match comment_sign(part) {
-        Some(end) => &part[..end],
-        None => part,
-    }
-}
-
-fn comment_sign(part: &[u8]) -> Option<usize>
-    ensures { result ≡ position is_comment_sign part.now }
-{
-    part.iter().position(|byte| *byte == b'#')
 }
 
 // A line by its bytes before a comment: a carriage return at the end of a comment is the comment's.

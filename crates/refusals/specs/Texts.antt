@@ -4,7 +4,7 @@ use Rattle.std.specs.Fmt.{decimal}
 use Rattle.refusals.specs.declared.Place.{Place}
 use Rattle.refusals.specs.declared.Place.TheVariants.{Line, Document, Component, Stream, Unit as Unit_of}
 use Rattle.refusals.specs.declared.Why.{Why}
-use Rattle.refusals.specs.declared.Why.TheVariants.{BadByte, BadWord, BadShape, BadName, BadNumber, Vanish, Twice, TooMany}
+use Rattle.refusals.specs.declared.Why.TheVariants.{BadByte, BadWord, BadShape, BadName, BadNumber, Vanish, Twice, TooMany, Unsupported, NoGround, NoSuchSource}
 use Rattle.refusals.specs.declared.Refused.{Refused}
 
 -- the word for a place
@@ -42,6 +42,9 @@ why_text BadNumber = codes "bad number"
 why_text Vanish = codes "vanishes in the field"
 why_text Twice = codes "twice"
 why_text TooMany = codes "too many"
+why_text Unsupported = codes "unsupported"
+why_text NoGround = codes "no ground"
+why_text NoSuchSource = codes "no such source"
 
 -- the place, a colon and the reason
 abbrev pub refusal_text : Refused → List ℕ

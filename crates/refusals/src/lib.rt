@@ -38,6 +38,12 @@ pub enum Why {
     Twice,
     /// More than the program takes.
     TooMany,
+    /// A device of no known kind.
+    Unsupported,
+    /// A netlist of which no device names the ground.
+    NoGround,
+    /// The source of a device is no voltage source of the netlist.
+    NoSuchSource,
 }
 
 /// A refusal: the first place at which an input breaks a rule, and the rule.
@@ -98,6 +104,9 @@ impl Why {
             Why::Vanish => "vanishes in the field",
             Why::Twice => "twice",
             Why::TooMany => "too many",
+            Why::Unsupported => "unsupported",
+            Why::NoGround => "no ground",
+            Why::NoSuchSource => "no such source",
         }
     }
 }

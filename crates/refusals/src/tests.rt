@@ -16,6 +16,9 @@ fn puts_places_and_reasons(rt: HostRuntime) -> Result<(), Fail> {
         (Place::Line(1), Why::Vanish, "line 1: vanishes in the field"),
         (Place::Line(2), Why::Twice, "line 2: twice"),
         (Place::Line(4097), Why::TooMany, "line 4097: too many"),
+        (Place::Line(5), Why::Unsupported, "line 5: unsupported"),
+        (Place::Document, Why::NoGround, "document: no ground"),
+        (Place::Line(6), Why::NoSuchSource, "line 6: no such source"),
     ];
     for (place, why, want) in cases {
         let mut sink = MemSink::new(rt.alloc(), 64, 64, &[])?;

@@ -6,7 +6,7 @@ ghost use Rattle.dense_q.specs.Tables.{height, row_at};
 ghost use Rattle.mixed_layering.specs.Layers.{AreLayersOf};
 ghost use Rattle.report_cli.specs.LayerTexts.{name_at, line_head, column_name, column_line, column_lines, entry_text, row_entries_text, q_line, t_line, row_lines, columns_text, layer_text};
 ghost use Rattle.report_cli.specs.Columns.{IsOriginIn};
-ghost use Rattle.sparse_t.specs.Incidences.{row_at as columns_at};
+ghost use Rattle.sparse_t.specs.Incidences.{columns_at};
 ghost use Rattle.text_writer.specs.Texts.{Puts};
 
 use dense_q::Mat;

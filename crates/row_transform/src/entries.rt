@@ -24,7 +24,7 @@ impl Entries {
     pub(crate) fn of<F: Field>(alloc: Global, q: &Mat<F>) -> Result<Entries, NoMemory>
         ensures { IfOk result (λ e. IsListed F.modulus q.now e.bits) }
     {
-        let bits = BitTable::open(alloc, q.cols(), q.rows()).map_err(|_| NoMemory)?;
+        let bits = BitTable::open(alloc, q.cols(), q.rows())?;
         let mut entries = Entries { bits };
         for row in 0..q.rows() {
             entries.list_row(q, row);

@@ -4,7 +4,7 @@ use Rattle.std.proofs.lemmas.List.{length-map, map-append}
 use Rattle.std.specs.List.Sorted.{IsStrictlyIncreasing}
 use Rattle.smallvec.specs.SmallVec.{SmallVec}
 use Rattle.sparse_t.specs.Lists.{IsBelow}
-use Rattle.sparse_t.specs.Incidences.{Incidence, IsIncidence, AreRowsOf, height, row_at, with_last_row}
+use Rattle.sparse_t.specs.Incidences.{Incidence, IsIncidence, AreRowsOf, row_count, columns_at, with_last_row}
 use Rattle.sparse_t.specs.Columns.{items_at, HasSameItems, IsEntered, IsStored}
 use Rattle.sparse_t.proofs.ColumnLaws.{items-read}
 use Rattle.sparse_t.proofs.IncidenceLaws.{incidence-last, rows_of-last}
@@ -12,18 +12,18 @@ use Rattle.sparse_t.proofs.IncidenceLaws.{incidence-last, rows_of-last}
 abbrev seen : List (SmallVec ℕ) → List (SmallVec ℕ) → Incidence
 seen rows columns = record { width = length columns; rows = map (λ row. row.items) rows }
 
-pub row-stored : (p : Incidence) (rows columns : List (SmallVec ℕ)) (i : ℕ) (v : SmallVec ℕ) → record { width = length columns; rows = map (λ row. row.items) rows } ≡ p → IsStored rows columns → i < height p → v ≡ get_or rows i v →
-    IsStrictlyIncreasing v.items × IsBelow p.width v.items × (row_at p i ≡ v.items)
+pub row-stored : (p : Incidence) (rows columns : List (SmallVec ℕ)) (i : ℕ) (v : SmallVec ℕ) → record { width = length columns; rows = map (λ row. row.items) rows } ≡ p → IsStored rows columns → i < row_count p → v ≡ get_or rows i v →
+    IsStrictlyIncreasing v.items × IsBelow p.width v.items × (columns_at p i ≡ v.items)
 row-stored p rows columns i v e S l r = (subst IsStrictlyIncreasing here (I.rising i l), subst (IsBelow p.width) here (I.below i l), here)
   where
     I : IsIncidence p
     I = subst IsIncidence e S.incidence
 
     within : i < length rows
-    within = omega (arith, length-map rows (λ (row : SmallVec ℕ). row.items), ap height e, l)
+    within = omega (arith, length-map rows (λ (row : SmallVec ℕ). row.items), ap row_count e, l)
 
-    here : row_at p i ≡ v.items
-    here = ap (λ q. row_at q i) (sym e) ∙ items-read rows i v within r
+    here : columns_at p i ≡ v.items
+    here = ap (λ q. columns_at q i) (sym e) ∙ items-read rows i v within r
 
 pub column-stored : (p : Incidence) (rows columns : List (SmallVec ℕ)) (j : ℕ) (v : SmallVec ℕ) → record { width = length columns; rows = map (λ row. row.items) rows } ≡ p → IsStored rows columns → j < p.width → v ≡ get_or columns j v →
     AreRowsOf p j v.items
@@ -51,7 +51,7 @@ stored-push rows now columns later v row number S pushed held count E up below f
       (λ h. E.entered j jl h ∙ ap (λ n. items_at columns j ++ n ∷ []) number_is) (E.others j jl));
 }
   where
-    number_is : number ≡ height (seen rows columns)
+    number_is : number ≡ row_count (seen rows columns)
     number_is = count ∙ sym (length-map rows (λ (r : SmallVec ℕ). r.items))
 
     rows_after : map (λ (r : SmallVec ℕ). r.items) now ≡ map (λ (r : SmallVec ℕ). r.items) rows ++ row ∷ []

@@ -10,26 +10,26 @@ pub record Incidence : Type 0 where
   pub width : ℕ
   pub rows : List (List ℕ)
 
-abbrev pub height : Incidence → ℕ
-height p = length p.rows
+abbrev pub row_count : Incidence → ℕ
+row_count p = length p.rows
 
-abbrev pub row_at : Incidence → ℕ → List ℕ
-row_at p i = slice_index_or p.rows i []
+abbrev pub columns_at : Incidence → ℕ → List ℕ
+columns_at p i = slice_index_or p.rows i []
 
 abbrev pub touches : Incidence → ℕ → ℕ → Bool
-touches p i j = has (row_at p i) j
+touches p i j = has (columns_at p i) j
 
 abbrev pub with_last_row : Incidence → List ℕ → Incidence
 with_last_row p row = record p { rows = p.rows ++ row ∷ [] }
 
 -- each row is a rising list of columns, and there are at most 8,192 rows
 pub record IsIncidence (p : Incidence) : Type 0 where
-  pub rising : (i : ℕ) → i < height p → IsStrictlyIncreasing (row_at p i)
-  pub below : (i : ℕ) → i < height p → IsBelow p.width (row_at p i)
-  pub few : height p ≤ column_limit
+  pub rising : (i : ℕ) → i < row_count p → IsStrictlyIncreasing (columns_at p i)
+  pub below : (i : ℕ) → i < row_count p → IsBelow p.width (columns_at p i)
+  pub few : row_count p ≤ column_limit
 
 -- the list holds, rising, exactly the rows that touch column j
 pub record AreRowsOf (p : Incidence) (j : ℕ) (list : List ℕ) : Type 0 where
   pub rising : IsStrictlyIncreasing list
-  pub below : IsBelow (height p) list
-  pub exact : (i : ℕ) → i < height p → has list i ≡ touches p i j
+  pub below : IsBelow (row_count p) list
+  pub exact : (i : ℕ) → i < row_count p → has list i ≡ touches p i j

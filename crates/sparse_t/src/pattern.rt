@@ -4,7 +4,7 @@ ghost use Rattle.std.specs.Prelude.{◌≡◌, ◌<◌, ℕ, IfOk, OnOk, OnErr, 
 ghost use Rattle.std.specs.List.Sorted.{IsStrictlyIncreasing};
 ghost use Rattle.limits.specs.Limits.{column_limit};
 ghost use Rattle.sparse_t.specs.Lists.{IsBelow};
-ghost use Rattle.sparse_t.specs.Incidences.{Incidence, IsIncidence, AreRowsOf, height, row_at, touches, with_last_row};
+ghost use Rattle.sparse_t.specs.Incidences.{Incidence, IsIncidence, AreRowsOf, row_count, columns_at, touches, with_last_row};
 
 use crate::columns::Columns;
 use crate::lists::{Numbers, holds};
@@ -46,7 +46,7 @@ impl Pattern {
     pub fn push_row(&mut self, columns: &[u32]) -> Result<(), NoMemory>
         requires rising { IsStrictlyIncreasing columns.now }
         requires below { IsBelow self.old.width columns.now }
-        requires room { height self.old < column_limit }
+        requires room { row_count self.old < column_limit }
         ensures ok { OnOk result (self.new ≡ with_last_row self.old columns.now) }
         ensures err { OnErr result (self.new ≡ self.old) }
     {
@@ -70,7 +70,7 @@ impl Pattern {
 
     /// How many rows there are.
     pub fn rows(&self) -> usize
-        ensures rows { result ≡ height self.now }
+        ensures rows { result ≡ row_count self.now }
         ensures incidence { IsIncidence self.now }
     {
         self.rows.len()
@@ -86,7 +86,7 @@ impl Pattern {
 
     /// Whether the row touches the column. It searches in the shorter of their two lists.
     pub fn touches(&self, row: usize, col: usize) -> bool
-        requires row { row < height self.now }
+        requires row { row < row_count self.now }
         requires col { col < self.now.width }
         ensures { result ≡ touches self.now row col }
     {
@@ -101,8 +101,8 @@ impl Pattern {
 
     /// The columns that row i touches, rising.
     pub fn row(&self, i: usize) -> &[u32]
-        requires { i < height self.now }
-        ensures columns { result.now ≡ row_at self.now i }
+        requires { i < row_count self.now }
+        ensures columns { result.now ≡ columns_at self.now i }
         ensures rising { IsStrictlyIncreasing result.now }
         ensures below { IsBelow self.now.width result.now }
     {

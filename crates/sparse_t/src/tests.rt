@@ -1,7 +1,7 @@
 //! Tests of patterns.
 
 ghost use Rattle.std.specs.Prelude.{◌≡◌, ◌<◌, IfOk};
-ghost use Rattle.sparse_t.specs.Incidences.{height};
+ghost use Rattle.sparse_t.specs.Incidences.{row_count};
 
 use super::*;
 use std::alloc::Global;
@@ -9,7 +9,7 @@ use std::test::Fail;
 
 // Four rows over three columns: the first two columns, none, the last, all.
 fn example(alloc: Global) -> Result<Pattern, NoMemory>
-    ensures rows { IfOk result (λ p. height p ≡ 4) }
+    ensures rows { IfOk result (λ p. row_count p ≡ 4) }
     ensures width { IfOk result (λ p. p.width ≡ 3) }
 {
     let mut pattern = Pattern::empty(alloc, 3)?;

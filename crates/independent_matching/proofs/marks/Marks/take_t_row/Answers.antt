@@ -1,7 +1,7 @@
 use Rattle.std.proofs.Common.{◌∙◌, inl, inr, refl, sym, subst, ap, arith, slice_index}
 use Rattle.residue_theory.proofs.SetLaws.{not_true}
 use Rattle.residue_theory.proofs.SumLaws.{nat_cases}
-use Rattle.sparse_t.specs.Incidences.{row_at, touches}
+use Rattle.sparse_t.specs.Incidences.{columns_at, touches}
 use Rattle.residue_theory.specs.Sets.{has}
 use Rattle.sparse_t.proofs.ListLaws.{has-member}
 use Rattle.independent_matching.specs.Marks.{IsEndMark, IsQMark, IsKept, IsTMark}
@@ -16,7 +16,7 @@ loop-x-init g c =
       of_q = c.requires.of_q;
       free = refl;
       by_t = λ y l none. c.requires.others y l (not_true (touches M.pattern c.args.row y) (λ h.
-          let (k, kl, e) = has-member list y (ap (λ ys. has ys y) (c.row-x-items.ensures.columns ∙ ap (λ i. row_at i c.args.row) c.pattern.ensures.pattern) ∙ h) in none k (omega arith) kl e));
+          let (k, kl, e) = has-member list y (ap (λ ys. has ys y) (c.row-x-items.ensures.columns ∙ ap (λ i. columns_at i c.args.row) c.pattern.ensures.pattern) ∙ h) in none k (omega arith) kl e));
     }
 
 pub loop-x-preserved : goal.loop-x-preserved
