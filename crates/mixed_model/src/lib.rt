@@ -13,7 +13,7 @@ pub use entry::{Entries, Entry};
 pub use errors::AddError;
 pub use layered::Layered;
 pub use mixed::{Mixed, places_tell_a_model};
-pub use names::is_label;
+pub use names::{Names, is_label};
 pub use origin::Origin;
 pub use out_of_memory::NoMemory;
 pub use refusals::{Place, ReadModel, Refused, Why};

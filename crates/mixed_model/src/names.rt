@@ -1,4 +1,4 @@
-//! The names of equations or of unknowns.
+//! Lists of names.
 
 ghost use Rattle.std.specs.Prelude.{◌≡◌, ◌∷◌, ◌++◌, [], ◌<◌, IsTrue, false, not, ◌||◌, nat_eq, length, map, position, slice_get, Some, OnOk, OnErr};
 ghost use Rattle.std.specs.List.{list_all};
@@ -30,7 +30,7 @@ fn are_solid(bytes: &[u8]) -> bool
 
 /// At most 4,096 names in first-seen order, none twice. Contracts see the list of their bytes.
 #[derive(Drop)]
-pub(crate) struct Names {
+pub struct Names {
     texts: IndexSet<String>,
 }
 
@@ -47,8 +47,9 @@ impl Model for Names {
 }
 
 impl Names {
+    /// A list without names.
     #[tactic(auto, using(crate::proofs::NameLaws::no_names))]
-    pub(crate) fn new(alloc: Global) -> Self
+    pub fn new(alloc: Global) -> Self
         ensures empty { result ≡ [] }
         ensures names { IsNameList result }
     {
@@ -57,39 +58,44 @@ impl Names {
         }
     }
 
-    pub(crate) fn len(&self) -> usize
+    /// How many names there are.
+    pub fn len(&self) -> usize
         ensures count { result ≡ length self.now }
         ensures names { IsNameList self.now }
     {
         self.texts.len()
     }
 
-    pub(crate) fn get(&self, place: usize) -> &str
+    /// The name at a place, counted from 0.
+    pub fn get(&self, place: usize) -> &str
         requires { place < length self.now }
         ensures { slice_get self.now place ≡ Some result.now }
     {
         self.texts.as_slice()[place].as_str()
     }
 
+    /// The place of a name, where it is there.
     #[tactic(auto, using(crate::proofs::NameLaws::position_map))]
-    pub(crate) fn find(&self, name: &str) -> Option<usize>
+    pub fn find(&self, name: &str) -> Option<usize>
         ensures place { result ≡ position (bytes_eq name.now) self.now }
         ensures names { IsNameList self.now }
     {
         self.texts.get_index_of(name)
     }
 
+    /// Whether a name is there.
     #[tactic(auto, using(crate::proofs::NameLaws::list_any_map))]
-    fn has(&self, name: &str) -> bool
+    pub fn has(&self, name: &str) -> bool
         ensures there { result ≡ has_name self.now name.now }
         ensures names { IsNameList self.now }
     {
         self.texts.contains(name)
     }
 
-    // The new name's place. A refusal changes nothing.
+    /// Puts a name last, and gives its place. `Twice` comes where it is there, else `TooMany` where 4,096 names are. A
+    /// refusal changes nothing.
     #[tactic(auto, using(crate::proofs::NameLaws::adding_laws))]
-    pub(crate) fn add(&mut self, name: &str) -> Result<usize, AddError>
+    pub fn add(&mut self, name: &str) -> Result<usize, AddError>
         requires { IsTrue (is_label name.now) }
         ensures answer { AnswersAdd result (adding self.old name.now) }
         ensures added { OnOk result (self.new ≡ self.old ++ name.now ∷ []) }
@@ -102,9 +108,10 @@ impl Names {
         self.append(name)
     }
 
-    // The place of a name, which is put last unless it is there. A refusal changes nothing.
+    /// The place of a name, which is put last unless it is there. `TooMany` comes where it is not there and 4,096
+    /// others are. A refusal changes nothing.
     #[tactic(auto, using(crate::proofs::NameLaws::seeing_laws))]
-    pub(crate) fn find_or_add(&mut self, name: &str) -> Result<usize, AddError>
+    pub fn find_or_add(&mut self, name: &str) -> Result<usize, AddError>
         requires { IsTrue (is_label name.now) }
         ensures answer { AnswersAdd result (seeing self.old name.now) }
         ensures seen { OnOk result (self.new ≡ see self.old name.now) }
