@@ -1,0 +1,5 @@
+pub mod Devices
+pub mod Terms
+pub mod Rules
+pub mod Models
+pub mod Circuits

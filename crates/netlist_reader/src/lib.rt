@@ -1,0 +1,9 @@
+//! Reads netlists: one device a line, and the equations of the circuit that they make.
+#![tactic(auto)]
+
+mod building;
+mod circuit;
+mod device;
+mod kind;
+
+pub use kind::DeviceKind;
