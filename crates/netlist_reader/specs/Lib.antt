@@ -3,3 +3,5 @@ pub mod Terms
 pub mod Rules
 pub mod Models
 pub mod Circuits
+pub mod Naming
+pub mod Putting

@@ -5,5 +5,7 @@ mod building;
 mod circuit;
 mod device;
 mod kind;
+mod side;
+mod term;
 
 pub use kind::DeviceKind;
