@@ -1,11 +1,21 @@
 //! The model of a circuit.
 
-ghost use Rattle.std.specs.Prelude.{IfOk};
-ghost use Rattle.netlist_reader.specs.Circuits.{IsCircuit, AreSourced};
+ghost use Rattle.std.specs.Prelude.{◌≡◌, ◌++◌, ◌∷◌, [], All, map, IfOk, OnOk, IfErr};
+ghost use Rattle.std.specs.String.{string_bytes};
+ghost use Rattle.mixed_model.specs.Models.{IsModel};
+ghost use Rattle.mixed_model.specs.Names.{IsNameList};
+ghost use Rattle.netlist_reader.specs.Circuits.{AreSourced, IsCircuit, IsDevice};
 ghost use Rattle.netlist_reader.specs.Models.{IsModelOf};
+ghost use Rattle.netlist_reader.specs.Naming.{IsBlank};
+ghost use Rattle.netlist_reader.specs.Putting.{IsPlaced, LacksMemory, PutsDevice, Says, put_by};
+ghost use Rattle.netlist_reader.specs.Terms.{equations_of, terms_of, unknowns_of};
 
 use crate::circuit::Circuit;
-use mixed_model::Mixed;
+use crate::device::Device;
+use crate::putting::put_terms;
+use crate::side::{Side, names_on};
+use crate::terms::Terms;
+use mixed_model::{AddError, Mixed};
 use out_of_memory::NoMemory;
 use residue_field::Field;
 use std::alloc::Global;
@@ -19,6 +29,91 @@ pub(crate) fn build<F: Field>(
     requires sourced { AreSourced circuit.now.devices }
     ensures { IfOk result (IsModelOf F.modulus circuit.now.devices) }
 {
-    let model = Mixed::new(alloc)?;
+    let mut model = Mixed::new(alloc)?;
+    add_unknowns(&mut model, &names_on(alloc, circuit, Side::Unknowns)?)?;
+    add_equations(&mut model, &names_on(alloc, circuit, Side::Equations)?)?;
+    put_devices(alloc, &mut model, circuit)?;
     Ok(model)
+}
+
+// Adds unknowns of these names to a model that has none.
+fn add_unknowns<F: Field>(model: &mut Mixed<F>, names: &[String]) -> Result<(), NoMemory>
+    requires names { IsNameList (map string_bytes names.now) }
+    requires none { model.old.unknowns ≡ [] }
+    ensures unknowns { OnOk result (model.new.unknowns ≡ map string_bytes names.now) }
+    ensures equations { OnOk result (model.new.equations ≡ model.old.equations) }
+    ensures rows { OnOk result (model.new.rows ≡ model.old.rows) }
+{
+    for name in names {
+        match model.add_unknown(name) {
+            Ok(_) => {}
+            Err(AddError::NoMemory) => return Err(NoMemory),
+            Err(_) => unreachable!(),
+        }
+    }
+    Ok(())
+}
+
+// Adds equations of these names, in which nothing stands, to a model that has none.
+fn add_equations<F: Field>(model: &mut Mixed<F>, names: &[String]) -> Result<(), NoMemory>
+    requires names { IsNameList (map string_bytes names.now) }
+    requires none { model.old.equations ≡ [] }
+    requires blank { model.old.rows ≡ [] }
+    ensures equations { OnOk result (model.new.equations ≡ map string_bytes names.now) }
+    ensures unknowns { OnOk result (model.new.unknowns ≡ model.old.unknowns) }
+    ensures blank { OnOk result (IsBlank model.new) }
+{
+    for name in names {
+        match model.add_equation(name) {
+            Ok(_) => {}
+            Err(AddError::NoMemory) => return Err(NoMemory),
+            Err(_) => unreachable!(),
+        }
+    }
+    Ok(())
+}
+
+// Puts the terms of all devices.
+fn put_devices<F: Field>(
+    alloc: Global,
+    model: &mut Mixed<F>,
+    circuit: &Circuit<F>,
+) -> Result<(), NoMemory>
+    requires circuit { IsCircuit F.modulus circuit.now }
+    requires sourced { AreSourced circuit.now.devices }
+    requires equations { model.old.equations ≡ equations_of circuit.now.devices }
+    requires unknowns { model.old.unknowns ≡ unknowns_of circuit.now.devices }
+    requires blank { Says F.modulus [] model.old }
+    ensures equations { OnOk result (model.new.equations ≡ model.old.equations) }
+    ensures unknowns { OnOk result (model.new.unknowns ≡ model.old.unknowns) }
+    ensures says { OnOk result (Says F.modulus (terms_of F.modulus circuit.now.devices) model.new) }
+{
+    for device in &circuit.devices {
+        match put_device(alloc, model, device) {
+            Ok(()) => {}
+            Err(AddError::NoMemory) => return Err(NoMemory),
+            Err(_) => unreachable!(),
+        }
+    }
+    Ok(())
+}
+
+// Puts the terms of a device.
+fn put_device<F: Field>(
+    alloc: Global,
+    model: &mut Mixed<F>,
+    device: &Device<F>,
+) -> Result<(), AddError>
+    requires device { IsDevice F.modulus device.now }
+    requires placed { All (IsPlaced model.old.equations model.old.unknowns)
+        (put_by F.modulus device.now.kind device.now) }
+    ensures equations { model.new.equations ≡ model.old.equations }
+    ensures unknowns { model.new.unknowns ≡ model.old.unknowns }
+    ensures says { OnOk result (PutsDevice F.modulus model.old model.new device.now) }
+    ensures refused { IfErr result (LacksMemory F.modulus model.old device.now) }
+{
+    let Ok(terms) = Terms::of(alloc, device) else {
+        return Err(AddError::NoMemory);
+    };
+    put_terms(model, &terms)
 }

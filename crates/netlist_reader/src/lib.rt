@@ -5,7 +5,9 @@ mod building;
 mod circuit;
 mod device;
 mod kind;
+mod putting;
 mod side;
 mod term;
+mod terms;
 
 pub use kind::DeviceKind;
