@@ -1,2 +1,5 @@
 pub mod Pushing
 pub mod Numbers
+pub mod Names
+pub mod Saying
+pub mod Placing

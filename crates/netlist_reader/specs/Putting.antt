@@ -107,6 +107,16 @@ pub record IsNew (earlier : List Device) (device : Device) : Type 0 where
   pub name : has_name (device_names earlier) device.name ≡ false
   pub source : has_source device.kind ≡ true → bytes_eq device.source device.name ≡ false
 
+-- What putting terms leaves, whatever terms were put before.
+abbrev pub PutsTerms : ℕ → MixedModel → MixedModel → List Term → Type 0
+PutsTerms p old new terms =
+    (before : List Term) → Says p before old → AreFree before terms → Says p (before ++ terms) new
+
+-- Why they are not put: where nothing stands at their places, memory alone is wanting.
+abbrev pub LacksRoom : ℕ → MixedModel → List Term → AddError → Type 0
+LacksRoom p old terms error =
+    (before : List Term) → Says p before old → AreFree before terms → error ≡ NoMemory
+
 -- What putting the terms of a device leaves, whatever devices were put before.
 abbrev pub PutsDevice : ℕ → MixedModel → MixedModel → Device → Type 0
 PutsDevice p old new device =

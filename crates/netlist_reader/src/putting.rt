@@ -1,9 +1,7 @@
 //! Terms put into a model.
 
-ghost use Rattle.std.specs.Prelude.{◌≡◌, ◌∷◌, ◌++◌, [], List, All, OnOk, IfErr};
-ghost use Rattle.mixed_model.specs.declared.errors.AddError.TheVariants.{NoMemory};
-ghost use Rattle.netlist_reader.specs.Putting.{AreFree, IsFree, IsPlaced, IsPut, Says};
-ghost use Rattle.netlist_reader.specs.Terms.{Term};
+ghost use Rattle.std.specs.Prelude.{◌≡◌, ◌∷◌, [], All, OnOk, IfErr};
+ghost use Rattle.netlist_reader.specs.Putting.{IsPlaced, IsPut, LacksRoom, PutsTerms};
 
 use crate::term::{Term, Value};
 use mixed_model::{AddError, Mixed};
@@ -15,10 +13,8 @@ pub(crate) fn put_terms<F: Field>(model: &mut Mixed<F>, terms: &[Term<F>]) -> Re
     requires constants { All IsPut terms.now }
     ensures equations { model.new.equations ≡ model.old.equations }
     ensures unknowns { model.new.unknowns ≡ model.old.unknowns }
-    ensures says { OnOk result ((before : List Term) → Says F.modulus before model.old → AreFree before terms.now
-        → Says F.modulus (before ++ terms.now) model.new) }
-    ensures refused { IfErr result (λ error. (before : List Term) → Says F.modulus before model.old
-        → AreFree before terms.now → error ≡ NoMemory) }
+    ensures says { OnOk result (PutsTerms F.modulus model.old model.new terms.now) }
+    ensures refused { IfErr result (LacksRoom F.modulus model.old terms.now) }
 {
     for term in terms {
         put_term(model, term)?;
@@ -32,10 +28,8 @@ fn put_term<F: Field>(model: &mut Mixed<F>, term: &Term<F>) -> Result<(), AddErr
     requires constant { IsPut term.now }
     ensures equations { model.new.equations ≡ model.old.equations }
     ensures unknowns { model.new.unknowns ≡ model.old.unknowns }
-    ensures says { OnOk result ((before : List Term) → Says F.modulus before model.old
-        → IsFree before term.now.equation term.now.unknown → Says F.modulus (before ++ term.now ∷ []) model.new) }
-    ensures refused { IfErr result (λ error. (before : List Term) → Says F.modulus before model.old
-        → IsFree before term.now.equation term.now.unknown → error ≡ NoMemory) }
+    ensures says { OnOk result (PutsTerms F.modulus model.old model.new (term.now ∷ [])) }
+    ensures refused { IfErr result (LacksRoom F.modulus model.old (term.now ∷ [])) }
 {
     let Some(i) = model.find_equation(&term.equation) else {
         unreachable!()
