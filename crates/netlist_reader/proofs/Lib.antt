@@ -3,3 +3,5 @@ pub mod Numbers
 pub mod Names
 pub mod Saying
 pub mod Placing
+pub mod Taking
+pub mod Adding

@@ -1,5 +1,5 @@
 -- A term put at its place in a model.
-use Rattle.std.proofs.Common.{◌≡◌, ◌≢◌, ℕ, ◌+◌, ◌%◌, ◌<◌, Bool, true, false, cond, ◌&&◌, ◌||◌, List, [], ◌∷◌, ◌++◌, length, get_or, nat_eq, Option, Some, None, unwrap_or, is_some, Result, Ok, Err, refl, sym, ap, subst, ◌∙◌, arith}
+use Rattle.std.proofs.Common.{◌≡◌, ◌≢◌, ℕ, ◌+◌, ◌%◌, ◌<◌, Bool, true, false, cond, ◌&&◌, ◌||◌, List, [], ◌∷◌, ◌++◌, length, get_or, nat_eq, Option, Some, None, unwrap_or, is_some, Result, Ok, Err, IfErr, refl, sym, ap, subst, ◌∙◌, arith}
 use Rattle.std.specs.Str.{bytes_eq}
 use Rattle.std.proofs.Math.Nat.{mod-eq_of_lt, mod-mod}
 use Rattle.std.proofs.lemmas.Bool.{eqb-true}
@@ -9,7 +9,7 @@ use Rattle.mixed_model.specs.Rows.{putting, putting_symbol}
 use Rattle.mixed_model.specs.declared.errors.AddError.{AddError}
 use Rattle.mixed_model.specs.declared.errors.AddError.TheVariants.{Twice, TooMany, NoMemory}
 use Rattle.netlist_reader.specs.Terms.{Term, said_of, symbol_said, stands_at}
-use Rattle.netlist_reader.specs.Putting.{AreFree, IsFree, Says, PutsTerms, LacksRoom}
+use Rattle.netlist_reader.specs.Putting.{AreFree, IsFree, IsPlaceOf, Says, PutsTerms, LacksRoom}
 use Rattle.netlist_reader.proofs.Names.{constant_of-None, stands_once}
 use Rattle.netlist_reader.proofs.Saying.{part_at, said_of-append, said_of-free, said_of-one, symbol_said-append, symbol_said-free}
 
@@ -96,3 +96,65 @@ module _ (p : ℕ) (old : MixedModel) (i j : ℕ) (term : Term) (is : IsModel p 
             symbol_says k l (omega (arith, ap length equations, rk)) (omega (arith, ap length unknowns, cl))
             ∙ (λ t. symbol_said (before ++ term ∷ []) (get_or (sym equations t) k []) (get_or (sym unknowns t) l []));
       }
+
+-- a constant that is put
+pub constant_put : (p : ℕ) (old new : MixedModel) (i j c : ℕ) (term : Term) → IsModel p old → IsPlaceOf old term i j → term.constant ≡ c → term.symbol ≡ false → c < p → PutsAt old new i j c → PutsTerms p old new (term ∷ [])
+constant_put p old new i j c term is place constant symbol below puts before says free =
+    says_more p old i j term is place.row place.column place.equation place.unknown before says free.0 new
+    (subst (λ n. n < p) (sym constant) below) puts.equations puts.unknowns
+    (λ k l rk cl. ap (λ o. unwrap_or o 0) (puts.constants k l) ∙ chosen (nat_eq i k && nat_eq j l) k l)
+    (λ k l rk cl. puts.symbols k l ∙ same (nat_eq i k && nat_eq j l) (symbol_of old k l))
+  where
+    chosen : (b : Bool) (k l : ℕ) → unwrap_or (cond b (Some c) (constant_of old k l)) 0 ≡ cond b term.constant (constant_at old k l)
+    chosen true k l = sym constant
+    chosen false k l = refl
+
+    same : (b old_symbol : Bool) → old_symbol ≡ (b && term.symbol || old_symbol)
+    same true old_symbol = ap (λ s. s || old_symbol) (sym symbol)
+    same false old_symbol = refl
+
+-- a symbol that is put
+pub symbol_put : (p : ℕ) (old new : MixedModel) (i j : ℕ) (term : Term) → IsModel p old → IsPlaceOf old term i j → term.constant ≡ 0 → term.symbol ≡ true → 0 < p → PutsSymbolAt old new i j → PutsTerms p old new (term ∷ [])
+symbol_put p old new i j term is place constant symbol some puts before says free =
+    says_more p old i j term is place.row place.column place.equation place.unknown before says free.0 new
+    (subst (λ n. n < p) (sym constant) some) puts.equations puts.unknowns
+    (λ k l rk cl. ap (λ o. unwrap_or o 0) (puts.constants k l) ∙ by k l rk cl (nat_eq i k) refl (nat_eq j l) refl)
+    (λ k l rk cl. puts.symbols k l ∙ same (nat_eq i k && nat_eq j l) (symbol_of old k l))
+  where
+    none : constant_at old i j ≡ 0
+    none = ap (λ o. unwrap_or o 0) (nothing_there p old i j term is place.row place.column place.equation place.unknown before says free.0)
+
+    by : (k l : ℕ) → k < length old.equations → l < length old.unknowns → (a : Bool) → nat_eq i k ≡ a → (b : Bool) → nat_eq j l ≡ b → constant_at old k l ≡ cond (nat_eq i k && nat_eq j l) term.constant (constant_at old k l)
+    by k l rk cl false e b f = (λ t. cond (sym e t && nat_eq j l) term.constant (constant_at old k l))
+    by k l rk cl true e false f = (λ t. cond (sym e t && sym f t) term.constant (constant_at old k l))
+    by k l rk cl true e true f =
+        (λ t. constant_at old (sym (eqb-true i k e) t) (sym (eqb-true j l f) t))
+        ∙ none ∙ sym constant
+        ∙ (λ t. cond (sym e t && sym f t) term.constant (constant_at old k l))
+
+    same : (b old_symbol : Bool) → (b || old_symbol) ≡ (b && term.symbol || old_symbol)
+    same true old_symbol = ap (λ s. s || old_symbol) (sym symbol)
+    same false old_symbol = refl
+
+-- where nothing stands, memory alone is wanting
+pub constant_refused : (p : ℕ) (old : MixedModel) (i j : ℕ) (term : Term) (result : Result (Unit {0}) AddError) → IsModel p old → IsPlaceOf old term i j → AnswersAdd result (putting (row_of old i) j) → IfErr result (LacksRoom p old (term ∷ []))
+constant_refused p old i j term (Ok done) is place answer = tt
+constant_refused p old i j term (Err error) is place answer = λ before says free.
+    let none : is_some (constant_of old i j) ≡ false = ap is_some (nothing_there p old i j term is place.row place.column place.equation place.unknown before says free.0) in
+    by error answer (ap (λ b. cond b (Err Twice) (Ok tt)) none)
+  where
+    by : (error : AddError) → AnswersAdd {T = Unit {0}} (Err error) (putting (row_of old i) j) → putting (row_of old i) j ≡ Ok tt → error ≡ NoMemory
+    by Twice told kept = let both : ◌≡◌ {A = Result (Unit {0}) AddError} (Ok tt) (Err Twice) = sym kept ∙ told in let f : ⊥ = cc in absurd f
+    by TooMany told kept = let both : ◌≡◌ {A = Result (Unit {0}) AddError} (Ok tt) (Err TooMany) = sym kept ∙ told in let f : ⊥ = cc in absurd f
+    by NoMemory told kept = refl
+
+pub symbol_refused : (p : ℕ) (old : MixedModel) (i j : ℕ) (term : Term) (result : Result (Unit {0}) AddError) → IsModel p old → IsPlaceOf old term i j → AnswersAdd result (putting_symbol (row_of old i) j) → IfErr result (LacksRoom p old (term ∷ []))
+symbol_refused p old i j term (Ok done) is place answer = tt
+symbol_refused p old i j term (Err error) is place answer = λ before says free.
+    let none : symbol_of old i j ≡ false = no_symbol_there p old i j term is place.row place.column place.equation place.unknown before says free.0 in
+    by error answer (ap (λ b. cond b (Err Twice) (Ok tt)) none)
+  where
+    by : (error : AddError) → AnswersAdd {T = Unit {0}} (Err error) (putting_symbol (row_of old i) j) → putting_symbol (row_of old i) j ≡ Ok tt → error ≡ NoMemory
+    by Twice told kept = let both : ◌≡◌ {A = Result (Unit {0}) AddError} (Ok tt) (Err Twice) = sym kept ∙ told in let f : ⊥ = cc in absurd f
+    by TooMany told kept = let both : ◌≡◌ {A = Result (Unit {0}) AddError} (Ok tt) (Err TooMany) = sym kept ∙ told in let f : ⊥ = cc in absurd f
+    by NoMemory told kept = refl

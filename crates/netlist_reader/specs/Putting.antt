@@ -89,6 +89,13 @@ pub record IsPlaced (equations unknowns : List (List ℕ)) (term : Term) : Type 
   pub equation : has_name equations term.equation ≡ true
   pub unknown : has_name unknowns term.unknown ≡ true
 
+-- The place of a term in a model, by its numbers.
+pub record IsPlaceOf (model : MixedModel) (term : Term) (i j : ℕ) : Type 0 where
+  pub row : i < length model.equations
+  pub column : j < length model.unknowns
+  pub equation : slice_index_or model.equations i [] ≡ term.equation
+  pub unknown : slice_index_or model.unknowns j [] ≡ term.unknown
+
 -- At each place of a model stands what these terms say of it.
 pub record Says (p : ℕ) (terms : List Term) (model : MixedModel) : Type 0 where
   pub constants : (i j : ℕ) → i < length model.equations → j < length model.unknowns

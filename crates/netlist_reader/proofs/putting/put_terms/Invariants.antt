@@ -1,0 +1,12 @@
+use Rattle.std.proofs.Common.{◌≡◌, ℕ, List, take}
+use Rattle.netlist_reader.specs.Terms.{Term}
+use Rattle.netlist_reader.specs.Putting.{PutsTerms}
+use Rattle.netlist_reader.proofs.Taking.{PutsSoFar}
+use Rattle.netlist_reader.proofs.putting.put_terms.Given as goal
+
+abbrev pub invariant-loop-term : goal.invariant-loop-term
+invariant-loop-term g l = record {
+  equations : l.model.equations ≡ l.fn.model.equations;
+  unknowns : l.model.unknowns ≡ l.fn.model.unknowns;
+  says : PutsSoFar g.F.Field.modulus l.fn.model l.model l.terms l.term-index;
+}
