@@ -45,10 +45,8 @@ fn add_unknowns<F: Field>(model: &mut Mixed<F>, names: &[String]) -> Result<(), 
     ensures rows { OnOk result (model.new.rows ≡ model.old.rows) }
 {
     for name in names {
-        match model.add_unknown(name) {
-            Ok(_) => {}
-            Err(AddError::NoMemory) => return Err(NoMemory),
-            Err(_) => unreachable!(),
+        if let Err(error) = model.add_unknown(name) {
+            return Err(want_of_memory(error));
         }
     }
     Ok(())
@@ -64,10 +62,8 @@ fn add_equations<F: Field>(model: &mut Mixed<F>, names: &[String]) -> Result<(),
     ensures blank { OnOk result (IsBlank model.new) }
 {
     for name in names {
-        match model.add_equation(name) {
-            Ok(_) => {}
-            Err(AddError::NoMemory) => return Err(NoMemory),
-            Err(_) => unreachable!(),
+        if let Err(error) = model.add_equation(name) {
+            return Err(want_of_memory(error));
         }
     }
     Ok(())
@@ -89,10 +85,8 @@ fn put_devices<F: Field>(
     ensures says { OnOk result (Says F.modulus (terms_of F.modulus circuit.now.devices) model.new) }
 {
     for device in &circuit.devices {
-        match put_device(alloc, model, device) {
-            Ok(()) => {}
-            Err(AddError::NoMemory) => return Err(NoMemory),
-            Err(_) => unreachable!(),
+        if let Err(error) = put_device(alloc, model, device) {
+            return Err(want_of_memory(error));
         }
     }
     Ok(())
@@ -116,4 +110,14 @@ fn put_device<F: Field>(
         return Err(AddError::NoMemory);
     };
     put_terms(model, &terms)
+}
+
+// The one refusal that is left where names are new and nothing stands at a place.
+fn want_of_memory(error: AddError) -> NoMemory
+    requires { error ≡ AddError.NoMemory }
+{
+    match error {
+        AddError::NoMemory => NoMemory,
+        AddError::Twice | AddError::TooMany => unreachable!(),
+    }
 }
