@@ -1,4 +1,6 @@
+pub mod Blanks
 pub mod Comments
 pub mod Cuts
+pub mod Remarks
 pub mod Rules
 pub mod Steps
