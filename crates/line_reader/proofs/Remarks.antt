@@ -21,34 +21,43 @@ remark-other : (remark : Option ℕ) (byte : ℕ) (line more : List ℕ) → is_
 remark-other None byte line more other = refl
 remark-other (Some sign) byte line more other = rw other refl
 
+and_true : (b : Bool) → (b && true) ≡ b
+and_true true = refl
+and_true false = refl
+
+pub and_false : (b : Bool) → (b && false) ≡ false
+and_false true = refl
+and_false false = refl
+
 -- a line that goes on
-pub remark-append : (remark : Option ℕ) (front back : List ℕ) → is_remark remark front ≡ false → is_remark remark (front ++ back) ≡ (list_all is_blank front && is_remark remark back)
-remark-append remark [] back none = refl
-remark-append remark (byte ∷ front) back none = by (is_blank byte) refl
+pub remark-append : (remark : Option ℕ) (front back : List ℕ) → is_remark remark front ≡ false → is_remark remark (front ++ back) ≡ (is_remark remark back && list_all is_blank front)
+remark-append remark [] back none = sym (and_true (is_remark remark back))
+remark-append remark (byte ∷ front) back none = by (is_blank byte) refl (λ rest. remark-append remark front back rest)
   where
-    by : (b : Bool) → is_blank byte ≡ b → is_remark remark ((byte ∷ front) ++ back) ≡ ((b && list_all is_blank front) && is_remark remark back)
-    by true blank = remark-blank remark byte (front ++ back) blank ∙ remark-append remark front back (sym (remark-blank remark byte front blank) ∙ none)
-    by false other = remark-other remark byte (front ++ back) front other ∙ none
+    by : (b : Bool) → is_blank byte ≡ b → (is_remark remark front ≡ false → is_remark remark (front ++ back) ≡ (is_remark remark back && list_all is_blank front)) → is_remark remark ((byte ∷ front) ++ back) ≡ (is_remark remark back && (b && list_all is_blank front))
+    by true blank more = remark-blank remark byte (front ++ back) blank ∙ more (sym (remark-blank remark byte front blank) ∙ none)
+    by false other more = remark-other remark byte (front ++ back) front other ∙ none ∙ sym (and_false (is_remark remark back))
 
 pub remark-more : (remark : Option ℕ) (front back : List ℕ) → is_remark remark front ≡ true → is_remark remark (front ++ back) ≡ true
 remark-more remark [] back some = let both : false ≡ true = sym (remark-none remark) ∙ some in absurd cc
-remark-more remark (byte ∷ front) back some = by (is_blank byte) refl
+remark-more remark (byte ∷ front) back some = by (is_blank byte) refl (λ rest. remark-more remark front back rest)
   where
-    by : (b : Bool) → is_blank byte ≡ b → is_remark remark ((byte ∷ front) ++ back) ≡ true
-    by true blank = remark-blank remark byte (front ++ back) blank ∙ remark-more remark front back (sym (remark-blank remark byte front blank) ∙ some)
-    by false other = remark-other remark byte (front ++ back) front other ∙ some
+    by : (b : Bool) → is_blank byte ≡ b → (is_remark remark front ≡ true → is_remark remark (front ++ back) ≡ true) → is_remark remark ((byte ∷ front) ++ back) ≡ true
+    by true blank more = remark-blank remark byte (front ++ back) blank ∙ more (sym (remark-blank remark byte front blank) ∙ some)
+    by false other more = remark-other remark byte (front ++ back) front other ∙ some
 
 -- a line that ends earlier is a comment as a whole too, or has only blanks
 remark-front : (remark : Option ℕ) (front back : List ℕ) → is_remark remark (front ++ back) ≡ true → (is_remark remark front ≡ true) ⊎ (list_all is_blank front ≡ true)
 remark-front remark [] back some = inr refl
-remark-front remark (byte ∷ front) back some = by (is_blank byte) refl
+remark-front remark (byte ∷ front) back some = by (is_blank byte) refl (λ rest. remark-front remark front back rest)
   where
-    by : (b : Bool) → is_blank byte ≡ b → (is_remark remark (byte ∷ front) ≡ true) ⊎ ((b && list_all is_blank front) ≡ true)
-    by true blank = elim (remark-front remark front back (sym (remark-blank remark byte (front ++ back) blank) ∙ some)) [
+    by : (b : Bool) → is_blank byte ≡ b → (is_remark remark (front ++ back) ≡ true → (is_remark remark front ≡ true) ⊎ (list_all is_blank front ≡ true))
+        → (is_remark remark (byte ∷ front) ≡ true) ⊎ ((b && list_all is_blank front) ≡ true)
+    by true blank more = elim (more (sym (remark-blank remark byte (front ++ back) blank) ∙ some)) [
       | inl here ↦ inl (remark-blank remark byte front blank ∙ here)
       | inr blanks ↦ inr blanks
     ]
-    by false other = inl (remark-other remark byte front (front ++ back) other ∙ some)
+    by false other more = inl (remark-other remark byte front (front ++ back) other ∙ some)
 
 -- and it is none where the line is none
 front-plain : (remark : Option ℕ) (line front back : List ℕ) → front ++ back ≡ line → is_remark remark line ≡ false → is_remark remark front ≡ false

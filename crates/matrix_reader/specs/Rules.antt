@@ -74,3 +74,7 @@ words_rule p before [] = None
 words_rule p before (word ∷ words) =
     if bytes_eq word (codes "eq") then equation_line_rule p before words
     else (if bytes_eq word (codes "unknown") then unknown_line_rule before words else Some BadWord)
+
+-- The rules of an equation list: no line is a comment as a whole.
+abbrev pub list_rules : ℕ → Rules
+list_rules p = record { remark = None; words = words_rule p }
