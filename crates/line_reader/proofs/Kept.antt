@@ -97,7 +97,7 @@ ended-reads_same rules bytes = by (is_remark rules.remark bytes) refl
         ap uncommented (content-plain rules given (given-plain none (list_any is_comment_sign bytes)))
         ∙ ended-same bytes
         ∙ sym (ap uncommented (content-plain rules (strip_carriage_return bytes) (stripped-plain rules.remark bytes none)))
-    )
+        )
 
 -- lines of which the same is kept
 pub stripped-same : (rules : Rules) (line bytes : List ℕ) → kept_of rules line ≡ kept_of rules bytes → is_commented rules line ≡ is_commented rules bytes → ReadsSame rules (strip_carriage_return line) (strip_carriage_return bytes)

@@ -12,7 +12,11 @@ use line_lexer::is_blank;
 pub(crate) fn content<R: LineFormat>(line: &[u8]) -> &[u8]
     ensures { result.now ≡ content R.rules line.now }
 {
-    if is_remark::<R>(line) { &line[..0] } else { line }
+    if is_remark::<R>(line) {
+        &line[..0]
+    } else {
+        line
+    }
 }
 
 // Whether a line that begins so, and is no comment as a whole so far, is one by the part that comes next.
