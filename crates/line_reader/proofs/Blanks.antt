@@ -1,9 +1,9 @@
 -- Lines of blanks: nothing is read of them.
-use Rattle.std.proofs.Common.{◌≡◌, ℕ, ◌+◌, Bool, true, false, ◌||◌, ◌&&◌, List, [], ◌∷◌, ◌++◌, filter, nat_eq, refl, sym, ap, subst, ◌∙◌}
+use Rattle.std.proofs.Common.{◌≡◌, ℕ, ◌+◌, Bool, true, false, ◌||◌, ◌&&◌, List, [], ◌∷◌, ◌++◌, nat_eq, refl, sym, ap, subst, ◌∙◌}
 use Rattle.std.specs.List.{list_all, list_any}
 use Rattle.std.proofs.lemmas.Bool.{eqb-true}
 use Rattle.std.proofs.lemmas.List.Folds.{list_all-append}
-use Rattle.line_lexer.specs.Tokens.{is_blank, is_comment_sign, is_text_byte, has_bytes, parts_from, tokens_from}
+use Rattle.line_lexer.specs.Tokens.{is_blank, is_comment_sign, is_text_byte, tokens_from}
 
 and_true : (a b : Bool) → b ≡ true → (a && (b && true)) ≡ a
 and_true true b here = rw here refl

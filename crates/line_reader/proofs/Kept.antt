@@ -1,9 +1,8 @@
 -- What is kept of a line, and what is read by it.
-use Rattle.std.proofs.Common.{◌≡◌, ℕ, Bool, true, false, ◌||◌, ◌&&◌, List, [], ◌∷◌, ◌++◌, map, inl, inr, if◌then◌else◌, Some, None, Option, refl, sym, ap, subst, ◌∙◌}
+use Rattle.std.proofs.Common.{◌≡◌, ℕ, Bool, true, false, ◌||◌, ◌&&◌, List, [], ◌++◌, map, inl, inr, if◌then◌else◌, Some, refl, sym, ap, subst, ◌∙◌}
 use Rattle.std.specs.List.{list_all, list_any}
 use Rattle.std.specs.Str.Lines.{strip_carriage_return}
 use Rattle.std.proofs.lemmas.List.Folds.{list_any-append}
-use Rattle.refusals.specs.declared.Why.{Why}
 use Rattle.refusals.specs.declared.Why.TheVariants.{BadByte}
 use Rattle.line_lexer.specs.Tokens.{is_blank, is_clean, is_comment_sign, is_text_byte, tokens_from, uncommented}
 use Rattle.line_reader.specs.LineRules.{Rules, content, is_remark, line_rule, words_in}

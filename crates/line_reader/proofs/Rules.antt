@@ -1,13 +1,10 @@
 -- Rules of lines that go on, and the first broken one.
-use Rattle.std.proofs.Common.{◌≡◌, ℕ, ◌<◌, List, [], ◌∷◌, ◌++◌, length, map, take, get_or, Some, None, if◌then◌else◌, sym, ap, subst, ◌∙◌, inl, inr, arith, below_more, length-append}
-use Rattle.std.specs.List.{list_all}
+use Rattle.std.proofs.Common.{◌≡◌, ℕ, ◌<◌, List, [], ◌∷◌, ◌++◌, length, map, take, get_or, Some, None, sym, ap, subst, ◌∙◌, inl, inr, arith, below_more, length-append}
 use Rattle.std.proofs.Math.Seq.{take-append_seam, get_or-append_seam}
 use Rattle.std.proofs.lemmas.Bool.{cases_order}
 use Rattle.std.proofs.lemmas.List.{take-append-le, get_or_append_left}
 use Rattle.refusals.specs.declared.Why.{Why}
-use Rattle.refusals.specs.declared.Why.TheVariants.{BadByte}
 use Rattle.line_lexer.specs.Lines.{lines_of}
-use Rattle.line_lexer.specs.Tokens.{is_text_byte, uncommented, tokens_from, words_of}
 use Rattle.line_reader.specs.LineRules.{Rules, KeepBefore, KeepsAll, IsFirstBroken, line_rule, rule_at, words_in}
 
 -- a text that keeps all rules has no first broken one

@@ -28,5 +28,6 @@ pub trait LineFormat: Drop {
     fn read_line(&mut self, number: u32, words: Tokens<'_>) -> Result<(), LineFault>
         requires { is_ready self.old }
         ensures ready { OnOk result (is_ready self.new) }
-        ensures read { ReadsWords rules.words has_read number self.old self.new (map (λ word. word.1) words.entry) result };
+        ensures read { ReadsWords rules.words has_read number self.old self.new
+            (map (λ word. word.1) words.entry) result };
 }

@@ -1,7 +1,7 @@
 //! Lines that are a comment as a whole.
 
-ghost use Rattle.std.specs.Prelude.{◌≡◌, ◌&&◌, not};
-ghost use Rattle.std.specs.List.{find, list_all};
+ghost use Rattle.std.specs.Prelude.{◌≡◌, ◌&&◌};
+ghost use Rattle.std.specs.List.{list_all};
 ghost use Rattle.line_lexer.specs.Tokens.{is_blank};
 ghost use Rattle.line_reader.specs.LineRules.{content, first_byte, is_remark};
 
