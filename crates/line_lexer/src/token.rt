@@ -89,7 +89,8 @@ fn first_blank(text: &str) -> Option<usize>
     text.as_bytes().iter().position(|byte| is_blank(*byte))
 }
 
-fn is_blank(byte: u8) -> bool
+/// Whether a byte is a blank: a space or a tab.
+pub fn is_blank(byte: u8) -> bool
     ensures { result ≡ is_blank byte }
 {
     byte == b' ' || byte == b'\t'

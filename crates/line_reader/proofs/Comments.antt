@@ -10,7 +10,7 @@ use Rattle.line_lexer.specs.Tokens.{is_comment_sign, uncommented}
 use Rattle.line_reader.proofs.Cuts.{or_false-first, or_false-second}
 
 -- in a comment
-uncommented-commented : (line part : List ℕ) → list_any is_comment_sign line ≡ true → uncommented (line ++ part) ≡ uncommented line
+pub uncommented-commented : (line part : List ℕ) → list_any is_comment_sign line ≡ true → uncommented (line ++ part) ≡ uncommented line
 uncommented-commented [] part some = let f : ⊥ = cc in absurd f
 uncommented-commented (first ∷ line) part some = by (is_comment_sign first) refl some (λ rest. uncommented-commented line part rest)
   where
@@ -27,18 +27,12 @@ uncommented-whole (first ∷ line) none =
     rw here (simp one-add (ap (λ bytes. first ∷ bytes) rest))
 
 -- behind a line in which none begins
-uncommented-behind : (line part : List ℕ) → list_any is_comment_sign line ≡ false → uncommented (line ++ part) ≡ line ++ uncommented part
+pub uncommented-behind : (line part : List ℕ) → list_any is_comment_sign line ≡ false → uncommented (line ++ part) ≡ line ++ uncommented part
 uncommented-behind [] part none = refl
 uncommented-behind (first ∷ line) part none =
     let here = or_false-first (is_comment_sign first) (list_any is_comment_sign line) none in
     let rest = uncommented-behind line part (or_false-second (is_comment_sign first) (list_any is_comment_sign line) none) in
     rw here (simp one-add (ap (λ bytes. first ∷ bytes) rest))
-
--- what is kept of a line, where a part more of it comes
-pub uncommented-part : (line part bytes : List ℕ) (sign : Bool) → bytes ≡ uncommented line → sign ≡ list_any is_comment_sign line → (if sign then bytes else bytes ++ uncommented part) ≡ uncommented (line ++ part)
-uncommented-part line part bytes true bytes_are sign_is = bytes_are ∙ sym (uncommented-commented line part (sym sign_is))
-uncommented-part line part bytes false bytes_are sign_is =
-    ap (λ front. front ++ uncommented part) (bytes_are ∙ uncommented-whole line (sym sign_is)) ∙ sym (uncommented-behind line part (sym sign_is))
 
 shorter-commented : (part : List ℕ) → list_any is_comment_sign part ≡ true → length (uncommented part) < length part
 shorter-commented [] some = let f : ⊥ = cc in absurd f
@@ -96,11 +90,3 @@ ended-same line = by (list_any is_comment_sign line) refl
     by : (b : Bool) → list_any is_comment_sign line ≡ b → uncommented (if b then uncommented line else strip_carriage_return (uncommented line)) ≡ uncommented (strip_carriage_return line)
     by true e = uncommented-twice line ∙ sym (uncommented-strip line e)
     by false e = ap (λ bytes. uncommented (strip_carriage_return bytes)) (uncommented-whole line e)
-
--- lines of which the same is kept
-pub stripped-same : (line bytes : List ℕ) → uncommented line ≡ uncommented bytes → list_any is_comment_sign line ≡ list_any is_comment_sign bytes → uncommented (strip_carriage_return line) ≡ uncommented (strip_carriage_return bytes)
-stripped-same line bytes same sign =
-    sym (ended-same line)
-    ∙ ap (λ kept. uncommented (if list_any is_comment_sign line then kept else strip_carriage_return kept)) same
-    ∙ ap (λ b. uncommented (if b then uncommented bytes else strip_carriage_return (uncommented bytes))) sign
-    ∙ ended-same bytes

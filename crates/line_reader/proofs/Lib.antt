@@ -1,4 +1,7 @@
+pub mod Blanks
 pub mod Comments
 pub mod Cuts
+pub mod Kept
+pub mod Remarks
 pub mod Rules
 pub mod Steps

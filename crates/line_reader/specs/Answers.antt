@@ -1,8 +1,7 @@
 -- What reading a line answers.
 use Rattle.std.specs.Prelude.{◌≡◌, ℕ, ◌+◌, List, [], ◌∷◌, ◌++◌, length, Option, Some, None, Result, Ok, Err}
 use Rattle.refusals.specs.declared.Why.{Why}
-use Rattle.line_lexer.specs.Tokens.{words_of}
-use Rattle.line_reader.specs.LineRules.{WordsRule, line_rule}
+use Rattle.line_reader.specs.LineRules.{Rules, WordsRule, line_rule, words_in}
 use Rattle.line_reader.specs.declared.fault.LineFault.{LineFault}
 use Rattle.line_reader.specs.declared.fault.LineFault.TheVariants.{Broken, NoMemory}
 
@@ -25,8 +24,8 @@ ReadsWords rule has_read number old new words result =
     → AnswersRule (rule before words) (has_read new (before ++ words ∷ [])) result
 
 -- and by its bytes
-abbrev pub ReadsBytes : {R : Type 0} → WordsRule → (R → List (List (List ℕ)) → Type 0) → ℕ → R → R → List ℕ
+abbrev pub ReadsBytes : {R : Type 0} → Rules → (R → List (List (List ℕ)) → Type 0) → ℕ → R → R → List ℕ
     → Result (Unit {0}) LineFault → Type 0
-ReadsBytes rule has_read number old new line result =
+ReadsBytes rules has_read number old new line result =
     (before : List (List (List ℕ))) → has_read old before → length before + 1 ≡ number
-    → AnswersRule (line_rule rule before line) (has_read new (before ++ words_of line ∷ [])) result
+    → AnswersRule (line_rule rules before line) (has_read new (before ++ words_in rules line ∷ [])) result

@@ -1,5 +1,5 @@
 -- What a reader of lines knows of the text so far.
-use Rattle.std.specs.Prelude.{◌≡◌, ℕ, ◌+◌, Bool, false, List, [], ◌∷◌, ◌++◌, length, map, Option, Some, None}
+use Rattle.std.specs.Prelude.{◌≡◌, ℕ, ◌+◌, Bool, false, ◌||◌, List, [], ◌∷◌, ◌++◌, length, map, Option, Some, None}
 use Rattle.std.specs.List.{list_any}
 use Rattle.std.specs.Str.Lines.{strip_carriage_return}
 use Rattle.refusals.specs.declared.Place.TheVariants.{Line}
@@ -7,8 +7,8 @@ use Rattle.refusals.specs.declared.Why.{Why}
 use Rattle.refusals.specs.declared.Refused.{Refused}
 use Rattle.refusals.specs.declared.ReadModel.TheVariants.{Refused as IsRefused}
 use Rattle.line_lexer.specs.Lines.{is_line_feed, lines_of}
-use Rattle.line_lexer.specs.Tokens.{is_comment_sign, uncommented, words_of}
-use Rattle.line_reader.specs.LineRules.{WordsRule, KeepBefore, IsRefusal, line_rule}
+use Rattle.line_lexer.specs.Tokens.{is_comment_sign, uncommented}
+use Rattle.line_reader.specs.LineRules.{Rules, KeepBefore, IsRefusal, is_remark, content, line_rule, words_in}
 
 -- The fields of a reader: what its format has, the number of the line that is not ended, that line so far without its
 -- comment, whether a comment has begun in it, and the first refusal.
@@ -29,53 +29,61 @@ pub record IsCut (text : List ℕ) (lines : List (List ℕ)) (rest : List ℕ) :
   pub whole : (more : List ℕ) → lines_of (text ++ more) ≡ lines ++ lines_of (rest ++ more)
   pub unended : list_any is_line_feed rest ≡ false
 
+-- what is kept of a line that is not ended: what stands before a comment
+abbrev pub kept_of : Rules → List ℕ → List ℕ
+kept_of rules line = uncommented (content rules line)
+
+-- whether a comment has begun in a line
+abbrev pub is_commented : Rules → List ℕ → Bool
+is_commented rules line = is_remark rules.remark line || list_any is_comment_sign line
+
 -- So far each ended line was read and keeps the rules, and of the rest what stands before a comment is kept.
 pub record IsProgress {R : Type 0}
-    (rule : WordsRule) (has_read : R → List (List (List ℕ)) → Type 0) (reading : Reading R) (text : List ℕ)
+    (rules : Rules) (has_read : R → List (List (List ℕ)) → Type 0) (reading : Reading R) (text : List ℕ)
     : Type 0 where
   pub lines : List (List ℕ)
   pub rest : List ℕ
   pub cut : IsCut text lines rest
-  pub kept : KeepBefore rule (length lines) lines
-  pub read : has_read reading.format (map words_of lines)
+  pub kept : KeepBefore rules (length lines) lines
+  pub read : has_read reading.format (map (words_in rules) lines)
   pub number_is : reading.number ≡ length lines + 1
-  pub line_is : reading.line ≡ uncommented rest
-  pub commented_is : reading.commented ≡ list_any is_comment_sign rest
+  pub line_is : reading.line ≡ kept_of rules rest
+  pub commented_is : reading.commented ≡ is_commented rules rest
 
 -- however a text goes on, this is its refusal
-abbrev pub IsBroken : WordsRule → List ℕ → Refused → Type 0
-IsBroken rule text refused = (more : List ℕ) → IsRefusal rule (text ++ more) (IsRefused refused)
+abbrev pub IsBroken : Rules → List ℕ → Refused → Type 0
+IsBroken rules text refused = (more : List ℕ) → IsRefusal rules (text ++ more) (IsRefused refused)
 
 -- a reader with this refusal, or none
-abbrev pub IsFedBy : {R : Type 0} → WordsRule → (R → List (List (List ℕ)) → Type 0) → Reading R → List ℕ
+abbrev pub IsFedBy : {R : Type 0} → Rules → (R → List (List (List ℕ)) → Type 0) → Reading R → List ℕ
     → Option Refused → Type 0
-IsFedBy rule has_read reading text None = IsProgress rule has_read reading text
-IsFedBy rule has_read reading text (Some refused) = IsBroken rule text refused
+IsFedBy rules has_read reading text None = IsProgress rules has_read reading text
+IsFedBy rules has_read reading text (Some refused) = IsBroken rules text refused
 
 -- A reader was fed this text.
-abbrev pub IsFed : {R : Type 0} → WordsRule → (R → List (List (List ℕ)) → Type 0) → Reading R → List ℕ → Type 0
-IsFed rule has_read reading text = IsFedBy rule has_read reading text reading.refused
+abbrev pub IsFed : {R : Type 0} → Rules → (R → List (List (List ℕ)) → Type 0) → Reading R → List ℕ → Type 0
+IsFed rules has_read reading text = IsFedBy rules has_read reading text reading.refused
 
 -- What ending a line leaves, where these lines came before and these are its bytes: it was read, or this is why it
 -- was not.
-abbrev pub EndsLine : {R : Type 0} → WordsRule → (R → List (List (List ℕ)) → Type 0) → ℕ → R → List (List (List ℕ))
+abbrev pub EndsLine : {R : Type 0} → Rules → (R → List (List (List ℕ)) → Type 0) → ℕ → R → List (List (List ℕ))
     → List ℕ → Option Refused → Type 0
-EndsLine rule has_read number new before bytes None =
-    (line_rule rule before bytes ≡ None) × has_read new (before ++ words_of bytes ∷ [])
-EndsLine rule has_read number new before bytes (Some refused) =
-    (why : Why) × (refused ≡ record { place = Line number; why = why }) × (line_rule rule before bytes ≡ Some why)
+EndsLine rules has_read number new before bytes None =
+    (line_rule rules before bytes ≡ None) × has_read new (before ++ words_in rules bytes ∷ [])
+EndsLine rules has_read number new before bytes (Some refused) =
+    (why : Why) × (refused ≡ record { place = Line number; why = why }) × (line_rule rules before bytes ≡ Some why)
 
 -- What reading a line by its bytes leaves, whatever was read before it. It has this number.
-abbrev pub ReadsLine : {R : Type 0} → WordsRule → (R → List (List (List ℕ)) → Type 0) → ℕ → R → R → List ℕ
+abbrev pub ReadsLine : {R : Type 0} → Rules → (R → List (List (List ℕ)) → Type 0) → ℕ → R → R → List ℕ
     → Option Refused → Type 0
-ReadsLine rule has_read number old new bytes refused =
+ReadsLine rules has_read number old new bytes refused =
     (before : List (List (List ℕ))) → has_read old before → length before + 1 ≡ number
-    → EndsLine rule has_read number new before bytes refused
+    → EndsLine rules has_read number new before bytes refused
 
 -- What ending a line leaves, by what was kept of it, whatever was read before and whatever its bytes were.
-abbrev pub ReadsEnded : {R : Type 0} → WordsRule → (R → List (List (List ℕ)) → Type 0) → ℕ → List ℕ → Bool → R → R
+abbrev pub ReadsEnded : {R : Type 0} → Rules → (R → List (List (List ℕ)) → Type 0) → ℕ → List ℕ → Bool → R → R
     → Option Refused → Type 0
-ReadsEnded rule has_read number line commented old new refused =
+ReadsEnded rules has_read number line commented old new refused =
     (before : List (List (List ℕ))) (bytes : List ℕ) → has_read old before → length before + 1 ≡ number
-    → line ≡ uncommented bytes → commented ≡ list_any is_comment_sign bytes
-    → EndsLine rule has_read number new before (strip_carriage_return bytes) refused
+    → line ≡ kept_of rules bytes → commented ≡ is_commented rules bytes
+    → EndsLine rules has_read number new before (strip_carriage_return bytes) refused

@@ -5,6 +5,7 @@ mod fault;
 mod format;
 mod laws;
 mod reader;
+mod remark;
 
 pub use fault::LineFault;
 pub use format::LineFormat;

@@ -5,13 +5,13 @@ ghost use Rattle.std.specs.List.{list_any};
 ghost use Rattle.std.specs.Str.Lines.{strip_carriage_return};
 ghost use Rattle.limits.specs.Limits.{input_limit};
 ghost use Rattle.line_lexer.specs.Lines.{is_line_feed, lines_of};
-ghost use Rattle.line_lexer.specs.Tokens.{words_of};
-ghost use Rattle.line_reader.specs.LineRules.{KeepsAll, IsRefusal};
+ghost use Rattle.line_reader.specs.LineRules.{KeepsAll, IsRefusal, words_in};
 ghost use Rattle.line_reader.specs.Answers.{ReadsBytes};
 ghost use Rattle.line_reader.specs.Readings.{IsFed, ReadsEnded, ReadsLine, reading};
 
 use crate::fault::LineFault;
 use crate::format::LineFormat;
+use crate::remark::{becomes_remark, content};
 use line_lexer::{Line, before_comment, first_line_feed, tokens, without_return};
 use out_of_memory::NoMemory;
 use refusals::{Place, ReadModel, Refused};
@@ -42,7 +42,7 @@ impl<R: LineFormat> LineReader<R> {
     pub fn new(alloc: Global, format: R) -> LineReader<R>
         requires ready { R.is_ready format }
         requires unread { R.has_read format [] }
-        ensures { IsFed R.rule R.has_read result [] }
+        ensures { IsFed R.rules R.has_read result [] }
     {
         LineReader {
             progress: Progress {
@@ -58,8 +58,8 @@ impl<R: LineFormat> LineReader<R> {
     /// Reads the lines that a piece ends. After the first refusal no byte is looked at. Where memory runs out the
     /// reader is given up.
     pub fn feed(self, piece: &[u8]) -> Result<LineReader<R>, NoMemory>
-        ensures { IfOk result (λ fed. (text : List ℕ) → IsFed R.rule R.has_read self text
-            → length (text ++ piece.now) ≤ input_limit → IsFed R.rule R.has_read fed (text ++ piece.now)) }
+        ensures { IfOk result (λ fed. (text : List ℕ) → IsFed R.rules R.has_read self text
+            → length (text ++ piece.now) ≤ input_limit → IsFed R.rules R.has_read fed (text ++ piece.now)) }
     {
         let mut progress = self.progress;
         let mut rest = piece;
@@ -73,12 +73,12 @@ impl<R: LineFormat> LineReader<R> {
 
     /// Reads the line that is not ended, if there is one, and answers what was read or the first refusal.
     pub fn finish(self) -> Result<R, ReadModel>
-        ensures kept { IfOk result (λ format. (text : List ℕ) → IsFed R.rule R.has_read self text
-            → KeepsAll R.rule text) }
-        ensures read { IfOk result (λ format. (text : List ℕ) → IsFed R.rule R.has_read self text
-            → R.has_read format (map words_of (lines_of text))) }
-        ensures refused { IfErr result (λ why. (text : List ℕ) → IsFed R.rule R.has_read self text
-            → IsRefusal R.rule text why) }
+        ensures kept { IfOk result (λ format. (text : List ℕ) → IsFed R.rules R.has_read self text
+            → KeepsAll R.rules text) }
+        ensures read { IfOk result (λ format. (text : List ℕ) → IsFed R.rules R.has_read self text
+            → R.has_read format (map (words_in R.rules) (lines_of text))) }
+        ensures refused { IfErr result (λ why. (text : List ℕ) → IsFed R.rules R.has_read self text
+            → IsRefusal R.rules text why) }
     {
         self.progress.finish()
     }
@@ -119,9 +119,9 @@ impl<R: LineFormat> Progress<R> {
         requires unended { list_any is_line_feed part.now ≡ false }
         ensures ready { OnOk result (self.new.refused ≡ None → R.is_ready self.new.format) }
         ensures fed { OnOk result ((text : List ℕ) → length (text ++ part.now) < input_limit
-            → IsFed R.rule R.has_read (reading self.old.format self.old.number self.old.line.items self.old.commented
+            → IsFed R.rules R.has_read (reading self.old.format self.old.number self.old.line.items self.old.commented
             self.old.refused) text
-            → IsFed R.rule R.has_read (reading self.new.format self.new.number self.new.line.items self.new.commented
+            → IsFed R.rules R.has_read (reading self.new.format self.new.number self.new.line.items self.new.commented
             self.new.refused) (text ++ part.now ++ 10 ∷ [])) }
     {
         if self.is_within_line() {
@@ -140,12 +140,17 @@ impl<R: LineFormat> Progress<R> {
         ensures ready { OnOk result (self.new.refused ≡ None → R.is_ready self.new.format) }
         ensures refused { OnOk result (self.new.refused ≡ self.old.refused) }
         ensures fed { OnOk result ((text : List ℕ)
-            → IsFed R.rule R.has_read (reading self.old.format self.old.number self.old.line.items self.old.commented
+            → IsFed R.rules R.has_read (reading self.old.format self.old.number self.old.line.items self.old.commented
             self.old.refused) text
-            → IsFed R.rule R.has_read (reading self.new.format self.new.number self.new.line.items self.new.commented
+            → IsFed R.rules R.has_read (reading self.new.format self.new.number self.new.line.items self.new.commented
             self.new.refused) (text ++ part.now)) }
     {
         if self.refused.is_some() || self.commented {
+            return Ok(());
+        }
+        if becomes_remark::<R>(&self.line, part) {
+            self.line.clear();
+            self.commented = true;
             return Ok(());
         }
         let plain = before_comment(part);
@@ -156,15 +161,15 @@ impl<R: LineFormat> Progress<R> {
 
     fn finish(mut self) -> Result<R, ReadModel>
         requires { self.refused ≡ None → R.is_ready self.format }
-        ensures kept { IfOk result (λ format. (text : List ℕ) → IsFed R.rule R.has_read
+        ensures kept { IfOk result (λ format. (text : List ℕ) → IsFed R.rules R.has_read
             (reading self.format self.number self.line.items self.commented self.refused)
-            text → KeepsAll R.rule text) }
-        ensures read { IfOk result (λ format. (text : List ℕ) → IsFed R.rule R.has_read
+            text → KeepsAll R.rules text) }
+        ensures read { IfOk result (λ format. (text : List ℕ) → IsFed R.rules R.has_read
             (reading self.format self.number self.line.items self.commented self.refused)
-            text → R.has_read format (map words_of (lines_of text))) }
-        ensures refused { IfErr result (λ why. (text : List ℕ) → IsFed R.rule R.has_read
+            text → R.has_read format (map (words_in R.rules) (lines_of text))) }
+        ensures refused { IfErr result (λ why. (text : List ℕ) → IsFed R.rules R.has_read
             (reading self.format self.number self.line.items self.commented self.refused)
-            text → IsRefusal R.rule text why) }
+            text → IsRefusal R.rules text why) }
     {
         if let Some(refused) = self.refused {
             return Err(ReadModel::Refused(refused));
@@ -198,7 +203,7 @@ impl<R: LineFormat> Progress<R> {
         ensures number { OnOk result (self.new.number ≡ min (self.old.number + 1) 4294967295) }
         ensures line { OnOk result (self.new.line.items ≡ []) }
         ensures commented { OnOk result (self.new.commented ≡ false) }
-        ensures read { OnOk result (ReadsEnded R.rule R.has_read self.old.number self.old.line.items self.old.commented
+        ensures read { OnOk result (ReadsEnded R.rules R.has_read self.old.number self.old.line.items self.old.commented
             self.old.format self.new.format self.new.refused) }
     {
         self.read_ended()?;
@@ -214,7 +219,7 @@ impl<R: LineFormat> Progress<R> {
         requires ready { R.is_ready self.old.format }
         ensures number { OnOk result (self.new.number ≡ self.old.number) }
         ensures ready { OnOk result (self.new.refused ≡ None → R.is_ready self.new.format) }
-        ensures read { OnOk result (ReadsEnded R.rule R.has_read self.old.number self.old.line.items self.old.commented
+        ensures read { OnOk result (ReadsEnded R.rules R.has_read self.old.number self.old.line.items self.old.commented
             self.old.format self.new.format self.new.refused) }
     {
         let line = ended_line(&self.line, self.commented);
@@ -242,7 +247,7 @@ fn read_or_refuse<R: LineFormat>(
     requires { R.is_ready format.old }
     ensures ready { IfOk result (λ refused. refused ≡ None → R.is_ready format.new) }
     ensures read { IfOk result (λ refused.
-        ReadsLine R.rule R.has_read number format.old format.new bytes.now refused) }
+        ReadsLine R.rules R.has_read number format.old format.new bytes.now refused) }
 {
     match read_bytes(format, number, bytes) {
         Ok(()) => Ok(None),
@@ -254,12 +259,13 @@ fn read_or_refuse<R: LineFormat>(
     }
 }
 
-// Reads a line by its bytes.
+// Reads a line by its bytes: nothing of a comment as a whole.
 fn read_bytes<R: LineFormat>(format: &mut R, number: u32, bytes: &[u8]) -> Result<(), LineFault>
     requires { R.is_ready format.old }
     ensures ready { OnOk result (R.is_ready format.new) }
-    ensures read { ReadsBytes R.rule R.has_read number format.old format.new bytes.now result }
+    ensures read { ReadsBytes R.rules R.has_read number format.old format.new bytes.now result }
 {
+    let bytes = content::<R>(bytes);
     match tokens(Line { number, bytes }) {
         Ok(words) => format.read_line(number, words),
         Err(why) => Err(LineFault::Broken(why)),

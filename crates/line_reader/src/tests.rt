@@ -6,7 +6,7 @@ use refusals::{Place, ReadModel, Refused, Why};
 use std::alloc::Global;
 use std::test::Fail;
 
-// Counts words and their bytes, and keeps the number of the last line.
+// Counts words and their bytes, and keeps the number of the last line. A line that begins with `*` is a comment.
 #[derive(Clone, Copy, Debug, PartialEq, Eq)]
 struct Count {
     line: u32,
@@ -15,13 +15,17 @@ struct Count {
 }
 
 impl LineFormat for Count {
-    ghost use Rattle.std.specs.Prelude.{None};
+    ghost use Rattle.std.specs.Prelude.{Some, None};
 
-    ghost rule = { λ before words. None };
+    ghost rules = { record { remark = Some 42; words = λ before words. None } };
 
     ghost has_read = { λ count lines. Unit {0} };
 
     ghost is_ready = { λ count. Unit {0} };
+
+    fn remark_sign() -> Option<u8> {
+        Some(b'*')
+    }
 
     fn read_line(&mut self, number: u32, words: Tokens<'_>) -> Result<(), LineFault> {
         self.line = number;
@@ -52,13 +56,15 @@ fn count_words(alloc: Global, pieces: &[&[u8]]) -> Result<Count, ReadModel> {
     reader.finish()
 }
 
-// Five lines: the comment of the first one ends with a carriage return, the second is empty, the fourth is a comment.
-const TEXT: &[u8] = b"a bc # d\r\n\nef\r\n#\r\ng\r";
+// Ten lines: the first has words, a comment and a carriage return, the second is empty, the third and the last have a
+// word. The fourth and the seventh have only a comment behind `#`, the fifth and the eighth are a comment as a whole. The
+// sixth has two words, and the ninth has blanks.
+const TEXT: &[u8] = b"a bc # d\r\n\nef\r\n#\r\n \t* \xff#\0\r\nh *i\n#\xff*\n*\r\n  \ng\r";
 
 const COUNT: Count = Count {
-    line: 5,
-    words: 4,
-    bytes: 6,
+    line: 10,
+    words: 6,
+    bytes: 9,
 };
 
 #[test]
@@ -87,6 +93,8 @@ fn what_is_not_ended_is_a_line_if_a_byte_came(rt: HostRuntime) -> Result<(), Fai
         ("\n", 1),
         ("#", 1),
         ("\n#", 2),
+        (" *", 1),
+        ("\n*", 2),
         ("a\n", 1),
         ("\n ", 2),
     ] {
@@ -109,6 +117,8 @@ fn the_first_refusal_is_kept(rt: HostRuntime) -> Result<(), Fail> {
         [b"a\nb\r".as_slice(), b"\r\n".as_slice()],
         [b"a\nb\rc".as_slice(), b"".as_slice()],
         [b"a\n\x01\n".as_slice(), b"#".as_slice()],
+        [b" *\x01\nb *".as_slice(), b"\x01".as_slice()],
+        [b"*\n\x01".as_slice(), b"*".as_slice()],
     ] {
         assert_eq!(rt; count_words(rt.alloc(), &pieces), Err(refused));
     }

@@ -10,7 +10,7 @@ use Rattle.line_reader.specs.LineRules.{KeepsAll, IsFirstBroken as IsFirst, IsRe
 use Rattle.mixed_model.specs.Models.{MixedModel, IsModel, constant_at, symbol_of}
 use Rattle.matrix_reader.specs.Items.{unknown_of, item_constant, item_symbol}
 use Rattle.matrix_reader.specs.EquationLists.{Equation, equations_in, unknowns_in}
-use Rattle.matrix_reader.specs.Rules.{words_rule}
+use Rattle.matrix_reader.specs.Rules.{list_rules}
 
 -- what some items say of an unknown: the sum of their constants there
 abbrev pub said_of : ℕ → List (List ℕ) → List ℕ → ℕ
@@ -41,13 +41,13 @@ LinesGive p lines model = IsModelOf p (equations_in lines) (unknowns_in lines) m
 
 -- A text gives a model: each line keeps the rules, and the model is that of the lines.
 pub record GivesModel (p : ℕ) (text : List ℕ) (model : MixedModel) : Type 0 where
-  pub kept : KeepsAll (words_rule p) text
+  pub kept : KeepsAll (list_rules p) text
   pub given : LinesGive p (map words_of (lines_of text)) model
 
 -- The first broken rule of a text: line n, counted from 0, is the first that breaks one, and this is why.
 abbrev pub IsFirstBroken : ℕ → List ℕ → ℕ → Why → Type 0
-IsFirstBroken p text n why = IsFirst (words_rule p) text n why
+IsFirstBroken p text n why = IsFirst (list_rules p) text n why
 
 -- Why a text is not read: its first broken rule and the line of it, counted from 1, or memory ran out.
 abbrev pub IsRefusal : ℕ → List ℕ → ReadModel → Type 0
-IsRefusal p text why = IsWhy (words_rule p) text why
+IsRefusal p text why = IsWhy (list_rules p) text why

@@ -9,6 +9,7 @@ use Rattle.refusals.specs.declared.Why.{Why}
 use Rattle.refusals.specs.declared.Why.TheVariants.{BadWord, BadShape, BadName, Twice, TooMany}
 use Rattle.line_lexer.specs.Names.{is_name}
 use Rattle.line_lexer.specs.Numbers.{number_of}
+use Rattle.line_reader.specs.LineRules.{Rules}
 use Rattle.mixed_model.specs.Names.{has_name}
 use Rattle.matrix_reader.specs.Items.{has_equals_sign, unknown_of, value_of, is_symbol, number_text}
 use Rattle.matrix_reader.specs.EquationLists.{equation_names, names_in, unknowns_in}
@@ -74,3 +75,7 @@ words_rule p before [] = None
 words_rule p before (word ∷ words) =
     if bytes_eq word (codes "eq") then equation_line_rule p before words
     else (if bytes_eq word (codes "unknown") then unknown_line_rule before words else Some BadWord)
+
+-- The rules of an equation list: no line is a comment as a whole.
+abbrev pub list_rules : ℕ → Rules
+list_rules p = record { remark = None; words = words_rule p }

@@ -27,14 +27,18 @@ pub(crate) struct Reader<F: Field> {
 
 impl<F: Field> LineFormat for Reader<F> {
     ghost use Rattle.std.specs.Prelude.{◌≡◌, length, vec_len};
-    ghost use Rattle.matrix_reader.specs.Rules.{words_rule};
+    ghost use Rattle.matrix_reader.specs.Rules.{list_rules};
     ghost use Rattle.matrix_reader.specs.Feeding.{HasRead};
 
-    ghost rule = { words_rule F.modulus };
+    ghost rules = { list_rules F.modulus };
 
     ghost has_read = { HasRead F.modulus };
 
     ghost is_ready = { λ reader. vec_len reader.last_lines ≡ length reader.model.unknowns };
+
+    fn remark_sign() -> Option<u8> {
+        None
+    }
 
     fn read_line(&mut self, number: u32, words: Tokens<'_>) -> Result<(), LineFault> {
         self.read_words(number, words)

@@ -18,7 +18,7 @@ loop-line-preserved g c = record {
       let step = c.in_ok-take_line.ensures.fed (text ++ before.0) (piece-within before.0 rest line others piece before.1 cut text input_limit short) before.2 in (
         before.0 ++ line ++ 10 ∷ [],
         piece-taken before.0 rest line others piece before.1 cut,
-        subst (IsFed g.R.LineFormat.rule g.R.LineFormat.has_read (reading new.format new.number new.line.items new.commented new.refused)) (piece-joined text before.0 line) step,
+        subst (IsFed g.R.LineFormat.rules g.R.LineFormat.has_read (reading new.format new.number new.line.items new.commented new.refused)) (piece-joined text before.0 line) step,
       );
 }
 
@@ -26,6 +26,6 @@ pub returns : goal.returns
 returns g c = λ text fed short.
     let before = c.loop-line.invariant.fed text fed short in
     let new = c.take_part.new.self in
-    subst (IsFed g.R.LineFormat.rule g.R.LineFormat.has_read (reading new.format new.number new.line.items new.commented new.refused))
+    subst (IsFed g.R.LineFormat.rules g.R.LineFormat.has_read (reading new.format new.number new.line.items new.commented new.refused))
     (append_assoc text before.0 c.loop-line.rest.now ∙ ap (λ bytes. text ++ bytes) before.1)
     (c.in_ok-take_part.ensures.fed (text ++ before.0) before.2)
