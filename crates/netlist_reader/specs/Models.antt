@@ -6,12 +6,11 @@ use Rattle.refusals.specs.declared.Refused.{Refused as Refusal}
 use Rattle.refusals.specs.declared.ReadModel.{ReadModel}
 use Rattle.refusals.specs.declared.ReadModel.TheVariants.{Refused, NoMemory}
 use Rattle.line_lexer.specs.Lines.{lines_of}
-use Rattle.line_lexer.specs.Tokens.{words_of}
-use Rattle.line_reader.specs.LineRules.{KeepsAll, IsFirstBroken}
+use Rattle.line_reader.specs.LineRules.{KeepsAll, IsFirstBroken, words_in}
 use Rattle.mixed_model.specs.Models.{MixedModel, IsModel, constant_at, symbol_of}
 use Rattle.netlist_reader.specs.Devices.{Device, device_in, devices_in}
 use Rattle.netlist_reader.specs.Terms.{equations_of, unknowns_of, terms_of, said_of, symbol_said}
-use Rattle.netlist_reader.specs.Rules.{words_rule, ground_rule, source_rule}
+use Rattle.netlist_reader.specs.Rules.{device_rules, ground_rule, source_rule}
 
 -- The model of some devices: their equations and unknowns, and at each place what the devices' terms say of it.
 pub record IsModelOf (p : ℕ) (devices : List Device) (model : MixedModel) : Type 0 where
@@ -25,9 +24,9 @@ pub record IsModelOf (p : ℕ) (devices : List Device) (model : MixedModel) : Ty
       → symbol_of model i j
       ≡ symbol_said (terms_of p devices) (slice_index_or model.equations i []) (slice_index_or model.unknowns j [])
 
--- the words of a text's lines
-abbrev pub lines_in : List ℕ → List (List (List ℕ))
-lines_in text = map words_of (lines_of text)
+-- the words of a text's lines: of one that is a comment as a whole, none
+abbrev pub lines_in : ℕ → List ℕ → List (List (List ℕ))
+lines_in p text = map (words_in (device_rules p)) (lines_of text)
 
 -- what the rule of sources says of line k, counted from 0, of some lines by their words
 abbrev pub source_rule_at : ℕ → List (List (List ℕ)) → ℕ → Option Why
@@ -40,10 +39,10 @@ SourcesBefore p n lines = (k : ℕ) → k < n → source_rule_at p lines k ≡ N
 -- A text gives a model: its lines keep the rules of a line, its devices that of the ground and that of sources, and the
 -- model is that of the devices.
 pub record GivesModel (p : ℕ) (text : List ℕ) (model : MixedModel) : Type 0 where
-  pub kept : KeepsAll (words_rule p) text
-  pub grounded : ground_rule (devices_in p (lines_in text)) ≡ None
-  pub sources : SourcesBefore p (length (lines_in text)) (lines_in text)
-  pub given : IsModelOf p (devices_in p (lines_in text)) model
+  pub kept : KeepsAll (device_rules p) text
+  pub grounded : ground_rule (devices_in p (lines_in p text)) ≡ None
+  pub sources : SourcesBefore p (length (lines_in p text)) (lines_in p text)
+  pub given : IsModelOf p (devices_in p (lines_in p text)) model
 
 -- Line n, counted from 0, is the first of which the source is no V device.
 pub record IsFirstUnsourced (p : ℕ) (lines : List (List (List ℕ))) (n : ℕ) (why : Why) : Type 0 where
@@ -55,11 +54,11 @@ pub record IsFirstUnsourced (p : ℕ) (lines : List (List (List ℕ))) (n : ℕ)
 abbrev pub BreaksFirst : ℕ → List ℕ → Refusal → Type 0
 BreaksFirst p text refused =
     ((n : ℕ) × (why : Why) × (refused ≡ record { place = Line (n + 1); why = why })
-        × IsFirstBroken (words_rule p) text n why)
-    ⊎ (((why : Why) × (refused ≡ record { place = Document; why = why }) × KeepsAll (words_rule p) text
-        × (ground_rule (devices_in p (lines_in text)) ≡ Some why))
-    ⊎ ((n : ℕ) × (why : Why) × (refused ≡ record { place = Line (n + 1); why = why }) × KeepsAll (words_rule p) text
-        × (ground_rule (devices_in p (lines_in text)) ≡ None) × IsFirstUnsourced p (lines_in text) n why))
+        × IsFirstBroken (device_rules p) text n why)
+    ⊎ (((why : Why) × (refused ≡ record { place = Document; why = why }) × KeepsAll (device_rules p) text
+        × (ground_rule (devices_in p (lines_in p text)) ≡ Some why))
+    ⊎ ((n : ℕ) × (why : Why) × (refused ≡ record { place = Line (n + 1); why = why }) × KeepsAll (device_rules p) text
+        × (ground_rule (devices_in p (lines_in p text)) ≡ None) × IsFirstUnsourced p (lines_in p text) n why))
 
 -- Why a text is not read: its first broken rule and the place of it, or memory ran out.
 abbrev pub IsRefusal : ℕ → List ℕ → ReadModel → Type 0

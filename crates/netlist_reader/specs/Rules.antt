@@ -10,6 +10,7 @@ use Rattle.refusals.specs.declared.Why.{Why}
 use Rattle.refusals.specs.declared.Why.TheVariants.{BadShape, BadName, Twice, TooMany, Unsupported, NoGround, NoSuchSource}
 use Rattle.line_lexer.specs.Names.{is_name, is_node}
 use Rattle.line_lexer.specs.Numbers.{number_of}
+use Rattle.line_reader.specs.LineRules.{Rules}
 use Rattle.mixed_model.specs.Names.{has_name}
 use Rattle.netlist_reader.specs.declared.kind.DeviceKind.{DeviceKind}
 use Rattle.netlist_reader.specs.declared.kind.DeviceKind.TheVariants.{Voltage, Opamp}
@@ -66,6 +67,10 @@ kind_rule p before (Some kind) words = device_rule p before kind (from_name kind
 abbrev pub words_rule : ℕ → List (List (List ℕ)) → List (List ℕ) → Option Why
 words_rule p before [] = None
 words_rule p before (word ∷ words) = kind_rule p (devices_in p before) (kind_of word) (word ∷ words)
+
+-- The rules of a line: one whose first byte other than space and tab is * is a comment as a whole.
+abbrev pub device_rules : ℕ → Rules
+device_rules p = record { remark = Some 42; words = words_rule p }
 
 abbrev pub is_opamp : DeviceKind → Bool
 is_opamp Opamp = true
