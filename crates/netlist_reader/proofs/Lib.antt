@@ -5,3 +5,8 @@ pub mod Saying
 pub mod Placing
 pub mod Taking
 pub mod Adding
+pub mod NamesDiffer
+pub mod Labels
+pub mod Lists
+pub mod NameLists
+pub mod Sames

@@ -13,11 +13,11 @@ use Rattle.netlist_reader.specs.Devices.{Device, device_names}
 use Rattle.netlist_reader.specs.Terms.{dotted, equation_words, unknown_words, own_names}
 
 -- what follows the point of a dotted name is the name, for these words
-abbrev Dotted : List (List ℕ) → Type 0
+abbrev pub Dotted : List (List ℕ) → Type 0
 Dotted [] = Unit {0}
 Dotted (word ∷ words) = ((name : List ℕ) → after_first is_point (dotted word name) ≡ name) × Dotted words
 
-equations-dotted : (kind : DeviceKind) → Dotted (equation_words kind)
+pub equations-dotted : (kind : DeviceKind) → Dotted (equation_words kind)
 equations-dotted Passive = ((λ n. refl), ((λ n. refl), tt))
 equations-dotted Voltage = ((λ n. refl), ((λ n. refl), tt))
 equations-dotted Current = ((λ n. refl), ((λ n. refl), tt))
@@ -29,7 +29,7 @@ equations-dotted Opamp = ((λ n. refl), tt)
 equations-dotted Transformer = ((λ n. refl), ((λ n. refl), ((λ n. refl), ((λ n. refl), tt))))
 equations-dotted Gyrator = ((λ n. refl), ((λ n. refl), ((λ n. refl), ((λ n. refl), tt))))
 
-unknowns-dotted : (kind : DeviceKind) → Dotted (unknown_words kind)
+pub unknowns-dotted : (kind : DeviceKind) → Dotted (unknown_words kind)
 unknowns-dotted Passive = ((λ n. refl), ((λ n. refl), tt))
 unknowns-dotted Voltage = ((λ n. refl), ((λ n. refl), tt))
 unknowns-dotted Current = ((λ n. refl), ((λ n. refl), tt))
@@ -42,7 +42,7 @@ unknowns-dotted Transformer = ((λ n. refl), ((λ n. refl), ((λ n. refl), ((λ 
 unknowns-dotted Gyrator = ((λ n. refl), ((λ n. refl), ((λ n. refl), ((λ n. refl), tt))))
 
 -- names differ where what follows their points does
-differ : (x y name other : List ℕ) → after_first is_point x ≡ name → after_first is_point y ≡ other → bytes_eq name other ≡ false → bytes_eq x y ≡ false
+pub differ : (x y name other : List ℕ) → after_first is_point x ≡ name → after_first is_point y ≡ other → bytes_eq name other ≡ false → bytes_eq x y ≡ false
 differ x y name other names others not_same = by (bytes_eq x y) refl
   where
     by : (b : Bool) → bytes_eq x y ≡ b → bytes_eq x y ≡ false
