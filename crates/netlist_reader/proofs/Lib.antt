@@ -10,3 +10,4 @@ pub mod Labels
 pub mod Lists
 pub mod NameLists
 pub mod Sames
+pub mod Forms
