@@ -11,3 +11,4 @@ pub mod Lists
 pub mod NameLists
 pub mod Sames
 pub mod Forms
+pub mod Apart

@@ -1,0 +1,213 @@
+-- The terms that are put of a device stand at places of their own.
+use Rattle.std.proofs.Common.{◌≡◌, ℕ, ◌-◌, ◌%◌, Bool, true, false, cond, ◌&&◌, ◌||◌, List, [], ◌∷◌, ◌++◌, codes, nat_eq, refl, sym, ap, subst, ◌∙◌, append_assoc, append-nil}
+use Rattle.std.specs.List.{AllByRecursion, list_any}
+use Rattle.std.specs.Str.{bytes_eq}
+use Rattle.std.proofs.lemmas.List.Folds.{list_any-append}
+use Rattle.std.proofs.lemmas.Slice.Eq.{bytes_eq-Decides}
+use Rattle.netlist_reader.specs.declared.kind.DeviceKind.{DeviceKind}
+use Rattle.netlist_reader.specs.declared.kind.DeviceKind.TheVariants.{Passive, Voltage, Current, VoltageByVoltage, CurrentByVoltage, CurrentByCurrent, VoltageByCurrent, Opamp, Transformer, Gyrator}
+use Rattle.netlist_reader.specs.Devices.{Device, is_ground, ground}
+use Rattle.netlist_reader.specs.Terms.{Term, stands_at, constant, symbol, dotted, own, node, node_voltage, node_current, difference, flow, proportion}
+use Rattle.netlist_reader.specs.Putting.{AreFree, IsFree, put_constant, put_difference, put_flow, put_voltage, put_branch_between, put_branch, put_two_branches, put_control, put_ratio, put_by}
+use Rattle.netlist_reader.proofs.Lists.{all-append}
+use Rattle.netlist_reader.proofs.NamesDiffer.{differ}
+
+bytes_eq-sym : (x y : List ℕ) → bytes_eq x y ≡ false → bytes_eq y x ≡ false
+bytes_eq-sym x y other = by (bytes_eq y x) refl
+  where
+    by : (b : Bool) → bytes_eq y x ≡ b → bytes_eq y x ≡ false
+    by false e = e
+    by true e =
+        let both : true ≡ false = sym ((bytes_eq-Decides x y).1 (sym ((bytes_eq-Decides y x).0 e))) ∙ other in
+        let f : ⊥ = cc in absurd f
+
+and_false : (a : Bool) → (a && false) ≡ false
+and_false true = refl
+and_false false = refl
+
+-- terms at places that are free of some terms and, among others, of each other
+pub free-split : (T B ts : List Term) → AllByRecursion (λ t. IsFree T t.equation t.unknown) ts → AreFree B ts → AreFree (T ++ B) ts
+free-split T B [] apart free = tt
+free-split T B (t ∷ ts) apart free =
+    (list_any-append (stands_at t.equation t.unknown) T B ∙ rw (apart.0, free.0) refl,
+    subst (λ before. AreFree before ts) (sym (append_assoc T B (t ∷ []))) (free-split T (B ++ t ∷ []) ts apart.1 free.1))
+
+free-append : (B xs ys : List Term) → AreFree B xs → AreFree (B ++ xs) ys → AreFree B (xs ++ ys)
+free-append B [] ys first second = subst (λ before. AreFree before ys) (append-nil B) second
+free-append B (x ∷ xs) ys first second = (first.0, free-append (B ++ x ∷ []) xs ys first.1 (subst (λ before. AreFree before ys) (sym (append_assoc B (x ∷ []) xs)) second))
+
+-- a term stands at another place than another
+abbrev Clear : Term → Term → Type 0
+Clear x y = stands_at y.equation y.unknown x ≡ false
+
+abbrev Clears : List Term → List Term → Type 0
+Clears xs ys = AllByRecursion (λ y. AllByRecursion (λ x. Clear x y) xs) ys
+
+free-all : (xs : List Term) (y : Term) → AllByRecursion (λ x. Clear x y) xs → IsFree xs y.equation y.unknown
+free-all [] y all = refl
+free-all (x ∷ xs) y all = rw (all.0) (free-all xs y all.1)
+
+clears-free : (xs ys : List Term) → Clears xs ys → AllByRecursion (λ y. IsFree xs y.equation y.unknown) ys
+clears-free xs [] all = tt
+clears-free xs (y ∷ ys) all = (free-all xs y all.0, clears-free xs ys all.1)
+
+joined : (xs ys : List Term) → AreFree [] xs → AreFree [] ys → Clears xs ys → AreFree [] (xs ++ ys)
+joined xs ys first second clear = free-append [] xs ys first (subst (λ before. AreFree before ys) (append-nil xs) (free-split xs [] ys (clears-free xs ys clear) second))
+
+clear-equation : (x y : Term) (e f : List ℕ) → x.equation ≡ e → y.equation ≡ f → bytes_eq f e ≡ false → Clear x y
+clear-equation x y e f is_x is_y other = (λ t. bytes_eq (is_y t) (is_x t) && bytes_eq y.unknown x.unknown) ∙ ap (λ b. b && bytes_eq y.unknown x.unknown) other
+
+clear-unknown : (x y : Term) (u v : List ℕ) → x.unknown ≡ u → y.unknown ≡ v → bytes_eq v u ≡ false → Clear x y
+clear-unknown x y u v is_x is_y other = (λ t. bytes_eq y.equation x.equation && bytes_eq (is_y t) (is_x t)) ∙ ap (λ b. bytes_eq y.equation x.equation && b) other ∙ and_false (bytes_eq y.equation x.equation)
+
+clears-one : (P : Term → Type 0) (y : Term) → ((x : Term) → P x → Clear x y) → (xs : List Term) → AllByRecursion P xs → AllByRecursion (λ x. Clear x y) xs
+clears-one P y clear [] all = tt
+clears-one P y clear (x ∷ xs) all = (clear x all.0, clears-one P y clear xs all.1)
+
+clears : (P Q : Term → Type 0) → ((x y : Term) → P x → Q y → Clear x y) → (xs ys : List Term) → AllByRecursion P xs → AllByRecursion Q ys → Clears xs ys
+clears P Q clear xs [] first second = tt
+clears P Q clear xs (y ∷ ys) first second = (clears-one P y (λ x is. clear x y is second.0) xs first, clears P Q clear xs ys first second.1)
+
+-- more terms before, and more after
+clears-both : (xs zs ys : List Term) → Clears xs ys → Clears zs ys → Clears (xs ++ zs) ys
+clears-both xs zs [] first second = tt
+clears-both xs zs (y ∷ ys) first second = (all-append (λ x. Clear x y) xs zs first.0 second.0, clears-both xs zs ys first.1 second.1)
+
+clears-after : (xs ys zs : List Term) → Clears xs ys → Clears xs zs → Clears xs (ys ++ zs)
+clears-after xs ys zs first second = all-append (λ y. AllByRecursion (λ x. Clear x y) xs) ys zs first second
+
+-- in an equation; and at an unknown in equations of nodes
+abbrev On : List ℕ → Term → Type 0
+On e t = t.equation ≡ e
+
+record InNode (u : List ℕ) (t : Term) : Type 0 where
+  node : List ℕ
+  equation : t.equation ≡ dotted (codes "kcl") node
+  unknown : t.unknown ≡ u
+
+on-voltages : (e n : List ℕ) (k : ℕ) → AllByRecursion (On e) (node_voltage e k n)
+on-voltages e n k = by (is_ground n)
+  where
+    by : (b : Bool) → AllByRecursion (On e) (cond b [] (constant e (dotted (codes "u") n) k ∷ []))
+    by true = tt
+    by false = (refl, tt)
+
+on-difference : (p : ℕ) (e plus minus : List ℕ) → AllByRecursion (On e) (put_difference p e plus minus)
+on-difference p e plus minus = by (bytes_eq plus minus)
+  where
+    by : (b : Bool) → AllByRecursion (On e) (cond b [] (difference p e plus minus))
+    by true = tt
+    by false = all-append (On e) (node_voltage e 1 plus) (node_voltage e (p - 1) minus) (on-voltages e plus 1) (on-voltages e minus (p - 1))
+
+on-voltage : (p : ℕ) (e v plus minus : List ℕ) → AllByRecursion (On e) (put_voltage p e v plus minus)
+on-voltage p e v plus minus = (refl, on-difference p e minus plus)
+
+in-currents : (u n : List ℕ) (k : ℕ) → AllByRecursion (InNode u) (node_current u k n)
+in-currents u n k = by (is_ground n)
+  where
+    by : (b : Bool) → AllByRecursion (InNode u) (cond b [] (constant (dotted (codes "kcl") n) u k ∷ []))
+    by true = tt
+    by false = (record { node = n; equation = refl; unknown = refl }, tt)
+
+in-flow : (p : ℕ) (u plus minus : List ℕ) → AllByRecursion (InNode u) (put_flow p u plus minus)
+in-flow p u plus minus = by (bytes_eq plus minus)
+  where
+    by : (b : Bool) → AllByRecursion (InNode u) (cond b [] (flow p u plus minus))
+    by true = tt
+    by false = all-append (InNode u) (node_current u 1 plus) (node_current u (p - 1) minus) (in-currents u plus 1) (in-currents u minus (p - 1))
+
+-- parts whose equations differ
+on-on : (e f : List ℕ) → bytes_eq f e ≡ false → (xs ys : List Term) → AllByRecursion (On e) xs → AllByRecursion (On f) ys → Clears xs ys
+on-on e f other = clears (On e) (On f) (λ x y is_x is_y. clear-equation x y e f is_x is_y other)
+
+on-node : (e u : List ℕ) → ((n : List ℕ) → bytes_eq (dotted (codes "kcl") n) e ≡ false) → (xs ys : List Term) → AllByRecursion (On e) xs → AllByRecursion (InNode u) ys → Clears xs ys
+on-node e u other = clears (On e) (InNode u) (λ x y is_x is_y. clear-equation x y e (dotted (codes "kcl") is_y.node) is_x is_y.equation (other is_y.node))
+
+node-on : (u e : List ℕ) → ((n : List ℕ) → bytes_eq e (dotted (codes "kcl") n) ≡ false) → (xs ys : List Term) → AllByRecursion (InNode u) xs → AllByRecursion (On e) ys → Clears xs ys
+node-on u e other = clears (InNode u) (On e) (λ x y is_x is_y. clear-equation x y (dotted (codes "kcl") is_x.node) e is_x.equation is_y (other is_x.node))
+
+node-node : (u v : List ℕ) → bytes_eq v u ≡ false → (xs ys : List Term) → AllByRecursion (InNode u) xs → AllByRecursion (InNode v) ys → Clears xs ys
+node-node u v other = clears (InNode u) (InNode v) (λ x y is_x is_y. clear-unknown x y u v is_x.unknown is_y.unknown other)
+
+-- each part by itself
+one-free : (b : Bool) (t : Term) → AreFree [] (cond b [] (t ∷ []))
+one-free true t = tt
+one-free false t = (refl, tt)
+
+two-free : (b c : Bool) (x y : Term) → Clear x y → AreFree [] (cond b [] (x ∷ []) ++ cond c [] (y ∷ []))
+two-free true c x y clear = one-free c y
+two-free false true x y clear = (refl, tt)
+two-free false false x y clear = (refl, (rw clear refl, tt))
+
+difference-free : (p : ℕ) (e plus minus : List ℕ) → AreFree [] (put_difference p e plus minus)
+difference-free p e plus minus = by (bytes_eq plus minus) refl
+  where
+    by : (b : Bool) → bytes_eq plus minus ≡ b → AreFree [] (cond b [] (difference p e plus minus))
+    by true same = tt
+    by false other = two-free (is_ground plus) (is_ground minus) (constant e (dotted (codes "u") plus) 1) (constant e (dotted (codes "u") minus) (p - 1))
+        (clear-unknown (constant e (dotted (codes "u") plus) 1) (constant e (dotted (codes "u") minus) (p - 1)) (dotted (codes "u") plus) (dotted (codes "u") minus) refl refl
+        (differ (dotted (codes "u") minus) (dotted (codes "u") plus) minus plus refl refl (bytes_eq-sym plus minus other)))
+
+flow-free : (p : ℕ) (u plus minus : List ℕ) → AreFree [] (put_flow p u plus minus)
+flow-free p u plus minus = by (bytes_eq plus minus) refl
+  where
+    by : (b : Bool) → bytes_eq plus minus ≡ b → AreFree [] (cond b [] (flow p u plus minus))
+    by true same = tt
+    by false other = two-free (is_ground plus) (is_ground minus) (constant (dotted (codes "kcl") plus) u 1) (constant (dotted (codes "kcl") minus) u (p - 1))
+        (clear-equation (constant (dotted (codes "kcl") plus) u 1) (constant (dotted (codes "kcl") minus) u (p - 1)) (dotted (codes "kcl") plus) (dotted (codes "kcl") minus) refl refl
+        (differ (dotted (codes "kcl") minus) (dotted (codes "kcl") plus) minus plus refl refl (bytes_eq-sym plus minus other)))
+
+-- the unknown of the term is none of the voltages of nodes
+abbrev NoVoltage : List ℕ → Type 0
+NoVoltage v = (n : List ℕ) → bytes_eq (dotted (codes "u") n) v ≡ false
+
+first-clears : (e v n : List ℕ) (k : ℕ) → NoVoltage v → Clears (constant e v 1 ∷ []) (node_voltage e k n)
+first-clears e v n k other = by (is_ground n)
+  where
+    by : (b : Bool) → Clears (constant e v 1 ∷ []) (cond b [] (constant e (dotted (codes "u") n) k ∷ []))
+    by true = tt
+    by false = ((clear-unknown (constant e v 1) (constant e (dotted (codes "u") n) k) v (dotted (codes "u") n) refl refl (other n), tt), tt)
+
+voltage-free : (p : ℕ) (e v plus minus : List ℕ) → NoVoltage v → AreFree [] (put_voltage p e v plus minus)
+voltage-free p e v plus minus other = joined (constant e v 1 ∷ []) (put_difference p e minus plus) (refl, tt) (difference-free p e minus plus) (by (bytes_eq minus plus))
+  where
+    by : (b : Bool) → Clears (constant e v 1 ∷ []) (cond b [] (difference p e minus plus))
+    by true = tt
+    by false = clears-after (constant e v 1 ∷ []) (node_voltage e 1 minus) (node_voltage e (p - 1) plus) (first-clears e v minus 1 other) (first-clears e v plus (p - 1) other)
+
+module _ (p : ℕ) (d : Device) where
+
+  -- an own equation is none of the nodes', and theirs are none of the own
+  abbrev NoNode : List ℕ → Type 0
+  NoNode w = ((n : List ℕ) → bytes_eq (dotted (codes "kcl") n) (own d w) ≡ false) × ((n : List ℕ) → bytes_eq (own d w) (dotted (codes "kcl") n) ≡ false)
+
+  between-free : (we wv wi plus minus : List ℕ) → NoNode we → NoVoltage (own d wv) → AreFree [] (put_branch_between p d we wv wi plus minus)
+  between-free we wv wi plus minus no_node no_voltage =
+      joined (put_voltage p (own d we) (own d wv) plus minus) (put_flow p (own d wi) plus minus) (voltage-free p (own d we) (own d wv) plus minus no_voltage) (flow-free p (own d wi) plus minus)
+      (on-node (own d we) (own d wi) no_node.0 (put_voltage p (own d we) (own d wv) plus minus) (put_flow p (own d wi) plus minus) (on-voltage p (own d we) (own d wv) plus minus) (in-flow p (own d wi) plus minus))
+
+  -- a branch, and what stands in another own equation
+  between-on : (we wv wi f plus minus : List ℕ) → bytes_eq (own d f) (own d we) ≡ false → NoNode f → (ys : List Term) → AllByRecursion (On (own d f)) ys → Clears (put_branch_between p d we wv wi plus minus) ys
+  between-on we wv wi f plus minus other no_node ys on =
+      clears-both (put_voltage p (own d we) (own d wv) plus minus) (put_flow p (own d wi) plus minus) ys
+      (on-on (own d we) (own d f) other (put_voltage p (own d we) (own d wv) plus minus) ys (on-voltage p (own d we) (own d wv) plus minus) on)
+      (node-on (own d wi) (own d f) no_node.1 (put_flow p (own d wi) plus minus) ys (in-flow p (own d wi) plus minus) on)
+
+  branch-free : AreFree [] (put_branch p d)
+  branch-free = between-free (codes "kvl") (codes "v") (codes "i") (node d 0) (node d 1) ((λ n. refl), (λ n. refl)) (λ n. refl)
+
+  branch-law : (ys : List Term) → AreFree [] ys → AllByRecursion (On (own d (codes "law"))) ys → AreFree [] (put_branch p d ++ ys)
+  branch-law ys free on = joined (put_branch p d) ys branch-free free (between-on (codes "kvl") (codes "v") (codes "i") (codes "law") (node d 0) (node d 1) refl ((λ n. refl), (λ n. refl)) ys on)
+
+  proportion-free : (x y : List ℕ) → bytes_eq y x ≡ false → AreFree [] (proportion d x y)
+  proportion-free x y other = (refl, (rw (clear-unknown (symbol (own d (codes "law")) x) (symbol (own d (codes "law")) y) x y refl refl other) refl, tt))
+
+  controlled-free : (ys : List Term) → AreFree [] ys → AllByRecursion (On (own d (codes "law"))) ys → AreFree [] (put_branch p d ++ put_control p d ++ ys)
+  controlled-free ys free on =
+      joined (put_branch p d ++ put_control p d) ys
+      (joined (put_branch p d) (put_control p d) branch-free (voltage-free p (own d (codes "ctl")) (own d (codes "w")) (node d 2) (node d 3) (λ n. refl))
+      (between-on (codes "kvl") (codes "v") (codes "i") (codes "ctl") (node d 0) (node d 1) refl ((λ n. refl), (λ n. refl)) (put_control p d) (on-voltage p (own d (codes "ctl")) (own d (codes "w")) (node d 2) (node d 3))))
+      free
+      (clears-both (put_branch p d) (put_control p d) ys
+      (between-on (codes "kvl") (codes "v") (codes "i") (codes "law") (node d 0) (node d 1) refl ((λ n. refl), (λ n. refl)) ys on)
+      (on-on (own d (codes "ctl")) (own d (codes "law")) refl (put_control p d) ys (on-voltage p (own d (codes "ctl")) (own d (codes "w")) (node d 2) (node d 3)) on))
