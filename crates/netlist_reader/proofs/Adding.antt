@@ -1,5 +1,6 @@
 -- Names that are added one by one.
 use Rattle.std.proofs.Common.{◌≡◌, ℕ, ◌+◌, ◌<◌, ◌≤◌, true, false, IsTrue, List, [], ◌∷◌, ◌++◌, length, map, take, get_or, Result, Ok, Err, String, cond, refl, sym, ap, subst, ◌∙◌, arith}
+use Rattle.std.specs.List.{IsDistinct}
 use Rattle.std.specs.Str.{bytes_eq}
 use Rattle.std.specs.String.{string_bytes}
 use Rattle.std.proofs.lemmas.List.{take_more, length-take-le, get_or-take, get_or-map, get_or_default}
@@ -10,24 +11,25 @@ use Rattle.netlist_reader.proofs.Names.{names_apart}
 use Rattle.mixed_model.specs.declared.errors.AddError.{AddError}
 use Rattle.mixed_model.specs.declared.errors.AddError.TheVariants.{Twice, TooMany, NoMemory}
 
+-- the next of some names that differ is none of those before it
+pub new_among : (names : List (List ℕ)) (i : ℕ) (name : List ℕ) → IsDistinct bytes_eq names → i < length names → get_or names i [] ≡ name → has_name (take i names) name ≡ false
+new_among names i name distinct within is = list_any_none (bytes_eq name) (take i names) (λ k d kl.
+    let below : k < i = omega (arith, kl, length-take-le i names (omega arith)) in
+    let other : get_or (take i names) k d ≡ get_or names k [] = get_or-take i names k d below ∙ get_or_default names k d [] (omega arith) in
+    subst (λ n. bytes_eq n (get_or (take i names) k d) ≡ false) is
+    (subst (λ n. bytes_eq (get_or names i []) n ≡ false) (sym other) (names_apart names i k distinct (λ same. omega (arith, same, below)) within (omega arith))))
+
 -- the next of some names that differ is new
 module _ (names : List (List ℕ)) (i : ℕ) (name : List ℕ) (list : IsNameList names) (within : i < length names) (is : get_or names i [] ≡ name) where
 
   pub label : IsTrue (is_label name)
   label = subst (λ n. IsTrue (is_label n)) is (list.labels i [] within)
 
-  new_here : has_name (take i names) name ≡ false
-  new_here = list_any_none (bytes_eq name) (take i names) (λ k d kl.
-      let below : k < i = omega (arith, kl, length-take-le i names (omega arith)) in
-      let other : get_or (take i names) k d ≡ get_or names k [] = get_or-take i names k d below ∙ get_or_default names k d [] (omega arith) in
-      subst (λ n. bytes_eq n (get_or (take i names) k d) ≡ false) is
-      (subst (λ n. bytes_eq (get_or names i []) n ≡ false) (sym other) (names_apart names i k list.distinct (λ same. omega (arith, same, below)) within (omega arith))))
-
   room : length (take i names) < 4096
   room = omega (arith, length-take-le i names (omega arith), list.few)
 
   pub added : adding (take i names) name ≡ Ok (length (take i names))
-  added = ap (λ b. cond b (Err Twice) (appending (take i names))) new_here ∙ appending-Ok (take i names) room
+  added = ap (λ b. cond b (Err Twice) (appending (take i names))) (new_among names i name list.distinct within is) ∙ appending-Ok (take i names) room
 
   pub refused : (error : AddError) → AnswersAdd {T = ℕ} (Err error) (adding (take i names) name) → error ≡ NoMemory
   refused Twice told = let both : ◌≡◌ {A = Result ℕ AddError} (Ok (length (take i names))) (Err Twice) = sym added ∙ told in let f : ⊥ = cc in absurd f

@@ -6,7 +6,7 @@ use Rattle.std.proofs.lemmas.List.Folds.{list_any-append}
 use Rattle.std.proofs.lemmas.Slice.Eq.{bytes_eq-Decides}
 use Rattle.netlist_reader.specs.declared.kind.DeviceKind.{DeviceKind}
 use Rattle.netlist_reader.specs.declared.kind.DeviceKind.TheVariants.{Passive, Voltage, Current, VoltageByVoltage, CurrentByVoltage, CurrentByCurrent, VoltageByCurrent, Opamp, Transformer, Gyrator}
-use Rattle.netlist_reader.specs.Devices.{Device, is_ground, ground}
+use Rattle.netlist_reader.specs.Devices.{Device, is_ground, ground, has_source}
 use Rattle.netlist_reader.specs.Terms.{Term, stands_at, constant, symbol, dotted, own, node, node_voltage, node_current, difference, flow, proportion}
 use Rattle.netlist_reader.specs.Putting.{AreFree, IsFree, put_constant, put_difference, put_flow, put_voltage, put_branch_between, put_branch, put_two_branches, put_control, put_ratio, put_by}
 use Rattle.netlist_reader.proofs.Lists.{all-append}
@@ -211,3 +211,100 @@ module _ (p : ℕ) (d : Device) where
       (clears-both (put_branch p d) (put_control p d) ys
       (between-on (codes "kvl") (codes "v") (codes "i") (codes "law") (node d 0) (node d 1) refl ((λ n. refl), (λ n. refl)) ys on)
       (on-on (own d (codes "ctl")) (own d (codes "law")) refl (put_control p d) ys (on-voltage p (own d (codes "ctl")) (own d (codes "w")) (node d 2) (node d 3)) on))
+
+  two-branches-free : AreFree [] (put_two_branches p d)
+  two-branches-free =
+      joined first second
+      (between-free (codes "kvla") (codes "va") (codes "ia") (node d 0) (node d 1) ((λ n. refl), (λ n. refl)) (λ n. refl))
+      (between-free (codes "kvlb") (codes "vb") (codes "ib") (node d 2) (node d 3) ((λ n. refl), (λ n. refl)) (λ n. refl))
+      (clears-after first (put_voltage p (own d (codes "kvlb")) (own d (codes "vb")) (node d 2) (node d 3)) (put_flow p (own d (codes "ib")) (node d 2) (node d 3))
+      (between-on (codes "kvla") (codes "va") (codes "ia") (codes "kvlb") (node d 0) (node d 1) refl ((λ n. refl), (λ n. refl)) (put_voltage p (own d (codes "kvlb")) (own d (codes "vb")) (node d 2) (node d 3)) (on-voltage p (own d (codes "kvlb")) (own d (codes "vb")) (node d 2) (node d 3)))
+      (clears-both (put_voltage p (own d (codes "kvla")) (own d (codes "va")) (node d 0) (node d 1)) (put_flow p (own d (codes "ia")) (node d 0) (node d 1)) (put_flow p (own d (codes "ib")) (node d 2) (node d 3))
+      (on-node (own d (codes "kvla")) (own d (codes "ib")) (λ n. refl) (put_voltage p (own d (codes "kvla")) (own d (codes "va")) (node d 0) (node d 1)) (put_flow p (own d (codes "ib")) (node d 2) (node d 3)) (on-voltage p (own d (codes "kvla")) (own d (codes "va")) (node d 0) (node d 1)) (in-flow p (own d (codes "ib")) (node d 2) (node d 3)))
+      (node-node (own d (codes "ia")) (own d (codes "ib")) refl (put_flow p (own d (codes "ia")) (node d 0) (node d 1)) (put_flow p (own d (codes "ib")) (node d 2) (node d 3)) (in-flow p (own d (codes "ia")) (node d 0) (node d 1)) (in-flow p (own d (codes "ib")) (node d 2) (node d 3)))))
+    where
+      first : List Term
+      first = put_branch_between p d (codes "kvla") (codes "va") (codes "ia") (node d 0) (node d 1)
+
+      second : List Term
+      second = put_branch_between p d (codes "kvlb") (codes "vb") (codes "ib") (node d 2) (node d 3)
+
+  -- in lawa, or in lawb
+  on-constant : (e u : List ℕ) (n : ℕ) → AllByRecursion (On e) (put_constant e u n)
+  on-constant e u n = by (nat_eq n 0)
+    where
+      by : (b : Bool) → AllByRecursion (On e) (cond b [] (constant e u n ∷ []))
+      by true = tt
+      by false = (refl, tt)
+
+  constant-free : (e u : List ℕ) (n : ℕ) → AreFree [] (put_constant e u n)
+  constant-free e u n = one-free (nat_eq n 0) (constant e u n)
+
+  constants-clear : (e u v : List ℕ) (k n : ℕ) → bytes_eq v u ≡ false → Clears (constant e u k ∷ []) (put_constant e v n)
+  constants-clear e u v k n other = by (nat_eq n 0)
+    where
+      by : (b : Bool) → Clears (constant e u k ∷ []) (cond b [] (constant e v n ∷ []))
+      by true = tt
+      by false = ((clear-unknown (constant e u k) (constant e v n) u v refl refl other, tt), tt)
+
+  put-clears : (e u v : List ℕ) (n : ℕ) → bytes_eq v u ≡ false → Clears (put_constant e u n) (constant e v 1 ∷ [])
+  put-clears e u v n other = by (nat_eq n 0)
+    where
+      by : (b : Bool) → Clears (cond b [] (constant e u n ∷ [])) (constant e v 1 ∷ [])
+      by true = (tt, tt)
+      by false = ((clear-unknown (constant e u n) (constant e v 1) u v refl refl other, tt), tt)
+
+  abbrev lawa : List ℕ
+  lawa = own d (codes "lawa")
+
+  abbrev lawb : List ℕ
+  lawb = own d (codes "lawb")
+
+  module _ (a b x y : List ℕ) (other : bytes_eq (own d b) (own d a) ≡ false) (others : bytes_eq (own d y) (own d x) ≡ false) where
+
+    abbrev first : List Term
+    first = constant lawa (own d a) 1 ∷ put_constant lawa (own d b) ((p - d.number) % p)
+
+    abbrev last : List Term
+    last = put_constant lawb (own d x) d.number ++ constant lawb (own d y) 1 ∷ []
+
+    first-on : AllByRecursion (On lawa) first
+    first-on = (refl, on-constant lawa (own d b) ((p - d.number) % p))
+
+    last-on : AllByRecursion (On lawb) last
+    last-on = all-append (On lawb) (put_constant lawb (own d x) d.number) (constant lawb (own d y) 1 ∷ []) (on-constant lawb (own d x) d.number) (refl, tt)
+
+    first-free : AreFree [] first
+    first-free = joined (constant lawa (own d a) 1 ∷ []) (put_constant lawa (own d b) ((p - d.number) % p)) (refl, tt) (constant-free lawa (own d b) ((p - d.number) % p)) (constants-clear lawa (own d a) (own d b) 1 ((p - d.number) % p) other)
+
+    last-free : AreFree [] last
+    last-free = joined (put_constant lawb (own d x) d.number) (constant lawb (own d y) 1 ∷ []) (constant-free lawb (own d x) d.number) (refl, tt) (put-clears lawb (own d x) (own d y) d.number others)
+
+    ratio-is : first ++ last ≡ put_ratio p d a b x y
+    ratio-is = sym (append_assoc first (put_constant lawb (own d x) d.number) (constant lawb (own d y) 1 ∷ []))
+
+    ratio-free : AreFree [] (put_two_branches p d ++ put_ratio p d a b x y)
+    ratio-free = subst (λ laws. AreFree [] (put_two_branches p d ++ laws)) ratio-is
+        (joined (put_two_branches p d) (first ++ last) two-branches-free (joined first last first-free last-free (on-on lawa lawb refl first last first-on last-on))
+        (clears-after (put_two_branches p d) first last
+        (clears-both (put_branch_between p d (codes "kvla") (codes "va") (codes "ia") (node d 0) (node d 1)) (put_branch_between p d (codes "kvlb") (codes "vb") (codes "ib") (node d 2) (node d 3)) first
+        (between-on (codes "kvla") (codes "va") (codes "ia") (codes "lawa") (node d 0) (node d 1) refl ((λ n. refl), (λ n. refl)) first first-on)
+        (between-on (codes "kvlb") (codes "vb") (codes "ib") (codes "lawa") (node d 2) (node d 3) refl ((λ n. refl), (λ n. refl)) first first-on))
+        (clears-both (put_branch_between p d (codes "kvla") (codes "va") (codes "ia") (node d 0) (node d 1)) (put_branch_between p d (codes "kvlb") (codes "vb") (codes "ib") (node d 2) (node d 3)) last
+        (between-on (codes "kvla") (codes "va") (codes "ia") (codes "lawb") (node d 0) (node d 1) refl ((λ n. refl), (λ n. refl)) last last-on)
+        (between-on (codes "kvlb") (codes "vb") (codes "ib") (codes "lawb") (node d 2) (node d 3) refl ((λ n. refl), (λ n. refl)) last last-on))))
+
+  -- the terms that are put of a device that is not its own source
+  pub device-free : (kind : DeviceKind) → (has_source kind ≡ true → bytes_eq d.source d.name ≡ false) → AreFree [] (put_by p kind d)
+  device-free Passive apart = branch-law (proportion d (own d (codes "v")) (own d (codes "i"))) (proportion-free (own d (codes "v")) (own d (codes "i")) refl) (refl, (refl, tt))
+  device-free Voltage apart = branch-law (constant (own d (codes "law")) (own d (codes "v")) 1 ∷ []) (refl, tt) (refl, tt)
+  device-free Current apart = branch-law (constant (own d (codes "law")) (own d (codes "i")) 1 ∷ []) (refl, tt) (refl, tt)
+  device-free VoltageByVoltage apart = controlled-free (proportion d (own d (codes "v")) (own d (codes "w"))) (proportion-free (own d (codes "v")) (own d (codes "w")) refl) (refl, (refl, tt))
+  device-free CurrentByVoltage apart = controlled-free (proportion d (own d (codes "i")) (own d (codes "w"))) (proportion-free (own d (codes "i")) (own d (codes "w")) refl) (refl, (refl, tt))
+  device-free CurrentByCurrent apart = branch-law (proportion d (own d (codes "i")) (dotted (codes "i") d.source)) (proportion-free (own d (codes "i")) (dotted (codes "i") d.source) (differ (dotted (codes "i") d.source) (own d (codes "i")) d.source d.name refl refl (apart refl))) (refl, (refl, tt))
+  device-free VoltageByCurrent apart = branch-law (proportion d (own d (codes "v")) (dotted (codes "i") d.source)) (proportion-free (own d (codes "v")) (dotted (codes "i") d.source) refl) (refl, (refl, tt))
+  device-free Opamp apart =
+      joined (put_flow p (own d (codes "i")) (node d 2) ground) (put_difference p (own d (codes "law")) (node d 0) (node d 1)) (flow-free p (own d (codes "i")) (node d 2) ground) (difference-free p (own d (codes "law")) (node d 0) (node d 1))
+      (node-on (own d (codes "i")) (own d (codes "law")) (λ n. refl) (put_flow p (own d (codes "i")) (node d 2) ground) (put_difference p (own d (codes "law")) (node d 0) (node d 1)) (in-flow p (own d (codes "i")) (node d 2) ground) (on-difference p (own d (codes "law")) (node d 0) (node d 1)))
+  device-free Transformer apart = ratio-free (codes "va") (codes "vb") (codes "ia") (codes "ib") refl refl
+  device-free Gyrator apart = ratio-free (codes "va") (codes "ib") (codes "ia") (codes "vb") refl refl

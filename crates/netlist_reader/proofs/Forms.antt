@@ -217,3 +217,8 @@ module _ (p : ℕ) (d : Device) (big : 2 < p) where
       (ratio-form (codes "va") (codes "vb") (codes "ia") (codes "ib") (has_equation Transformer is wanted (codes "lawa") refl) (has_equation Transformer is wanted (codes "lawb") refl) (has_unknown Transformer is wanted (codes "va") refl) (has_unknown Transformer is wanted (codes "vb") refl) (has_unknown Transformer is wanted (codes "ia") refl) (has_unknown Transformer is wanted (codes "ib") refl))
   forms Gyrator is wanted = both (put_two_branches p d) (put_ratio p d (codes "va") (codes "ib") (codes "ia") (codes "vb")) (branches-form Gyrator is wanted (omega arith) refl refl refl refl refl refl)
       (ratio-form (codes "va") (codes "ib") (codes "ia") (codes "vb") (has_equation Gyrator is wanted (codes "lawa") refl) (has_equation Gyrator is wanted (codes "lawb") refl) (has_unknown Gyrator is wanted (codes "va") refl) (has_unknown Gyrator is wanted (codes "ib") refl) (has_unknown Gyrator is wanted (codes "ia") refl) (has_unknown Gyrator is wanted (codes "vb") refl))
+
+-- what is put has a symbol, or a constant other than 0
+pub puts : (d : Device) (terms : List Term) → HaveForms d terms → AllByRecursion IsPut terms
+puts d [] forms = tt
+puts d (t ∷ terms) forms = (forms.0.put, puts d terms forms.1)

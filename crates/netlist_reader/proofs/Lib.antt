@@ -12,3 +12,6 @@ pub mod NameLists
 pub mod Sames
 pub mod Forms
 pub mod Apart
+pub mod Owned
+pub mod Placed
+pub mod Steps

@@ -5,3 +5,4 @@ pub mod Models
 pub mod Circuits
 pub mod Naming
 pub mod Putting
+pub mod Owners

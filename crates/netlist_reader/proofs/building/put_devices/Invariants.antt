@@ -1,0 +1,11 @@
+use Rattle.std.proofs.Common.{◌≡◌, take}
+use Rattle.netlist_reader.specs.Putting.{Says}
+use Rattle.netlist_reader.specs.Terms.{terms_of}
+use Rattle.netlist_reader.proofs.building.put_devices.Given as goal
+
+abbrev pub invariant-loop-device : goal.invariant-loop-device
+invariant-loop-device g l = record {
+  equations : l.model.equations ≡ l.fn.model.equations;
+  unknowns : l.model.unknowns ≡ l.fn.model.unknowns;
+  says : Says g.F.Field.modulus (terms_of g.F.Field.modulus (take l.device-index l.circuit.devices)) l.model;
+}
