@@ -15,3 +15,4 @@ pub mod Apart
 pub mod Owned
 pub mod Placed
 pub mod Steps
+pub mod Blank

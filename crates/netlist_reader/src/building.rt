@@ -33,6 +33,8 @@ pub(crate) fn build<F: Field>(
     add_unknowns(&mut model, &names_on(alloc, circuit, Side::Unknowns)?)?;
     add_equations(&mut model, &names_on(alloc, circuit, Side::Equations)?)?;
     put_devices(alloc, &mut model, circuit)?;
+    // a proof knows what the type keeps once it is asked
+    let _ = model.equations();
     Ok(model)
 }
 
