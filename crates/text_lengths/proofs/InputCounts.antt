@@ -1,5 +1,5 @@
--- Each equation and each unknown of a text has bytes of its own.
-use Rattle.std.proofs.Common.{◌≡◌, ℕ, suc, ◌+◌, ◌-◌, ◌≤◌, Bool, true, false, cond, List, [], ◌∷◌, ◌++◌, length, map, fold, filter, drop, take, codes, refl, ap, ◌∙◌, arith, length-drop, length-take, if◌then◌else◌, ◌==◌, slice_index}
+-- Each equation and each unknown of an equation list has bytes of its own.
+use Rattle.std.proofs.Common.{◌≡◌, ℕ, suc, ◌+◌, ◌-◌, ◌*◌, ◌≤◌, Bool, true, false, cond, List, [], ◌∷◌, ◌++◌, length, map, fold, filter, drop, take, codes, refl, ap, ◌∙◌, arith, length-drop, length-take, if◌then◌else◌, ◌==◌, slice_index}
 use Rattle.std.specs.List.{flat_map, onto_first, position_or_len}
 use Rattle.std.specs.Str.{bytes_eq}
 use Rattle.std.specs.Str.Lines.{strip_carriage_return}
@@ -53,32 +53,59 @@ lines-bytes : (lines : List (List ℕ)) → bytes_of (map strip_carriage_return 
 lines-bytes [] = omega arith
 lines-bytes (line ∷ lines) = omega (arith, stripped-bytes line, lines-bytes lines)
 
--- the tokens of a line
-part-count : (i byte : ℕ) (parts : List (ℕ × List ℕ)) → length (filter has_bytes (onto_first_part i byte parts)) ≤ length (filter has_bytes parts) + 1
+pub text-bytes : (text : List ℕ) → bytes_of (lines_of text) ≤ length text
+text-bytes text = omega (arith, lines-bytes (cut_at_feeds text), cut-bytes text)
+
+-- The tokens of a line: between two of them stands a blank.
+abbrev opens : List (ℕ × List ℕ) → ℕ
+opens [] = 0
+opens (part ∷ parts) = cond (has_bytes part) 1 0
+
+opens-one : (parts : List (ℕ × List ℕ)) → opens parts ≤ 1
+opens-one [] = omega arith
+opens-one (part ∷ parts) = go (has_bytes part)
+  where
+    go : (b : Bool) → cond b 1 0 ≤ 1
+    go true = omega arith
+    go false = omega arith
+
+part-count : (i byte : ℕ) (parts : List (ℕ × List ℕ)) →
+    2 * length (filter has_bytes (onto_first_part i byte parts)) + opens parts ≤ 2 * length (filter has_bytes parts) + 1 + opens (onto_first_part i byte parts)
 part-count i byte [] = omega arith
 part-count i byte (part ∷ parts) = go (has_bytes (i, byte ∷ part.1)) (has_bytes part)
   where
-    go : (b d : Bool) → length (cond b ((i, byte ∷ part.1) ∷ filter has_bytes parts) (filter has_bytes parts)) ≤ length (cond d (part ∷ filter has_bytes parts) (filter has_bytes parts)) + 1
+    go : (b d : Bool) →
+        2 * length (cond b ((i, byte ∷ part.1) ∷ filter has_bytes parts) (filter has_bytes parts)) + cond d 1 0 ≤ 2 * length (cond d (part ∷ filter has_bytes parts) (filter has_bytes parts)) + 1 + cond b 1 0
     go true true = omega arith
     go true false = omega arith
     go false true = omega arith
     go false false = omega arith
 
-tokens-few : (i : ℕ) (text : List ℕ) → length (filter has_bytes (parts_from i text)) ≤ length text
-tokens-few i [] = omega arith
-tokens-few i (byte ∷ bytes) = go (tokens-few (i + 1) bytes) (is_blank byte)
+tokens-short : (i : ℕ) (text : List ℕ) → 2 * length (filter has_bytes (parts_from i text)) ≤ length text + opens (parts_from i text)
+tokens-short i [] = omega arith
+tokens-short i (byte ∷ bytes) = go (tokens-short (i + 1) bytes) (is_blank byte)
   where
-    go : length (filter has_bytes (parts_from (i + 1) bytes)) ≤ length bytes → (b : Bool) → length (filter has_bytes (if b then (i, []) ∷ parts_from (i + 1) bytes else onto_first_part i byte (parts_from (i + 1) bytes))) ≤ length (byte ∷ bytes)
-    go rest true = omega (arith, rest)
-    go rest false = omega (arith, rest, part-count i byte (parts_from (i + 1) bytes))
+    rest : List (ℕ × List ℕ)
+    rest = parts_from (i + 1) bytes
+
+    go : 2 * length (filter has_bytes rest) ≤ length bytes + opens rest → (b : Bool) →
+        2 * length (filter has_bytes (if b then (i, []) ∷ rest else onto_first_part i byte rest)) ≤ length (byte ∷ bytes) + opens (if b then (i, []) ∷ rest else onto_first_part i byte rest)
+    go short true = omega (arith, short, opens-one rest)
+    go short false = omega (arith, short, part-count i byte rest)
+
+pub words-short : (line : List ℕ) → 2 * length (words_of line) ≤ length line + 1
+words-short line =
+    let text : List ℕ = uncommented line in
+    omega (
+      arith,
+      length-map (tokens_of line) (λ (token : ℕ × List ℕ). token.1),
+      tokens-short 0 text,
+      opens-one (parts_from 0 text),
+      length-take (position_or_len is_comment_sign line) line,
+    )
 
 words-few : (line : List ℕ) → length (words_of line) ≤ length line
-words-few line = omega (
-  arith,
-  length-map (tokens_of line) (λ (token : ℕ × List ℕ). token.1),
-  tokens-few 0 (uncommented line),
-  length-take (position_or_len is_comment_sign line) line,
-)
+words-few line = omega (arith, words-short line)
 
 -- the names of a line
 names-few : (words : List (List ℕ)) → length (names_in words) ≤ length words
@@ -101,7 +128,7 @@ see-few names name = go (has_name names name)
     go true = omega arith
     go false = omega (arith, length-append names (name ∷ []))
 
-seen-few : (names more : List (List ℕ)) → length (fold see names more) ≤ length names + length more
+pub seen-few : (names more : List (List ℕ)) → length (fold see names more) ≤ length names + length more
 seen-few names [] = omega arith
 seen-few names (name ∷ more) = omega (arith, seen-few (see names name) more, see-few names name)
 
@@ -125,5 +152,4 @@ few-names p text model gives =
     let equations : length model.equations ≡ length (equations_in lines) = ap length (gives.given).equations_are ∙ length-map (equations_in lines) (λ (equation : Equation). equation.name) in
     let unknowns : length model.unknowns ≡ length (unknowns_in lines) = ap length (gives.given).unknowns_are in
     let count : length lines ≤ length text = omega (arith, length-map (lines_of text) words_of, length-map (cut_at_feeds text) strip_carriage_return, cut-count text) in
-    let bytes : bytes_of (lines_of text) ≤ length text = omega (arith, lines-bytes (cut_at_feeds text), cut-bytes text) in
-    (omega (arith, equations, equations-few lines, count), omega (arith, unknowns, seen-few [] (flat_map names_in lines), all-names-few (lines_of text), bytes))
+    (omega (arith, equations, equations-few lines, count), omega (arith, unknowns, seen-few [] (flat_map names_in lines), all-names-few (lines_of text), text-bytes text))

@@ -2,3 +2,4 @@ pub mod Lengths
 pub mod LineLengths
 pub mod TextLengths
 pub mod InputCounts
+pub mod DeviceCounts

@@ -1,6 +1,6 @@
 //! Bounds of a certificate's text, and of the names of a text that is read.
 
-ghost use Rattle.text_lengths.specs.Counts.{TextsHaveFewNames};
+ghost use Rattle.text_lengths.specs.Counts.{NetlistsHaveFewNames, TextsHaveFewNames};
 ghost use Rattle.text_lengths.specs.Rooms.{CertificateTextsAreShort};
 
 /// The text of a right certificate over a field of modulus at most 100,000, whose rows and columns number at most k,
@@ -12,4 +12,9 @@ pub fn certificate_texts_are_short()
 /// An equation list has no more equations than bytes, and no more unknowns.
 pub fn texts_have_few_names()
     ensures { TextsHaveFewNames }
+{}
+
+/// A netlist has no more equations than bytes, and no more unknowns: a device's line is longer than what it adds to them.
+pub fn netlists_have_few_names()
+    ensures { NetlistsHaveFewNames }
 {}
