@@ -1,5 +1,5 @@
 -- A model in whose equations nothing stands.
-use Rattle.std.proofs.Common.{◌≡◌, ℕ, List, [], map, get_or, unwrap_or, sym, ap, ◌∙◌}
+use Rattle.std.proofs.Common.{◌≡◌, ℕ, List, [], get_or, unwrap_or, sym, ap, ◌∙◌}
 use Rattle.std.proofs.Math.ListN.{get_or-map}
 use Rattle.std.proofs.Math.Nat.{zero-mod}
 use Rattle.mixed_model.specs.Entries.{RowEntry}

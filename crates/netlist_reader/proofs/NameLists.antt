@@ -1,9 +1,9 @@
 -- The names of a circuit's unknowns, and those of its equations, are lists of names.
-use Rattle.std.proofs.Common.{◌≡◌, ℕ, ◌≤◌, true, false, IsTrue, List, [], ◌∷◌, ◌++◌, map, filter, not, codes, ◌&&◌, refl, sym, ap, subst}
+use Rattle.std.proofs.Common.{◌≡◌, ℕ, true, false, IsTrue, List, [], ◌∷◌, map, filter, not, codes, ◌&&◌, refl, sym, ap, subst}
 use Rattle.std.specs.List.{AllByRecursion, flat_map, list_all}
 use Rattle.std.proofs.lemmas.List.Concat.{flat_map-cons}
 use Rattle.mixed_model.specs.Names.{IsNameList, is_label, has_name}
-use Rattle.line_lexer.specs.Names.{is_name, is_node}
+use Rattle.line_lexer.specs.Names.{is_node}
 use Rattle.netlist_reader.specs.declared.kind.DeviceKind.{DeviceKind}
 use Rattle.netlist_reader.specs.declared.kind.DeviceKind.TheVariants.{Passive, Voltage, Current, VoltageByVoltage, CurrentByVoltage, CurrentByCurrent, VoltageByCurrent, Opamp, Transformer, Gyrator}
 use Rattle.netlist_reader.specs.Devices.{Device, device_names, is_ground, nodes_of}

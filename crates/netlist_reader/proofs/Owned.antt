@@ -5,7 +5,7 @@ use Rattle.netlist_reader.specs.declared.kind.DeviceKind.{DeviceKind}
 use Rattle.netlist_reader.specs.declared.kind.DeviceKind.TheVariants.{Passive, Voltage, Current, VoltageByVoltage, CurrentByVoltage, CurrentByCurrent, VoltageByCurrent, Opamp, Transformer, Gyrator}
 use Rattle.netlist_reader.specs.Devices.{Device, is_ground, ground}
 use Rattle.netlist_reader.specs.Owners.{owner_of}
-use Rattle.netlist_reader.specs.Terms.{Term, difference, flow, node_voltage, node_current, voltage_is, terms_by, constant, symbol, dotted, own, node, branch_between, branch, control, two_branches, proportion}
+use Rattle.netlist_reader.specs.Terms.{Term, difference, flow, node_voltage, node_current, voltage_is, terms_by, constant, dotted, own, node, branch_between, branch, control, two_branches, proportion}
 use Rattle.netlist_reader.proofs.Lists.{all-append}
 
 -- a term stands at a place of this device

@@ -1,12 +1,10 @@
 -- Each term that is put of a device stands at a place of the model, and none of another device there.
-use Rattle.std.proofs.Common.{◌≡◌, ℕ, ◌<◌, ◌≤◌, ◌⊎◌, inl, inr, Bool, true, false, cond, not, ◌&&◌, ◌||◌, List, [], ◌∷◌, ◌++◌, All, map, filter, fold, codes, length, get_or, zero, suc, refl, sym, ap, subst, ◌∙◌, arith}
-use Rattle.std.specs.List.{AllByRecursion, after_first, before_first, flat_map, list_any, list_all}
+use Rattle.std.proofs.Common.{◌≡◌, ℕ, ◌<◌, inl, inr, Bool, true, false, cond, not, ◌&&◌, ◌||◌, List, [], ◌∷◌, ◌++◌, map, filter, fold, codes, length, get_or, zero, suc, refl, sym, ap, subst, ◌∙◌, arith}
+use Rattle.std.specs.List.{AllByRecursion, flat_map, list_any}
 use Rattle.std.specs.Str.{bytes_eq}
-use Rattle.std.proofs.lemmas.Bool.{false_from_ne_true}
 use Rattle.std.proofs.lemmas.List.Concat.{flat_map-cons}
 use Rattle.std.proofs.lemmas.List.Folds.{list_any-append}
 use Rattle.std.proofs.lemmas.Slice.Eq.{bytes_eq-Decides}
-use Rattle.line_lexer.specs.Numbers.{is_point}
 use Rattle.mixed_model.specs.Names.{has_name, see}
 use Rattle.netlist_reader.specs.declared.kind.DeviceKind.{DeviceKind}
 use Rattle.netlist_reader.specs.declared.kind.DeviceKind.TheVariants.{Passive, Voltage, Current, VoltageByVoltage, CurrentByVoltage, CurrentByCurrent, VoltageByCurrent, Opamp, Transformer, Gyrator}
@@ -14,7 +12,7 @@ use Rattle.netlist_reader.specs.Devices.{Device, is_ground, nodes_of, device_nam
 use Rattle.netlist_reader.specs.Owners.{owner_of}
 use Rattle.netlist_reader.specs.Terms.{Term, dotted, own, own_names, equation_words, unknown_words, equations_of, unknowns_of, terms_of, terms_by, stands_at}
 use Rattle.netlist_reader.specs.Rules.{is_source, is_voltage}
-use Rattle.netlist_reader.specs.Putting.{IsFree, IsPlaced, put_by}
+use Rattle.netlist_reader.specs.Putting.{IsFree, IsPlaced}
 use Rattle.netlist_reader.proofs.Names.{bytes_eq-refl}
 use Rattle.netlist_reader.proofs.Forms.{HasForm, Place, IsNodeOf}
 use Rattle.netlist_reader.proofs.Owned.{Owned, AreOwned, device-owned}

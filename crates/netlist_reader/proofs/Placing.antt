@@ -1,6 +1,5 @@
 -- A term put at its place in a model.
-use Rattle.std.proofs.Common.{◌≡◌, ◌≢◌, ℕ, ◌+◌, ◌%◌, ◌<◌, Bool, true, false, cond, ◌&&◌, ◌||◌, List, [], ◌∷◌, ◌++◌, length, get_or, nat_eq, Option, Some, None, unwrap_or, is_some, Result, Ok, Err, IfErr, refl, sym, ap, subst, ◌∙◌, arith}
-use Rattle.std.specs.Str.{bytes_eq}
+use Rattle.std.proofs.Common.{◌≡◌, ℕ, ◌+◌, ◌%◌, ◌<◌, Bool, true, false, cond, ◌&&◌, ◌||◌, List, [], ◌∷◌, ◌++◌, length, get_or, nat_eq, Some, None, unwrap_or, is_some, Result, Ok, Err, IfErr, refl, sym, ap, subst, ◌∙◌, arith}
 use Rattle.std.proofs.Math.Nat.{mod-eq_of_lt, mod-mod}
 use Rattle.std.proofs.lemmas.Bool.{eqb-true}
 use Rattle.mixed_model.specs.Models.{MixedModel, IsModel, PutsAt, PutsSymbolAt, constant_of, constant_at, symbol_of, row_of}
@@ -9,9 +8,9 @@ use Rattle.mixed_model.specs.Rows.{putting, putting_symbol}
 use Rattle.mixed_model.specs.declared.errors.AddError.{AddError}
 use Rattle.mixed_model.specs.declared.errors.AddError.TheVariants.{Twice, TooMany, NoMemory}
 use Rattle.netlist_reader.specs.Terms.{Term, said_of, symbol_said, stands_at}
-use Rattle.netlist_reader.specs.Putting.{AreFree, IsFree, IsPlaceOf, Says, PutsTerms, LacksRoom}
+use Rattle.netlist_reader.specs.Putting.{IsFree, IsPlaceOf, Says, PutsTerms, LacksRoom}
 use Rattle.netlist_reader.proofs.Names.{constant_of-None, stands_once}
-use Rattle.netlist_reader.proofs.Saying.{part_at, said_of-append, said_of-free, said_of-one, symbol_said-append, symbol_said-free}
+use Rattle.netlist_reader.proofs.Saying.{said_of-append, said_of-free, said_of-one, symbol_said-append, symbol_said-free}
 
 -- what is put at the place of equation i and unknown j
 module _ (p : ℕ) (old : MixedModel) (i j : ℕ) (term : Term) (is : IsModel p old)

@@ -1,6 +1,5 @@
 -- Terms that say the same.
 use Rattle.std.proofs.Common.{◌≡◌, ℕ, ◌+◌, ◌-◌, ◌%◌, ◌<◌, Bool, true, false, cond, ◌&&◌, ◌||◌, List, [], ◌∷◌, ◌++◌, codes, nat_eq, get_or, refl, sym, ap, subst, ◌∙◌, arith}
-use Rattle.std.specs.List.{flat_map}
 use Rattle.std.specs.Str.{bytes_eq}
 use Rattle.std.proofs.lemmas.Bool.{eqb-true}
 use Rattle.std.proofs.lemmas.Grind.{flat_map-append}
@@ -12,7 +11,7 @@ use Rattle.mixed_model.specs.Models.{MixedModel}
 use Rattle.netlist_reader.specs.declared.kind.DeviceKind.{DeviceKind}
 use Rattle.netlist_reader.specs.declared.kind.DeviceKind.TheVariants.{Passive, Voltage, Current, VoltageByVoltage, CurrentByVoltage, CurrentByCurrent, VoltageByCurrent, Opamp, Transformer, Gyrator}
 use Rattle.netlist_reader.specs.Devices.{Device, is_ground, ground}
-use Rattle.netlist_reader.specs.Terms.{Term, said_of, symbol_said, stands_at, constant, dotted, own, node, node_voltage, node_current, difference, flow, voltage_is, branch_between, branch, two_branches, control, proportion, terms_by, terms_of}
+use Rattle.netlist_reader.specs.Terms.{Term, said_of, symbol_said, stands_at, constant, dotted, own, node, difference, flow, voltage_is, branch_between, branch, two_branches, control, proportion, terms_by, terms_of}
 use Rattle.netlist_reader.specs.Putting.{Says, put_constant, put_difference, put_flow, put_voltage, put_branch_between, put_branch, put_two_branches, put_control, put_ratio, put_by}
 use Rattle.netlist_reader.proofs.Saying.{said_of-append, symbol_said-append}
 

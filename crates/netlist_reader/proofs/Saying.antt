@@ -1,9 +1,9 @@
 -- What terms say of a place, as they grow.
-use Rattle.std.proofs.Common.{◌≡◌, ℕ, ◌+◌, ◌%◌, ◌<◌, Bool, true, false, cond, ◌&&◌, ◌||◌, List, [], ◌∷◌, ◌++◌, refl, sym, ap, ◌∙◌, arith}
+use Rattle.std.proofs.Common.{◌≡◌, ℕ, ◌+◌, ◌%◌, ◌<◌, Bool, true, false, cond, ◌&&◌, ◌||◌, List, [], ◌∷◌, ◌++◌, refl, ap, ◌∙◌, arith}
 use Rattle.std.specs.List.{sum_by, list_any}
 use Rattle.std.proofs.lemmas.List.Sums.{sum_by-append, sum_by-cons}
 use Rattle.std.proofs.lemmas.List.Folds.{list_any-append}
-use Rattle.std.proofs.Math.Nat.{add-mod, zero-mod, mod-mod, mod-eq_of_lt}
+use Rattle.std.proofs.Math.Nat.{add-mod, zero-mod, mod-eq_of_lt}
 use Rattle.netlist_reader.specs.Terms.{Term, said_of, symbol_said, stands_at}
 use Rattle.netlist_reader.specs.Putting.{IsFree}
 

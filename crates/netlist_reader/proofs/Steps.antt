@@ -1,6 +1,6 @@
 -- The terms of one device more.
-use Rattle.std.proofs.Common.{◌≡◌, ℕ, ◌+◌, ◌<◌, Bool, true, false, not, ◌&&◌, ◌||◌, List, [], ◌∷◌, ◌++◌, Option, Some, None, cond, map, take, length, get_or, zero, suc, refl, sym, ap, subst, ◌∙◌, arith, append-nil}
-use Rattle.std.specs.List.{AllByRecursion, IsDistinct, list_all, list_any}
+use Rattle.std.proofs.Common.{◌≡◌, ℕ, ◌+◌, ◌<◌, Bool, true, false, not, ◌&&◌, ◌||◌, List, [], ◌∷◌, ◌++◌, take, length, get_or, zero, suc, refl, sym, ap, subst, ◌∙◌, arith, append-nil}
+use Rattle.std.specs.List.{IsDistinct, list_all}
 use Rattle.std.specs.Str.{bytes_eq}
 use Rattle.std.proofs.lemmas.List.{get_or-map, length-map, take-map, take_more}
 use Rattle.std.proofs.lemmas.List.Folds.{list_all_at}
@@ -11,7 +11,7 @@ use Rattle.mixed_model.specs.declared.errors.AddError.{AddError}
 use Rattle.netlist_reader.specs.declared.kind.DeviceKind.{DeviceKind}
 use Rattle.netlist_reader.specs.declared.kind.DeviceKind.TheVariants.{Passive, Voltage, Current, VoltageByVoltage, CurrentByVoltage, CurrentByCurrent, VoltageByCurrent, Opamp, Transformer, Gyrator}
 use Rattle.netlist_reader.specs.Devices.{Device, device_names, has_source}
-use Rattle.netlist_reader.specs.Terms.{Term, terms_of}
+use Rattle.netlist_reader.specs.Terms.{terms_of}
 use Rattle.refusals.specs.declared.Why.TheVariants.{NoSuchSource}
 use Rattle.netlist_reader.specs.Rules.{is_source, is_voltage, unless}
 use Rattle.netlist_reader.specs.Circuits.{AreSourced, IsDevice}
@@ -20,7 +20,6 @@ use Rattle.netlist_reader.proofs.Adding.{new_among}
 use Rattle.netlist_reader.proofs.Apart.{device-free, free-split}
 use Rattle.netlist_reader.proofs.Forms.{forms}
 use Rattle.netlist_reader.proofs.Lists.{Differ, distinct-differ}
-use Rattle.netlist_reader.proofs.Names.{bytes_eq-refl}
 use Rattle.netlist_reader.proofs.Placed.{new-free}
 use Rattle.netlist_reader.proofs.Sames.{says_device}
 

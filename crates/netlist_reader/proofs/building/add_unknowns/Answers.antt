@@ -1,6 +1,6 @@
 use Rattle.std.proofs.Common.{◌<◌, [], Err, ◌∷◌, ◌++◌, length, map, subst, ap, ◌∙◌, arith}
 use Rattle.std.specs.String.{string_bytes}
-use Rattle.std.proofs.lemmas.List.{length-map, map-append}
+use Rattle.std.proofs.lemmas.List.{length-map}
 use Rattle.mixed_model.specs.Models.{MixedModel}
 use Rattle.mixed_model.specs.Names.{AnswersAdd, adding}
 use Rattle.netlist_reader.proofs.Adding.{label, refused, longer, text_at}

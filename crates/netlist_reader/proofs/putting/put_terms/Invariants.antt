@@ -1,6 +1,4 @@
-use Rattle.std.proofs.Common.{◌≡◌, ℕ, List, take}
-use Rattle.netlist_reader.specs.Terms.{Term}
-use Rattle.netlist_reader.specs.Putting.{PutsTerms}
+use Rattle.std.proofs.Common.{◌≡◌}
 use Rattle.netlist_reader.proofs.Taking.{PutsSoFar}
 use Rattle.netlist_reader.proofs.putting.put_terms.Given as goal
 
