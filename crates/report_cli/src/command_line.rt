@@ -24,7 +24,9 @@ pub fn command_line<'a>(alloc: Global) -> Result<Command<'a>, AllocError>
         "Writes the layered matrix: the equations with fixed numbers apart from those with free parameters",
     )?;
     Command::new(alloc, "mixed")
-        .about("Tells which equations of a circuit or a plant determine which unknowns. Reads a model from standard input")
+        .about(
+            "Tells which equations of a circuit or a plant determine which unknowns. Reads a model from standard input",
+        )
         .subcommand_required(true)
         .arg_required_else_help(true)
         .subcommand(analyse)?
@@ -36,8 +38,8 @@ fn with_kind<'a>(alloc: Global, name: &'a str, about: &'a str) -> Result<Command
     ensures local { IfOk result (λ command. (fields_of command).has_globals ≡ false) }
     ensures shape { IfOk result (λ command. shape_of command ≡ with_kind name.now) }
 {
-    let kind = Arg::new(alloc, "KIND")
-        .required(true)
-        .help("What the input is: `matrix`, a list of equations, or `netlist`, a circuit");
+    let kind = Arg::new(alloc, "KIND").required(true).help(
+        "What the input is: `matrix`, a list of equations, or `netlist`, a circuit",
+    );
     Command::new(alloc, name).about(about).arg(kind)
 }

@@ -95,7 +95,10 @@ pub fn read_whole<R: ModelReader>(alloc: Global, text: &[u8]) -> Result<Mixed<Re
 }
 
 /// The model that an input gives, whose text is not kept.
-pub fn read_model<S: Source, R: ModelReader>(alloc: Global, source: &mut S) -> Result<Mixed<Res>, Status>
+pub fn read_model<S: Source, R: ModelReader>(
+    alloc: Global,
+    source: &mut S,
+) -> Result<Mixed<Res>, Status>
     ensures read { IfOk result (λ model.
         ReadsWhole (S.left source.old) (S.left source.new) (λ input. Gives R.KIND input model)) }
     ensures unread { IfErr result (λ status. IsUnread R.KIND status (S.left source.old) (S.left source.new)) }
@@ -108,7 +111,11 @@ pub fn read_model<S: Source, R: ModelReader>(alloc: Global, source: &mut S) -> R
 }
 
 // Feeds all pieces to a reader.
-fn feed_all<S: Source, R: ModelReader>(source: &mut S, mut pump: Pump, mut reader: R) -> Result<R, Status>
+fn feed_all<S: Source, R: ModelReader>(
+    source: &mut S,
+    mut pump: Pump,
+    mut reader: R,
+) -> Result<R, Status>
     requires pump { pump ≡ nothing_pumped input_limit }
     requires reader { R.is_fed reader [] }
     ensures read { IfOk result (λ fed.

@@ -11,6 +11,7 @@ const ROOM: usize = 9_000_000;
 
 /// The words for each command.
 const ANALYSE: &[&str] = &["mixed", "analyse", "matrix"];
+
 const LAYER: &[&str] = &["mixed", "layer", "matrix"];
 
 /// One run over memory.
@@ -358,7 +359,10 @@ fn words_that_clap_does_not_take(rt: HostRuntime) -> Result<(), Fail> {
         (&[], b"Usage: mixed <COMMAND>\n"),
         (&["mixed", "help"], b"Usage: mixed <COMMAND>\n"),
         (&["mixed", "--help"], b"Usage: mixed <COMMAND>\n"),
-        (&["mixed", "analyse", "--help"], b"Usage: mixed analyse <KIND>\n"),
+        (
+            &["mixed", "analyse", "--help"],
+            b"Usage: mixed analyse <KIND>\n",
+        ),
         (&["mixed", "order", "matrix"], b"'order'"),
         (&["mixed", "anal", "matrix"], b"'anal'"),
         (&["mixed", "analyse"], b"<KIND>"),
