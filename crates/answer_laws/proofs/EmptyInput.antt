@@ -7,7 +7,7 @@ use Rattle.cert_text.specs.Contents.{Contents, Certificate}
 use Rattle.cert_text.specs.Ranges.{IsCcf, IsPart, IsBlock, AreRising, ArePairs}
 use Rattle.cert_text.specs.Texts.{shape_text, pair_text, matrices_text, parts_text, echo_text, certificate_text}
 use Rattle.cert_text.specs.declared.kind.Kind.{Kind}
-use Rattle.cert_text.specs.declared.kind.Kind.TheVariants.{Matrix}
+use Rattle.cert_text.specs.declared.kind.Kind.TheVariants.{Matrix, Netlist}
 use Rattle.cert_text.specs.declared.part.CcfBlock.{CcfBlock}
 use Rattle.cert_text.specs.declared.part.CcfPart.{CcfPart}
 use Rattle.cert_text.specs.declared.shape.Shape.{Shape}
@@ -16,6 +16,7 @@ use Rattle.report_cli.specs.RightFor.{IsRightFor}
 use Rattle.report_cli.specs.Words.{AsksFor}
 use Rattle.report_cli.specs.declared.command.Command.TheVariants.{Analyse}
 use Rattle.report_cli.specs.declared.status.Status.TheVariants.{Done}
+use Rattle.report_cli.proofs.ByKind.{few-names}
 use Rattle.report_cli.proofs.TextRooms.{members-few}
 use Rattle.answer_laws.specs.NoAnswers.{empty_text}
 use Rattle.answer_laws.proofs.Answers.{analysed}
@@ -94,16 +95,21 @@ empty-parts c is q t n =
     ∙ ap (λ x. parts_text nothing x c.last) (empty-blocks c.shape c.blocks n is.blocks)
     ∙ ap (λ x. parts_text nothing [] x) (empty-part c.shape c.last q t n is.last)
 
-empty-certificate : (c : Certificate) → IsRightFor [] c → certificate_text c ≡ empty_text
+-- the text of a certificate of nothing, by its kind
+nothing-text : (kind : Kind) → text_with kind [] (record { equations = 0; unknowns = 0; q_rows = 0; t_rows = 0; columns = 0 }) 0 [] [] [] (codes "first |\nlast |\n") ≡ empty_text kind
 unfolding digits
-empty-certificate c right =
-    let given = (right.gives).given in
+nothing-text Matrix = refl
+nothing-text Netlist = refl
+
+empty-certificate : (kind : Kind) (c : Certificate) → IsRightFor kind [] c → certificate_text c ≡ empty_text kind
+empty-certificate kind c right =
+    let few = few-names kind [] right.model right.gives in
     let shape = (right.right).shape in
     let lay = right.layers in
     let pair = (right.right).pair_and_rank in
     let is = right.form in
-    let rows : length right.model.equations ≡ 0 = ap length given.equations_are in
-    let columns : length right.model.unknowns ≡ 0 = ap length given.unknowns_are in
+    let rows : length right.model.equations ≡ 0 = omega (arith, few.0) in
+    let columns : length right.model.unknowns ≡ 0 = omega (arith, few.1) in
     let q : right.layered.q_rows ≡ 0 = omega (arith, members-few _ _ _ _ lay.q_rows, rows) in
     let t : right.layered.t_rows ≡ 0 = omega (arith, members-few _ _ _ _ lay.t_rows, rows) in
     let s : right.origins.split ≡ 0 = omega (arith, members-few _ _ _ _ lay.auxiliary, rows) in
@@ -114,9 +120,10 @@ empty-certificate c right =
     let zero_shape : c.ccf.shape ≡ record { equations = 0; unknowns = 0; q_rows = 0; t_rows = 0; columns = 0 } =
     one-shape c.ccf.shape 0 0 0 0 0 (shape.equations ∙ rows) (shape.unknowns ∙ columns) (shape.q_rows ∙ q) (shape.t_rows ∙ t) (shape.columns ∙ n) in
     let S : Shape = record { equations = 0; unknowns = 0; q_rows = 0; t_rows = 0; columns = 0 } in
-    text-with c Matrix [] S 0 [] [] right.kind right.echo zero_shape rank base mates
-    ∙ ap (λ x. text_with Matrix [] S 0 [] [] x (parts_text c.ccf.first c.ccf.blocks c.ccf.last)) (empty-matrices c.ccf is (shape.q_rows ∙ q) (shape.t_rows ∙ t))
-    ∙ ap (λ x. text_with Matrix [] S 0 [] [] [] x) (empty-parts c.ccf is (shape.q_rows ∙ q) (shape.t_rows ∙ t) (shape.columns ∙ n))
+    text-with c kind [] S 0 [] [] right.kind_is right.echo zero_shape rank base mates
+    ∙ ap (λ x. text_with kind [] S 0 [] [] x (parts_text c.ccf.first c.ccf.blocks c.ccf.last)) (empty-matrices c.ccf is (shape.q_rows ∙ q) (shape.t_rows ∙ t))
+    ∙ ap (λ x. text_with kind [] S 0 [] [] [] x) (empty-parts c.ccf is (shape.q_rows ∙ q) (shape.t_rows ∙ t) (shape.columns ∙ n))
+    ∙ nothing-text kind
 
-pub empty-answer : (words : List (List ℕ)) (text : List ℕ) → AsksFor words Analyse → IsAnswer words [] Done text → text ≡ empty_text
-empty-answer words text asks answer = let one = analysed words [] text asks answer in one.text_is ∙ empty-certificate one.certificate one.right
+pub empty-answer : (words : List (List ℕ)) (kind : Kind) (text : List ℕ) → AsksFor words (Analyse kind) → IsAnswer words [] Done text → text ≡ empty_text kind
+empty-answer words kind text asks answer = let one = analysed words kind [] text asks answer in one.text_is ∙ empty-certificate kind one.certificate one.right

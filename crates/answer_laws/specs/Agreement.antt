@@ -2,6 +2,7 @@
 use Rattle.std.specs.Prelude.{◌≡◌, ℕ, List}
 use Rattle.cert_text.specs.Texts.{certificate_text}
 use Rattle.cert_text.specs.Contents.{Certificate}
+use Rattle.cert_text.specs.declared.kind.Kind.{Kind}
 use Rattle.certificate_laws.specs.Agreement.{Agree}
 use Rattle.report_cli.specs.Answer.{IsAnswer}
 use Rattle.report_cli.specs.RightFor.{IsRightFor}
@@ -9,22 +10,22 @@ use Rattle.report_cli.specs.Words.{AsksFor}
 use Rattle.report_cli.specs.declared.command.Command.TheVariants.{Analyse, Layer}
 use Rattle.report_cli.specs.declared.status.Status.TheVariants.{Done}
 
--- the texts are those of two certificates, both right for the input, that agree
-pub record AreAgreed (input text other : List ℕ) : Type 0 where
+-- the texts are those of two certificates, both right for the input of this kind, that agree
+pub record AreAgreed (kind : Kind) (input text other : List ℕ) : Type 0 where
   pub first : Certificate
   pub second : Certificate
   pub first_text : text ≡ certificate_text first
   pub second_text : other ≡ certificate_text second
-  pub first_right : IsRightFor input first
-  pub second_right : IsRightFor input second
+  pub first_right : IsRightFor kind input first
+  pub second_right : IsRightFor kind input second
   pub agree : Agree first.ccf second.ccf
 
 abbrev pub AnswersOfAnalyseAgree : Type 0
 AnswersOfAnalyseAgree =
-    (words : List (List ℕ)) (input text other : List ℕ) → AsksFor words Analyse →
-    IsAnswer words input Done text → IsAnswer words input Done other → AreAgreed input text other
+    (words : List (List ℕ)) (kind : Kind) (input text other : List ℕ) → AsksFor words (Analyse kind) →
+    IsAnswer words input Done text → IsAnswer words input Done other → AreAgreed kind input text other
 
 abbrev pub AnswersOfLayerAreOne : Type 0
 AnswersOfLayerAreOne =
-    (words : List (List ℕ)) (input text other : List ℕ) → AsksFor words Layer →
+    (words : List (List ℕ)) (kind : Kind) (input text other : List ℕ) → AsksFor words (Layer kind) →
     IsAnswer words input Done text → IsAnswer words input Done other → text ≡ other

@@ -1,5 +1,8 @@
 -- Texts that answer nothing.
 use Rattle.std.specs.Prelude.{◌≡◌, ℕ, List, [], ◌++◌, codes}
+use Rattle.cert_text.specs.Texts.{kind_text}
+use Rattle.cert_text.specs.declared.kind.Kind.{Kind}
+use Rattle.cert_text.specs.declared.kind.Kind.TheVariants.{Matrix}
 use Rattle.report_cli.specs.Answer.{IsAnswer}
 use Rattle.report_cli.specs.Words.{AsksFor}
 use Rattle.report_cli.specs.declared.command.Command.{Command}
@@ -10,30 +13,33 @@ use Rattle.report_cli.specs.declared.status.Status.TheVariants.{Done}
 abbrev pub NeverAnswers : Command → List ℕ → List ℕ → Type 0
 NeverAnswers command input text = (words : List (List ℕ)) → AsksFor words command → IsAnswer words input Done text → ⊥
 
--- the text of a certificate of the empty input, from its first tail on
-abbrev pub empty_certificate : List ℕ → List ℕ
-empty_certificate parts =
-    codes "mixed-certificate 1\nkind matrix\nlength 0\n\nshape 0 0 0 0 0\nrank 0\nbase\nmatch\n"
-    ++ parts ++ codes "end\n"
+-- the text of a certificate of the empty input of a kind, with these parts
+abbrev pub empty_certificate : Kind → List ℕ → List ℕ
+empty_certificate kind parts =
+    codes "mixed-certificate 1\nkind " ++ kind_text kind
+    ++ codes "\nlength 0\n\nshape 0 0 0 0 0\nrank 0\nbase\nmatch\n" ++ parts ++ codes "end\n"
 
 -- the certificate of the empty input
-abbrev pub empty_text : List ℕ
-empty_text = empty_certificate (codes "first |\nlast |\n")
+abbrev pub empty_text : Kind → List ℕ
+empty_text kind = empty_certificate kind (codes "first |\nlast |\n")
 
 -- the empty input has that certificate alone
 abbrev pub TheEmptyInputHasOneAnswer : Type 0
 TheEmptyInputHasOneAnswer =
-    (words : List (List ℕ)) (text : List ℕ) → AsksFor words Analyse → IsAnswer words [] Done text → text ≡ empty_text
+    (words : List (List ℕ)) (kind : Kind) (text : List ℕ) → AsksFor words (Analyse kind) → IsAnswer words [] Done text →
+    text ≡ empty_text kind
 
 -- a first tail with a column that is not there
 abbrev pub NoColumnIsMadeUp : Type 0
-NoColumnIsMadeUp = NeverAnswers Analyse [] (empty_certificate (codes "first 6 |\nlast |\n"))
+NoColumnIsMadeUp =
+    (kind : Kind) → NeverAnswers (Analyse kind) [] (empty_certificate kind (codes "first 6 |\nlast |\n"))
 
 -- a block of nothing
 abbrev pub NoBlockIsEmpty : Type 0
-NoBlockIsEmpty = NeverAnswers Analyse [] (empty_certificate (codes "first |\nblock 1: | |\nlast |\n"))
+NoBlockIsEmpty =
+    (kind : Kind) → NeverAnswers (Analyse kind) [] (empty_certificate kind (codes "first |\nblock 1: | |\nlast |\n"))
 
--- one equation in one unknown
+-- one equation in one unknown, as an equation list
 abbrev pub one_equation : List ℕ
 one_equation = codes "eq a x=1\n"
 
@@ -44,8 +50,8 @@ out_of_range =
     ++ codes "S 1: 1=1 1=5\nU 1: 1=1\nP 1: 1=1 8=1\nfirst 9 9 |\nblock 1: 1 | q1 |\nlast |\nend\n"
 
 abbrev pub NoListLeavesItsRange : Type 0
-NoListLeavesItsRange = NeverAnswers Analyse one_equation out_of_range
+NoListLeavesItsRange = NeverAnswers (Analyse Matrix) one_equation out_of_range
 
 -- a line for a column that is not there
 abbrev pub NoColumnLineIsMadeUp : Type 0
-NoColumnLineIsMadeUp = NeverAnswers Layer one_equation (codes "columns 1\nc1 x\nc2 x\nq1 a 1=1\n")
+NoColumnLineIsMadeUp = NeverAnswers (Layer Matrix) one_equation (codes "columns 1\nc1 x\nc2 x\nq1 a 1=1\n")

@@ -4,25 +4,26 @@ use Rattle.residue_field.specs.Modulus.{res_modulus}
 use Rattle.mixed_model.specs.Models.{MixedModel}
 use Rattle.mixed_model.specs.Layers.{Layers, layered_matrix_of}
 use Rattle.mixed_layering.specs.Layers.{AreLayersOf, origins_of}
-use Rattle.matrix_reader.specs.Models.{GivesModel}
 use Rattle.ccf_builder.specs.Promises.{OfEachModel}
 use Rattle.cert_text.specs.Contents.{Contents}
 use Rattle.cert_text.specs.Ranges.{IsCcf}
 use Rattle.cert_text.specs.Right.{HasShape, HasTransform, HasPairAndRank, HasForm, HasIdeals, HasCanonicalListing}
-use Rattle.cert_text.specs.declared.kind.Kind.TheVariants.{Matrix}
+use Rattle.cert_text.specs.declared.kind.Kind.{Kind}
 use Rattle.limits.specs.Limits.{input_limit}
+use Rattle.report_cli.specs.Kinds.{Gives}
 use Rattle.report_cli.specs.RightFor.{IsRightFor}
+use Rattle.report_cli.proofs.ByKind.{is-model}
 
 -- a form that is right for the layers makes a certificate that is right for the text
-pub right_for : (text : List ℕ) (model : MixedModel) (layers : Layers) (echo : List ℕ) (ccf : Contents) → GivesModel res_modulus text model → AreLayersOf model layers → echo ≡ text → length text ≤ input_limit → IsCcf res_modulus ccf →
+pub right_for : (kind : Kind) (text : List ℕ) (model : MixedModel) (layers : Layers) (echo : List ℕ) (ccf : Contents) → Gives kind text model → AreLayersOf model layers → echo ≡ text → length text ≤ input_limit → IsCcf res_modulus ccf →
     OfEachModel res_modulus layers (λ M O. HasShape M (layered_matrix_of layers) ccf) → HasTransform res_modulus (layered_matrix_of layers) ccf →
     OfEachModel res_modulus layers (λ M O. HasPairAndRank res_modulus M (layered_matrix_of layers) O ccf) → HasForm res_modulus (layered_matrix_of layers) ccf →
     HasIdeals res_modulus (layered_matrix_of layers) ccf → HasCanonicalListing res_modulus (layered_matrix_of layers) ccf →
-    IsRightFor text (record { kind = Matrix; echo = echo; ccf = ccf })
-right_for text model layers echo ccf gives are same short form shape transform pair triangular ideals canonical = record {
+    IsRightFor kind text (record { kind = kind; echo = echo; ccf = ccf })
+right_for kind text model layers echo ccf gives are same short form shape transform pair triangular ideals canonical = record {
   model = model;
   gives = gives;
-  kind = refl;
+  kind_is = refl;
   echo = same;
   short = subst (λ t. length t ≤ input_limit) (sym same) short;
   form = form;
@@ -30,9 +31,9 @@ right_for text model layers echo ccf gives are same short form shape transform p
   origins = origins_of layers are.split;
   layers = are.layered;
   right = record {
-    shape = shape model gives.given.is_model are;
+    shape = shape model (is-model kind text model gives) are;
     transform = transform;
-    pair_and_rank = pair model gives.given.is_model are;
+    pair_and_rank = pair model (is-model kind text model gives) are;
     block_triangular_form = triangular;
     ideals = ideals;
     canonical_listing = canonical;

@@ -1,6 +1,10 @@
 pub mod Noting
-pub mod Refusals
+pub mod ByKind
+pub mod Matching
+pub mod Asking
+pub mod AtExamples
 pub mod Runs
+pub mod RunWords
 pub mod Certified
 pub mod LayerPieces
 pub mod LayerFacts

@@ -1,17 +1,16 @@
--- A whole input has one answer.
-use Rattle.std.proofs.Common.{◌≡◌, ℕ, ◌+◌, ◌≤◌, ◌<◌, List, ◌++◌, length, Option, Some, None, refl, sym, ◌∙◌, ap, subst, arith, inl, inr, append-nil}
+-- A command has one answer to a whole input.
+use Rattle.std.proofs.Common.{◌≡◌, ℕ, ◌+◌, ◌≤◌, ◌<◌, List, ◌++◌, length, ◌⊎◌, Option, Some, None, refl, sym, ◌∙◌, ap, subst, arith, inl, inr, append-nil}
 use Rattle.std.proofs.lemmas.List.{length-append}
-use Rattle.residue_field.specs.Modulus.{res_modulus}
 use Rattle.port_io.specs.Bytes.{Took, Ended}
 use Rattle.refusals.specs.declared.Refused.{Refused as Refusal}
 use Rattle.mixed_model.specs.Models.{MixedModel}
-use Rattle.matrix_reader.specs.Models.{GivesModel}
 use Rattle.report_cli.specs.declared.status.Status.{Status}
 use Rattle.report_cli.specs.declared.status.Status.TheVariants.{Done, Usage, Refused, TooLong, ReadFault, WriteFault, Memory}
-use Rattle.report_cli.specs.Words.{AsksForNothing}
-use Rattle.report_cli.specs.RightFor.{IsRefused}
-use Rattle.report_cli.proofs.Refusals.{given-unrefused, refused-alone}
-use Rattle.report_cli.specs.Answer.{IsAnswer, IsReported, IsComplete, AsksForCommand, Answered, OnlyAnswer, Tells}
+use Rattle.report_cli.specs.Kinds.{Gives, IsRefused}
+use Rattle.report_cli.specs.Words.{kind_of}
+use Rattle.report_cli.specs.Answer.{Answered, IsAnswerOf, IsReported, Tells}
+use Rattle.report_cli.specs.declared.command.Command.{Command}
+use Rattle.report_cli.proofs.ByKind.{given-unrefused, refused-alone}
 use Rattle.limits.specs.Limits.{input_limit}
 use Rattle.report_cli.proofs.Reported.{gives_model}
 
@@ -35,86 +34,78 @@ too_long : {A : Type 0} (input : List ℕ) → input_limit < length input → le
 too_long {A} input long short = absurd (omega (arith, long, short))
 
 -- the model of an input that has a report
-model_of : (words : List (List ℕ)) (input text : List ℕ) → IsReported words input text → (model : MixedModel) × GivesModel res_modulus input model
-model_of words input text reported = gives_model reported.command input reported.report reported.right
-
--- words that ask for nothing
-usage_only : (words : List (List ℕ)) (input : List ℕ) (answer : Status) (text : List ℕ) → AsksForNothing words → IsAnswer words input answer text → Usage ≡ answer
-usage_only words input Usage text never a = refl
-usage_only words input Done text never a = absurd (never a.1.command a.1.asks)
-usage_only words input (Refused refused) text never a = absurd (never a.0.0 a.0.1)
-usage_only words input (TooLong limit) text never a = absurd (never a.0.0 a.0.1)
-usage_only words input ReadFault text never a = absurd a
-usage_only words input WriteFault text never a = absurd a
-usage_only words input Memory text never a = absurd a
+model_of : (command : Command) (input text : List ℕ) → IsReported command input text → (model : MixedModel) × Gives (kind_of command) input model
+model_of command input text reported = gives_model command input reported.report reported.right
 
 -- an input past the limit
-long_only : (words : List (List ℕ)) (input : List ℕ) (limit : ℕ) (answer : Status) (text : List ℕ) → AsksForCommand words → limit ≡ input_limit → input_limit < length input →
-    IsAnswer words input answer text → TooLong limit ≡ answer
-long_only words input limit Usage text asks is long a = absurd (a.0 asks.0 asks.1)
-long_only words input limit Done text asks is long a = too_long input long a.0
-long_only words input limit (Refused refused) text asks is long a = too_long input long a.1
-long_only words input limit (TooLong other) text asks is long a = ap TooLong (is ∙ sym a.1)
-long_only words input limit ReadFault text asks is long a = absurd a
-long_only words input limit WriteFault text asks is long a = absurd a
-long_only words input limit Memory text asks is long a = absurd a
+long_only : (command : Command) (input : List ℕ) (limit : ℕ) (answer : Status) (text : List ℕ) → limit ≡ input_limit → input_limit < length input →
+    IsAnswerOf command input answer text → TooLong limit ≡ answer
+long_only command input limit Usage text is long a = absurd a
+long_only command input limit Done text is long a = too_long input long a.0
+long_only command input limit (Refused refused) text is long a = too_long input long a.0
+long_only command input limit (TooLong other) text is long a = ap TooLong (is ∙ sym a.0)
+long_only command input limit ReadFault text is long a = absurd a
+long_only command input limit WriteFault text is long a = absurd a
+long_only command input limit Memory text is long a = absurd a
 
 -- an input that breaks a rule
-refused_only : (words : List (List ℕ)) (input : List ℕ) (refused : Refusal) (answer : Status) (text : List ℕ) → AsksForCommand words → length input ≤ input_limit → IsRefused input refused →
-    IsAnswer words input answer text → Refused refused ≡ answer
-refused_only words input refused Usage text asks short is a = absurd (a.0 asks.0 asks.1)
-refused_only words input refused Done text asks short is a = let model = model_of words input text a.1 in given-unrefused input refused model.0 model.1 is
-refused_only words input refused (Refused other) text asks short is a = ap Refused (refused-alone input refused other is a.2)
-refused_only words input refused (TooLong limit) text asks short is a = too_long input a.2 short
-refused_only words input refused ReadFault text asks short is a = absurd a
-refused_only words input refused WriteFault text asks short is a = absurd a
-refused_only words input refused Memory text asks short is a = absurd a
+refused_only : (command : Command) (input : List ℕ) (refused : Refusal) (answer : Status) (text : List ℕ) → length input ≤ input_limit → IsRefused (kind_of command) input refused →
+    IsAnswerOf command input answer text → Refused refused ≡ answer
+refused_only command input refused Usage text short is a = absurd a
+refused_only command input refused Done text short is a = let model = model_of command input text a.1 in given-unrefused (kind_of command) input refused model.0 model.1 is
+refused_only command input refused (Refused other) text short is a = ap Refused (refused-alone (kind_of command) input refused other is a.1)
+refused_only command input refused (TooLong limit) text short is a = too_long input a.1 short
+refused_only command input refused ReadFault text short is a = absurd a
+refused_only command input refused WriteFault text short is a = absurd a
+refused_only command input refused Memory text short is a = absurd a
 
 -- an input that gives a model
-done_only : (words : List (List ℕ)) (input : List ℕ) (model : MixedModel) (answer : Status) (text : List ℕ) → AsksForCommand words → length input ≤ input_limit → GivesModel res_modulus input model →
-    IsAnswer words input answer text → Done ≡ answer
-done_only words input model Usage text asks short gives a = absurd (a.0 asks.0 asks.1)
-done_only words input model Done text asks short gives a = refl
-done_only words input model (Refused refused) text asks short gives a = given-unrefused input refused model gives a.2
-done_only words input model (TooLong limit) text asks short gives a = too_long input a.2 short
-done_only words input model ReadFault text asks short gives a = absurd a
-done_only words input model WriteFault text asks short gives a = absurd a
-done_only words input model Memory text asks short gives a = absurd a
+done_only : (command : Command) (input : List ℕ) (model : MixedModel) (answer : Status) (text : List ℕ) → length input ≤ input_limit → Gives (kind_of command) input model →
+    IsAnswerOf command input answer text → Done ≡ answer
+done_only command input model Usage text short gives a = absurd a
+done_only command input model Done text short gives a = refl
+done_only command input model (Refused refused) text short gives a = given-unrefused (kind_of command) input refused model gives a.1
+done_only command input model (TooLong limit) text short gives a = too_long input a.1 short
+done_only command input model ReadFault text short gives a = absurd a
+done_only command input model WriteFault text short gives a = absurd a
+done_only command input model Memory text short gives a = absurd a
 
 -- where no fault came, no other answer than the one given is one
-pub only : (words : List (List ℕ)) (left after written written' : Option (List ℕ)) (status : Status) → Tells status (Answered words left after written written' status) →
-    (status ≡ ReadFault → ⊥) → (status ≡ WriteFault → ⊥) → OnlyAnswer words left status
-only words left after written written' Usage a no_read no_write = λ input answer text is given. inl (usage_only words input answer text a.answer.0 given)
-only words left after written written' (TooLong limit) a no_read no_write = λ input answer text is given.
+pub only : (command : Command) (left after written written' : Option (List ℕ)) (status : Status) → Tells status (Answered (IsAnswerOf command) left after written written' status) →
+    (status ≡ ReadFault → ⊥) → (status ≡ WriteFault → ⊥) →
+    (input : List ℕ) (answer : Status) (text : List ℕ) → left ≡ Some input → IsAnswerOf command input answer text → (status ≡ answer) ⊎ (status ≡ Memory)
+only command left after written written' Usage a no_read no_write input answer text is given = absurd a.answer
+only command left after written written' (TooLong limit) a no_read no_write input answer text is given =
     let short : length a.read ≤ length input = took_prefix input after a.read (at_input left after input a.read is a.took) in
-    let long : input_limit < length a.read = a.answer.2 in
-    inl (long_only words input limit answer text a.answer.0 a.answer.1 (omega (arith, short, long)) given)
-only words left after written written' (Refused refused) a no_read no_write = λ input answer text is given.
+    let long : input_limit < length a.read = a.answer.1 in
+    inl (long_only command input limit answer text a.answer.0 (omega (arith, short, long)) given)
+only command left after written written' (Refused refused) a no_read no_write input answer text is given =
     let same : a.read ≡ input = read_is left after input a.read is a.took a.ended in
-    let own : IsAnswer words input (Refused refused) a.text = subst (λ r. IsAnswer words r (Refused refused) a.text) same a.answer in
-    inl (refused_only words input refused answer text own.0 own.1 own.2 given)
-only words left after written written' Done a no_read no_write = λ input answer text is given.
+    let own : IsAnswerOf command input (Refused refused) a.text = subst (λ r. IsAnswerOf command r (Refused refused) a.text) same a.answer in
+    inl (refused_only command input refused answer text own.0 own.1 given)
+only command left after written written' Done a no_read no_write input answer text is given =
     let same : a.read ≡ input = read_is left after input a.read is a.took a.ended in
-    let own : IsAnswer words input Done a.text = subst (λ r. IsAnswer words r Done a.text) same a.answer in
-    let model = model_of words input a.text own.1 in
-    inl (done_only words input model.0 answer text (own.1.command, own.1.asks) own.0 model.1 given)
-only words left after written written' ReadFault a no_read no_write = absurd (no_read refl)
-only words left after written written' WriteFault a no_read no_write = absurd (no_write refl)
-only words left after written written' Memory a no_read no_write = λ input answer text is given. inr refl
+    let own : IsAnswerOf command input Done a.text = subst (λ r. IsAnswerOf command r Done a.text) same a.answer in
+    let model = model_of command input a.text own.1 in
+    inl (done_only command input model.0 answer text own.0 model.1 given)
+only command left after written written' ReadFault a no_read no_write input answer text is given = absurd (no_read refl)
+only command left after written written' WriteFault a no_read no_write input answer text is given = absurd (no_write refl)
+only command left after written written' Memory a no_read no_write input answer text is given = inr refl
 
 -- where no fault came, an input that keeps each rule is answered
-pub done_where_given : (words : List (List ℕ)) (left after written written' : Option (List ℕ)) (status : Status) → Tells status (Answered words left after written written' status) →
-    (status ≡ ReadFault → ⊥) → (status ≡ WriteFault → ⊥) → IsComplete words left status
-done_where_given words left after written written' Usage a no_read no_write = λ input model is asks short gives. absurd (a.answer.0 asks.0 asks.1)
-done_where_given words left after written written' (TooLong limit) a no_read no_write = λ input model is asks short gives.
+pub done_where_given : (command : Command) (left after written written' : Option (List ℕ)) (status : Status) → Tells status (Answered (IsAnswerOf command) left after written written' status) →
+    (status ≡ ReadFault → ⊥) → (status ≡ WriteFault → ⊥) →
+    (input : List ℕ) (model : MixedModel) → left ≡ Some input → length input ≤ input_limit → Gives (kind_of command) input model → (status ≡ Done) ⊎ (status ≡ Memory)
+done_where_given command left after written written' Usage a no_read no_write input model is short gives = absurd a.answer
+done_where_given command left after written written' (TooLong limit) a no_read no_write input model is short gives =
     let part : length a.read ≤ length input = took_prefix input after a.read (at_input left after input a.read is a.took) in
-    let long : input_limit < length a.read = a.answer.2 in
+    let long : input_limit < length a.read = a.answer.1 in
     too_long input (omega (arith, part, long)) short
-done_where_given words left after written written' (Refused refused) a no_read no_write = λ input model is asks short gives.
+done_where_given command left after written written' (Refused refused) a no_read no_write input model is short gives =
     let same : a.read ≡ input = read_is left after input a.read is a.took a.ended in
-    let own : IsAnswer words input (Refused refused) a.text = subst (λ r. IsAnswer words r (Refused refused) a.text) same a.answer in
-    given-unrefused input refused model gives own.2
-done_where_given words left after written written' Done a no_read no_write = λ input model is asks short gives. inl refl
-done_where_given words left after written written' ReadFault a no_read no_write = absurd (no_read refl)
-done_where_given words left after written written' WriteFault a no_read no_write = absurd (no_write refl)
-done_where_given words left after written written' Memory a no_read no_write = λ input model is asks short gives. inr refl
+    let own : IsAnswerOf command input (Refused refused) a.text = subst (λ r. IsAnswerOf command r (Refused refused) a.text) same a.answer in
+    given-unrefused (kind_of command) input refused model gives own.1
+done_where_given command left after written written' Done a no_read no_write input model is short gives = inl refl
+done_where_given command left after written written' ReadFault a no_read no_write input model is short gives = absurd (no_read refl)
+done_where_given command left after written written' WriteFault a no_read no_write input model is short gives = absurd (no_write refl)
+done_where_given command left after written written' Memory a no_read no_write input model is short gives = inr refl

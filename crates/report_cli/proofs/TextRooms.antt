@@ -9,12 +9,12 @@ use Rattle.mixed_matrices.specs.Layerings.{AreMembers, Origins, IsLayeredMatrixO
 use Rattle.mixed_model.specs.Models.{MixedModel, IsModel, mixed_matrix_of}
 use Rattle.mixed_model.specs.Layers.{Layers, layered_matrix_of}
 use Rattle.mixed_layering.specs.Layers.{AreLayersOf, origins_of}
-use Rattle.matrix_reader.specs.Models.{GivesModel}
+use Rattle.cert_text.specs.declared.kind.Kind.{Kind}
 use Rattle.cert_text.specs.Contents.{Certificate}
 use Rattle.text_lengths.specs.Rooms.{IsShapeWithin}
-use Rattle.text_lengths.proofs.InputCounts.{few-names}
 use Rattle.text_lengths.proofs.TextLengths.{certificate-short}
 use Rattle.limits.specs.Limits.{input_limit}
+use Rattle.report_cli.specs.Kinds.{Gives}
 use Rattle.report_cli.specs.RightFor.{IsRightFor}
 use Rattle.report_cli.specs.Reports.{IsReportFor, report_text}
 use Rattle.report_cli.specs.Rooms.{columns_within, text_room}
@@ -23,6 +23,7 @@ use Rattle.report_cli.specs.declared.command.Command.{Command}
 use Rattle.report_cli.specs.declared.command.Command.TheVariants.{Analyse, Layer}
 use Rattle.report_cli.specs.declared.report.Report.{Report}
 use Rattle.report_cli.specs.declared.report.Report.TheVariants.{Certificate as Certified, Layers as Layering}
+use Rattle.report_cli.proofs.ByKind.{few-names, is-model}
 use Rattle.report_cli.proofs.LayerLengths.{layer-text-short}
 
 -- members of a set below n are at most n
@@ -35,10 +36,10 @@ pub record IsNarrow (n : ℕ) (L : LayeredMatrix) : Type 0 where
   pub t_rows : L.t_rows ≤ columns_within n
   pub columns : L.columns ≤ columns_within n
 
-narrow : (text : List ℕ) (model : MixedModel) (L : LayeredMatrix) (O : Origins) → GivesModel res_modulus text model → IsLayeredMatrixOf (mixed_matrix_of model) L O → IsNarrow (length text) L
-narrow text model L O gives are =
-    let few = few-names res_modulus text model gives in
-    let is : IsModel res_modulus model = (gives.given).is_model in
+narrow : (kind : Kind) (text : List ℕ) (model : MixedModel) (L : LayeredMatrix) (O : Origins) → Gives kind text model → IsLayeredMatrixOf (mixed_matrix_of model) L O → IsNarrow (length text) L
+narrow kind text model L O gives are =
+    let few = few-names kind text model gives in
+    let is : IsModel res_modulus model = is-model kind text model gives in
     let e : length model.equations ≤ 4096 = (is.equations).few in
     let u : length model.unknowns ≤ 4096 = (is.unknowns).few in
     let q : L.q_rows ≤ length model.equations = members-few _ _ _ _ are.q_rows in
@@ -54,9 +55,9 @@ narrow text model L O gives are =
 few_columns : (n : ℕ) → columns_within n ≤ 8192
 few_columns n = omega arith
 
-certificate-fits : (input : List ℕ) (c : Certificate) → IsRightFor input c → length input ≤ input_limit → length (report_text (Certified c)) ≤ text_room (length input)
-certificate-fits input c right short =
-    let low = narrow input right.model right.layered right.origins right.gives right.layers in
+certificate-fits : (kind : Kind) (input : List ℕ) (c : Certificate) → IsRightFor kind input c → length input ≤ input_limit → length (report_text (Certified c)) ≤ text_room (length input)
+certificate-fits kind input c right short =
+    let low = narrow kind input right.model right.layered right.origins right.gives right.layers in
     let shape = (right.right).shape in
     let within : IsShapeWithin (columns_within (length input)) c.ccf.shape = record {
       q_rows = omega (arith, shape.q_rows, low.q_rows);
@@ -70,15 +71,15 @@ certificate-fits input c right short =
           (omega (arith, echo)) short (few_columns (length input)) right.form right.right within,
     )
 
-layers-fit : (input : List ℕ) (model : MixedModel) (layers : Layers) → GivesModel res_modulus input model → AreLayersOf model layers → AreWholeLayers layers →
+layers-fit : (kind : Kind) (input : List ℕ) (model : MixedModel) (layers : Layers) → Gives kind input model → AreLayersOf model layers → AreWholeLayers layers →
     length (report_text (Layering model layers)) ≤ text_room (length input)
-layers-fit input model layers gives are whole =
-    let low = narrow input model (layered_matrix_of layers) (origins_of layers are.split) gives are.layered in
-    omega (arith, layer-text-short model (gives.given).is_model layers are whole (columns_within (length input)) (few_columns (length input)) low.q_rows low.t_rows low.columns)
+layers-fit kind input model layers gives are whole =
+    let low = narrow kind input model (layered_matrix_of layers) (origins_of layers are.split) gives are.layered in
+    omega (arith, layer-text-short model (is-model kind input model gives) layers are whole (columns_within (length input)) (few_columns (length input)) low.q_rows low.t_rows low.columns)
 
 pub report_fits : (command : Command) (input : List ℕ) (report : Report) → IsReportFor command input report → length input ≤ input_limit →
     length (report_text report) ≤ text_room (length input)
-report_fits Analyse input (Certified c) right short = certificate-fits input c right short
-report_fits Analyse input (Layering model layers) right short = absurd right
-report_fits Layer input (Certified c) right short = absurd right
-report_fits Layer input (Layering model layers) right short = layers-fit input model layers right.0 right.1 right.2
+report_fits (Analyse kind) input (Certified c) right short = certificate-fits kind input c right short
+report_fits (Analyse kind) input (Layering model layers) right short = absurd right
+report_fits (Layer kind) input (Certified c) right short = absurd right
+report_fits (Layer kind) input (Layering model layers) right short = layers-fit kind input model layers right.0 right.1 right.2

@@ -4,8 +4,8 @@ use Rattle.std.specs.Result.{IfErr, IsErr, IsErrAnd}
 use Rattle.port_io.specs.declared.ports.Source.{Ghosts}
 use Rattle.refusals.specs.declared.ReadModel.{ReadModel}
 use Rattle.refusals.specs.declared.ReadModel.TheVariants.{Refused as Broken, NoMemory}
-use Rattle.residue_field.specs.Modulus.{res_modulus}
-use Rattle.matrix_reader.specs.Models.{IsRefusal}
+use Rattle.cert_text.specs.declared.kind.Kind.{Kind}
+use Rattle.report_cli.specs.Kinds.{IsWhyUnread}
 use Rattle.report_cli.specs.Reading.{IsUnread, ReadsWhole, TellsOfSource}
 use Rattle.report_cli.specs.Statuses.{status_of_refusal}
 use Rattle.report_cli.specs.declared.status.Status.{Status}
@@ -21,11 +21,11 @@ pub answered : {T E : Type 0} {result : Result T E} {it : T} {error : E} → res
 answered is not = let both = sym is ∙ not in cc
 
 -- an input that was read whole, and is refused or finds no memory
-pub unread_by_refusal : (left left' : Option (List ℕ)) (Holds : List ℕ → Type 0) (whole : ReadsWhole left left' Holds) (why : ReadModel) →
-    IsRefusal res_modulus whole.input why → IsUnread (status_of_refusal why) left left'
-unread_by_refusal left left' Holds whole (Broken refused) is =
+pub unread_by_refusal : (kind : Kind) (left left' : Option (List ℕ)) (Holds : List ℕ → Type 0) (whole : ReadsWhole left left' Holds) (why : ReadModel) →
+    IsWhyUnread kind whole.input why → IsUnread kind (status_of_refusal why) left left'
+unread_by_refusal kind left left' Holds whole (Broken refused) is =
     record { input = whole.input; took = whole.took; ended = whole.ended; short = whole.short; holds = is }
-unread_by_refusal left left' Holds whole NoMemory is = (whole.input, whole.short, whole.took)
+unread_by_refusal kind left left' Holds whole NoMemory is = (whole.input, whole.short, whole.took)
 
 -- what holds of each input of which this holds, holds of the one that was read
 pub reads_so : (left left' : Option (List ℕ)) (Holds Next : List ℕ → Type 0) → ((input : List ℕ) → Holds input → Next input) →

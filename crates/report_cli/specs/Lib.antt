@@ -1,4 +1,6 @@
 pub mod Numbers
+pub mod CommandLine
+pub mod Kinds
 pub mod Words
 pub mod Notes
 pub mod RightFor

@@ -1,9 +1,13 @@
--- The line that is noted of a status.
+-- What is noted of a run.
 use Rattle.std.specs.Prelude.{◌≡◌, ℕ, ◌⊎◌, List, [], ◌++◌, Option, codes}
+use Rattle.std.specs.String.{string_bytes}
 use Rattle.port_io.specs.Causes.{Rose}
 use Rattle.refusals.specs.Texts.{refusal_text}
 use Rattle.text_writer.specs.Giving.{AppendedPart}
 use Rattle.text_writer.specs.Numbers.{spaced}
+use Rattle.report_cli.specs.Words.{AreTaken}
+use Rattle.report_cli.specs.declared.command.WordsError.{WordsError}
+use Rattle.report_cli.specs.declared.command.WordsError.TheVariants.{Told, UnknownKind, NoMemory}
 use Rattle.report_cli.specs.declared.status.Status.{Status}
 use Rattle.report_cli.specs.declared.status.Status.TheVariants.{Done, Usage, Refused, TooLong, ReadFault, WriteFault, Memory}
 
@@ -30,7 +34,24 @@ abbrev pub note_of : Status → List ℕ
 note_of Done = []
 note_of status = line_of status
 
--- a line was noted and no call failed, or a part of it and the count of faults rose
-pub record Noted (written written' : Option (List ℕ)) (faults faults' : ℕ) (line : List ℕ) : Type 0 where
-  pub has : AppendedPart written written' line
+-- what is noted of words that ask for no command: what clap tells, or the line for a status
+abbrev pub note_of_words : WordsError → List ℕ
+note_of_words (Told text) = string_bytes text
+note_of_words UnknownKind = line_of Usage
+note_of_words NoMemory = line_of Memory
+
+-- what may be noted of a status of a run with these words: of `Usage`, the line where clap's definition takes the words,
+-- so that the kind alone is unknown, and else any text
+abbrev pub IsNoteOf : List (List ℕ) → Status → List ℕ → Type 0
+IsNoteOf words Usage note = AreTaken words → note ≡ line_of Usage
+IsNoteOf words status note = note ≡ note_of status
+
+-- a text was noted and no call failed, or a part of it and the count of faults rose
+pub record Noted (written written' : Option (List ℕ)) (faults faults' : ℕ) (note : List ℕ) : Type 0 where
+  pub has : AppendedPart written written' note
   pub whole : ((has.rest ≡ []) × (faults' ≡ faults)) ⊎ Rose faults faults'
+
+-- what may be noted of the status was noted so
+abbrev pub IsToldOf : List (List ℕ) → Option (List ℕ) → Option (List ℕ) → ℕ → ℕ → Status → Type 0
+IsToldOf words written written' faults faults' status =
+    (note : List ℕ) × IsNoteOf words status note × Noted written written' faults faults' note

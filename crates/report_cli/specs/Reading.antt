@@ -5,7 +5,8 @@ use Rattle.port_io.specs.Asking.{AsksWithin}
 use Rattle.port_io.specs.Bytes.{Took, TookAtMost, TookExactly, Ended}
 use Rattle.port_io.specs.Causes.{Rose}
 use Rattle.port_io.specs.declared.ports.Source.{Ghosts}
-use Rattle.report_cli.specs.RightFor.{IsRefused}
+use Rattle.cert_text.specs.declared.kind.Kind.{Kind}
+use Rattle.report_cli.specs.Kinds.{IsRefused}
 use Rattle.report_cli.specs.declared.status.Status.{Status}
 use Rattle.report_cli.specs.declared.status.Status.TheVariants.{Refused, TooLong, ReadFault, Memory}
 
@@ -17,14 +18,14 @@ pub record ReadsWhole (left left' : Option (List ℕ)) (Holds : List ℕ → Typ
   pub short : length input ≤ input_limit
   pub holds : Holds input
 
--- why an input gives no report: a refusal is that of the whole input, and what is too long was taken up to one byte
+-- why an input of this kind gives no report: a refusal is that of the whole input, and what is too long was taken up to one byte
 -- past the limit
-abbrev pub IsUnread : Status → Option (List ℕ) → Option (List ℕ) → Type 0
-IsUnread (Refused refusal) left left' = ReadsWhole left left' (λ input. IsRefused input refusal)
-IsUnread (TooLong limit) left left' = (limit ≡ input_limit) × TookExactly (input_limit + 1) left left'
-IsUnread ReadFault left left' = TookAtMost input_limit left left'
-IsUnread Memory left left' = TookAtMost input_limit left left'
-IsUnread _ left left' = ⊥
+abbrev pub IsUnread : Kind → Status → Option (List ℕ) → Option (List ℕ) → Type 0
+IsUnread kind (Refused refusal) left left' = ReadsWhole left left' (λ input. IsRefused kind input refusal)
+IsUnread kind (TooLong limit) left left' = (limit ≡ input_limit) × TookExactly (input_limit + 1) left left'
+IsUnread kind ReadFault left left' = TookAtMost input_limit left left'
+IsUnread kind Memory left left' = TookAtMost input_limit left left'
+IsUnread kind _ left left' = ⊥
 
 -- each failed read is told, and the source is asked for no more than an input may have and one byte
 pub record TellsOfSource {S T : Type 0} (K : Ghosts S) (old new : S) (result : Result T Status) : Type 0 where

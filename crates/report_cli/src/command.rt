@@ -1,49 +1,125 @@
-//! The command that the words of the command line name.
+//! The command that the words of the command line ask for.
 
-ghost use Rattle.std.specs.Prelude.{◌≡◌, ◌↔◌, IsTrue, MatchOption, map};
+ghost use Rattle.std.specs.Prelude.{◌≡◌, ◌≢◌, List, ℕ, map, MatchOption, MatchResult, OnOk};
 ghost use Rattle.std.specs.String.{string_bytes};
-ghost use Rattle.report_cli.specs.Words.{AsksFor, AsksForNothing, IsNoName, name_of};
+ghost use Rattle.clap.specs.Words.{kind_of as error_kind, subcommand_rows_of};
+ghost use Rattle.report_cli.specs.Statuses.{status_of_words};
+ghost use Rattle.report_cli.specs.Words.{AreNamesOf, AsksFor, IsWhy, IsWordOf, Names, NamesNone, kind_of};
 
-/// What to write of an equation list.
+use crate::command_line::command_line;
+use crate::status::Status;
+use cert_text::Kind;
+use clap::error::ErrorKind;
+use clap::{ArgMatches, Error};
+use std::alloc::{AllocError, Global};
+
+/// What to write of an input of a kind.
 #[derive(Clone, Copy, Debug, PartialEq, Eq)]
 pub enum Command {
     /// A certificate.
-    Analyse,
+    Analyse(Kind),
     /// The layered matrix.
-    Layer,
+    Layer(Kind),
+}
+
+/// Why the words ask for no command.
+#[derive(Debug, Drop)]
+pub enum WordsError {
+    /// clap has no matches for them, and tells this.
+    Told(String),
+    /// clap has matches for them, and the word at KIND is that of no kind.
+    UnknownKind,
+    /// Memory ran out.
+    NoMemory,
 }
 
 impl Command {
-    /// The command that the words name: the program's own name, `analyse` or `layer`, and `matrix`. No other words name
-    /// one.
-    pub fn of(words: &[String]) -> Option<Command>
-        ensures { MatchOption result (AsksForNothing (map string_bytes words.now))
-            (AsksFor (map string_bytes words.now)) }
+    /// The command that the words ask for, of which the first is the program's own name, or why they ask for none.
+    pub fn of(alloc: Global, words: &[String]) -> Result<Command, WordsError>
+        ensures { MatchResult result (AsksFor (map string_bytes words.now)) (IsWhy (map string_bytes words.now)) }
     {
-        match words {
-            [_, command, kind] if is_word(kind, "matrix") => Command::named(command),
+        let line = command_line(alloc)?;
+        match line.try_get_matches_from(words) {
+            Ok(matches) => match Command::matched(&matches) {
+                Some(command) => Ok(command),
+                None => Err(WordsError::UnknownKind),
+            },
+            Err(error) => Err(WordsError::Told(told(alloc, error)?)),
+        }
+    }
+
+    // The command of the matches of a parse.
+    fn matched(matches: &ArgMatches<'_>) -> Option<Command>
+        ensures { MatchOption result (NamesNone (subcommand_rows_of matches.now))
+            (Names (subcommand_rows_of matches.now)) }
+    {
+        let (name, values) = matches.subcommand()?;
+        let kind = values.get_str("KIND")?;
+        Command::named(name, kind)
+    }
+
+    // The command of this name, on the kind of this name.
+    fn named(name: &str, kind: &str) -> Option<Command>
+        ensures { MatchOption result ((command : Command) → AreNamesOf name.now kind.now command → ⊥)
+            (AreNamesOf name.now kind.now) }
+    {
+        let kind = kind_named(kind)?;
+        match name {
+            "analyse" => Some(Command::Analyse(kind)),
+            "layer" => Some(Command::Layer(kind)),
             _ => None,
         }
     }
 
-    // The command of this name.
-    fn named(word: &String) -> Option<Command>
-        ensures { MatchOption result (IsNoName (string_bytes word.now))
-            (λ command. string_bytes word.now ≡ name_of command) }
+    /// The kind of the input.
+    pub fn kind(self) -> Kind
+        ensures { result ≡ kind_of self }
     {
-        if is_word(word, "analyse") {
-            Some(Command::Analyse)
-        } else if is_word(word, "layer") {
-            Some(Command::Layer)
-        } else {
-            None
+        match self {
+            Command::Analyse(kind) | Command::Layer(kind) => kind,
         }
     }
 }
 
-// Whether a word is this one.
-fn is_word(word: &String, text: &str) -> bool
-    ensures { IsTrue result ↔ (string_bytes word.now ≡ text.now) }
+// The kind of this name, of those of which inputs are read.
+fn kind_named(word: &str) -> Option<Kind>
+    ensures { MatchOption result ((kind : Kind) → IsWordOf word.now kind → ⊥) (IsWordOf word.now) }
 {
-    word.as_str() == text
+    match word {
+        "matrix" => Some(Kind::Matrix),
+        _ => None,
+    }
+}
+
+// The text of an error, which has none where it is want of memory.
+fn told(alloc: Global, error: Error) -> Result<String, AllocError>
+    ensures { OnOk result (error_kind error ≢ ErrorKind.OutOfMemory) }
+{
+    if error.kind() == ErrorKind::OutOfMemory {
+        return Err(AllocError);
+    }
+    format!(in alloc; "{error}")
+}
+
+impl WordsError {
+    /// How a run with such words ends.
+    pub fn status(&self) -> Status
+        ensures { result ≡ status_of_words self.now }
+    {
+        match self {
+            WordsError::Told(_) | WordsError::UnknownKind => Status::Usage,
+            WordsError::NoMemory => Status::Memory,
+        }
+    }
+}
+
+impl From<AllocError> for WordsError {
+    ghost use Rattle.std.specs.Prelude.{◌≡◌};
+    ghost use Rattle.report_cli.specs.declared.command.WordsError.TheVariants.{NoMemory};
+
+    ghost from_gives = { λ _ why. why ≡ NoMemory };
+
+    fn from(_error: AllocError) -> WordsError {
+        WordsError::NoMemory
+    }
 }

@@ -2,6 +2,8 @@
 #![tactic(auto)]
 
 mod command;
+mod command_line;
+mod examples;
 mod layer_lines;
 mod reading;
 mod report;
@@ -11,5 +13,6 @@ mod telling;
 #[cfg(test)]
 mod tests;
 
+pub use examples::words_at_examples;
 pub use running::run;
 pub use status::Status;

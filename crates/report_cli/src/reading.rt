@@ -1,59 +1,130 @@
 //! An input, read piece by piece where its text is not wanted.
 
-ghost use Rattle.std.specs.Prelude.{◌≡◌, [], IfOk, IfErr};
+ghost use Rattle.std.specs.Prelude.{◌≡◌, ◌≤◌, ◌++◌, ℕ, List, [], length, IfOk, IfErr};
+ghost use Rattle.cert_text.specs.declared.kind.Kind.{Kind};
 ghost use Rattle.limits.specs.Limits.{input_limit};
-ghost use Rattle.matrix_reader.specs.Feeding.{IsFed};
-ghost use Rattle.matrix_reader.specs.Models.{GivesModel};
 ghost use Rattle.port_io.specs.Pumping.{nothing_pumped};
+ghost use Rattle.report_cli.specs.Kinds.{Gives, IsWhyUnread};
 ghost use Rattle.report_cli.specs.Reading.{IsUnread, ReadsWhole, TellsOfSource};
-ghost use Rattle.residue_field.specs.Modulus.{res_modulus};
 
 use crate::status::Status;
+use cert_text::Kind;
 use limits::INPUT_LIMIT;
 use matrix_reader::MatrixReader;
 use mixed_model::Mixed;
+use out_of_memory::NoMemory;
 use port_io::{Pump, Source, read_all};
+use refusals::ReadModel;
 use residue_field::Res;
 use std::alloc::Global;
+
+/// A reader of inputs of one kind, of at most 8,388,608 bytes, that come in pieces.
+pub trait ModelReader: Drop {
+    /// The kind of the inputs.
+    ghost KIND: { Kind };
+
+    /// The reader was fed this text.
+    ghost is_fed: { Self → List ℕ → Type 0 };
+
+    /// The kind of the inputs.
+    const KIND: Kind;
+
+    /// A reader that was fed nothing.
+    fn start(alloc: Global) -> Result<Self, NoMemory>
+        ensures { IfOk result (λ reader. is_fed reader []) };
+
+    /// Reads a piece more.
+    fn take(self, piece: &[u8]) -> Result<Self, NoMemory>
+        ensures { IfOk result (λ fed. (text : List ℕ) → is_fed self text → length (text ++ piece.now) ≤ input_limit →
+            is_fed fed (text ++ piece.now)) };
+
+    /// The model of the text, or why it has none.
+    fn model(self) -> Result<Mixed<Res>, ReadModel>
+        ensures model { IfOk result (λ model. (text : List ℕ) → is_fed self text → Gives KIND text model) }
+        ensures refused { IfErr result (λ why. (text : List ℕ) → is_fed self text → IsWhyUnread KIND text why) };
+}
+
+impl ModelReader for MatrixReader<Res> {
+    ghost use Rattle.cert_text.specs.declared.kind.Kind.TheVariants.{Matrix};
+    ghost use Rattle.matrix_reader.specs.Feeding.{IsFed};
+    ghost use Rattle.residue_field.specs.Modulus.{res_modulus};
+
+    ghost KIND = { Matrix };
+
+    ghost is_fed = { IsFed res_modulus };
+
+    const KIND: Kind = Kind::Matrix;
+
+    fn start(alloc: Global) -> Result<MatrixReader<Res>, NoMemory> {
+        MatrixReader::new(alloc)
+    }
+
+    fn take(self, piece: &[u8]) -> Result<MatrixReader<Res>, NoMemory> {
+        self.feed(piece)
+    }
+
+    fn model(self) -> Result<Mixed<Res>, ReadModel> {
+        self.finish()
+    }
+}
 
 /// The text of an input.
 pub fn read_text<S: Source>(alloc: Global, source: &mut S) -> Result<Vec<u8>, Status>
     ensures read { IfOk result (λ text.
         ReadsWhole (S.left source.old) (S.left source.new) (λ input. input ≡ text.items)) }
-    ensures unread { IfErr result (λ status. IsUnread status (S.left source.old) (S.left source.new)) }
+    ensures unread { (kind : Kind) → IfErr result (λ status.
+        IsUnread kind status (S.left source.old) (S.left source.new)) }
     ensures source { TellsOfSource S.Source source.old source.new result }
 {
     Ok(read_all(alloc, source, INPUT_LIMIT as u64)?)
 }
 
+/// The model that a text gives.
+pub fn read_whole<R: ModelReader>(alloc: Global, text: &[u8]) -> Result<Mixed<Res>, ReadModel>
+    requires { length text.now ≤ input_limit }
+    ensures model { IfOk result (λ model. Gives R.KIND text.now model) }
+    ensures refused { IfErr result (λ why. IsWhyUnread R.KIND text.now why) }
+{
+    let Ok(reader) = R::start(alloc) else {
+        return Err(ReadModel::NoMemory);
+    };
+    let Ok(reader) = reader.take(text) else {
+        return Err(ReadModel::NoMemory);
+    };
+    reader.model()
+}
+
 /// The model that an input gives, whose text is not kept.
-pub fn read_model<S: Source>(alloc: Global, source: &mut S) -> Result<Mixed<Res>, Status>
+pub fn read_model<S: Source, R: ModelReader>(
+    alloc: Global,
+    source: &mut S,
+) -> Result<Mixed<Res>, Status>
     ensures read { IfOk result (λ model.
-        ReadsWhole (S.left source.old) (S.left source.new) (λ input. GivesModel res_modulus input model)) }
-    ensures unread { IfErr result (λ status. IsUnread status (S.left source.old) (S.left source.new)) }
+        ReadsWhole (S.left source.old) (S.left source.new) (λ input. Gives R.KIND input model)) }
+    ensures unread { IfErr result (λ status. IsUnread R.KIND status (S.left source.old) (S.left source.new)) }
     ensures source { TellsOfSource S.Source source.old source.new result }
 {
     let pump = Pump::new(alloc, INPUT_LIMIT as u64)?;
-    let reader = MatrixReader::new(alloc)?;
+    let reader = R::start(alloc)?;
     let reader = feed_all(source, pump, reader)?;
-    Ok(reader.finish()?)
+    Ok(reader.model()?)
 }
 
 // Feeds all pieces to a reader.
-fn feed_all<S: Source>(
+fn feed_all<S: Source, R: ModelReader>(
     source: &mut S,
     mut pump: Pump,
-    mut reader: MatrixReader<Res>,
-) -> Result<MatrixReader<Res>, Status>
+    mut reader: R,
+) -> Result<R, Status>
     requires pump { pump ≡ nothing_pumped input_limit }
-    requires reader { IsFed res_modulus reader [] }
+    requires reader { R.is_fed reader [] }
     ensures read { IfOk result (λ fed.
-        ReadsWhole (S.left source.old) (S.left source.new) (λ input. IsFed res_modulus fed input)) }
-    ensures unread { IfErr result (λ status. IsUnread status (S.left source.old) (S.left source.new)) }
+        ReadsWhole (S.left source.old) (S.left source.new) (λ input. R.is_fed fed input)) }
+    ensures unread { IfErr result (λ status. IsUnread R.KIND status (S.left source.old) (S.left source.new)) }
     ensures source { TellsOfSource S.Source source.old source.new result }
 {
     while pump.next(source)? > 0 {
-        reader = reader.feed(pump.piece())?;
+        reader = reader.take(pump.piece())?;
     }
     Ok(reader)
 }

@@ -1,23 +1,26 @@
 //! What a command writes of an input.
 
-ghost use Rattle.std.specs.Prelude.{◌≤◌, ℕ, List, length, IfErr, IfOk};
+ghost use Rattle.std.specs.Prelude.{◌≡◌, ◌≤◌, ℕ, List, length, IfErr, IfOk};
 ghost use Rattle.cert_text.specs.Ranges.{IsCcf};
-ghost use Rattle.matrix_reader.specs.Models.{GivesModel, IsRefusal};
+ghost use Rattle.cert_text.specs.declared.kind.Kind.{Kind};
 ghost use Rattle.mixed_layering.specs.Layers.{AreLayersOf};
 ghost use Rattle.report_cli.specs.LayerTexts.{layer_text};
 ghost use Rattle.residue_field.specs.Modulus.{res_modulus};
 ghost use Rattle.limits.specs.Limits.{input_limit};
+ghost use Rattle.report_cli.specs.Kinds.{Gives, IsRead, IsWhyUnread};
 ghost use Rattle.report_cli.specs.Reading.{IsUnread, ReadsWhole, TellsOfSource};
 ghost use Rattle.report_cli.specs.Reports.{IsReportFor, IsWritable, report_text};
 ghost use Rattle.report_cli.specs.WholeLayers.{AreWholeLayers};
+ghost use Rattle.report_cli.specs.Words.{kind_of};
 ghost use Rattle.text_writer.specs.Giving.{IsWritten};
 
 use crate::command::Command;
 use crate::layer_lines::put_layers;
-use crate::reading::{read_model, read_text};
+use crate::reading::{ModelReader, read_model, read_text, read_whole};
 use crate::status::Status;
 use ccf_builder::build;
 use cert_text::{Ccf, Certificate, Items, Kind};
+use matrix_reader::MatrixReader;
 use mixed_layering::layer;
 use mixed_model::{Layered, Mixed};
 use out_of_memory::NoMemory;
@@ -44,27 +47,48 @@ impl Report {
         command: Command,
         source: &mut S,
     ) -> Result<Report, Status>
+        requires { IsRead (kind_of command) }
         ensures right { IfOk result (λ report. ReadsWhole (S.left source.old) (S.left source.new)
             (λ input. IsReportFor command input report)) }
-        ensures unread { IfErr result (λ status. IsUnread status (S.left source.old) (S.left source.new)) }
+        ensures unread { IfErr result (λ status.
+            IsUnread (kind_of command) status (S.left source.old) (S.left source.new)) }
+        ensures source { TellsOfSource S.Source source.old source.new result }
+    {
+        match command.kind() {
+            Kind::Matrix => Report::read_by::<S, MatrixReader<Res>>(alloc, command, source),
+            Kind::Netlist => unreachable!(),
+        }
+    }
+
+    // The same, by a reader of inputs of the command's kind.
+    fn read_by<S: Source, R: ModelReader>(
+        alloc: Global,
+        command: Command,
+        source: &mut S,
+    ) -> Result<Report, Status>
+        requires { kind_of command ≡ R.KIND }
+        ensures right { IfOk result (λ report. ReadsWhole (S.left source.old) (S.left source.new)
+            (λ input. IsReportFor command input report)) }
+        ensures unread { IfErr result (λ status.
+            IsUnread (kind_of command) status (S.left source.old) (S.left source.new)) }
         ensures source { TellsOfSource S.Source source.old source.new result }
     {
         match command {
-            Command::Layer => {
-                let model = read_model(alloc, source)?;
+            Command::Layer(_) => {
+                let model = read_model::<S, R>(alloc, source)?;
                 Ok(Report::layers(alloc, model)?)
             }
-            Command::Analyse => {
+            Command::Analyse(_) => {
                 let text = read_text(alloc, source)?;
-                Ok(Report::certificate(alloc, text)?)
+                Ok(Report::certificate::<R>(alloc, text)?)
             }
         }
     }
 
     // The layered matrix of a model.
     fn layers(alloc: Global, model: Mixed<Res>) -> Result<Report, NoMemory>
-        ensures { IfOk result (λ report. (input : List ℕ) → GivesModel res_modulus input model →
-            IsReportFor Command.Layer input report) }
+        ensures { IfOk result (λ report. (kind : Kind) (input : List ℕ) → Gives kind input model →
+            IsReportFor (Command.Layer kind) input report) }
     {
         let layered = layer(alloc, &model)?;
         is_whole(&layered);
@@ -72,12 +96,12 @@ impl Report {
     }
 
     // The certificate of a text of at most 8,388,608 bytes, or why the text is refused.
-    fn certificate(alloc: Global, text: Vec<u8>) -> Result<Report, ReadModel>
+    fn certificate<R: ModelReader>(alloc: Global, text: Vec<u8>) -> Result<Report, ReadModel>
         requires { length text.items ≤ input_limit }
-        ensures right { IfOk result (IsReportFor Command.Analyse text.items) }
-        ensures refused { IfErr result (IsRefusal res_modulus text.items) }
+        ensures right { IfOk result (IsReportFor (Command.Analyse R.KIND) text.items) }
+        ensures refused { IfErr result (IsWhyUnread R.KIND text.items) }
     {
-        let model = matrix_reader::read(alloc, &text)?;
+        let model = read_whole::<R>(alloc, &text)?;
         let Ok(layered) = layer(alloc, &model) else {
             return Err(ReadModel::NoMemory);
         };
@@ -86,7 +110,7 @@ impl Report {
         };
         is_in_form(&ccf);
         Ok(Report::Certificate(Certificate {
-            kind: Kind::Matrix,
+            kind: R::KIND,
             echo: Items::from_vec(text),
             ccf,
         }))

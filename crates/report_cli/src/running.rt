@@ -5,22 +5,25 @@ ghost use Rattle.std.specs.String.{string_bytes};
 ghost use Rattle.port_io.specs.Causes.{Rose, one_more};
 ghost use Rattle.port_io.specs.Asking.{AsksWithin};
 ghost use Rattle.port_io.specs.Bytes.{Appended};
-ghost use Rattle.report_cli.specs.Answer.{Answered, CutShort, IsComplete, OnlyAnswer, TakesBy, Tells, WritesNothing, IsDelivered};
+ghost use Rattle.report_cli.specs.Answer.{Answered, CutShort, IsAnswer, IsAnswerOf, IsComplete, OnlyAnswer, TakesBy, Tells, WritesNothing, IsDelivered};
+ghost use Rattle.report_cli.specs.Kinds.{IsRead};
 ghost use Rattle.limits.specs.Limits.{input_limit};
 ghost use Rattle.report_cli.specs.Reports.{IsWritable, report_text};
 ghost use Rattle.report_cli.specs.Rooms.{text_room};
-ghost use Rattle.report_cli.specs.Notes.{Noted, note_of};
+ghost use Rattle.report_cli.specs.Words.{kind_of};
+ghost use Rattle.report_cli.specs.Notes.{IsToldOf};
 ghost use Rattle.text_writer.specs.Giving.{AppendedPart};
 
 use crate::command::Command;
 use crate::report::Report;
 use crate::status::Status;
-use crate::telling::tell;
+use crate::telling::{tell, tell_words};
 use port_io::{Sink, Source};
 use std::alloc::Global;
 
-/// Runs the command that the words name: reads the source to its end, writes the whole text to `out`, and notes in
-/// one line why where that was not done. The first word is the program's own name.
+/// Runs the command that the words ask for: reads the source to its end, writes the whole text to `out`, and notes in
+/// one line why where that was not done. The first word is the program's own name. Of words that ask for no command it
+/// notes what clap tells of them, or the line `mixed: unknown word` where KIND alone is unknown.
 pub fn run<S: Source, K: Sink, N: Sink>(
     alloc: Global,
     words: &[String],
@@ -31,8 +34,8 @@ pub fn run<S: Source, K: Sink, N: Sink>(
     // what follows holds whatever `notes` does: no clause on the status, the source or `out` has a premise on it
 
     // a status that is no fault is the answer to what was read
-    ensures answered { Tells result (Answered (map string_bytes words.now) (S.left source.old) (S.left source.new)
-        (K.written out.old) (K.written out.new) result) }
+    ensures answered { Tells result (Answered (IsAnswer (map string_bytes words.now)) (S.left source.old)
+        (S.left source.new) (K.written out.old) (K.written out.new) result) }
     ensures finished { result ≡ Status.Done → IsTrue (K.flushed out.new) }
     ensures one_flush { result ≡ Status.Done → K.flushes out.new ≡ one_more (K.flushes out.old) }
 
@@ -45,7 +48,8 @@ pub fn run<S: Source, K: Sink, N: Sink>(
     // faults have their cause
     ensures read_fault { result ≡ Status.ReadFault → Rose (S.faults source.old) (S.faults source.new) }
     ensures write_fault { result ≡ Status.WriteFault → Rose (K.faults out.old) (K.faults out.new)
-        × CutShort (map string_bytes words.now) (S.left source.old) (S.left source.new) (K.written out.old) (K.written out.new) }
+        × CutShort (IsAnswer (map string_bytes words.now)) (S.left source.old) (S.left source.new) (K.written out.old)
+        (K.written out.new) }
 
     // and each fault is told: a call that failed is not tried again
     ensures read_told { result ≢ Status.ReadFault → S.faults source.new ≡ S.faults source.old }
@@ -53,8 +57,8 @@ pub fn run<S: Source, K: Sink, N: Sink>(
 
     // what is written, noted and taken
     ensures nothing_written { WritesNothing result (K.written out.new ≡ K.written out.old) }
-    ensures noted { Noted (N.written notes.old) (N.written notes.new) (N.faults notes.old) (N.faults notes.new)
-        (note_of result) }
+    ensures noted { IsToldOf (map string_bytes words.now) (N.written notes.old) (N.written notes.new)
+        (N.faults notes.old) (N.faults notes.new) result }
     ensures taken { TakesBy result (S.left source.old) (S.left source.new) }
     ensures taken_usage { result ≡ Status.Usage → S.left source.new ≡ S.left source.old }
     ensures asked { AsksWithin 65536 (input_limit + 1) (S.asked source.old) (S.asked source.new) }
@@ -68,14 +72,24 @@ pub fn run<S: Source, K: Sink, N: Sink>(
     ensures calm_out { (input : List ℕ) → S.left source.old ≡ Some input → K.takes out.old (text_room (length input)) →
         K.faults out.new ≡ K.faults out.old }
 {
-    let status = work(alloc, words, source, out);
-    tell(notes, status);
-    status
+    match Command::of(alloc, words) {
+        Ok(command) => {
+            let status = work(alloc, command, source, out);
+            tell(notes, status);
+            status
+        }
+        Err(why) => {
+            tell_words(notes, &why);
+            why.status()
+        }
+    }
 }
 
-// A run, but for what is noted.
-fn work<S: Source, K: Sink>(alloc: Global, words: &[String], source: &mut S, out: &mut K) -> Status
-    ensures answered { Tells result (Answered (map string_bytes words.now) (S.left source.old) (S.left source.new)
+// A run of a command, but for what is noted.
+fn work<S: Source, K: Sink>(alloc: Global, command: Command, source: &mut S, out: &mut K) -> Status
+    requires { IsRead (kind_of command) }
+    ensures asked_for { result ≢ Status.Usage }
+    ensures answered { Tells result (Answered (IsAnswerOf command) (S.left source.old) (S.left source.new)
         (K.written out.old) (K.written out.new) result) }
     ensures finished { result ≡ Status.Done → IsTrue (K.flushed out.new) }
     ensures one_flush { result ≡ Status.Done → K.flushes out.new ≡ one_more (K.flushes out.old) }
@@ -83,21 +97,17 @@ fn work<S: Source, K: Sink>(alloc: Global, words: &[String], source: &mut S, out
     ensures write_told { result ≢ Status.WriteFault → K.faults out.new ≡ K.faults out.old }
     ensures read_fault { result ≡ Status.ReadFault → Rose (S.faults source.old) (S.faults source.new) }
     ensures write_fault { result ≡ Status.WriteFault → Rose (K.faults out.old) (K.faults out.new)
-        × CutShort (map string_bytes words.now) (S.left source.old) (S.left source.new) (K.written out.old) (K.written out.new) }
+        × CutShort (IsAnswerOf command) (S.left source.old) (S.left source.new) (K.written out.old)
+        (K.written out.new) }
     ensures nothing_written { WritesNothing result (K.written out.new ≡ K.written out.old) }
     ensures taken { TakesBy result (S.left source.old) (S.left source.new) }
-    ensures taken_usage { result ≡ Status.Usage → S.left source.new ≡ S.left source.old }
     ensures asked { AsksWithin 65536 (input_limit + 1) (S.asked source.old) (S.asked source.new) }
-    ensures asked_usage { result ≡ Status.Usage → S.asked source.new ≡ S.asked source.old }
     ensures counts_source { S.faults source.old ≤ S.faults source.new }
     ensures counts_out { K.faults out.old ≤ K.faults out.new }
     ensures calm_source { S.never_fails source.old → S.faults source.new ≡ S.faults source.old }
     ensures calm_out { (input : List ℕ) → S.left source.old ≡ Some input → K.takes out.old (text_room (length input)) →
         K.faults out.new ≡ K.faults out.old }
 {
-    let Some(command) = Command::of(words) else {
-        return Status::Usage;
-    };
     match Report::read(alloc, command, source) {
         Ok(report) => deliver(out, &report),
         Err(status) => status,

@@ -14,7 +14,7 @@ use std::alloc::AllocError;
 pub enum Status {
     /// The input was read to its end, and the whole text was written and flushed.
     Done,
-    /// The words name no command.
+    /// The words ask for no command.
     Usage,
     /// The first rule of its format that the input breaks.
     Refused(refusals::Refused),

@@ -1,10 +1,12 @@
 //! What is noted of a run.
 
 ghost use Rattle.std.specs.Prelude.{◌≤◌};
-ghost use Rattle.report_cli.specs.Notes.{limit_text, words_of, line_of, note_of, Noted};
+ghost use Rattle.std.specs.String.{string_bytes};
+ghost use Rattle.report_cli.specs.Notes.{limit_text, words_of, line_of, note_of, note_of_words, Noted};
 ghost use Rattle.text_writer.specs.Giving.{IsWritten};
 ghost use Rattle.text_writer.specs.Texts.{Puts};
 
+use crate::command::WordsError;
 use crate::status::Status;
 use port_io::{Sink, WriteFault};
 use text_writer::TextWriter;
@@ -16,6 +18,30 @@ pub fn tell<N: Sink>(notes: &mut N, status: Status)
     ensures counts { N.faults notes.old ≤ N.faults notes.new }
 {
     let _ = write_note(notes, status);
+}
+
+/// Notes why the words ask for no command, as far as the sink takes it: what clap tells, or one line.
+pub fn tell_words<N: Sink>(notes: &mut N, why: &WordsError)
+    ensures noted { Noted (N.written notes.old) (N.written notes.new) (N.faults notes.old) (N.faults notes.new)
+        (note_of_words why.now) }
+    ensures counts { N.faults notes.old ≤ N.faults notes.new }
+{
+    match why {
+        WordsError::Told(text) => {
+            let _ = write_text(notes, text);
+        }
+        WordsError::UnknownKind => tell(notes, Status::Usage),
+        WordsError::NoMemory => tell(notes, Status::Memory),
+    }
+}
+
+// Appends a text to the sink.
+fn write_text<N: Sink>(notes: &mut N, text: &String) -> Result<(), WriteFault>
+    ensures { IsWritten N.Sink notes.old notes.new (string_bytes text.now) result }
+{
+    let mut writer = TextWriter::new(notes);
+    writer.piece(text.as_bytes());
+    writer.finish()
 }
 
 // Appends the line of a status to the sink, and nothing where the run is done.

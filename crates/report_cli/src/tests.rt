@@ -9,10 +9,15 @@ use std::test::Fail;
 /// Enough room for each text.
 const ROOM: usize = 9_000_000;
 
+/// The words for each command.
+const ANALYSE: &[&str] = &["mixed", "analyse", "matrix"];
+
+const LAYER: &[&str] = &["mixed", "layer", "matrix"];
+
 /// One run over memory.
 #[derive(Clone, Copy)]
 struct Case<'a> {
-    words: [&'a str; 3],
+    words: &'a [&'a str],
     input: &'a [u8],
     /// The most bytes that the source gives in one call.
     step: usize,
@@ -39,7 +44,7 @@ fn calm<'a>(
     notes: &'a [u8],
 ) -> Case<'a> {
     Case {
-        words: ["mixed", "analyse", "matrix"],
+        words: ANALYSE,
         input,
         step: ROOM,
         most: ROOM,
@@ -74,7 +79,7 @@ fn holds(text: &[u8], piece: &[u8]) -> bool {
 
 // Runs a case, and compares what it leaves. A run of status 2 takes no byte.
 fn expect_case(rt: &impl Abort, alloc: Global, case: &Case) -> Result<(), Fail> {
-    let words = words_of(alloc, &case.words)?;
+    let words = words_of(alloc, case.words)?;
     let mut source = MemSource::new(alloc, case.input, case.step.max(1), case.source_fails)?;
     let mut out = MemSink::new(alloc, case.most.max(1), ROOM, case.out_fails)?;
     let mut notes = MemSink::new(alloc, ROOM, ROOM, case.notes_fail)?;
@@ -113,7 +118,7 @@ fn certified_holding<'a>(input: &'a [u8], holds: &'a [u8], ends: &'a [u8]) -> Ca
 // A case of `layer` that is answered by a text with this beginning and this end.
 fn layered<'a>(input: &'a [u8], begins: &'a [u8], ends: &'a [u8]) -> Case<'a> {
     Case {
-        words: ["mixed", "layer", "matrix"],
+        words: LAYER,
         ..calm(input, 0, begins, ends, b"")
     }
 }
@@ -287,7 +292,7 @@ fn layers_of_lists_that_break_a_rule(rt: HostRuntime) -> Result<(), Fail> {
         refused(b"eq a x=1/0\n", b"mixed: line 1: vanishes in the field\n"),
     ] {
         let case = Case {
-            words: ["mixed", "layer", "matrix"],
+            words: LAYER,
             ..case
         };
         expect_case(&rt, rt.alloc(), &case)?;
@@ -331,19 +336,57 @@ fn expect_beginnings(
 }
 
 #[test]
-fn other_words(rt: HostRuntime) -> Result<(), Fail> {
-    for words in [
-        ["mixed", "analyse", "netlist"],
-        ["mixed", "analyse", "picture"],
-        ["mixed", "layer", "netlist"],
-        ["mixed", "order", "matrix"],
-    ] {
+fn unknown_kinds(rt: HostRuntime) -> Result<(), Fail> {
+    let cases: [&[&str]; 3] = [
+        &["mixed", "analyse", "netlist"],
+        &["mixed", "analyse", "picture"],
+        &["mixed", "layer", "matrix "],
+    ];
+    for words in cases {
         let case = Case {
             words,
             ..calm(b"eq a x=1\n", 2, b"", b"", b"mixed: unknown word\n")
         };
         expect_case(&rt, rt.alloc(), &case)?;
     }
+    Ok(())
+}
+
+#[test]
+fn words_that_clap_does_not_take(rt: HostRuntime) -> Result<(), Fail> {
+    let cases: [(&[&str], &[u8]); 10] = [
+        (&["mixed"], b"Usage: mixed <COMMAND>\n"),
+        (&[], b"Usage: mixed <COMMAND>\n"),
+        (&["mixed", "help"], b"Usage: mixed <COMMAND>\n"),
+        (&["mixed", "--help"], b"Usage: mixed <COMMAND>\n"),
+        (
+            &["mixed", "analyse", "--help"],
+            b"Usage: mixed analyse <KIND>\n",
+        ),
+        (&["mixed", "order", "matrix"], b"'order'"),
+        (&["mixed", "anal", "matrix"], b"'anal'"),
+        (&["mixed", "analyse"], b"<KIND>"),
+        (&["mixed", "analyse", "matrix", "more"], b"'more'"),
+        (&["mixed", "--version"], b"'--version'"),
+    ];
+    for (words, told) in cases {
+        expect_told(&rt, rt.alloc(), words, told)?;
+    }
+    Ok(())
+}
+
+// Runs words that ask for nothing: no byte is taken or written, and what is noted holds this piece.
+fn expect_told(rt: &impl Abort, alloc: Global, words: &[&str], told: &[u8]) -> Result<(), Fail> {
+    let words = words_of(alloc, words)?;
+    let mut source = MemSource::new(alloc, b"eq a x=1\n", ROOM, &[])?;
+    let mut out = MemSink::new(alloc, ROOM, ROOM, &[])?;
+    let mut notes = MemSink::new(alloc, ROOM, ROOM, &[])?;
+    let status = run(alloc, &words, &mut source, &mut out, &mut notes);
+    assert_eq!(rt; status.number(), 2);
+    assert_eq!(rt; out.bytes(), b"".as_slice());
+    assert!(rt; holds(notes.bytes(), told));
+    let left = read_all(alloc, &mut source, 1000)?;
+    assert_eq!(rt; left.as_slice(), b"eq a x=1\n".as_slice());
     Ok(())
 }
 
@@ -417,12 +460,12 @@ fn inputs_that_come_in_pieces(rt: HostRuntime) -> Result<(), Fail> {
             ..calm(b"foo\n", 4, b"", b"", b"mixed: read fault\n")
         },
         Case {
-            words: ["mixed", "layer", "matrix"],
+            words: LAYER,
             source_fails: &[2],
             ..calm(b"foo\n", 4, b"", b"", b"mixed: read fault\n")
         },
         Case {
-            words: ["mixed", "layer", "matrix"],
+            words: LAYER,
             step: 1,
             ..refused(b"foo\nbar\n", b"mixed: line 1: bad word\n")
         },

@@ -1,7 +1,5 @@
 use Rattle.std.proofs.Common.{◌≡◌, ℕ, ◌≤◌, ◌+◌, ◌++◌, List, length, ap, refl, sym, subst, ◌∙◌}
 use Rattle.limits.specs.Limits.{input_limit}
-use Rattle.matrix_reader.specs.Feeding.{IsFed}
-use Rattle.residue_field.specs.Modulus.{res_modulus}
 use Rattle.report_cli.specs.Reading.{IsUnread}
 use Rattle.report_cli.specs.Statuses.{status_of_error}
 use Rattle.report_cli.specs.declared.status.Status.TheVariants.{Memory}
@@ -14,26 +12,26 @@ returns-in_err-next-clause-unread g c =
     let next = c.next.ensures in
     let why = c.in_err-next.field-0.0 in
     with_status
-    (λ status. IsUnread status (g.S.Source.left c.args.source.now) (g.S.Source.left c.next.new.source))
+    (λ status. IsUnread g.R.ModelReader.KIND status (g.S.Source.left c.args.source.now) (g.S.Source.left c.next.new.source))
     c.from_residual.result
     (status_of_error why)
     c.from_residual.ensures.0
     c.from_residual.ensures.1
     (unread_by_error g.S.Source c.args.source.now c.loop-reader.source c.next.new.source c.loop-reader.pump c.next.new.self
-    (IsFed res_modulus c.loop-reader.reader) c.loop-reader.invariant c.next.result why c.in_err-next.was next.too_long.0 next.too_many next.untaken next.memory)
+    (g.R.ModelReader.is_fed c.loop-reader.reader) c.loop-reader.invariant g.R.ModelReader.KIND c.next.result why c.in_err-next.was next.too_long.0 next.too_many next.untaken next.memory)
 
 pub returns-in_err-reader-clause-unread : goal.returns-in_err-reader-clause-unread
 returns-in_err-reader-clause-unread g c =
     let next = c.in_ok-next.ensures in
     with_status
-    (λ status. IsUnread status (g.S.Source.left c.args.source.now) (g.S.Source.left c.next.new.source))
+    (λ status. IsUnread g.R.ModelReader.KIND status (g.S.Source.left c.args.source.now) (g.S.Source.left c.next.new.source))
     c.from_residual-in_err-reader.result
     Memory
     c.from_residual-in_err-reader.ensures.0
     c.from_residual-in_err-reader.ensures.1
     (unread_for_memory g.S.Source c.args.source.now c.loop-reader.source c.next.new.source c.loop-reader.pump c.next.new.self
-    (IsFed res_modulus c.loop-reader.reader) c.loop-reader.invariant next.taken
-    (next.counted ∙ ap (λ count. c.loop-reader.pump.taken + count) (sym next.piece)) next.within)
+    (g.R.ModelReader.is_fed c.loop-reader.reader) c.loop-reader.invariant next.taken
+    (next.counted ∙ ap (λ count. c.loop-reader.pump.taken + count) (sym next.piece)) next.within g.R.ModelReader.KIND)
 
 pub loop-reader-preserved : goal.loop-reader-preserved
 loop-reader-preserved g c =
@@ -44,9 +42,9 @@ loop-reader-preserved g c =
     let told : (g.S.Source.asked c.next.new.source).taken ≤ (g.S.Source.asked c.loop-reader.source).taken + length piece =
     subst (λ count. (g.S.Source.asked c.next.new.source).taken ≤ (g.S.Source.asked c.loop-reader.source).taken + count) (sym next.piece) next.told in
     pumped_more g.S.Source c.args.source.now c.loop-reader.source c.next.new.source c.loop-reader.pump c.next.new.self
-    (IsFed res_modulus c.loop-reader.reader) c.loop-reader.invariant next.taken counted next.within
-    (IsFed res_modulus c.in_ok-reader.reader)
-    (λ short. subst (λ text. IsFed res_modulus c.in_ok-reader.reader (c.loop-reader.invariant.text ++ text)) c.piece.ensures
+    (g.R.ModelReader.is_fed c.loop-reader.reader) c.loop-reader.invariant next.taken counted next.within
+    (g.R.ModelReader.is_fed c.in_ok-reader.reader)
+    (λ short. subst (λ text. g.R.ModelReader.is_fed c.in_ok-reader.reader (c.loop-reader.invariant.text ++ text)) c.piece.ensures
     (c.in_ok-reader.ensures c.loop-reader.invariant.text c.loop-reader.invariant.holds
     (subst (λ text. length (c.loop-reader.invariant.text ++ text) ≤ input_limit) (sym c.piece.ensures) short)))
     next.same_limit

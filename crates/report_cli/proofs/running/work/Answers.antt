@@ -10,12 +10,12 @@ use Rattle.report_cli.proofs.running.work.Goals as goal
 pub deliver-requires : goal.deliver-requires
 deliver-requires g c =
     let whole = c.in-Ok.ensures.right in
-    writable c.in-Some.command whole.input c.in-Ok.report whole.holds
+    writable c.args.command whole.input c.in-Ok.report whole.holds
 
 pub returns-in-Ok-clause-calm_out : goal.returns-in-Ok-clause-calm_out
 returns-in-Ok-clause-calm_out g c = λ input is takes.
     let whole = c.in-Ok.ensures.right in
-    let command = c.in-Some.command in
+    let command = c.args.command in
     let report = c.in-Ok.report in
     let same : whole.input ≡ input =
     read_is (g.S.Source.left c.args.source.now) (g.S.Source.left c.read.new.source) input whole.input is whole.took whole.ended in

@@ -1,0 +1,58 @@
+-- What words ask for, by computation.
+use Rattle.std.proofs.Common.{◌≡◌, List, ℕ, refl, codes, [], ◌∷◌, Some, sym, ap, get_or, arith, ◌∙◌}
+use Rattle.clap.specs.Kinds.{Kinds}
+use Rattle.clap.specs.Faults.{fault_of}
+use Rattle.clap.specs.declared.error.kind.ErrorKind.{ErrorKind}
+use Rattle.clap.proofs.OnLiterals.{clap_on_literals}
+use Rattle.cert_text.specs.declared.kind.Kind.{Kind}
+use Rattle.cert_text.specs.declared.kind.Kind.TheVariants.{Matrix, Netlist}
+use Rattle.report_cli.specs.CommandLine.{command_line}
+use Rattle.report_cli.specs.Words.{AsksFor, AsksForNothing}
+use Rattle.report_cli.specs.declared.command.Command.{Command}
+use Rattle.report_cli.specs.declared.command.Command.TheVariants.{Analyse, Layer}
+
+-- words that clap does not take ask for nothing
+untaken : (words : List (List ℕ)) (kind : ErrorKind) (kinds : Kinds) → fault_of command_line words ≡ kind ∷ kinds → AsksForNothing words
+untaken words kind kinds fails command asks = let none : kind ∷ kinds ≡ [] = sym fails ∙ asks.0 in absurd cc
+
+pub analyse : AsksFor (codes "mixed" ∷ codes "analyse" ∷ codes "matrix" ∷ []) (Analyse Matrix)
+unfolding clap_on_literals
+analyse = (refl, (_, refl, (refl, (refl, tt))))
+
+pub layer : AsksFor (codes "mixed" ∷ codes "layer" ∷ codes "matrix" ∷ []) (Layer Matrix)
+unfolding clap_on_literals
+layer = (refl, (_, refl, (refl, (refl, tt))))
+
+-- another word at KIND
+unknown : (word kind : List ℕ) → Some (codes "picture") ≡ Some word → word ≡ kind → get_or kind 0 0 ≡ 112
+unknown word kind there is = let same : codes "picture" ≡ word = cc in ap (λ t. get_or t 0 0) (sym (same ∙ is))
+
+pub unknown_kind : AsksForNothing (codes "mixed" ∷ codes "analyse" ∷ codes "picture" ∷ [])
+unfolding clap_on_literals
+unknown_kind (Analyse Matrix) (taken, (word, there, names)) = let other : 109 ≡ 112 = unknown word _ there names.1.0 in absurd (omega (arith, other))
+unknown_kind (Analyse Netlist) (taken, (word, there, names)) = let other : 110 ≡ 112 = unknown word _ there names.1.0 in absurd (omega (arith, other))
+unknown_kind (Layer kind) (taken, (word, there, names)) = let other : 97 ≡ 108 = ap (λ t. get_or t 0 0) names.0 in absurd (omega (arith, other))
+
+pub no_word : AsksForNothing (codes "mixed" ∷ [])
+unfolding clap_on_literals
+no_word = untaken (codes "mixed" ∷ []) _ _ refl
+
+pub no_kind : AsksForNothing (codes "mixed" ∷ codes "analyse" ∷ [])
+unfolding clap_on_literals
+no_kind = untaken (codes "mixed" ∷ codes "analyse" ∷ []) _ _ refl
+
+pub too_many : AsksForNothing (codes "mixed" ∷ codes "analyse" ∷ codes "matrix" ∷ codes "more" ∷ [])
+unfolding clap_on_literals
+too_many = untaken (codes "mixed" ∷ codes "analyse" ∷ codes "matrix" ∷ codes "more" ∷ []) _ _ refl
+
+pub help : AsksForNothing (codes "mixed" ∷ codes "help" ∷ [])
+unfolding clap_on_literals
+help = untaken (codes "mixed" ∷ codes "help" ∷ []) _ _ refl
+
+pub help_flag : AsksForNothing (codes "mixed" ∷ codes "analyse" ∷ codes "--help" ∷ [])
+unfolding clap_on_literals
+help_flag = untaken (codes "mixed" ∷ codes "analyse" ∷ codes "--help" ∷ []) _ _ refl
+
+pub part : AsksForNothing (codes "mixed" ∷ codes "anal" ∷ codes "matrix" ∷ [])
+unfolding clap_on_literals
+part = untaken (codes "mixed" ∷ codes "anal" ∷ codes "matrix" ∷ []) _ _ refl

@@ -1,0 +1,57 @@
+-- What holds of inputs of each kind.
+use Rattle.std.proofs.Common.{◌≡◌, ℕ, ◌+◌, ◌≤◌, List, length, refl, ap, sym, ◌∙◌}
+use Rattle.residue_field.specs.Modulus.{res_modulus}
+use Rattle.refusals.specs.declared.Refused.{Refused}
+use Rattle.refusals.specs.declared.ReadModel.{ReadModel}
+use Rattle.refusals.specs.declared.ReadModel.TheVariants.{Refused as Broken, NoMemory}
+use Rattle.refusals.specs.declared.Place.TheVariants.{Line}
+use Rattle.refusals.specs.declared.Why.{Why}
+use Rattle.mixed_model.specs.Models.{MixedModel, IsModel}
+use Rattle.matrix_reader.specs.Models.{GivesModel, IsRefusal}
+use Rattle.matrix_reader.proofs.FirstBroken.{gives-unbroken, first_broken-one}
+use Rattle.matrix_reader.proofs.ModelLaws.{text_gives_one}
+use Rattle.text_lengths.proofs.InputCounts as equation_lists
+use Rattle.cert_text.specs.Texts.{kind_text}
+use Rattle.cert_text.specs.declared.kind.Kind.{Kind}
+use Rattle.cert_text.specs.declared.kind.Kind.TheVariants.{Matrix, Netlist}
+use Rattle.report_cli.specs.Kinds.{Gives, IsRefused, IsWhyUnread}
+
+-- kinds have words of their own
+pub kind-one : (a b : Kind) → kind_text a ≡ kind_text b → a ≡ b
+kind-one Matrix Matrix same = refl
+kind-one Matrix Netlist same = absurd cc
+kind-one Netlist Matrix same = absurd cc
+kind-one Netlist Netlist same = refl
+
+pub is-model : (kind : Kind) (input : List ℕ) (model : MixedModel) → Gives kind input model → IsModel res_modulus model
+is-model Matrix input model gives = (gives.given).is_model
+is-model Netlist input model gives = absurd gives
+
+pub gives-one : (kind : Kind) (input : List ℕ) (a b : MixedModel) → Gives kind input a → Gives kind input b → a ≡ b
+gives-one Matrix input a b gives_a gives_b = text_gives_one res_modulus input a b gives_a gives_b
+gives-one Netlist input a b gives_a gives_b = absurd gives_a
+
+-- a model has no more names than its input has bytes
+pub few-names : (kind : Kind) (input : List ℕ) (model : MixedModel) → Gives kind input model →
+    (length model.equations ≤ length input) × (length model.unknowns ≤ length input)
+few-names Matrix input model gives = equation_lists.few-names res_modulus input model gives
+few-names Netlist input model gives = absurd gives
+
+-- an input that gives a model has no refusal
+pub given-unrefused : {A : Type 0} (kind : Kind) (input : List ℕ) (refused : Refused) (model : MixedModel) →
+    Gives kind input model → IsRefused kind input refused → A
+given-unrefused Matrix input refused model gives (n, why, is, first) = absurd (gives-unbroken res_modulus input model n why gives first)
+given-unrefused Netlist input refused model gives is = absurd gives
+
+-- an input has one refusal, or none
+pub refused-alone : (kind : Kind) (input : List ℕ) (refused other : Refused) → IsRefused kind input refused → IsRefused kind input other → refused ≡ other
+refused-alone Matrix input refused other (m, v, is, first) (n, w, is_other, second) =
+    let same = first_broken-one res_modulus input m n v w first second in
+    let at : ℕ → Why → Refused = λ k why. record { place = Line (k + 1); why = why } in
+    is ∙ ap (λ k. at k v) same.0 ∙ ap (λ why. at n why) same.1 ∙ sym is_other
+refused-alone Netlist input refused other is is_other = absurd is
+
+-- why an equation list is not read is why an input of its kind is not read
+pub unread-list : (input : List ℕ) (why : ReadModel) → IsRefusal res_modulus input why → IsWhyUnread Matrix input why
+unread-list input (Broken refused) is = is
+unread-list input NoMemory is = tt

@@ -1,0 +1,66 @@
+-- The command of a parse.
+use Rattle.std.proofs.Common.{◌≡◌, ℕ, List, [], Option, Some, None, MatchOption, option_map, codes, true, inl, inr, refl, ap, subst, sym, ◌∙◌}
+use Rattle.clap.specs.Walk.{Row, Text, first_of}
+use Rattle.clap.specs.Faults.{fault_of, is_simple_and_free}
+use Rattle.clap.specs.Kinds.{HasKind, IsAmong}
+use Rattle.clap.specs.Simple.{App, HasMatchesOf, is_simple, subcommand_of, subcommand_rows_of}
+use Rattle.clap.specs.Values.{kind_of}
+use Rattle.clap.specs.declared.error.Error.{Error}
+use Rattle.clap.specs.declared.error.kind.ErrorKind.TheVariants.{OutOfMemory}
+use Rattle.clap.specs.declared.parser.matches.ArgMatches.{ArgMatches}
+use Rattle.clap.proofs.OnLiterals.{clap_on_literals}
+use Rattle.report_cli.specs.CommandLine.{command_line}
+use Rattle.report_cli.specs.Words.{AreNamesOf, Names, NamesNone, AreTaken}
+use Rattle.report_cli.specs.declared.command.Command.{Command}
+
+-- a subcommand by its name and its rows
+pub met_by : {B : Type 0} (met : Option B) (f : B → Text) (g : B → List Row) (name : Text) (rows : List Row) →
+    Some name ≡ option_map f met → Some rows ≡ option_map (λ (p : Text × List Row). p.1) (option_map {U = Text × List Row} (λ b. (f b, g b)) met) →
+    option_map {U = Text × List Row} (λ b. (f b, g b)) met ≡ Some (name, rows)
+met_by None f g name rows is_name are_rows = absurd cc
+met_by (Some b) f g name rows is_name are_rows =
+    let one : name ≡ f b = cc in
+    let two : rows ≡ g b = cc in
+    rw (one, two) refl
+
+-- where nothing is at KIND
+pub of_no_kind : (name : Text) (rows : List Row) → None ≡ first_of (codes "KIND") rows → NamesNone (Some (name, rows))
+of_no_kind name rows nothing command (kind, there, names) = let both : None ≡ Some kind = nothing ∙ there in absurd cc
+
+-- where something is
+pub of_names : (name kind : Text) (rows : List Row) (result : Option Command) → Some kind ≡ first_of (codes "KIND") rows →
+    MatchOption result ((command : Command) → AreNamesOf name kind command → ⊥) (AreNamesOf name kind) →
+    MatchOption result (NamesNone (Some (name, rows))) (Names (Some (name, rows)))
+of_names name kind rows (Some command) there named = (kind, sym there, named)
+of_names name kind rows None there named = λ command (word, found, names).
+    let both : Some kind ≡ Some word = there ∙ found in
+    let one : kind ≡ word = cc in
+    named command (names.0, (one ∙ names.1.0, names.1.1))
+
+pub with_none : {T : Type 0} (P : Type 0) (Q : T → Type 0) (result : Option T) → result ≡ None → P → MatchOption result P Q
+with_none P Q None is holds = holds
+with_none P Q (Some it) is holds = absurd cc
+
+-- the command line is one of which clap tells each kind of error
+pub is_free : is_simple_and_free command_line ≡ true
+unfolding clap_on_literals
+is_free = refl
+
+pub is_plain : is_simple command_line ≡ true
+unfolding clap_on_literals
+is_plain = refl
+
+pub taken : (app : App) (words : List Text) → app ≡ command_line → (is_simple_and_free app ≡ true → fault_of app words ≡ []) → AreTaken words
+taken app words is fits = sym (ap (λ (a : App). fault_of a words) is) ∙ fits (ap is_simple_and_free is ∙ is_free)
+
+pub not_taken : (app : App) (words : List Text) (error : Error) → app ≡ command_line → (is_simple_and_free app ≡ true → HasKind (fault_of app words) error) →
+    (kind_of error ≡ OutOfMemory → ⊥) → ¬ AreTaken words
+not_taken app words error is fails other none = elim (fails (ap is_simple_and_free is ∙ is_free)) [
+  | inl memory ↦ other memory
+  | inr among ↦ subst (IsAmong (kind_of error)) (ap (λ (a : App). fault_of a words) is ∙ none) among
+]
+
+-- what a parse met is what clap's definition says
+pub met_is : (app : App) (words : List Text) (matches : ArgMatches) → app ≡ command_line → HasMatchesOf app words matches →
+    subcommand_rows_of matches ≡ subcommand_of command_line words
+met_is app words matches is has = (has (ap is_simple is ∙ is_plain)).1 ∙ ap (λ (a : App). subcommand_of a words) is

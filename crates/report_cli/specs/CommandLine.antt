@@ -1,0 +1,23 @@
+-- The command line `mixed SUBCOMMAND KIND`, as clap reads it.
+use Rattle.std.specs.Prelude.{[], ◌∷◌, true, false, codes}
+use Rattle.clap.specs.Simple.{App, Shape, new_rule, new_shape}
+use Rattle.clap.specs.Walk.{Rule, Text}
+
+-- the one argument of a subcommand, which is required; each word is one to clap
+abbrev pub kind_argument : Rule
+kind_argument = record (new_rule (codes "KIND")) { required = true }
+
+-- a subcommand of this name, with that argument
+abbrev pub with_kind : Text → Shape
+with_kind name = record (new_shape name) { rules = kind_argument ∷ [] }
+
+-- the command `mixed`: a subcommand is required, and where there is no word at all help is given
+abbrev pub command_line : App
+command_line = record {
+  top = record (new_shape (codes "mixed")) {
+    is_leaf = false;
+    subcommand_required = true;
+    arg_required_else_help = true;
+  };
+  subs = with_kind (codes "analyse") ∷ with_kind (codes "layer") ∷ [];
+}
