@@ -3,3 +3,4 @@ pub mod Terms
 pub mod Rules
 pub mod Models
 pub mod Circuits
+pub mod ReaderStates

@@ -5,5 +5,6 @@ mod building;
 mod circuit;
 mod device;
 mod kind;
+mod words;
 
 pub use kind::DeviceKind;

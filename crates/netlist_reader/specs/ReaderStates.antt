@@ -1,0 +1,58 @@
+-- What reading a line of a netlist answers and leaves.
+use Rattle.std.specs.Prelude.{◌≡◌, ℕ, List, [], ◌∷◌, ◌++◌, map, Option, Some, None, Result, Ok, Err}
+use Rattle.std.specs.Option.{option_or, option_to_list}
+use Rattle.refusals.specs.declared.Why.{Why}
+use Rattle.refusals.specs.declared.Why.TheVariants.{Unsupported}
+use Rattle.line_reader.specs.Answers.{AnswersRule, OnBroken}
+use Rattle.line_reader.specs.declared.fault.LineFault.{LineFault}
+use Rattle.netlist_reader.specs.declared.kind.DeviceKind.{DeviceKind}
+use Rattle.netlist_reader.specs.Devices.{Device, device_in, device_of, from_name, kind_of, word_after_nodes}
+use Rattle.netlist_reader.specs.Rules.{shape_rule, name_rule, number_rule, place_rule}
+use Rattle.netlist_reader.specs.Circuits.{Parts}
+
+-- the rules of a device by itself, by the words from its name on
+abbrev pub own_rule : ℕ → DeviceKind → List (List ℕ) → Option Why
+own_rule p kind words =
+    option_or (shape_rule kind words)
+    (option_or (name_rule (device_of p kind words)) (number_rule p kind (word_after_nodes kind words)))
+
+-- of a line by itself, where this is its kind
+abbrev pub own_kind_rule : ℕ → Option DeviceKind → List (List ℕ) → Option Why
+own_kind_rule p None words = Some Unsupported
+own_kind_rule p (Some kind) words = own_rule p kind (from_name kind words)
+
+-- of a line by itself
+abbrev pub own_line_rule : ℕ → List (List ℕ) → Option Why
+own_line_rule p [] = None
+own_line_rule p (word ∷ words) = own_kind_rule p (kind_of word) (word ∷ words)
+
+-- of a line's device among those before it
+abbrev pub here_rule : List Device → List Device → Option Why
+here_rule before [] = None
+here_rule before (device ∷ devices) = place_rule before device
+
+-- What reading a device by the words from its name on answers.
+abbrev pub ReadsDevice : ℕ → DeviceKind → List (List ℕ) → Result Device LineFault → Type 0
+ReadsDevice p kind words (Ok device) = (own_rule p kind words ≡ None) × (device ≡ device_of p kind words)
+ReadsDevice p kind words (Err fault) = OnBroken fault (λ why. own_rule p kind words ≡ Some why)
+
+-- What reading the device of a line answers, by its words.
+abbrev pub ReadsWords : ℕ → List (List ℕ) → Result (Option Device) LineFault → Type 0
+ReadsWords p words (Ok device) = (own_line_rule p words ≡ None) × (option_to_list device ≡ device_in p words)
+ReadsWords p words (Err fault) = OnBroken fault (λ why. own_line_rule p words ≡ Some why)
+
+-- These devices of the line of this number are put last.
+abbrev pub PutsLast : ℕ → Parts → Parts → List Device → Type 0
+PutsLast line old new devices =
+    (new.devices ≡ old.devices ++ devices) × (new.lines ≡ old.lines ++ map (λ device. line) devices)
+
+-- What adding a device answers and leaves.
+abbrev pub AddsDevice : ℕ → Parts → Parts → Device → Result (Unit {0}) LineFault → Type 0
+AddsDevice line old new device result =
+    AnswersRule (place_rule old.devices device) (PutsLast line old new (device ∷ [])) result
+
+-- What reading a line answers and leaves.
+abbrev pub ReadsLine : ℕ → ℕ → Parts → Parts → List (List ℕ) → Result (Unit {0}) LineFault → Type 0
+ReadsLine p line old new words result =
+    AnswersRule (option_or (own_line_rule p words) (here_rule old.devices (device_in p words)))
+    (PutsLast line old new (device_in p words)) result

@@ -1,0 +1,133 @@
+//! Devices, read by the words of their lines.
+
+ghost use Rattle.std.specs.Prelude.{◌≡◌, true, false, map, take, if◌then◌else◌, nat_eq, nat_le, IfOk, IfSome, MatchResult};
+ghost use Rattle.std.specs.List.{list_all};
+ghost use Rattle.std.specs.String.{string_bytes};
+ghost use Rattle.line_lexer.specs.Names.{is_name, is_node};
+ghost use Rattle.line_reader.specs.Answers.{OnBroken};
+ghost use Rattle.netlist_reader.specs.Circuits.{IsDevice};
+ghost use Rattle.netlist_reader.specs.Devices.{is_directive, words_wanted};
+ghost use Rattle.netlist_reader.specs.ReaderStates.{ReadsDevice, ReadsWords};
+
+use crate::device::Device;
+use crate::kind::DeviceKind;
+use line_lexer::{Tokens, name, node, number};
+use line_reader::LineFault;
+use refusals::Why;
+use residue_field::Field;
+use std::alloc::{AllocError, Global};
+
+// As many words of a line as can matter: a directive needs 7, and has one too many with 8.
+const MOST_WORDS: usize = 8;
+
+/// The first words of a line, as many as can matter.
+pub(crate) fn first_words<'a>(
+    alloc: Global,
+    words: Tokens<'a>,
+) -> Result<Vec<&'a str>, AllocError>
+    ensures { IfOk result (λ kept. map (λ word. word.now) kept.items ≡ take 8 (map (λ word. word.1) words.entry)) }
+{
+    let mut kept = Vec::new(alloc);
+    for word in words.take(MOST_WORDS) {
+        kept.push(word.text)?;
+    }
+    Ok(kept)
+}
+
+/// The device that the words of a line give, if there are words.
+pub(crate) fn read_words<F: Field>(
+    alloc: Global,
+    words: &[&str],
+) -> Result<Option<Device<F>>, LineFault>
+    ensures device { IfOk result (λ device. IfSome device (IsDevice F.modulus)) }
+    ensures read { ReadsWords F.modulus (map (λ word. word.now) words.now) result }
+{
+    let Some(first) = words.first() else {
+        return Ok(None);
+    };
+    let Some(kind) = DeviceKind::of(first) else {
+        return Err(LineFault::Broken(Why::Unsupported));
+    };
+    let from_name = if kind.is_directive() {
+        &words[1..]
+    } else {
+        words
+    };
+    let device = read_device(alloc, kind, from_name)?;
+    Ok(Some(device))
+}
+
+// The device of a kind that some words give, from its name on.
+fn read_device<F: Field>(
+    alloc: Global,
+    kind: DeviceKind,
+    words: &[&str],
+) -> Result<Device<F>, LineFault>
+    ensures device { IfOk result (IsDevice F.modulus) }
+    ensures read { ReadsDevice F.modulus kind (map (λ word. word.now) words.now) result }
+{
+    if !has_shape(kind, words.len()) {
+        return Err(LineFault::Broken(Why::BadShape));
+    }
+    let after = 1 + kind.nodes_wanted();
+    let name = read_name(alloc, words[0])?;
+    let nodes = read_nodes(alloc, &words[1..after])?;
+    let last = words.get(after).copied().unwrap_or("");
+    let source = if kind.has_source() {
+        read_name(alloc, last)?
+    } else {
+        String::new(alloc)
+    };
+    let number: F = if kind.has_number() {
+        number(last)?
+    } else {
+        F::zero()
+    };
+    number.in_field();
+    Ok(Device {
+        kind,
+        name,
+        nodes,
+        source,
+        number,
+    })
+}
+
+// Whether there are words enough from the name on, and for a directive not too many.
+fn has_shape(kind: DeviceKind, count: usize) -> bool
+    ensures { result ≡ (if is_directive kind then nat_eq count (words_wanted kind) else nat_le (words_wanted kind) count) }
+{
+    if kind.is_directive() {
+        count == kind.words_wanted()
+    } else {
+        kind.words_wanted() <= count
+    }
+}
+
+// A name.
+fn read_name(alloc: Global, text: &str) -> Result<String, LineFault>
+    ensures { MatchResult result
+        (λ name. (is_name text.now ≡ true) × (string_bytes name ≡ text.now))
+        (λ fault. OnBroken fault (λ why. (is_name text.now ≡ false) × (why ≡ Why.BadName))) }
+{
+    name(text)?;
+    let name = String::from_str(alloc, text)?;
+    Ok(name)
+}
+
+// Some nodes.
+fn read_nodes(alloc: Global, texts: &[&str]) -> Result<Vec<String>, LineFault>
+    ensures { MatchResult result
+        (λ nodes. (list_all is_node (map (λ text. text.now) texts.now) ≡ true)
+        × (map string_bytes nodes.items ≡ map (λ text. text.now) texts.now))
+        (λ fault. OnBroken fault (λ why. (list_all is_node (map (λ text. text.now) texts.now) ≡ false)
+        × (why ≡ Why.BadName))) }
+{
+    let mut nodes = Vec::new(alloc);
+    for text in texts {
+        node(text)?;
+        let node = String::from_str(alloc, text)?;
+        nodes.push(node)?;
+    }
+    Ok(nodes)
+}
