@@ -1,1 +1,3 @@
 mod WordSteps
+mod DeviceSteps
+mod FaultSteps

@@ -1,14 +1,19 @@
 -- What reading a line of a netlist answers and leaves.
-use Rattle.std.specs.Prelude.{◌≡◌, ℕ, List, [], ◌∷◌, ◌++◌, map, Option, Some, None, Result, Ok, Err}
+use Rattle.std.specs.Prelude.{◌≡◌, ℕ, Bool, not, ◌||◌, List, [], ◌∷◌, ◌++◌, map, Option, Some, None, Result, Ok, Err}
 use Rattle.std.specs.Option.{option_or, option_to_list}
 use Rattle.refusals.specs.declared.Why.{Why}
 use Rattle.refusals.specs.declared.Why.TheVariants.{Unsupported}
+use Rattle.line_lexer.specs.Names.{is_name}
 use Rattle.line_reader.specs.Answers.{AnswersRule, OnBroken}
 use Rattle.line_reader.specs.declared.fault.LineFault.{LineFault}
 use Rattle.netlist_reader.specs.declared.kind.DeviceKind.{DeviceKind}
-use Rattle.netlist_reader.specs.Devices.{Device, device_in, device_of, from_name, kind_of, word_after_nodes}
+use Rattle.netlist_reader.specs.Devices.{Device, device_in, device_of, from_name, has_source, kind_of, word_after_nodes}
 use Rattle.netlist_reader.specs.Rules.{shape_rule, name_rule, number_rule, place_rule}
 use Rattle.netlist_reader.specs.Circuits.{Parts}
+
+-- the source of a device is a name, where its kind has one
+abbrev pub keeps_source_name : DeviceKind → List ℕ → Bool
+keeps_source_name kind source = not (has_source kind) || is_name source
 
 -- the rules of a device by itself, by the words from its name on
 abbrev pub own_rule : ℕ → DeviceKind → List (List ℕ) → Option Why

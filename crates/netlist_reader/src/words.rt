@@ -1,13 +1,16 @@
 //! Devices, read by the words of their lines.
 
-ghost use Rattle.std.specs.Prelude.{◌≡◌, true, false, map, take, if◌then◌else◌, nat_eq, nat_le, IfOk, IfSome, MatchResult};
+ghost use Rattle.std.specs.Prelude.{◌≡◌, true, false, [], Some, None, map, take, if◌then◌else◌, nat_eq, nat_le, slice_index_or, IfOk, IfSome, MatchResult};
 ghost use Rattle.std.specs.List.{list_all};
+ghost use Rattle.std.specs.Result.{result_unwrap_or};
 ghost use Rattle.std.specs.String.{string_bytes};
 ghost use Rattle.line_lexer.specs.Names.{is_name, is_node};
+ghost use Rattle.line_lexer.specs.Numbers.{number_of};
 ghost use Rattle.line_reader.specs.Answers.{OnBroken};
 ghost use Rattle.netlist_reader.specs.Circuits.{IsDevice};
-ghost use Rattle.netlist_reader.specs.Devices.{is_directive, words_wanted};
-ghost use Rattle.netlist_reader.specs.ReaderStates.{ReadsDevice, ReadsWords};
+ghost use Rattle.netlist_reader.specs.Devices.{has_number, has_source, is_directive, words_wanted};
+ghost use Rattle.netlist_reader.specs.Rules.{number_rule};
+ghost use Rattle.netlist_reader.specs.ReaderStates.{ReadsDevice, ReadsWords, keeps_source_name};
 
 use crate::device::Device;
 use crate::kind::DeviceKind;
@@ -70,19 +73,11 @@ fn read_device<F: Field>(
         return Err(LineFault::Broken(Why::BadShape));
     }
     let after = 1 + kind.nodes_wanted();
-    let name = read_name(alloc, words[0])?;
+    let name = read_name(alloc, word_at(words, 0))?;
     let nodes = read_nodes(alloc, &words[1..after])?;
-    let last = words.get(after).copied().unwrap_or("");
-    let source = if kind.has_source() {
-        read_name(alloc, last)?
-    } else {
-        String::new(alloc)
-    };
-    let number: F = if kind.has_number() {
-        number(last)?
-    } else {
-        F::zero()
-    };
+    let last = word_at(words, after);
+    let source = read_source(alloc, kind, last)?;
+    let number: F = read_number(kind, last)?;
     number.in_field();
     Ok(Device {
         kind,
@@ -91,6 +86,13 @@ fn read_device<F: Field>(
         source,
         number,
     })
+}
+
+// The word at a place, or one without bytes.
+fn word_at<'a>(words: &[&'a str], place: usize) -> &'a str
+    ensures { result.now ≡ slice_index_or (map (λ word. word.now) words.now) place [] }
+{
+    words.get(place).copied().unwrap_or("")
 }
 
 // Whether there are words enough from the name on, and for a directive not too many.
@@ -113,6 +115,33 @@ fn read_name(alloc: Global, text: &str) -> Result<String, LineFault>
     name(text)?;
     let name = String::from_str(alloc, text)?;
     Ok(name)
+}
+
+// The name of a device's source, where its kind has one.
+fn read_source(alloc: Global, kind: DeviceKind, text: &str) -> Result<String, LineFault>
+    ensures { let source = (if has_source kind then text.now else []) in MatchResult result
+        (λ name. (keeps_source_name kind source ≡ true) × (string_bytes name ≡ source))
+        (λ fault. OnBroken fault (λ why. (keeps_source_name kind source ≡ false) × (why ≡ Why.BadName))) }
+{
+    if kind.has_source() {
+        read_name(alloc, text)
+    } else {
+        Ok(String::new(alloc))
+    }
+}
+
+// The value of a device's number, where its kind has one.
+fn read_number<F: Field>(kind: DeviceKind, text: &str) -> Result<F, Why>
+    ensures { MatchResult result
+        (λ value. (number_rule F.modulus kind text.now ≡ None)
+        × (F.number value ≡ (if has_number kind then result_unwrap_or (number_of F.modulus text.now) 0 else 0)))
+        (λ why. number_rule F.modulus kind text.now ≡ Some why) }
+{
+    if kind.has_number() {
+        number(text)
+    } else {
+        Ok(F::zero())
+    }
 }
 
 // Some nodes.
