@@ -1,6 +1,6 @@
 //! Devices, read by the words of their lines.
 
-ghost use Rattle.std.specs.Prelude.{◌≡◌, true, false, [], Some, None, map, take, if◌then◌else◌, nat_eq, nat_le, slice_index_or, IfOk, IfSome, MatchResult};
+ghost use Rattle.std.specs.Prelude.{◌≡◌, ◌<◌, true, false, length, [], Some, None, map, take, if◌then◌else◌, nat_eq, nat_le, slice_index_or, IfOk, IfSome, MatchResult};
 ghost use Rattle.std.specs.List.{list_all};
 ghost use Rattle.std.specs.Result.{result_unwrap_or};
 ghost use Rattle.std.specs.String.{string_bytes};
@@ -8,7 +8,7 @@ ghost use Rattle.line_lexer.specs.Names.{is_name, is_node};
 ghost use Rattle.line_lexer.specs.Numbers.{number_of};
 ghost use Rattle.line_reader.specs.Answers.{OnBroken};
 ghost use Rattle.netlist_reader.specs.Circuits.{IsDevice};
-ghost use Rattle.netlist_reader.specs.Devices.{has_number, has_source, is_directive, words_wanted};
+ghost use Rattle.netlist_reader.specs.Devices.{from_name, has_number, has_source, is_directive, words_wanted};
 ghost use Rattle.netlist_reader.specs.Rules.{number_rule};
 ghost use Rattle.netlist_reader.specs.ReaderStates.{ReadsDevice, ReadsWords, keeps_source_name};
 
@@ -51,13 +51,20 @@ pub(crate) fn read_words<F: Field>(
     let Some(kind) = DeviceKind::of(first) else {
         return Err(LineFault::Broken(Why::Unsupported));
     };
-    let from_name = if kind.is_directive() {
+    let device = read_device(alloc, kind, from_name(kind, words))?;
+    Ok(Some(device))
+}
+
+// The words of a line from the device's name on: a directive stands before it.
+fn from_name<'a, 'b>(kind: DeviceKind, words: &'b [&'a str]) -> &'b [&'a str]
+    requires { 0 < length words.now }
+    ensures { map (λ word. word.now) result.now ≡ from_name kind (map (λ word. word.now) words.now) }
+{
+    if kind.is_directive() {
         &words[1..]
     } else {
         words
-    };
-    let device = read_device(alloc, kind, from_name)?;
-    Ok(Some(device))
+    }
 }
 
 // The device of a kind that some words give, from its name on.
