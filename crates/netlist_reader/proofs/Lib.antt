@@ -1,3 +1,6 @@
 mod WordSteps
 mod DeviceSteps
 mod FaultSteps
+mod LabelLaws
+mod NodeSteps
+mod CircuitSteps

@@ -4,3 +4,4 @@ pub mod Rules
 pub mod Models
 pub mod Circuits
 pub mod ReaderStates
+pub mod Faults

@@ -1,14 +1,18 @@
 -- What reading a line of a netlist answers and leaves.
-use Rattle.std.specs.Prelude.{◌≡◌, ℕ, Bool, not, ◌||◌, List, [], ◌∷◌, ◌++◌, map, Option, Some, None, Result, Ok, Err}
+use Rattle.std.specs.Prelude.{◌≡◌, ◌⊎◌, ℕ, ◌+◌, ◌≤◌, Bool, true, false, not, ◌||◌, ◌&&◌, List, [], ◌∷◌, ◌++◌, length, map, fold, if◌then◌else◌, nat_le, Option, Some, None, Result, Ok, Err}
 use Rattle.std.specs.Option.{option_or, option_to_list}
 use Rattle.refusals.specs.declared.Why.{Why}
-use Rattle.refusals.specs.declared.Why.TheVariants.{Unsupported}
+use Rattle.refusals.specs.declared.Why.TheVariants.{Twice, TooMany, Unsupported}
+use Rattle.limits.specs.Limits.{equation_limit}
 use Rattle.line_lexer.specs.Names.{is_name}
+use Rattle.mixed_model.specs.Names.{has_name, see}
 use Rattle.line_reader.specs.Answers.{AnswersRule, OnBroken}
 use Rattle.line_reader.specs.declared.fault.LineFault.{LineFault}
+use Rattle.line_reader.specs.declared.fault.LineFault.TheVariants.{Broken, NoMemory}
 use Rattle.netlist_reader.specs.declared.kind.DeviceKind.{DeviceKind}
-use Rattle.netlist_reader.specs.Devices.{Device, device_in, device_of, from_name, has_source, kind_of, word_after_nodes}
+use Rattle.netlist_reader.specs.Devices.{Device, device_in, device_of, from_name, has_source, is_ground, kind_of, word_after_nodes}
 use Rattle.netlist_reader.specs.Rules.{shape_rule, name_rule, number_rule, place_rule}
+use Rattle.netlist_reader.specs.Terms.{equation_words, unknown_words}
 use Rattle.netlist_reader.specs.Circuits.{Parts}
 
 -- the source of a device is a name, where its kind has one
@@ -61,3 +65,38 @@ abbrev pub ReadsLine : ℕ → ℕ → Parts → Parts → List (List ℕ) → R
 ReadsLine p line old new words result =
     AnswersRule (option_or (own_line_rule p words) (here_rule old.devices (device_in p words)))
     (PutsLast line old new (device_in p words)) result
+
+-- What putting a device's name last answers and leaves.
+abbrev pub AddsName : List (List ℕ) → List (List ℕ) → List ℕ → Result (Unit {0}) LineFault → Type 0
+AddsName old new name (Ok _) = (has_name old name ≡ false) × (new ≡ old ++ name ∷ [])
+AddsName old new name (Err (Broken why)) =
+    ((why ≡ Twice) × (has_name old name ≡ true))
+    ⊎ ((why ≡ TooMany) × (has_name old name ≡ false) × (equation_limit ≤ length old))
+AddsName old new name (Err NoMemory) = Unit {0}
+
+-- a node put last, unless it is the ground or there
+abbrev pub see_node : List (List ℕ) → List ℕ → List (List ℕ)
+see_node seen node = if is_ground node then seen else see seen node
+
+-- and some nodes
+abbrev pub see_nodes : List (List ℕ) → List (List ℕ) → List (List ℕ)
+see_nodes seen nodes = fold see_node seen nodes
+
+-- whether equations and unknowns of these numbers, beside those of the nodes, are few enough
+abbrev pub has_room : ℕ → ℕ → ℕ → Bool
+has_room nodes equations unknowns =
+    nat_le (nodes + equations) equation_limit && nat_le (nodes + unknowns) equation_limit
+
+-- What counting the equations and unknowns of one more device answers and leaves.
+abbrev pub TakesRoom : DeviceKind → Parts → Parts → Result (Unit {0}) LineFault → Type 0
+TakesRoom kind old new (Ok _) =
+    (new ≡ record old {
+      own_equations = old.own_equations + length (equation_words kind);
+      own_unknowns = old.own_unknowns + length (unknown_words kind);
+    })
+    × (has_room (length old.nodes) new.own_equations new.own_unknowns ≡ true)
+TakesRoom kind old new (Err (Broken why)) =
+    (why ≡ TooMany)
+    × (has_room (length old.nodes) (old.own_equations + length (equation_words kind))
+    (old.own_unknowns + length (unknown_words kind)) ≡ false)
+TakesRoom kind old new (Err NoMemory) = Unit {0}

@@ -4,6 +4,7 @@
 mod building;
 mod circuit;
 mod device;
+mod fault;
 mod kind;
 mod words;
 
