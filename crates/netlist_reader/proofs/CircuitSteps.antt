@@ -1,5 +1,5 @@
 -- One device more in a circuit.
-use Rattle.std.proofs.Common.{◌≡◌, ℕ, ◌+◌, ◌<◌, ◌≤◌, Bool, true, false, not, ◌&&◌, All, List, [], ◌∷◌, ◌++◌, length, map, codes, Option, Some, None, refl, sym, ap, subst, ◌∙◌, arith, length-append, if◌then◌else◌}
+use Rattle.std.proofs.Common.{◌≡◌, ℕ, ◌+◌, ◌<◌, ◌≤◌, Bool, true, false, not, ◌&&◌, All, List, [], ◌∷◌, ◌++◌, length, map, codes, Option, Some, None, Result, Ok, Err, inl, inr, refl, sym, ap, subst, ◌∙◌, arith, length-append, if◌then◌else◌}
 use Rattle.std.specs.Prelude.{nat_le}
 use Rattle.std.specs.List.{flat_map, IsDistinct}
 use Rattle.std.specs.Option.{option_or}
@@ -20,7 +20,11 @@ use Rattle.netlist_reader.specs.Devices.{Device, device_names, nodes_of}
 use Rattle.netlist_reader.specs.Terms.{dotted, equations_of, equation_words, own_names, unknowns_of, unknown_words}
 use Rattle.netlist_reader.specs.Rules.{new_rule, place_rule, room_rule, unless}
 use Rattle.netlist_reader.specs.Circuits.{IsCircuit, IsDevice, Parts}
-use Rattle.netlist_reader.specs.ReaderStates.{has_room, see_nodes}
+use Rattle.line_reader.specs.Answers.{OnBroken}
+use Rattle.line_reader.specs.declared.fault.LineFault.{LineFault}
+use Rattle.line_reader.specs.declared.fault.LineFault.TheVariants.{Broken, NoMemory}
+use Rattle.netlist_reader.specs.ReaderStates.{AddsName, TakesRoom, has_room, see_nodes}
+use Rattle.netlist_reader.proofs.FaultSteps.{on_broken}
 use Rattle.netlist_reader.proofs.DeviceSteps.{first_broken, first_kept, unless_false, unless_true}
 use Rattle.netlist_reader.proofs.NodeSteps.{nodes_of-push}
 
@@ -130,3 +134,59 @@ circuit-push p old new device circuit good fresh devices names nodes equations u
       few_equations = subst (λ list. length (equations_of list) ≤ 4096) (sym devices) (omega (arith, equations-count all, few_equations, own_equations, ap length seen));
       few_unknowns = subst (λ list. length (unknowns_of list) ≤ 4096) (sym devices) (omega (arith, unknowns-count all, few_unknowns, own_unknowns, ap length seen));
     }
+
+-- what a fault at the device's name says
+pub name-fault : (devices : List Device) (device : Device) (names new : List (List ℕ)) (name : List ℕ) (fault : LineFault) → names ≡ device_names devices → name ≡ device.name → AddsName names new name (Err fault) → OnBroken fault (λ why. place_rule devices device ≡ Some why)
+name-fault devices device names new name NoMemory all same adds = tt
+name-fault devices device names new name (Broken why) all same (inl twice) =
+    place-twice devices device ((λ i. has_name (sym all i) (sym same i)) ∙ twice.1) ∙ ap Some (sym twice.0)
+name-fault devices device names new name (Broken why) all same (inr full) =
+    place-full devices device ((λ i. has_name (sym all i) (sym same i)) ∙ full.1) (subst (λ list. 4096 ≤ length list) all full.2) ∙ ap Some (sym full.0)
+
+-- and one at its nodes, or at the room
+pub nodes-fault : (p : ℕ) (parts : Parts) (device : Device) (nodes : List (List ℕ)) (fault : LineFault) → IsCircuit p parts → has_name parts.names device.name ≡ false → nodes ≡ see_nodes parts.nodes device.nodes
+    → OnBroken fault (λ why. (why ≡ TooMany) × (4096 < length nodes)) → OnBroken fault (λ why. place_rule parts.devices device ≡ Some why)
+nodes-fault p parts device nodes fault circuit new seen said =
+    let equations = length (own_names equation_words parts.devices) + length (equation_words device.kind) in
+    let unknowns = length (own_names unknown_words parts.devices) + length (unknown_words device.kind) in
+    on_broken (λ why. (why ≡ TooMany) × (4096 < length nodes)) (λ why. place_rule parts.devices device ≡ Some why) fault
+    (λ why full. place-room parts.devices device nodes equations unknowns false (ap (λ list. has_name list device.name) (sym circuit.names) ∙ new)
+    (seen ∙ ap (λ front. see_nodes front device.nodes) circuit.nodes) refl refl (no_room-nodes (length nodes) equations unknowns full.1) ∙ ap Some (sym full.0)) said
+
+-- the rule of a device's place, once its nodes are there, by the room
+pub place-counted : (p : ℕ) (parts : Parts) (device : Device) (nodes : List (List ℕ)) (equations unknowns : ℕ) (room : Bool) → IsCircuit p parts → has_name parts.names device.name ≡ false → nodes ≡ see_nodes parts.nodes device.nodes
+    → equations ≡ parts.own_equations + length (equation_words device.kind) → unknowns ≡ parts.own_unknowns + length (unknown_words device.kind)
+    → has_room (length nodes) equations unknowns ≡ room → place_rule parts.devices device ≡ unless room TooMany
+place-counted p parts device nodes equations unknowns room circuit new seen own_equations own_unknowns has =
+    place-room parts.devices device nodes equations unknowns room (ap (λ list. has_name list device.name) (sym circuit.names) ∙ new)
+    (seen ∙ ap (λ front. see_nodes front device.nodes) circuit.nodes)
+    (own_equations ∙ ap (λ n. n + length (equation_words device.kind)) circuit.own_equations)
+    (own_unknowns ∙ ap (λ n. n + length (unknown_words device.kind)) circuit.own_unknowns) has
+
+pub room-fault : (p : ℕ) (parts : Parts) (device : Device) (middle new : Parts) (kind : DeviceKind) (fault : LineFault) → IsCircuit p parts → has_name parts.names device.name ≡ false → middle.nodes ≡ see_nodes parts.nodes device.nodes
+    → middle.own_equations ≡ parts.own_equations → middle.own_unknowns ≡ parts.own_unknowns → kind ≡ device.kind → TakesRoom kind middle new (Err fault) → OnBroken fault (λ why. place_rule parts.devices device ≡ Some why)
+room-fault p parts device middle new kind NoMemory circuit fresh seen equations unknowns same takes = tt
+room-fault p parts device middle new kind (Broken why) circuit fresh seen equations unknowns same takes =
+    place-counted p parts device middle.nodes (middle.own_equations + length (equation_words kind)) (middle.own_unknowns + length (unknown_words kind)) false circuit fresh seen
+    (λ i. equations i + length (equation_words (same i))) (λ i. unknowns i + length (unknown_words (same i))) takes.1
+    ∙ ap Some (sym takes.0)
+
+-- A device is named, its nodes are seen, its room is taken, and it is put last.
+pub counted : (p : ℕ) (old middle taken new : Parts) (device : Device) (kind : DeviceKind) → IsCircuit p old → IsDevice p device → has_name old.names device.name ≡ false → kind ≡ device.kind
+    → middle.own_equations ≡ old.own_equations → middle.own_unknowns ≡ old.own_unknowns → middle.names ≡ old.names ++ device.name ∷ [] → middle.nodes ≡ see_nodes old.nodes device.nodes
+    → TakesRoom kind middle taken (Ok tt) → new.names ≡ taken.names → new.nodes ≡ taken.nodes → new.own_equations ≡ taken.own_equations → new.own_unknowns ≡ taken.own_unknowns → new.devices ≡ old.devices ++ device ∷ [] → IsCircuit p new
+counted p old middle taken new device kind circuit good fresh same equations unknowns named seen takes names nodes new_equations new_unknowns devices =
+    circuit-push p old new device circuit good fresh devices
+    (names ∙ ap (λ (parts : Parts). parts.names) takes.0 ∙ named)
+    (nodes ∙ ap (λ (parts : Parts). parts.nodes) takes.0 ∙ seen)
+    (new_equations ∙ ap (λ (parts : Parts). parts.own_equations) takes.0 ∙ (λ i. equations i + length (equation_words (same i))))
+    (new_unknowns ∙ ap (λ (parts : Parts). parts.own_unknowns) takes.0 ∙ (λ i. unknowns i + length (unknown_words (same i))))
+    ((λ i. has_room (length ((nodes ∙ ap (λ (parts : Parts). parts.nodes) takes.0) i)) (new_equations i) (new_unknowns i)) ∙ takes.1)
+
+pub counted-kept : (p : ℕ) (old middle taken : Parts) (device : Device) (kind : DeviceKind) → IsCircuit p old → has_name old.names device.name ≡ false → kind ≡ device.kind
+    → middle.own_equations ≡ old.own_equations → middle.own_unknowns ≡ old.own_unknowns → middle.nodes ≡ see_nodes old.nodes device.nodes
+    → TakesRoom kind middle taken (Ok tt) → place_rule old.devices device ≡ None
+counted-kept p old middle taken device kind circuit fresh same equations unknowns seen takes =
+    place-counted p old device middle.nodes taken.own_equations taken.own_unknowns true circuit fresh seen
+    (ap (λ (parts : Parts). parts.own_equations) takes.0 ∙ (λ i. equations i + length (equation_words (same i))))
+    (ap (λ (parts : Parts). parts.own_unknowns) takes.0 ∙ (λ i. unknowns i + length (unknown_words (same i)))) takes.1

@@ -18,3 +18,7 @@ on_same P Q fault other same follows said = subst (λ fault. OnBroken fault Q) (
 pub answers_fault : (rule : Option Why) (Left : Type 0) (fault : LineFault) → OnBroken fault (λ why. rule ≡ Some why) → AnswersRule rule Left (Err fault)
 answers_fault rule Left (Broken why) said = said
 answers_fault rule Left NoMemory said = tt
+
+-- and so does the same fault
+pub fault_answers : (rule : Option Why) (Left : Type 0) (fault other : LineFault) → fault ≡ other → OnBroken other (λ why. rule ≡ Some why) → AnswersRule rule Left (Err fault)
+fault_answers rule Left fault other same said = answers_fault rule Left fault (subst (λ fault. OnBroken fault (λ why. rule ≡ Some why)) (sym same) said)
