@@ -4,3 +4,6 @@ mod FaultSteps
 mod LabelLaws
 mod NodeSteps
 mod CircuitSteps
+mod KeptWords
+mod LineSteps
+mod ReadSteps

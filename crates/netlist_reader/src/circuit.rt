@@ -14,7 +14,7 @@ use crate::kind::DeviceKind;
 use crate::words::{first_words, read_words};
 use limits::EQUATION_LIMIT;
 use line_lexer::Tokens;
-use line_reader::LineFault;
+use line_reader::{LineFault, LineFormat};
 use mixed_model::Names;
 use refusals::Why;
 use residue_field::Field;
@@ -46,6 +46,21 @@ impl<F: Field> Model for Circuit<F> {
       own_equations = c.own_equations;
       own_unknowns = c.own_unknowns;
     } };
+}
+
+impl<F: Field> LineFormat for Circuit<F> {
+    ghost use Rattle.netlist_reader.specs.Circuits.{HasRead, IsCircuit};
+    ghost use Rattle.netlist_reader.specs.Rules.{words_rule};
+
+    ghost rule = { words_rule F.modulus };
+
+    ghost has_read = { HasRead F.modulus };
+
+    ghost is_ready = { IsCircuit F.modulus };
+
+    fn read_line(&mut self, number: u32, words: Tokens<'_>) -> Result<(), LineFault> {
+        self.read(number, words)
+    }
 }
 
 impl<F: Field> Circuit<F> {
