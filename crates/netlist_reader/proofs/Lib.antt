@@ -7,3 +7,4 @@ mod CircuitSteps
 mod KeptWords
 mod LineSteps
 mod ReadSteps
+mod SourceLaws

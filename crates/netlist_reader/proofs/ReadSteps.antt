@@ -2,7 +2,7 @@
 use Rattle.std.proofs.Common.{◌≡◌, ℕ, ◌+◌, List, [], ◌∷◌, ◌++◌, length, map, Option, Some, None, Result, Ok, Err, refl, sym, ap, subst, ◌∙◌, arith, append_assoc, length-append}
 use Rattle.std.specs.Prelude.{OnOk}
 use Rattle.std.specs.Option.{option_map, option_or, option_to_list}
-use Rattle.std.proofs.lemmas.List.{append-nil}
+use Rattle.std.proofs.lemmas.List.{append-nil, length-map}
 use Rattle.std.proofs.lemmas.Grind.{flat_map-append}
 use Rattle.refusals.specs.declared.Why.{Why}
 use Rattle.refusals.specs.declared.Why.TheVariants.{Unsupported}
@@ -13,7 +13,7 @@ use Rattle.netlist_reader.specs.declared.kind.DeviceKind.{DeviceKind}
 use Rattle.netlist_reader.specs.Devices.{Device, device_in, device_of, devices_in, from_name, kind_of, word_after_nodes}
 use Rattle.netlist_reader.specs.Rules.{kind_rule, name_rule, number_rule, place_rule, shape_rule, words_rule}
 use Rattle.netlist_reader.specs.Circuits.{HasRead, IsCircuit, Parts, device_lines}
-use Rattle.netlist_reader.specs.ReaderStates.{PutsLast, ReadsLine, here_rule, own_kind_rule, own_line_rule}
+use Rattle.netlist_reader.specs.ReaderStates.{IsReady, PutsLast, ReadsLine, here_rule, own_kind_rule, own_line_rule}
 
 -- the first of four rules, by the first three and the last
 regroup : (a b c d : Option Why) → option_or a (option_or b (option_or c d)) ≡ option_or (option_or a (option_or b c)) d
@@ -67,3 +67,12 @@ reads-words p number old new words (Err NoMemory) circuit read = λ before has n
 -- nothing is read at first
 pub read-none : (p : ℕ) (parts : Parts) → IsCircuit p parts → parts.devices ≡ [] → parts.lines ≡ [] → HasRead p parts []
 read-none p parts circuit devices lines = record { circuit = circuit; devices = devices; lines = lines }
+
+-- a line that is read leaves each device with the number of its line
+one_each : (number : ℕ) (old new : Parts) (devices : List Device) → PutsLast number old new devices → length old.lines ≡ length old.devices → length new.lines ≡ length new.devices
+one_each number old new devices puts same =
+    omega (arith, ap length puts.0, ap length puts.1, length-append old.devices devices, length-append old.lines (map (λ (device : Device). number) devices), length-map devices (λ (device : Device). number), same)
+
+pub ready-read : (p number : ℕ) (old new : Parts) (words : List (List ℕ)) (result : Result (Unit {0}) LineFault) → IsReady p old → OnOk result (IsCircuit p new) → ReadsLine p number old new words result → OnOk result (IsReady p new)
+ready-read p number old new words (Ok done) ready circuit read = record { circuit = circuit; one_line_each = one_each number old new (device_in p words) read.1 ready.one_line_each }
+ready-read p number old new words (Err fault) ready circuit read = tt

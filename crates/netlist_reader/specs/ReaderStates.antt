@@ -1,8 +1,10 @@
 -- What reading a line of a netlist answers and leaves.
-use Rattle.std.specs.Prelude.{◌≡◌, ◌⊎◌, ℕ, ◌+◌, ◌≤◌, Bool, true, false, not, ◌||◌, ◌&&◌, List, [], ◌∷◌, ◌++◌, length, map, fold, if◌then◌else◌, nat_le, Option, Some, None, Result, Ok, Err}
+use Rattle.std.specs.Prelude.{◌≡◌, ◌⊎◌, ℕ, ◌+◌, ◌≤◌, Bool, true, false, not, ◌||◌, ◌&&◌, List, [], ◌∷◌, ◌++◌, length, map, fold, position, slice_index, if◌then◌else◌, nat_le, Option, Some, None, Result, Ok, Err}
 use Rattle.std.specs.Option.{option_or, option_to_list}
 use Rattle.refusals.specs.declared.Why.{Why}
-use Rattle.refusals.specs.declared.Why.TheVariants.{Twice, TooMany, Unsupported}
+use Rattle.refusals.specs.declared.Why.TheVariants.{Twice, TooMany, Unsupported, NoGround, NoSuchSource}
+use Rattle.refusals.specs.declared.Place.TheVariants.{Line, Document}
+use Rattle.refusals.specs.declared.Refused.{Refused as Refusal}
 use Rattle.limits.specs.Limits.{equation_limit}
 use Rattle.line_lexer.specs.Names.{is_name}
 use Rattle.mixed_model.specs.Names.{has_name, see}
@@ -11,9 +13,9 @@ use Rattle.line_reader.specs.declared.fault.LineFault.{LineFault}
 use Rattle.line_reader.specs.declared.fault.LineFault.TheVariants.{Broken, NoMemory}
 use Rattle.netlist_reader.specs.declared.kind.DeviceKind.{DeviceKind}
 use Rattle.netlist_reader.specs.Devices.{Device, device_in, device_of, from_name, has_source, is_ground, kind_of, word_after_nodes}
-use Rattle.netlist_reader.specs.Rules.{shape_rule, name_rule, number_rule, place_rule}
+use Rattle.netlist_reader.specs.Rules.{shape_rule, name_rule, number_rule, place_rule, ground_rule, is_source}
 use Rattle.netlist_reader.specs.Terms.{equation_words, unknown_words}
-use Rattle.netlist_reader.specs.Circuits.{Parts}
+use Rattle.netlist_reader.specs.Circuits.{Parts, IsCircuit}
 
 -- the source of a device is a name, where its kind has one
 abbrev pub keeps_source_name : DeviceKind → List ℕ → Bool
@@ -100,3 +102,25 @@ TakesRoom kind old new (Err (Broken why)) =
     × (has_room (length old.nodes) (old.own_equations + length (equation_words kind))
     (old.own_unknowns + length (unknown_words kind)) ≡ false)
 TakesRoom kind old new (Err NoMemory) = Unit {0}
+
+-- It can read a line more: each device has the number of its line.
+pub record IsReady (p : ℕ) (parts : Parts) : Type 0 where
+  pub circuit : IsCircuit p parts
+  pub one_line_each : length parts.lines ≡ length parts.devices
+
+-- whether a device's source is a V device, where its kind has one
+abbrev pub keeps_source : List Device → Device → Bool
+keeps_source devices device = not (has_source device.kind) || is_source devices device.source
+
+-- the place of the first device of which it is not
+abbrev pub first_unsourced : List Device → Option ℕ
+first_unsourced devices = position (λ device. not (keeps_source devices device)) devices
+
+-- What testing a whole circuit answers.
+abbrev pub TestsCircuit : Parts → Result (Unit {0}) Refusal → Type 0
+TestsCircuit parts (Ok _) = (ground_rule parts.devices ≡ None) × (first_unsourced parts.devices ≡ None)
+TestsCircuit parts (Err refused) =
+    ((refused ≡ record { place = Document; why = NoGround }) × (ground_rule parts.devices ≡ Some NoGround))
+    ⊎ ((ground_rule parts.devices ≡ None)
+    × ((k : ℕ) × (first_unsourced parts.devices ≡ Some k)
+    × (refused ≡ record { place = Line (slice_index parts.lines k); why = NoSuchSource })))

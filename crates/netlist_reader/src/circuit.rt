@@ -49,14 +49,15 @@ impl<F: Field> Model for Circuit<F> {
 }
 
 impl<F: Field> LineFormat for Circuit<F> {
-    ghost use Rattle.netlist_reader.specs.Circuits.{HasRead, IsCircuit};
+    ghost use Rattle.netlist_reader.specs.Circuits.{HasRead};
+    ghost use Rattle.netlist_reader.specs.ReaderStates.{IsReady};
     ghost use Rattle.netlist_reader.specs.Rules.{words_rule};
 
     ghost rule = { words_rule F.modulus };
 
     ghost has_read = { HasRead F.modulus };
 
-    ghost is_ready = { IsCircuit F.modulus };
+    ghost is_ready = { IsReady F.modulus };
 
     fn read_line(&mut self, number: u32, words: Tokens<'_>) -> Result<(), LineFault> {
         self.read(number, words)

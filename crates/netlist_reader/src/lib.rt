@@ -4,6 +4,7 @@
 mod building;
 mod circuit;
 mod device;
+mod ending;
 mod fault;
 mod kind;
 mod words;
