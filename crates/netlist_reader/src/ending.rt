@@ -2,6 +2,7 @@
 
 ghost use Rattle.std.specs.Prelude.{◌≡◌, ◌||◌, length, nat_eq};
 ghost use Rattle.std.specs.List.{list_any};
+ghost use Rattle.std.specs.String.{string_bytes};
 ghost use Rattle.netlist_reader.specs.Circuits.{IsCircuit};
 ghost use Rattle.netlist_reader.specs.ReaderStates.{IsReady, TestsCircuit, first_unsourced, keeps_source};
 ghost use Rattle.netlist_reader.specs.Rules.{is_source, names_ground};
@@ -37,7 +38,7 @@ impl<F: Field> Circuit<F> {
     fn is_grounded(&self) -> bool
         ensures { result ≡ (nat_eq (length self.now.devices) 0 || list_any names_ground self.now.devices) }
     {
-        self.devices.is_empty() || self.devices.iter().any(names_ground)
+        self.devices.is_empty() || some_names_ground(&self.devices)
     }
 
     // The place of the first device whose source is no V device.
@@ -71,8 +72,23 @@ impl<F: Field> Circuit<F> {
 }
 
 // Whether a device names the ground: an opamp's current enters it.
+#[tactic(auto, using(mixed_model::proofs::NameLaws::list_any_map))]
 fn names_ground<F: Field>(device: &Device<F>) -> bool
     ensures { result ≡ names_ground device.now }
 {
-    device.kind.is_opamp() || device.nodes.iter().any(|node| node.as_str() == "0")
+    device.kind.is_opamp() || has_ground(&device.nodes)
+}
+
+// Whether some of these devices names the ground.
+fn some_names_ground<F: Field>(devices: &[Device<F>]) -> bool
+    ensures { result ≡ list_any names_ground devices.now }
+{
+    devices.iter().any(|device| names_ground(device))
+}
+
+// Whether the ground is among these nodes.
+fn has_ground(nodes: &[String]) -> bool
+    ensures { result ≡ list_any (λ node. is_ground (string_bytes node)) nodes.now }
+{
+    nodes.iter().any(|node| node.as_str() == "0")
 }
