@@ -77,6 +77,7 @@ impl<R: LineFormat> LineReader<R> {
             → KeepsAll R.rule text) }
         ensures read { IfOk result (λ format. (text : List ℕ) → IsFed R.rule R.has_read self text
             → R.has_read format (map words_of (lines_of text))) }
+        ensures ready { IfOk result R.is_ready }
         ensures refused { IfErr result (λ why. (text : List ℕ) → IsFed R.rule R.has_read self text
             → IsRefusal R.rule text why) }
     {
@@ -162,6 +163,7 @@ impl<R: LineFormat> Progress<R> {
         ensures read { IfOk result (λ format. (text : List ℕ) → IsFed R.rule R.has_read
             (reading self.format self.number self.line.items self.commented self.refused)
             text → R.has_read format (map words_of (lines_of text))) }
+        ensures ready { IfOk result R.is_ready }
         ensures refused { IfErr result (λ why. (text : List ℕ) → IsFed R.rule R.has_read
             (reading self.format self.number self.line.items self.commented self.refused)
             text → IsRefusal R.rule text why) }

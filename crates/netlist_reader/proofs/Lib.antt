@@ -8,3 +8,4 @@ mod KeptWords
 mod LineSteps
 mod ReadSteps
 mod SourceLaws
+mod EndSteps

@@ -5,3 +5,4 @@ pub mod Models
 pub mod Circuits
 pub mod ReaderStates
 pub mod Faults
+pub mod Feeding

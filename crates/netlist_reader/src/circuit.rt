@@ -6,7 +6,7 @@ ghost use Rattle.limits.specs.Limits.{equation_limit};
 ghost use Rattle.line_lexer.specs.Names.{is_name, is_node};
 ghost use Rattle.line_reader.specs.Answers.{OnBroken};
 ghost use Rattle.netlist_reader.specs.Circuits.{IsCircuit, IsDevice};
-ghost use Rattle.netlist_reader.specs.ReaderStates.{AddsDevice, AddsName, ReadsLine, TakesRoom, see_node, see_nodes};
+ghost use Rattle.netlist_reader.specs.ReaderStates.{AddsDevice, AddsName, IsReady, ReadsLine, TakesRoom, see_node, see_nodes};
 
 use crate::device::Device;
 use crate::fault::fault_of;
@@ -67,7 +67,7 @@ impl<F: Field> LineFormat for Circuit<F> {
 impl<F: Field> Circuit<F> {
     /// A circuit without devices.
     pub(crate) fn new(alloc: Global) -> Circuit<F>
-        ensures circuit { IsCircuit F.modulus result }
+        ensures ready { IsReady F.modulus result }
         ensures devices { result.devices ≡ [] }
         ensures lines { result.lines ≡ [] }
     {
@@ -81,13 +81,18 @@ impl<F: Field> Circuit<F> {
         }
     }
 
+    /// Where it takes memory.
+    pub(crate) fn allocator(&self) -> Global {
+        *self.devices.allocator()
+    }
+
     /// Reads the line of this number by its words.
     pub(crate) fn read(&mut self, line: u32, words: Tokens<'_>) -> Result<(), LineFault>
         requires { IsCircuit F.modulus self.old }
         ensures circuit { OnOk result (IsCircuit F.modulus self.new) }
         ensures read { ReadsLine F.modulus line self.old self.new (map (λ word. word.1) words.entry) result }
     {
-        let alloc = *self.devices.allocator();
+        let alloc = self.allocator();
         let words = first_words(alloc, words)?;
         match read_words(alloc, &words)? {
             Some(device) => self.add(line, device),

@@ -7,6 +7,8 @@ mod device;
 mod ending;
 mod fault;
 mod kind;
+mod netlist;
 mod words;
 
 pub use kind::DeviceKind;
+pub use netlist::{NetlistReader, read};
