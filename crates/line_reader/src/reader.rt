@@ -77,6 +77,7 @@ impl<R: LineFormat> LineReader<R> {
             → KeepsAll R.rules text) }
         ensures read { IfOk result (λ format. (text : List ℕ) → IsFed R.rules R.has_read self text
             → R.has_read format (map (words_in R.rules) (lines_of text))) }
+        ensures ready { IfOk result R.is_ready }
         ensures refused { IfErr result (λ why. (text : List ℕ) → IsFed R.rules R.has_read self text
             → IsRefusal R.rules text why) }
     {
@@ -167,6 +168,7 @@ impl<R: LineFormat> Progress<R> {
         ensures read { IfOk result (λ format. (text : List ℕ) → IsFed R.rules R.has_read
             (reading self.format self.number self.line.items self.commented self.refused)
             text → R.has_read format (map (words_in R.rules) (lines_of text))) }
+        ensures ready { IfOk result R.is_ready }
         ensures refused { IfErr result (λ why. (text : List ℕ) → IsFed R.rules R.has_read
             (reading self.format self.number self.line.items self.commented self.refused)
             text → IsRefusal R.rules text why) }

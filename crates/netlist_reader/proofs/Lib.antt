@@ -16,3 +16,14 @@ pub mod Owned
 pub mod Placed
 pub mod Steps
 pub mod Blank
+pub mod WordSteps
+pub mod DeviceSteps
+pub mod FaultSteps
+pub mod LabelLaws
+pub mod NodeSteps
+pub mod CircuitSteps
+pub mod KeptWords
+pub mod LineSteps
+pub mod ReadSteps
+pub mod SourceLaws
+pub mod EndSteps

@@ -42,10 +42,10 @@ pub record IsCircuit (p : ℕ) (parts : Parts) : Type 0 where
   pub few_unknowns : length (unknowns_of parts.devices) ≤ equation_limit
 
 -- These lines, by their words, were read.
-pub record HasRead (p : ℕ) (parts : Parts) (words : List (List (List ℕ))) : Type 0 where
+pub record HasRead (p : ℕ) (parts : Parts) (read : List (List (List ℕ))) : Type 0 where
   pub circuit : IsCircuit p parts
-  pub devices : parts.devices ≡ devices_in p words
-  pub lines : parts.lines ≡ device_lines p 1 words
+  pub devices : parts.devices ≡ devices_in p read
+  pub lines : parts.lines ≡ device_lines p 1 read
 
 -- the source of each device is a V device
 abbrev pub AreSourced : List Device → Type 0

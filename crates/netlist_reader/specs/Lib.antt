@@ -6,3 +6,6 @@ pub mod Circuits
 pub mod Naming
 pub mod Putting
 pub mod Owners
+pub mod ReaderStates
+pub mod Faults
+pub mod Feeding
