@@ -1,5 +1,5 @@
 -- What any two answers to one input share.
-use Rattle.std.proofs.Common.{◌≡◌, ℕ, ◌≤◌, List, [], ◌∷◌, length, codes, refl, ap, sym, subst, ◌∙◌, lit<}
+use Rattle.std.proofs.Common.{◌≡◌, ℕ, ◌≤◌, List, length, ap, sym, subst, ◌∙◌, lit<}
 use Rattle.residue_field.specs.Modulus.{res_modulus}
 use Rattle.residue_theory.proofs.Primes.{prime_65521}
 use Rattle.mixed_model.specs.Models.{MixedModel, mixed_matrix_of}

@@ -1,7 +1,7 @@
 -- Words ask for one command, or for none.
-use Rattle.std.proofs.Common.{◌≡◌, ℕ, List, Option, Some, None, codes, ap, sym, ◌∙◌}
+use Rattle.std.proofs.Common.{◌≡◌, ℕ, List, Option, Some, None, ap, sym, ◌∙◌}
 use Rattle.clap.specs.Simple.{subcommand_of}
-use Rattle.clap.specs.Walk.{Row, Text, first_of}
+use Rattle.clap.specs.Walk.{Row, Text}
 use Rattle.report_cli.specs.CommandLine.{command_line}
 use Rattle.report_cli.specs.Kinds.{IsRead}
 use Rattle.report_cli.specs.Words.{AsksFor, Names, kind_of, name_of}

@@ -4,11 +4,9 @@ use Rattle.clap.specs.Kinds.{Kinds}
 use Rattle.clap.specs.Faults.{fault_of}
 use Rattle.clap.specs.declared.error.kind.ErrorKind.{ErrorKind}
 use Rattle.clap.proofs.OnLiterals.{clap_on_literals}
-use Rattle.cert_text.specs.declared.kind.Kind.{Kind}
 use Rattle.cert_text.specs.declared.kind.Kind.TheVariants.{Matrix, Netlist}
 use Rattle.report_cli.specs.CommandLine.{command_line}
 use Rattle.report_cli.specs.Words.{AsksFor, AsksForNothing}
-use Rattle.report_cli.specs.declared.command.Command.{Command}
 use Rattle.report_cli.specs.declared.command.Command.TheVariants.{Analyse, Layer}
 
 -- words that clap does not take ask for nothing

@@ -7,7 +7,7 @@ use Rattle.refusals.specs.declared.ReadModel.TheVariants.{Refused as Broken, NoM
 use Rattle.refusals.specs.declared.Place.TheVariants.{Line}
 use Rattle.refusals.specs.declared.Why.{Why}
 use Rattle.mixed_model.specs.Models.{MixedModel, IsModel}
-use Rattle.matrix_reader.specs.Models.{GivesModel, IsRefusal}
+use Rattle.matrix_reader.specs.Models.{IsRefusal}
 use Rattle.matrix_reader.proofs.FirstBroken.{gives-unbroken, first_broken-one}
 use Rattle.matrix_reader.proofs.ModelLaws.{text_gives_one}
 use Rattle.text_lengths.proofs.InputCounts as equation_lists

@@ -26,8 +26,8 @@ IsAnswerOf command input (Refused refusal) text =
 IsAnswerOf command input Done text = (length input ≤ input_limit) × IsReported command input text
 IsAnswerOf command input _ text = ⊥
 
--- a run with these words on this whole input ends with this status and this text on `out`, when nothing fails: words that
--- ask for nothing are answered by `Usage`, and else the command that they ask for gives the answer
+-- a run with these words on this whole input ends with this status and this text on `out`, when nothing fails: words
+-- that ask for nothing are answered by `Usage`, and else the command that they ask for gives the answer
 abbrev pub IsAnswer : List (List ℕ) → List ℕ → Status → List ℕ → Type 0
 IsAnswer words input Usage text = AsksForNothing words × (text ≡ [])
 IsAnswer words input status text = (command : Command) × AsksFor words command × IsAnswerOf command input status text

@@ -40,8 +40,8 @@ note_of_words (Told text) = string_bytes text
 note_of_words UnknownKind = line_of Usage
 note_of_words NoMemory = line_of Memory
 
--- what may be noted of a status of a run with these words: of `Usage`, the line where clap's definition takes the words,
--- so that the kind alone is unknown, and else any text
+-- what may be noted of a status of a run with these words: of `Usage`, the line where clap's definition takes the
+-- words, so that the kind alone is unknown, and else any text
 abbrev pub IsNoteOf : List (List ℕ) → Status → List ℕ → Type 0
 IsNoteOf words Usage note = AreTaken words → note ≡ line_of Usage
 IsNoteOf words status note = note ≡ note_of status

@@ -18,8 +18,8 @@ pub record ReadsWhole (left left' : Option (List ℕ)) (Holds : List ℕ → Typ
   pub short : length input ≤ input_limit
   pub holds : Holds input
 
--- why an input of this kind gives no report: a refusal is that of the whole input, and what is too long was taken up to one byte
--- past the limit
+-- why an input of this kind gives no report: a refusal is that of the whole input, and what is too long was taken up to
+-- one byte past the limit
 abbrev pub IsUnread : Kind → Status → Option (List ℕ) → Option (List ℕ) → Type 0
 IsUnread kind (Refused refusal) left left' = ReadsWhole left left' (λ input. IsRefused kind input refusal)
 IsUnread kind (TooLong limit) left left' = (limit ≡ input_limit) × TookExactly (input_limit + 1) left left'

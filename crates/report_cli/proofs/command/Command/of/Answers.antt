@@ -1,7 +1,7 @@
 use Rattle.std.proofs.Common.{map, subst, sym}
 use Rattle.std.specs.String.{string_bytes}
 use Rattle.clap.specs.Simple.{app_of}
-use Rattle.report_cli.specs.Words.{Names, NamesNone}
+use Rattle.report_cli.specs.Words.{Names}
 use Rattle.report_cli.proofs.Matching.{met_is, not_taken, taken}
 use Rattle.report_cli.proofs.command.Command.of.Goals as goal
 
