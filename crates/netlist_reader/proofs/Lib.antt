@@ -9,3 +9,5 @@ mod LineSteps
 mod ReadSteps
 mod SourceLaws
 mod EndSteps
+mod ModelLaws
+mod TextFacts

@@ -1,8 +1,9 @@
-pub mod Devices
-pub mod Terms
-pub mod Rules
-pub mod Models
 pub mod Circuits
-pub mod ReaderStates
+pub mod Devices
+pub mod Examples
 pub mod Faults
 pub mod Feeding
+pub mod Models
+pub mod ReaderStates
+pub mod Rules
+pub mod Terms
