@@ -73,12 +73,12 @@ first_line p first test (words ∷ lines) k d is =
     let count = length-map here (λ (device : Device). first) in
     elim (cases_lt k (length here)) [
       | inl at ↦ record {
-          n = 0;
-          within = omega arith;
-          numbered = get_or_append_left numbers (device_lines p (first + 1) lines) 0 k (omega (arith, at, count)) ∙ get_or-map (λ (device : Device). first) here k d 0 at ∙ sym (add-zero first);
-          here = list_all_at test here k d at (ap test (sym (get_or_append_left here more d k at)) ∙ is.here);
-          before = λ m low. absurd (omega arith);
-        }
+        n = 0;
+        within = omega arith;
+        numbered = get_or_append_left numbers (device_lines p (first + 1) lines) 0 k (omega (arith, at, count)) ∙ get_or-map (λ (device : Device). first) here k d 0 at ∙ sym (add-zero first);
+        here = list_all_at test here k d at (ap test (sym (get_or_append_left here more d k at)) ∙ is.here);
+        before = λ m low. absurd (omega arith);
+      }
       | inr long ↦ line_behind p first test words lines (get_or (device_lines p first (words ∷ lines)) k 0) (get_or (device_lines p (first + 1) lines) (k - length here) 0)
           (all_before test here more k d long is)
           (get_or-append_right numbers (device_lines p (first + 1) lines) (length here) k 0 count long)

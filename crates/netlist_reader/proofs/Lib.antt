@@ -27,3 +27,5 @@ pub mod LineSteps
 pub mod ReadSteps
 pub mod SourceLaws
 pub mod EndSteps
+pub mod ModelLaws
+pub mod TextFacts

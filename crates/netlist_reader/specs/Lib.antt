@@ -1,11 +1,12 @@
-pub mod Devices
-pub mod Terms
-pub mod Rules
-pub mod Models
 pub mod Circuits
 pub mod Naming
 pub mod Putting
 pub mod Owners
 pub mod ReaderStates
+pub mod Devices
+pub mod Examples
 pub mod Faults
 pub mod Feeding
+pub mod Models
+pub mod Rules
+pub mod Terms

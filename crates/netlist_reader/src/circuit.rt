@@ -128,7 +128,8 @@ impl<F: Field> Circuit<F> {
         self.own_equations += kind.equations_wanted();
         self.own_unknowns += kind.unknowns_wanted();
         let nodes = self.nodes.len();
-        if nodes + self.own_equations > EQUATION_LIMIT || nodes + self.own_unknowns > EQUATION_LIMIT
+        if nodes + self.own_equations > EQUATION_LIMIT
+            || nodes + self.own_unknowns > EQUATION_LIMIT
         {
             return Err(LineFault::Broken(Why::TooMany));
         }

@@ -5,8 +5,10 @@ mod building;
 mod circuit;
 mod device;
 mod ending;
+mod examples;
 mod fault;
 mod kind;
+mod laws;
 mod netlist;
 mod putting;
 mod side;
@@ -14,5 +16,13 @@ mod term;
 mod terms;
 mod words;
 
+pub use examples::{
+    devices_at_examples, model_at_controlled_source, places_at_examples, refusals_at_examples,
+    rules_at_examples, terms_at_controlled_source, terms_at_examples,
+};
 pub use kind::DeviceKind;
+pub use laws::{a_netlist_gives_one_model, a_netlist_has_one_refusal};
 pub use netlist::{NetlistReader, read};
+
+#[cfg(test)]
+mod tests;

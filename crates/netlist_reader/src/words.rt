@@ -24,10 +24,7 @@ use std::alloc::{AllocError, Global};
 const MOST_WORDS: usize = 8;
 
 /// The first words of a line, as many as can matter.
-pub(crate) fn first_words<'a>(
-    alloc: Global,
-    words: Tokens<'a>,
-) -> Result<Vec<&'a str>, AllocError>
+pub(crate) fn first_words<'a>(alloc: Global, words: Tokens<'a>) -> Result<Vec<&'a str>, AllocError>
     ensures { IfOk result (λ kept. map (λ word. word.now) kept.items ≡ take 8 (map (λ word. word.1) words.entry)) }
 {
     let mut kept = Vec::new(alloc);

@@ -81,11 +81,12 @@ returns-clause-read g c =
     let words = bytes_of texts in
     let taken = nodes_taken texts c.nodes_wanted-after.result (nodes_wanted kind) c.nodes_wanted-after.ensures in
     let last : c.word_at-last.result.now ≡ word_after_nodes kind words = c.word_at-last.ensures ∙ ap (λ n. get_or words (1 + n) []) c.nodes_wanted-after.ensures in
-    let device : Device = record { kind = kind; name = string_bytes c.in_ok-name.name; nodes = map string_bytes c.in_ok-nodes.nodes.items; source = string_bytes c.in_ok-source.source; number = g.F.Field.number c.in_ok-number.number } in
-    (number_left g.F.Field.modulus kind words (shape_kept kind texts c.if-not-has_shape.ensures)
-    (ap is_name (sym c.word_at.ensures) ∙ c.in_ok-name.ensures.0) (ap (list_all is_node) (sym taken) ∙ c.in_ok-nodes.ensures.0)
-    (ap (λ word. keeps_source_name kind (if has_source kind then word else [])) (sym last) ∙ c.in_ok-source.ensures.0)
-    ∙ ap (number_rule g.F.Field.modulus kind) (sym last) ∙ c.in_ok-number.ensures.0,
-    same_device device (device_of g.F.Field.modulus kind words) refl (c.in_ok-name.ensures.1 ∙ c.word_at.ensures) (c.in_ok-nodes.ensures.1 ∙ taken)
-    (c.in_ok-source.ensures.1 ∙ ap (λ word. if has_source kind then word else []) last)
-    (c.in_ok-number.ensures.1 ∙ ap (λ word. if has_number kind then result_unwrap_or (number_of g.F.Field.modulus word) 0 else 0) last))
+    let device : Device = record { kind = kind; name = string_bytes c.in_ok-name.name; nodes = map string_bytes c.in_ok-nodes.nodes.items; source = string_bytes c.in_ok-source.source; number = g.F.Field.number c.in_ok-number.number } in (
+      number_left g.F.Field.modulus kind words (shape_kept kind texts c.if-not-has_shape.ensures)
+          (ap is_name (sym c.word_at.ensures) ∙ c.in_ok-name.ensures.0) (ap (list_all is_node) (sym taken) ∙ c.in_ok-nodes.ensures.0)
+          (ap (λ word. keeps_source_name kind (if has_source kind then word else [])) (sym last) ∙ c.in_ok-source.ensures.0)
+          ∙ ap (number_rule g.F.Field.modulus kind) (sym last) ∙ c.in_ok-number.ensures.0,
+      same_device device (device_of g.F.Field.modulus kind words) refl (c.in_ok-name.ensures.1 ∙ c.word_at.ensures) (c.in_ok-nodes.ensures.1 ∙ taken)
+          (c.in_ok-source.ensures.1 ∙ ap (λ word. if has_source kind then word else []) last)
+          (c.in_ok-number.ensures.1 ∙ ap (λ word. if has_number kind then result_unwrap_or (number_of g.F.Field.modulus word) 0 else 0) last),
+    )

@@ -14,9 +14,10 @@ returns-in_err-node c =
     let failed = err_from_is_err_and c.from_residual.result c.from_residual.ensures.1 in
     let texts = c.args.texts.now in
     rw failed.1
-    (subst (λ fault. OnBroken fault (λ why. (list_all is_node (bytes_of texts) ≡ false) × (why ≡ BadName))) (sym failed.2)
-    (no_node texts c.loop-text.text-index (record { ref_ptr = (0, 0); now = [] }) c.loop-text-test.true c.in_err-node.ensures.0,
-    c.in_err-node.ensures.1))
+    (subst (λ fault. OnBroken fault (λ why. (list_all is_node (bytes_of texts) ≡ false) × (why ≡ BadName))) (sym failed.2) (
+      no_node texts c.loop-text.text-index (record { ref_ptr = (0, 0); now = [] }) c.loop-text-test.true c.in_err-node.ensures.0,
+      c.in_err-node.ensures.1,
+    ))
 
 pub loop-text-preserved : goal.loop-text-preserved
 loop-text-preserved c =

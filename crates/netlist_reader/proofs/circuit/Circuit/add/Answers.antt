@@ -85,14 +85,17 @@ returns-clause-added g c =
     let nodes : map string_bytes c.deref-2.result.now ≡ device.nodes = ap (map string_bytes) c.deref-2.ensures.value ∙ ap (λ (d : Device). d.nodes) c.device.view_is in
     let fresh : has_name old.names device.name ≡ false = (λ i. has_name (sym (ap (λ (parts : Parts). parts.names) c.self.view_is) i) (sym name i)) ∙ c.in_ok-add_name.ensures.0 in
     let middle : Parts = record { devices = c.self.inside.devices.items; lines = c.self.inside.lines.items; names = c.add_name.new.names; nodes = c.add_nodes.new.seen; own_equations = c.self.inside.own_equations; own_unknowns = c.self.inside.own_unknowns } in
-    let seen : middle.nodes ≡ see_nodes old.nodes device.nodes = c.in_ok-add_nodes.ensures.added ∙ (λ i. see_nodes (ap (λ (parts : Parts). parts.nodes) c.self.view_is i) (nodes i)) in
-    (counted-kept g.F.Field.modulus old middle c.take_room.new.self device c.device.inside.kind c.requires.circuit fresh
-    (ap (λ (d : Device). d.kind) c.device.view_is)
-    (ap (λ (parts : Parts). parts.own_equations) c.self.view_is) (ap (λ (parts : Parts). parts.own_unknowns) c.self.view_is)
-    seen c.in_ok-take_room.ensures.taken,
-    (c.in_ok-push-2.ensures.items ∙ ap (λ (parts : Parts). parts.devices ++ device ∷ []) c.self-2.view_is
-    ∙ ap (λ (parts : Parts). parts.devices ++ device ∷ []) c.in_ok-take_room.ensures.taken.0
-    ∙ ap (λ (parts : Parts). parts.devices ++ device ∷ []) c.self.view_is,
-    c.in_ok-push.ensures.items ∙ ap (λ (parts : Parts). parts.lines ++ c.args.line ∷ []) c.self-2.view_is
-    ∙ ap (λ (parts : Parts). parts.lines ++ c.args.line ∷ []) c.in_ok-take_room.ensures.taken.0
-    ∙ ap (λ (parts : Parts). parts.lines ++ c.args.line ∷ []) c.self.view_is))
+    let seen : middle.nodes ≡ see_nodes old.nodes device.nodes = c.in_ok-add_nodes.ensures.added ∙ (λ i. see_nodes (ap (λ (parts : Parts). parts.nodes) c.self.view_is i) (nodes i)) in (
+      counted-kept g.F.Field.modulus old middle c.take_room.new.self device c.device.inside.kind c.requires.circuit fresh
+          (ap (λ (d : Device). d.kind) c.device.view_is)
+          (ap (λ (parts : Parts). parts.own_equations) c.self.view_is) (ap (λ (parts : Parts). parts.own_unknowns) c.self.view_is)
+          seen c.in_ok-take_room.ensures.taken,
+      (
+        c.in_ok-push-2.ensures.items ∙ ap (λ (parts : Parts). parts.devices ++ device ∷ []) c.self-2.view_is
+            ∙ ap (λ (parts : Parts). parts.devices ++ device ∷ []) c.in_ok-take_room.ensures.taken.0
+            ∙ ap (λ (parts : Parts). parts.devices ++ device ∷ []) c.self.view_is,
+        c.in_ok-push.ensures.items ∙ ap (λ (parts : Parts). parts.lines ++ c.args.line ∷ []) c.self-2.view_is
+            ∙ ap (λ (parts : Parts). parts.lines ++ c.args.line ∷ []) c.in_ok-take_room.ensures.taken.0
+            ∙ ap (λ (parts : Parts). parts.lines ++ c.args.line ∷ []) c.self.view_is,
+      ),
+    )

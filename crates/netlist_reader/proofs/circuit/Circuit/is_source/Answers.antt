@@ -12,8 +12,8 @@ returns-in-Some g c =
     let devices = c.self.inside.devices.items in
     let same = ap (λ (parts : Parts). parts.devices) c.self.view_is in
     let found = source_found devices c.self.inside.names c.args.name.now c.in-Some.place c.index.result.now
-        (subst (λ list. IsDistinct bytes_eq (device_names list)) (sym same) c.requires.distinct)
-        (ap (λ (parts : Parts). parts.names) c.self.view_is ∙ c.requires.names ∙ ap device_names (sym same)) (sym c.in-Some.ensures.place) in
+    (subst (λ list. IsDistinct bytes_eq (device_names list)) (sym same) c.requires.distinct)
+    (ap (λ (parts : Parts). parts.names) c.self.view_is ∙ c.requires.names ∙ ap device_names (sym same)) (sym c.in-Some.ensures.place) in
     c.is_voltage.ensures ∙ ap (λ (d : Device). is_voltage d.kind) (c.behind-self.view_is ∙ c.index.ensures) ∙ found.1
     ∙ ap (λ list. is_source list c.args.name.now) same
 

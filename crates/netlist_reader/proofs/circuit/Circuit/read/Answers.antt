@@ -9,7 +9,7 @@ abbrev words : List (ℕ × List ℕ) → List (List ℕ)
 words tokens = map (λ token. token.1) tokens
 
 pub returns-in_err-device-clause-read : goal.returns-in_err-device-clause-read
-returns-in_err-device-clause-read g c = 
+returns-in_err-device-clause-read g c =
     let failed = err_from_is_err_and c.from_residual-in_err-device.result c.from_residual-in_err-device.ensures.1 in
     let all = words c.args.words in
     let kept : bytes_of c.deref.result.now ≡ take 8 all = ap bytes_of c.deref.ensures.value ∙ c.in_ok-words.ensures in

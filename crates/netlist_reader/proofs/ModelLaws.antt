@@ -1,0 +1,117 @@
+-- A text gives at most one model, or has one refusal.
+use Rattle.std.proofs.Common.{◌≡◌, ℕ, ◌+◌, ◌<◌, List, length, Option, Some, None, unwrap_or, refl, sym, ap, ◌∙◌, arith, get_or, [], inl, inr, ⊎_elim}
+use Rattle.std.proofs.lemmas.Bool.{cases_lt, cases_order}
+use Rattle.std.proofs.lemmas.List.{get_or_past}
+use Rattle.refusals.specs.declared.Why.{Why}
+use Rattle.refusals.specs.declared.Place.{Place}
+use Rattle.refusals.specs.declared.Place.TheVariants.{Line, Document}
+use Rattle.refusals.specs.declared.Refused.{Refused}
+use Rattle.line_reader.proofs.Rules.{first_broken-one, keeps-unbroken}
+use Rattle.mixed_model.specs.Entries.{RowEntry}
+use Rattle.mixed_model.specs.Models.{MixedModel, IsModel, constant_at, constant_of, row_of}
+use Rattle.mixed_model.specs.Rows.{IsFilled, constant_at_place, constant_in, entry_in}
+use Rattle.mixed_model.proofs.ModelLaws.{same_models}
+use Rattle.mixed_model.proofs.RowLaws.{entry_in-filled}
+use Rattle.netlist_reader.specs.Devices.{Device, devices_in}
+use Rattle.netlist_reader.specs.Terms.{said_of, symbol_said, terms_of}
+use Rattle.netlist_reader.specs.Rules.{ground_rule, device_rules}
+use Rattle.netlist_reader.specs.Models.{BreaksFirst, GivesModel, IsFirstUnsourced, IsModelOf, SourcesBefore, lines_in, source_rule_at}
+
+-- a constant that is 0 is none
+no_zero : (p : ℕ) (entry : RowEntry) → IsFilled p entry → unwrap_or entry.constant 0 ≡ 0 → entry.constant ≡ None
+no_zero p entry filled zero_there = by entry.constant refl
+  where
+    by : (found : Option ℕ) → entry.constant ≡ found → entry.constant ≡ None
+    by None e = e
+    by (Some constant) e =
+        let same : constant ≡ 0 = sym (ap (λ o. unwrap_or o 0) e) ∙ zero_there in
+        absurd (omega (arith, filled.positive constant e, same))
+
+constant_of-None : (p : ℕ) (model : MixedModel) → IsModel p model → (i j : ℕ) → constant_at model i j ≡ 0 → constant_of model i j ≡ None
+constant_of-None p model is i j zero_there = by (entry_in (row_of model i) j) refl
+  where
+    by : (found : Option RowEntry) → entry_in (row_of model i) j ≡ found → constant_of model i j ≡ None
+    by None e = ap constant_at_place e
+    by (Some entry) e = ⊎_elim
+        (λ within.
+        let filled = entry_in-filled p 0 (row_of model i) (is.rows i [] within).0 j entry e in
+        ap constant_at_place e ∙ no_zero p entry filled (sym (ap (λ o. unwrap_or (constant_at_place o) 0) e) ∙ zero_there))
+        (λ past. ap (λ row. constant_in row j) (get_or_past model.rows i [] past))
+        (cases_lt i (length model.rows))
+
+-- constants are the same where they are, 0 for none
+same_constant : (p : ℕ) (a b : MixedModel) → IsModel p a → IsModel p b → (i j : ℕ) → constant_at a i j ≡ constant_at b i j → constant_of a i j ≡ constant_of b i j
+same_constant p a b is_a is_b i j same = by (constant_of a i j) refl (constant_of b i j) refl
+  where
+    by : (x : Option ℕ) → constant_of a i j ≡ x → (y : Option ℕ) → constant_of b i j ≡ y → constant_of a i j ≡ constant_of b i j
+    by None e y f = e ∙ sym (constant_of-None p b is_b i j (sym same ∙ ap (λ o. unwrap_or o 0) e))
+    by (Some x) e None f = constant_of-None p a is_a i j (same ∙ ap (λ o. unwrap_or o 0) f) ∙ sym f
+    by (Some x) e (Some y) f = e ∙ ap Some (sym (ap (λ o. unwrap_or o 0) e) ∙ same ∙ ap (λ o. unwrap_or o 0) f) ∙ sym f
+
+one_model : (p : ℕ) (devices : List Device) (a b : MixedModel) → IsModelOf p devices a → IsModelOf p devices b → a ≡ b
+one_model p devices a b gives_a gives_b =
+    same_models p a b gives_a.is_model gives_b.is_model equations unknowns (λ i j at col.
+    same_constant p a b gives_a.is_model gives_b.is_model i j
+    (gives_a.constants_are i j at col
+    ∙ ap (λ names. said_of p (terms_of p devices) (get_or names i []) (get_or a.unknowns j [])) equations
+    ∙ ap (λ names. said_of p (terms_of p devices) (get_or b.equations i []) (get_or names j [])) unknowns
+    ∙ sym (gives_b.constants_are i j (omega (arith, ap length equations)) (omega (arith, ap length unknowns)))))
+    (λ i j at col.
+    gives_a.symbols_are i j at col
+    ∙ ap (λ names. symbol_said (terms_of p devices) (get_or names i []) (get_or a.unknowns j [])) equations
+    ∙ ap (λ names. symbol_said (terms_of p devices) (get_or b.equations i []) (get_or names j [])) unknowns
+    ∙ sym (gives_b.symbols_are i j (omega (arith, ap length equations)) (omega (arith, ap length unknowns))))
+  where
+    equations : a.equations ≡ b.equations
+    equations = gives_a.equations_are ∙ sym gives_b.equations_are
+
+    unknowns : a.unknowns ≡ b.unknowns
+    unknowns = gives_a.unknowns_are ∙ sym gives_b.unknowns_are
+
+pub text_gives_one : (p : ℕ) (text : List ℕ) (a b : MixedModel) → GivesModel p text a → GivesModel p text b → a ≡ b
+text_gives_one p text a b gives_a gives_b = one_model p (devices_in p (lines_in p text)) a b gives_a.given gives_b.given
+
+not_both : (o : Option Why) (why : Why) → o ≡ None → o ≡ Some why → ⊥
+not_both o why kept broken = let both : None ≡ Some why = sym kept ∙ broken in cc
+
+same_why : (o : Option Why) (v w : Why) → o ≡ Some v → o ≡ Some w → v ≡ w
+same_why o v w first second = let both : Some v ≡ Some w = sym first ∙ second in let told : v ≡ w = cc in told
+
+-- refusals are the same at one line for one reason
+same_line : (a b : Refused) (m n : ℕ) (v w : Why) → a ≡ record { place = Line (m + 1); why = v } → b ≡ record { place = Line (n + 1); why = w } → m ≡ n → v ≡ w → a ≡ b
+same_line a b m n v w is_a is_b line why = is_a ∙ (λ i. record { place = Line (line i + 1); why = why i }) ∙ sym is_b
+
+same_document : (a b : Refused) (v w : Why) → a ≡ record { place = Document; why = v } → b ≡ record { place = Document; why = w } → v ≡ w → a ≡ b
+same_document a b v w is_a is_b why = is_a ∙ (λ i. record { place = Document; why = why i }) ∙ sym is_b
+
+-- two first lines whose source is none are the same
+unsourced-one : (p : ℕ) (lines : List (List (List ℕ))) (m n : ℕ) (v w : Why) → IsFirstUnsourced p lines m v → IsFirstUnsourced p lines n w → (m ≡ n) × (v ≡ w)
+unsourced-one p lines m n v w first second = elim (cases_order m n) [
+  | inl same ↦ (same, same_why (source_rule_at p lines n) v w (sym (ap (source_rule_at p lines) same) ∙ first.here) second.here)
+  | inr (inl less) ↦ absurd (not_both (source_rule_at p lines m) v (second.before m less) first.here)
+  | inr (inr more) ↦ absurd (not_both (source_rule_at p lines n) w (first.before n more) second.here)
+]
+
+pub one_refusal : (p : ℕ) (text : List ℕ) (a b : Refused) → BreaksFirst p text a → BreaksFirst p text b → a ≡ b
+one_refusal p text a b (inl (m, v, is_a, first)) (inl (n, w, is_b, second)) =
+    let one = first_broken-one (device_rules p) text m n v w first second in
+    same_line a b m n v w is_a is_b one.0 one.1
+one_refusal p text a b (inl (m, v, is_a, first)) (inr (inl (w, is_b, kept, ground))) = absurd (keeps-unbroken (device_rules p) text m v kept first)
+one_refusal p text a b (inl (m, v, is_a, first)) (inr (inr (n, w, is_b, kept, ground, second))) = absurd (keeps-unbroken (device_rules p) text m v kept first)
+one_refusal p text a b (inr (inl (v, is_a, kept, ground))) (inl (n, w, is_b, second)) = absurd (keeps-unbroken (device_rules p) text n w kept second)
+one_refusal p text a b (inr (inr (m, v, is_a, kept, ground, first))) (inl (n, w, is_b, second)) = absurd (keeps-unbroken (device_rules p) text n w kept second)
+one_refusal p text a b (inr (inl (v, is_a, kept, ground))) (inr (inl (w, is_b, other, second))) =
+    same_document a b v w is_a is_b (same_why (ground_rule (devices_in p (lines_in p text))) v w ground second)
+one_refusal p text a b (inr (inl (v, is_a, kept, ground))) (inr (inr (n, w, is_b, other, grounded, second))) =
+    absurd (not_both (ground_rule (devices_in p (lines_in p text))) v grounded ground)
+one_refusal p text a b (inr (inr (m, v, is_a, kept, grounded, first))) (inr (inl (w, is_b, other, ground))) =
+    absurd (not_both (ground_rule (devices_in p (lines_in p text))) w grounded ground)
+one_refusal p text a b (inr (inr (m, v, is_a, kept, grounded, first))) (inr (inr (n, w, is_b, other, ground, second))) =
+    let one = unsourced-one p (lines_in p text) m n v w first second in
+    same_line a b m n v w is_a is_b one.0 one.1
+
+pub gives-unrefused : (p : ℕ) (text : List ℕ) (model : MixedModel) (a : Refused) → GivesModel p text model → BreaksFirst p text a → ⊥
+gives-unrefused p text model a gives (inl (n, why, is, first)) = keeps-unbroken (device_rules p) text n why gives.kept first
+gives-unrefused p text model a gives (inr (inl (why, is, kept, ground))) = not_both (ground_rule (devices_in p (lines_in p text))) why gives.grounded ground
+gives-unrefused p text model a gives (inr (inr (n, why, is, kept, ground, first))) =
+    not_both (source_rule_at p (lines_in p text) n) why (gives.sources n first.within) first.here
