@@ -9,7 +9,7 @@ use Rattle.refusals.specs.declared.Place.TheVariants.{Line, Document}
 use Rattle.refusals.specs.declared.Why.{Why}
 use Rattle.refusals.specs.declared.Why.TheVariants.{BadShape, Twice, Unsupported, NoGround, NoSuchSource}
 use Rattle.line_lexer.specs.Lines.{lines_of}
-use Rattle.mixed_model.specs.declared.entry.Entry.{Entry}
+use Rattle.mixed_model.specs.Entries.{RowEntry}
 use Rattle.mixed_model.specs.Models.{constant_at, symbol_of}
 use Rattle.mixed_model.specs.Names.{IsNameList, is_label}
 use Rattle.mixed_model.specs.Rows.{IsRow, IsWithin, IsFilled}
@@ -99,10 +99,10 @@ symbol_filled j = record {
   residue = λ c e. let f : None ≡ Some c = e in absurd cc;
 }
 
-abbrev IsBelow : Entry → Type 0
+abbrev IsBelow : RowEntry → Type 0
 IsBelow entry = entry.column < 7
 
-abbrev IsGood : List Entry → Type 0
+abbrev IsGood : List RowEntry → Type 0
 IsGood row = IsRow 65521 row × IsWithin 7 row
 
 within_none : All IsBelow []

@@ -5,7 +5,7 @@ use Rattle.refusals.specs.declared.Place.{Place}
 use Rattle.refusals.specs.declared.Why.{Why}
 use Rattle.refusals.specs.declared.ReadModel.{ReadModel}
 use Rattle.refusals.specs.declared.ReadModel.TheVariants.{Refused}
-use Rattle.mixed_model.specs.declared.entry.Entry.{Entry}
+use Rattle.mixed_model.specs.Entries.{RowEntry}
 use Rattle.mixed_model.specs.Names.{has_name}
 use Rattle.mixed_model.specs.Models.{MixedModel}
 use Rattle.netlist_reader.specs.declared.kind.DeviceKind.TheVariants.{Transformer}
@@ -57,10 +57,10 @@ abbrev pub two_lines : List ℕ → List ℕ → List ℕ
 two_lines first second = first ++ 10 ∷ second
 
 -- a constant at a column, and a symbol
-abbrev pub constant_entry : ℕ → ℕ → Entry
+abbrev pub constant_entry : ℕ → ℕ → RowEntry
 constant_entry j n = record { column = j; constant = Some n; symbol = false }
 
-abbrev pub symbol_entry : ℕ → Entry
+abbrev pub symbol_entry : ℕ → RowEntry
 symbol_entry j = record { column = j; constant = None; symbol = true }
 
 -- the text of the controlled source, and its model
