@@ -3,7 +3,6 @@ use Rattle.std.proofs.Common.{◌≡◌, ℕ, List, Option, Some, None, ap, sym,
 use Rattle.clap.specs.Simple.{subcommand_of}
 use Rattle.clap.specs.Walk.{Row, Text}
 use Rattle.report_cli.specs.CommandLine.{command_line}
-use Rattle.report_cli.specs.Kinds.{IsRead}
 use Rattle.report_cli.specs.Words.{AsksFor, Names, kind_of, name_of}
 use Rattle.report_cli.specs.declared.command.Command.{Command}
 use Rattle.report_cli.specs.declared.command.Command.TheVariants.{Analyse, Layer}
@@ -20,15 +19,7 @@ names-one None a b one two = absurd one
 names-one (Some (name, values)) a b (word, there, names) (other, found, others) =
     let both : Some word ≡ Some other = sym there ∙ found in
     let same : word ≡ other = cc in
-    command-one a b (sym names.0 ∙ others.0) (kind-one (kind_of a) (kind_of b) (sym names.1.0 ∙ same ∙ others.1.0))
+    command-one a b (sym names.0 ∙ others.0) (kind-one (kind_of a) (kind_of b) (sym names.1 ∙ same ∙ others.1))
 
 pub asks-one : (words : List (List ℕ)) (a b : Command) → AsksFor words a → AsksFor words b → a ≡ b
 asks-one words a b one two = names-one (subcommand_of command_line words) a b one.1 two.1
-
-names-read : (met : Option (Text × List Row)) (command : Command) → Names met command → IsRead (kind_of command)
-names-read None command names = absurd names
-names-read (Some (name, values)) command (word, there, names) = names.1.1
-
--- inputs of the kind of a command that is asked for are read
-pub asks-read : (words : List (List ℕ)) (command : Command) → AsksFor words command → IsRead (kind_of command)
-asks-read words command asks = names-read (subcommand_of command_line words) command asks.1

@@ -15,11 +15,11 @@ untaken words kind kinds fails command asks = let none : kind ∷ kinds ≡ [] =
 
 pub analyse : AsksFor (codes "mixed" ∷ codes "analyse" ∷ codes "matrix" ∷ []) (Analyse Matrix)
 unfolding clap_on_literals
-analyse = (refl, (_, refl, (refl, (refl, tt))))
+analyse = (refl, (_, refl, (refl, refl)))
 
-pub layer : AsksFor (codes "mixed" ∷ codes "layer" ∷ codes "matrix" ∷ []) (Layer Matrix)
+pub layer : AsksFor (codes "mixed" ∷ codes "layer" ∷ codes "netlist" ∷ []) (Layer Netlist)
 unfolding clap_on_literals
-layer = (refl, (_, refl, (refl, (refl, tt))))
+layer = (refl, (_, refl, (refl, refl)))
 
 -- another word at KIND
 unknown : (word kind : List ℕ) → Some (codes "picture") ≡ Some word → word ≡ kind → get_or kind 0 0 ≡ 112
@@ -27,8 +27,8 @@ unknown word kind there is = let same : codes "picture" ≡ word = cc in ap (λ 
 
 pub unknown_kind : AsksForNothing (codes "mixed" ∷ codes "analyse" ∷ codes "picture" ∷ [])
 unfolding clap_on_literals
-unknown_kind (Analyse Matrix) (taken, (word, there, names)) = let other : 109 ≡ 112 = unknown word _ there names.1.0 in absurd (omega (arith, other))
-unknown_kind (Analyse Netlist) (taken, (word, there, names)) = let other : 110 ≡ 112 = unknown word _ there names.1.0 in absurd (omega (arith, other))
+unknown_kind (Analyse Matrix) (taken, (word, there, names)) = let other : 109 ≡ 112 = unknown word _ there names.1 in absurd (omega (arith, other))
+unknown_kind (Analyse Netlist) (taken, (word, there, names)) = let other : 110 ≡ 112 = unknown word _ there names.1 in absurd (omega (arith, other))
 unknown_kind (Layer kind) (taken, (word, there, names)) = let other : 97 ≡ 108 = ap (λ t. get_or t 0 0) names.0 in absurd (omega (arith, other))
 
 pub no_word : AsksForNothing (codes "mixed" ∷ [])

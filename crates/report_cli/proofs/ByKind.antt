@@ -10,7 +10,11 @@ use Rattle.mixed_model.specs.Models.{MixedModel, IsModel}
 use Rattle.matrix_reader.specs.Models.{IsRefusal}
 use Rattle.matrix_reader.proofs.FirstBroken.{gives-unbroken, first_broken-one}
 use Rattle.matrix_reader.proofs.ModelLaws.{text_gives_one}
+use Rattle.netlist_reader.specs.Models.{IsRefusal as IsNetlistRefusal}
+use Rattle.netlist_reader.proofs.ModelLaws as netlists
+use Rattle.netlist_reader.proofs.ModelLaws.{gives-unrefused, one_refusal}
 use Rattle.text_lengths.proofs.InputCounts as equation_lists
+use Rattle.text_lengths.proofs.DeviceCounts.{netlist-names-few}
 use Rattle.cert_text.specs.Texts.{kind_text}
 use Rattle.cert_text.specs.declared.kind.Kind.{Kind}
 use Rattle.cert_text.specs.declared.kind.Kind.TheVariants.{Matrix, Netlist}
@@ -25,23 +29,23 @@ kind-one Netlist Netlist same = refl
 
 pub is-model : (kind : Kind) (input : List ℕ) (model : MixedModel) → Gives kind input model → IsModel res_modulus model
 is-model Matrix input model gives = (gives.given).is_model
-is-model Netlist input model gives = absurd gives
+is-model Netlist input model gives = (gives.given).is_model
 
 pub gives-one : (kind : Kind) (input : List ℕ) (a b : MixedModel) → Gives kind input a → Gives kind input b → a ≡ b
 gives-one Matrix input a b gives_a gives_b = text_gives_one res_modulus input a b gives_a gives_b
-gives-one Netlist input a b gives_a gives_b = absurd gives_a
+gives-one Netlist input a b gives_a gives_b = netlists.text_gives_one res_modulus input a b gives_a gives_b
 
 -- a model has no more names than its input has bytes
 pub few-names : (kind : Kind) (input : List ℕ) (model : MixedModel) → Gives kind input model →
     (length model.equations ≤ length input) × (length model.unknowns ≤ length input)
 few-names Matrix input model gives = equation_lists.few-names res_modulus input model gives
-few-names Netlist input model gives = absurd gives
+few-names Netlist input model gives = netlist-names-few res_modulus input model gives
 
 -- an input that gives a model has no refusal
 pub given-unrefused : {A : Type 0} (kind : Kind) (input : List ℕ) (refused : Refused) (model : MixedModel) →
     Gives kind input model → IsRefused kind input refused → A
 given-unrefused Matrix input refused model gives (n, why, is, first) = absurd (gives-unbroken res_modulus input model n why gives first)
-given-unrefused Netlist input refused model gives is = absurd gives
+given-unrefused Netlist input refused model gives is = absurd (gives-unrefused res_modulus input model refused gives is)
 
 -- an input has one refusal, or none
 pub refused-alone : (kind : Kind) (input : List ℕ) (refused other : Refused) → IsRefused kind input refused → IsRefused kind input other → refused ≡ other
@@ -49,9 +53,14 @@ refused-alone Matrix input refused other (m, v, is, first) (n, w, is_other, seco
     let same = first_broken-one res_modulus input m n v w first second in
     let at : ℕ → Why → Refused = λ k why. record { place = Line (k + 1); why = why } in
     is ∙ ap (λ k. at k v) same.0 ∙ ap (λ why. at n why) same.1 ∙ sym is_other
-refused-alone Netlist input refused other is is_other = absurd is
+refused-alone Netlist input refused other is is_other = one_refusal res_modulus input refused other is is_other
 
 -- why an equation list is not read is why an input of its kind is not read
 pub unread-list : (input : List ℕ) (why : ReadModel) → IsRefusal res_modulus input why → IsWhyUnread Matrix input why
 unread-list input (Broken refused) is = is
 unread-list input NoMemory is = tt
+
+-- and so of netlists
+pub unread-netlist : (input : List ℕ) (why : ReadModel) → IsNetlistRefusal res_modulus input why → IsWhyUnread Netlist input why
+unread-netlist input (Broken refused) is = is
+unread-netlist input NoMemory is = tt

@@ -35,7 +35,7 @@ of_names name kind rows (Some command) there named = (kind, sym there, named)
 of_names name kind rows None there named = λ command (word, found, names).
     let both : Some kind ≡ Some word = there ∙ found in
     let one : kind ≡ word = cc in
-    named command (names.0, (one ∙ names.1.0, names.1.1))
+    named command (names.0, one ∙ names.1)
 
 pub with_none : {T : Type 0} (P : Type 0) (Q : T → Type 0) (result : Option T) → result ≡ None → P → MatchOption result P Q
 with_none P Q None is holds = holds

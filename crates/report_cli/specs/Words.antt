@@ -6,7 +6,6 @@ use Rattle.clap.specs.Walk.{Row, Text, first_of}
 use Rattle.cert_text.specs.Texts.{kind_text}
 use Rattle.cert_text.specs.declared.kind.Kind.{Kind}
 use Rattle.report_cli.specs.CommandLine.{command_line}
-use Rattle.report_cli.specs.Kinds.{IsRead}
 use Rattle.report_cli.specs.declared.command.Command.{Command}
 use Rattle.report_cli.specs.declared.command.Command.TheVariants.{Analyse, Layer}
 use Rattle.report_cli.specs.declared.command.WordsError.{WordsError}
@@ -26,13 +25,9 @@ kind_of (Layer kind) = kind
 abbrev pub AreTaken : List (List ℕ) → Type 0
 AreTaken words = fault_of command_line words ≡ []
 
--- a word is that of a kind of which inputs are read
-abbrev pub IsWordOf : List ℕ → Kind → Type 0
-IsWordOf word kind = (word ≡ kind_text kind) × IsRead kind
-
 -- these are the name of a command, and the word of its kind
 abbrev pub AreNamesOf : List ℕ → List ℕ → Command → Type 0
-AreNamesOf name word command = (name ≡ name_of command) × IsWordOf word (kind_of command)
+AreNamesOf name word command = (name ≡ name_of command) × (word ≡ kind_text (kind_of command))
 
 -- a subcommand with its values is that of a command: by its name, and by the word at KIND
 abbrev pub Names : Option (Text × List Row) → Command → Type 0

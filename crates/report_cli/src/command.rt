@@ -2,9 +2,10 @@
 
 ghost use Rattle.std.specs.Prelude.{◌≡◌, ◌≢◌, List, ℕ, map, MatchOption, MatchResult, OnOk};
 ghost use Rattle.std.specs.String.{string_bytes};
+ghost use Rattle.cert_text.specs.Texts.{kind_text};
 ghost use Rattle.clap.specs.Words.{kind_of as error_kind, subcommand_rows_of};
 ghost use Rattle.report_cli.specs.Statuses.{status_of_words};
-ghost use Rattle.report_cli.specs.Words.{AreNamesOf, AsksFor, IsWhy, IsWordOf, Names, NamesNone, kind_of};
+ghost use Rattle.report_cli.specs.Words.{AreNamesOf, AsksFor, IsWhy, Names, NamesNone, kind_of};
 
 use crate::command_line::command_line;
 use crate::status::Status;
@@ -81,12 +82,13 @@ impl Command {
     }
 }
 
-// The kind of this name, of those of which inputs are read.
+// The kind of this name.
 fn kind_named(word: &str) -> Option<Kind>
-    ensures { MatchOption result ((kind : Kind) → IsWordOf word.now kind → ⊥) (IsWordOf word.now) }
+    ensures { MatchOption result ((kind : Kind) → word.now ≢ kind_text kind) (λ kind. word.now ≡ kind_text kind) }
 {
     match word {
         "matrix" => Some(Kind::Matrix),
+        "netlist" => Some(Kind::Netlist),
         _ => None,
     }
 }

@@ -1,14 +1,14 @@
 //! Words of the command line at worked examples.
 
 ghost use Rattle.std.specs.Prelude.{[], ◌∷◌, codes};
-ghost use Rattle.cert_text.specs.declared.kind.Kind.TheVariants.{Matrix};
+ghost use Rattle.cert_text.specs.declared.kind.Kind.TheVariants.{Matrix, Netlist};
 ghost use Rattle.report_cli.specs.Words.{AsksFor, AsksForNothing};
 ghost use Rattle.report_cli.specs.declared.command.Command.TheVariants.{Analyse, Layer};
 
 /// What words ask for at worked examples.
 pub fn words_at_examples()
     ensures analyse { AsksFor (codes "mixed" ∷ codes "analyse" ∷ codes "matrix" ∷ []) (Analyse Matrix) }
-    ensures layer { AsksFor (codes "mixed" ∷ codes "layer" ∷ codes "matrix" ∷ []) (Layer Matrix) }
+    ensures layer { AsksFor (codes "mixed" ∷ codes "layer" ∷ codes "netlist" ∷ []) (Layer Netlist) }
     ensures no_word { AsksForNothing (codes "mixed" ∷ []) }
     ensures no_kind { AsksForNothing (codes "mixed" ∷ codes "analyse" ∷ []) }
     ensures unknown_kind { AsksForNothing (codes "mixed" ∷ codes "analyse" ∷ codes "picture" ∷ []) }

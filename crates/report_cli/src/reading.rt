@@ -12,6 +12,7 @@ use cert_text::Kind;
 use limits::INPUT_LIMIT;
 use matrix_reader::MatrixReader;
 use mixed_model::Mixed;
+use netlist_reader::NetlistReader;
 use out_of_memory::NoMemory;
 use port_io::{Pump, Source, read_all};
 use refusals::ReadModel;
@@ -60,6 +61,30 @@ impl ModelReader for MatrixReader<Res> {
     }
 
     fn take(self, piece: &[u8]) -> Result<MatrixReader<Res>, NoMemory> {
+        self.feed(piece)
+    }
+
+    fn model(self) -> Result<Mixed<Res>, ReadModel> {
+        self.finish()
+    }
+}
+
+impl ModelReader for NetlistReader<Res> {
+    ghost use Rattle.cert_text.specs.declared.kind.Kind.TheVariants.{Netlist};
+    ghost use Rattle.netlist_reader.specs.Feeding.{IsFed};
+    ghost use Rattle.residue_field.specs.Modulus.{res_modulus};
+
+    ghost KIND = { Netlist };
+
+    ghost is_fed = { IsFed res_modulus };
+
+    const KIND: Kind = Kind::Netlist;
+
+    fn start(alloc: Global) -> Result<NetlistReader<Res>, NoMemory> {
+        NetlistReader::new(alloc)
+    }
+
+    fn take(self, piece: &[u8]) -> Result<NetlistReader<Res>, NoMemory> {
         self.feed(piece)
     }
 

@@ -7,7 +7,7 @@ ghost use Rattle.mixed_layering.specs.Layers.{AreLayersOf};
 ghost use Rattle.report_cli.specs.LayerTexts.{layer_text};
 ghost use Rattle.residue_field.specs.Modulus.{res_modulus};
 ghost use Rattle.limits.specs.Limits.{input_limit};
-ghost use Rattle.report_cli.specs.Kinds.{Gives, IsRead, IsWhyUnread};
+ghost use Rattle.report_cli.specs.Kinds.{Gives, IsWhyUnread};
 ghost use Rattle.report_cli.specs.Reading.{IsUnread, ReadsWhole, TellsOfSource};
 ghost use Rattle.report_cli.specs.Reports.{IsReportFor, IsWritable, report_text};
 ghost use Rattle.report_cli.specs.WholeLayers.{AreWholeLayers};
@@ -23,6 +23,7 @@ use cert_text::{Ccf, Certificate, Items, Kind};
 use matrix_reader::MatrixReader;
 use mixed_layering::layer;
 use mixed_model::{Layered, Mixed};
+use netlist_reader::NetlistReader;
 use out_of_memory::NoMemory;
 use port_io::{Sink, Source, WriteFault};
 use refusals::ReadModel;
@@ -47,7 +48,6 @@ impl Report {
         command: Command,
         source: &mut S,
     ) -> Result<Report, Status>
-        requires { IsRead (kind_of command) }
         ensures right { IfOk result (λ report. ReadsWhole (S.left source.old) (S.left source.new)
             (λ input. IsReportFor command input report)) }
         ensures unread { IfErr result (λ status.
@@ -56,7 +56,7 @@ impl Report {
     {
         match command.kind() {
             Kind::Matrix => Report::read_by::<S, MatrixReader<Res>>(alloc, command, source),
-            Kind::Netlist => unreachable!(),
+            Kind::Netlist => Report::read_by::<S, NetlistReader<Res>>(alloc, command, source),
         }
     }
 

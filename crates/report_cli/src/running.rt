@@ -6,7 +6,6 @@ ghost use Rattle.port_io.specs.Causes.{Rose, one_more};
 ghost use Rattle.port_io.specs.Asking.{AsksWithin};
 ghost use Rattle.port_io.specs.Bytes.{Appended};
 ghost use Rattle.report_cli.specs.Answer.{Answered, CutShort, IsAnswer, IsAnswerOf, IsComplete, OnlyAnswer, TakesBy, Tells, WritesNothing, IsDelivered};
-ghost use Rattle.report_cli.specs.Kinds.{IsRead};
 ghost use Rattle.limits.specs.Limits.{input_limit};
 ghost use Rattle.report_cli.specs.Reports.{IsWritable, report_text};
 ghost use Rattle.report_cli.specs.Rooms.{text_room};
@@ -87,7 +86,6 @@ pub fn run<S: Source, K: Sink, N: Sink>(
 
 // A run of a command, but for what is noted.
 fn work<S: Source, K: Sink>(alloc: Global, command: Command, source: &mut S, out: &mut K) -> Status
-    requires { IsRead (kind_of command) }
     ensures asked_for { result ≢ Status.Usage }
     ensures answered { Tells result (Answered (IsAnswerOf command) (S.left source.old) (S.left source.new)
         (K.written out.old) (K.written out.new) result) }
