@@ -2,15 +2,11 @@
 use Rattle.std.proofs.Common.{◌≡◌, ℕ, ◌+◌, ◌≤◌, List, length, refl, ap, sym, ◌∙◌}
 use Rattle.residue_field.specs.Modulus.{res_modulus}
 use Rattle.refusals.specs.declared.Refused.{Refused}
-use Rattle.refusals.specs.declared.ReadModel.{ReadModel}
-use Rattle.refusals.specs.declared.ReadModel.TheVariants.{Refused as Broken, NoMemory}
 use Rattle.refusals.specs.declared.Place.TheVariants.{Line}
 use Rattle.refusals.specs.declared.Why.{Why}
 use Rattle.mixed_model.specs.Models.{MixedModel, IsModel}
-use Rattle.matrix_reader.specs.Models.{IsRefusal}
 use Rattle.matrix_reader.proofs.FirstBroken.{gives-unbroken, first_broken-one}
 use Rattle.matrix_reader.proofs.ModelLaws.{text_gives_one}
-use Rattle.netlist_reader.specs.Models.{IsRefusal as IsNetlistRefusal}
 use Rattle.netlist_reader.proofs.ModelLaws as netlists
 use Rattle.netlist_reader.proofs.ModelLaws.{gives-unrefused, one_refusal}
 use Rattle.text_lengths.proofs.InputCounts as equation_lists
@@ -18,7 +14,7 @@ use Rattle.text_lengths.proofs.DeviceCounts.{netlist-names-few}
 use Rattle.cert_text.specs.Texts.{kind_text}
 use Rattle.cert_text.specs.declared.kind.Kind.{Kind}
 use Rattle.cert_text.specs.declared.kind.Kind.TheVariants.{Matrix, Netlist}
-use Rattle.report_cli.specs.Kinds.{Gives, IsRefused, IsWhyUnread}
+use Rattle.report_cli.specs.Kinds.{Gives, IsRefused}
 
 -- kinds have words of their own
 pub kind-one : (a b : Kind) → kind_text a ≡ kind_text b → a ≡ b
@@ -54,13 +50,3 @@ refused-alone Matrix input refused other (m, v, is, first) (n, w, is_other, seco
     let at : ℕ → Why → Refused = λ k why. record { place = Line (k + 1); why = why } in
     is ∙ ap (λ k. at k v) same.0 ∙ ap (λ why. at n why) same.1 ∙ sym is_other
 refused-alone Netlist input refused other is is_other = one_refusal res_modulus input refused other is is_other
-
--- why an equation list is not read is why an input of its kind is not read
-pub unread-list : (input : List ℕ) (why : ReadModel) → IsRefusal res_modulus input why → IsWhyUnread Matrix input why
-unread-list input (Broken refused) is = is
-unread-list input NoMemory is = tt
-
--- and so of netlists
-pub unread-netlist : (input : List ℕ) (why : ReadModel) → IsNetlistRefusal res_modulus input why → IsWhyUnread Netlist input why
-unread-netlist input (Broken refused) is = is
-unread-netlist input NoMemory is = tt

@@ -306,6 +306,78 @@ const EXAMPLES: [&[u8]; 2] = [
     b"eq spring f=1 x1=-3/2 x2=+3/2\n\neq left a1=2 f=-1 # mass 2\n\teq right a2=0.50 f=1\n",
 ];
 
+// A netlist whose certificate holds this piece.
+fn circuit<'a>(input: &'a [u8], holds: &'a [u8]) -> Case<'a> {
+    Case {
+        words: &["mixed", "analyse", "netlist"],
+        holds,
+        ..calm(
+            input,
+            0,
+            b"mixed-certificate 1\nkind netlist\nlength ",
+            b"\nend\n",
+            b"",
+        )
+    }
+}
+
+#[test]
+fn circuits(rt: HostRuntime) -> Result<(), Fail> {
+    let amplifier = b"V1 in 0\nR1 in m\nR2 m out\n.opamp U1 0 m out\n";
+    let cases = [
+        // a loop of voltages, a cut of currents, and two circuits that determine their unknowns
+        circuit(b"V1 a 0\nV2 a 0\n", b"\nrank 4\n"),
+        circuit(b"I1 0 a\nI2 a 0\n", b"\nrank 4\n"),
+        circuit(b"V1 a 0 5\nR1 a 0 1k\n", b"\nrank 5\n"),
+        circuit(b"V1 a 0 5\nR1 a 0 1k\n", b"\nfirst |\nblock 1: "),
+        circuit(amplifier, b"\nrank 10\n"),
+        // the echo has comments and ignored words, and the model has neither
+        circuit(
+            b"* a \xff\nV1 a 0 5 # b\n",
+            b"\nlength 19\n* a \xff\nV1 a 0 5 # b\n\nshape 3 3 3 0 3\n",
+        ),
+        circuit(
+            b"",
+            b"length 0\n\nshape 0 0 0 0 0\nrank 0\nbase\nmatch\nfirst |\nlast |\n",
+        ),
+    ];
+    for case in cases {
+        expect_case(&rt, rt.alloc(), &case)?;
+    }
+    Ok(())
+}
+
+#[test]
+fn layers_of_netlists(rt: HostRuntime) -> Result<(), Fail> {
+    let controlled =
+        b"columns 7\nc1 u.a\nc2 u.b\nc3 v.V1\nc4 i.V1\nc5 v.E1\nc6 i.E1\nc7 w.E1\nq1 kcl.a 4=1\nq2 kcl.b 6=1\nq3 kvl.V1 1=65520 3=1\nq4 law.V1 3=1\nq5 kvl.E1 2=65520 5=1\nq6 ctl.E1 1=65520 7=1\nt1 law.E1 5 7\n";
+    let mut cases = [
+        calm(b"V1 a 0\nE1 b 0 a 0\n", 0, controlled, controlled, b""),
+        calm(
+            b"V1 a 0\r\ne1 b 0 a 0 # 2\r\n",
+            0,
+            b"columns 7\n",
+            b"t1 law.e1 5 7\n",
+            b"",
+        ),
+        calm(b"* alone\n", 0, b"columns 0\n", b"columns 0\n", b""),
+        refused(b"R1 a b", b"mixed: document: no ground\n"),
+        refused(b"F1 a 0 V9", b"mixed: line 1: no such source\n"),
+        refused(b"D1 a 0", b"mixed: line 1: unsupported\n"),
+        refused(b"R1 a", b"mixed: line 1: bad shape\n"),
+        refused(b"R1 a 0\nR1 a 0\n", b"mixed: line 2: twice\n"),
+        refused(
+            b"V1 a 0\n* b\nF1 a 0 R1\nR1 a 0\n",
+            b"mixed: line 3: no such source\n",
+        ),
+    ];
+    for case in &mut cases {
+        case.words = &["mixed", "layer", "netlist"];
+        expect_case(&rt, rt.alloc(), case)?;
+    }
+    Ok(())
+}
+
 #[test]
 fn each_beginning_is_answered(rt: HostRuntime) -> Result<(), Fail> {
     let alloc = rt.alloc();
@@ -338,7 +410,7 @@ fn expect_beginnings(
 #[test]
 fn unknown_kinds(rt: HostRuntime) -> Result<(), Fail> {
     let cases: [&[&str]; 3] = [
-        &["mixed", "analyse", "netlist"],
+        &["mixed", "analyse", "netlists"],
         &["mixed", "analyse", "picture"],
         &["mixed", "layer", "matrix "],
     ];
