@@ -21,7 +21,6 @@ new_among names i name distinct within is = list_any_none (bytes_eq name) (take 
 
 -- the next of some names that differ is new
 module _ (names : List (List ℕ)) (i : ℕ) (name : List ℕ) (list : IsNameList names) (within : i < length names) (is : get_or names i [] ≡ name) where
-
   pub label : IsTrue (is_label name)
   label = subst (λ n. IsTrue (is_label n)) is (list.labels i [] within)
 

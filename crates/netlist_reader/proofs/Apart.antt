@@ -28,9 +28,10 @@ and_false false = refl
 -- terms at places that are free of some terms and, among others, of each other
 pub free-split : (T B ts : List Term) → AllByRecursion (λ t. IsFree T t.equation t.unknown) ts → AreFree B ts → AreFree (T ++ B) ts
 free-split T B [] apart free = tt
-free-split T B (t ∷ ts) apart free =
-    (list_any-append (stands_at t.equation t.unknown) T B ∙ rw (apart.0, free.0) refl,
-    subst (λ before. AreFree before ts) (sym (append_assoc T B (t ∷ []))) (free-split T (B ++ t ∷ []) ts apart.1 free.1))
+free-split T B (t ∷ ts) apart free = (
+  list_any-append (stands_at t.equation t.unknown) T B ∙ rw (apart.0, free.0) refl,
+  subst (λ before. AreFree before ts) (sym (append_assoc T B (t ∷ []))) (free-split T (B ++ t ∷ []) ts apart.1 free.1),
+)
 
 free-append : (B xs ys : List Term) → AreFree B xs → AreFree (B ++ xs) ys → AreFree B (xs ++ ys)
 free-append B [] ys first second = subst (λ before. AreFree before ys) (append-nil B) second
@@ -176,7 +177,6 @@ voltage-free p e v plus minus other = joined (constant e v 1 ∷ []) (put_differ
     by false = clears-after (constant e v 1 ∷ []) (node_voltage e 1 minus) (node_voltage e (p - 1) plus) (first-clears e v minus 1 other) (first-clears e v plus (p - 1) other)
 
 module _ (p : ℕ) (d : Device) where
-
   -- an own equation is none of the nodes', and theirs are none of the own
   abbrev NoNode : List ℕ → Type 0
   NoNode w = ((n : List ℕ) → bytes_eq (dotted (codes "kcl") n) (own d w) ≡ false) × ((n : List ℕ) → bytes_eq (own d w) (dotted (codes "kcl") n) ≡ false)
@@ -261,7 +261,6 @@ module _ (p : ℕ) (d : Device) where
   lawb = own d (codes "lawb")
 
   module _ (a b x y : List ℕ) (other : bytes_eq (own d b) (own d a) ≡ false) (others : bytes_eq (own d y) (own d x) ≡ false) where
-
     abbrev first : List Term
     first = constant lawa (own d a) 1 ∷ put_constant lawa (own d b) ((p - d.number) % p)
 

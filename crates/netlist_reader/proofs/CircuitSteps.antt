@@ -1,17 +1,14 @@
 -- One device more in a circuit.
-use Rattle.std.proofs.Common.{◌≡◌, ℕ, ◌+◌, ◌<◌, ◌≤◌, Bool, true, false, not, ◌&&◌, All, List, [], ◌∷◌, ◌++◌, length, map, codes, Option, Some, None, Result, Ok, Err, inl, inr, refl, sym, ap, subst, ◌∙◌, arith, length-append, if◌then◌else◌}
+use Rattle.std.proofs.Common.{◌≡◌, ℕ, ◌+◌, ◌<◌, ◌≤◌, Bool, true, false, not, ◌&&◌, All, List, [], ◌∷◌, ◌++◌, length, map, codes, Some, None, Ok, Err, inl, inr, refl, sym, ap, subst, ◌∙◌, arith, length-append}
 use Rattle.std.specs.Prelude.{nat_le}
-use Rattle.std.specs.List.{flat_map, IsDistinct}
-use Rattle.std.specs.Option.{option_or}
+use Rattle.std.specs.List.{IsDistinct}
 use Rattle.std.specs.Str.{bytes_eq}
 use Rattle.std.specs.Cmp.Lexicographic.{nat_list_eq_equiv}
-use Rattle.std.proofs.lemmas.Bool.{le-leb, leb-true}
 use Rattle.std.proofs.lemmas.Bool.Decides.{nat_tests}
 use Rattle.std.proofs.lemmas.List.{append-nil, length-map, map-append}
 use Rattle.std.proofs.lemmas.List.Elements.{All-push}
 use Rattle.std.proofs.lemmas.Map.Keys.{IsDistinct-push}
 use Rattle.std.proofs.lemmas.Grind.{flat_map-append}
-use Rattle.refusals.specs.declared.Why.{Why}
 use Rattle.refusals.specs.declared.Why.TheVariants.{Twice, TooMany}
 use Rattle.mixed_model.specs.Names.{has_name}
 use Rattle.netlist_reader.specs.declared.kind.DeviceKind.{DeviceKind}
@@ -25,7 +22,7 @@ use Rattle.line_reader.specs.declared.fault.LineFault.{LineFault}
 use Rattle.line_reader.specs.declared.fault.LineFault.TheVariants.{Broken, NoMemory}
 use Rattle.netlist_reader.specs.ReaderStates.{AddsName, TakesRoom, has_room, see_nodes}
 use Rattle.netlist_reader.proofs.FaultSteps.{on_broken}
-use Rattle.netlist_reader.proofs.DeviceSteps.{first_broken, first_kept, unless_false, unless_true}
+use Rattle.netlist_reader.proofs.DeviceSteps.{first_broken, first_kept, unless_false}
 use Rattle.netlist_reader.proofs.NodeSteps.{nodes_of-push}
 
 -- the names of one device more

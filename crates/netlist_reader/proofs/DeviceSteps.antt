@@ -1,5 +1,5 @@
 -- The rules of a device by itself, one by one.
-use Rattle.std.proofs.Common.{◌≡◌, ℕ, ◌+◌, ◌-◌, ◌<◌, ◌≤◌, Bool, true, false, ◌&&◌, List, [], ◌∷◌, Bor, All, length, map, take, drop, length-drop, subst, leb-true, if◌then◌else◌, get_or, refl, sym, ap, ◌∙◌, arith, Option, Some, None, nat_eq, nat_le}
+use Rattle.std.proofs.Common.{◌≡◌, ℕ, ◌+◌, ◌-◌, ◌<◌, ◌≤◌, Bool, true, false, ◌&&◌, List, [], Bor, All, length, take, drop, length-drop, subst, leb-true, if◌then◌else◌, get_or, refl, sym, ap, ◌∙◌, arith, Option, Some, None, nat_eq, nat_le}
 use Rattle.std.specs.List.{list_all}
 use Rattle.std.specs.Option.{option_or}
 use Rattle.std.proofs.lemmas.List.{take-map, length-map, length-take-le}

@@ -1,14 +1,13 @@
 -- The rules of a whole netlist, by lines.
-use Rattle.std.proofs.Common.{◌≡◌, ℕ, zero, suc, ◌+◌, ◌-◌, ◌<◌, ◌≤◌, Bool, true, false, not, ◌&&◌, List, [], ◌∷◌, ◌++◌, length, map, get_or, position, Option, Some, None, Result, Ok, Err, inl, inr, refl, sym, ap, subst, ◌∙◌, arith, length-append, add-zero}
+use Rattle.std.proofs.Common.{◌≡◌, ℕ, zero, suc, ◌+◌, ◌-◌, ◌<◌, ◌≤◌, Bool, true, false, not, ◌&&◌, List, [], ◌∷◌, ◌++◌, length, map, get_or, position, Some, None, Ok, Err, inl, inr, refl, sym, ap, subst, ◌∙◌, arith, length-append, add-zero}
 use Rattle.std.specs.List.{list_all}
 use Rattle.std.proofs.lemmas.Bool.{cases_lt}
 use Rattle.std.proofs.lemmas.List.{get_or_append_left, get_or-append_right, get_or-append-add, get_or_default, get_or-map, length-map}
 use Rattle.std.proofs.lemmas.List.Folds.{list_all-append, list_all_at}
 use Rattle.std.proofs.lemmas.List.Sums.{fails_before_first, list_all-from_AllPass}
 use Rattle.std.proofs.lemmas.List.Quantifiers.{position-Some}
-use Rattle.refusals.specs.declared.Why.{Why}
 use Rattle.refusals.specs.declared.Why.TheVariants.{NoGround, NoSuchSource}
-use Rattle.refusals.specs.declared.Place.TheVariants.{Line, Document}
+use Rattle.refusals.specs.declared.Place.TheVariants.{Line}
 use Rattle.refusals.specs.declared.Refused.{Refused as Refusal}
 use Rattle.refusals.specs.declared.ReadModel.{ReadModel}
 use Rattle.refusals.specs.declared.ReadModel.TheVariants.{Refused, NoMemory}
@@ -17,8 +16,8 @@ use Rattle.line_reader.specs.LineRules.{KeepsAll, IsRefusal as IsLineRefusal}
 use Rattle.mixed_model.specs.Models.{MixedModel}
 use Rattle.netlist_reader.specs.declared.kind.DeviceKind.TheVariants.{Passive}
 use Rattle.netlist_reader.specs.Devices.{Device, device_in, devices_in}
-use Rattle.netlist_reader.specs.Rules.{ground_rule, source_rule, unless, device_rules}
-use Rattle.netlist_reader.specs.Models.{GivesModel, IsFirstUnsourced, IsModelOf, IsRefusal, SourcesBefore, lines_in, source_rule_at}
+use Rattle.netlist_reader.specs.Rules.{ground_rule, device_rules}
+use Rattle.netlist_reader.specs.Models.{GivesModel, IsFirstUnsourced, IsModelOf, IsRefusal, lines_in}
 use Rattle.netlist_reader.specs.Circuits.{AreSourced, HasRead, Parts, device_lines}
 use Rattle.netlist_reader.specs.ReaderStates.{TestsCircuit, first_unsourced, keeps_source}
 use Rattle.netlist_reader.proofs.DeviceSteps.{unless_false, unless_true}

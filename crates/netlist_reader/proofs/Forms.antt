@@ -61,7 +61,6 @@ abbrev pub HaveForms : Device → List Term → Type 0
 HaveForms d terms = AllByRecursion (HasForm d) terms
 
 module _ (p : ℕ) (d : Device) (big : 2 < p) where
-
   one_is : ◌≢◌ {A = ℕ} 1 0
   one_is e = omega (arith, e)
 
@@ -107,20 +106,26 @@ module _ (p : ℕ) (d : Device) (big : 2 < p) where
     where
       by : (b : Bool) → is_ground n ≡ b → HaveForms d (cond b [] (constant (own d we) (dotted (codes "u") n) k ∷ []))
       by true g = tt
-      by false g = (record {
-        put = λ none. some;
-        place = inr (inl (record { equation_word = we; node = n; equation_there = e; node_is = record { there = there; above = g }; equation = refl; unknown = refl }));
-      }, tt)
+      by false g = (
+        record {
+          put = λ none. some;
+          place = inr (inl (record { equation_word = we; node = n; equation_there = e; node_is = record { there = there; above = g }; equation = refl; unknown = refl }));
+        },
+        tt,
+      )
 
   current-form : (wu n : List ℕ) (k : ℕ) → has_name (unknown_words d.kind) wu ≡ true → has_name d.nodes n ≡ true → k ≢ 0 → HaveForms d (node_current (own d wu) k n)
   current-form wu n k u there some = by (is_ground n) refl
     where
       by : (b : Bool) → is_ground n ≡ b → HaveForms d (cond b [] (constant (dotted (codes "kcl") n) (own d wu) k ∷ []))
       by true g = tt
-      by false g = (record {
-        put = λ none. some;
-        place = inr (inr (inl (record { unknown_word = wu; node = n; unknown_there = u; node_is = record { there = there; above = g }; equation = refl; unknown = refl })));
-      }, tt)
+      by false g = (
+        record {
+          put = λ none. some;
+          place = inr (inr (inl (record { unknown_word = wu; node = n; unknown_there = u; node_is = record { there = there; above = g }; equation = refl; unknown = refl })));
+        },
+        tt,
+      )
 
   difference-form : (we plus minus : List ℕ) → has_name (equation_words d.kind) we ≡ true → has_name d.nodes plus ≡ true → has_name d.nodes minus ≡ true → HaveForms d (put_difference p (own d we) plus minus)
   difference-form we plus minus e first second = by (bytes_eq plus minus)
@@ -149,19 +154,19 @@ module _ (p : ℕ) (d : Device) (big : 2 < p) where
       both (put_voltage p (own d we) (own d wv) plus minus) (put_flow p (own d wi) plus minus) (put_voltage-form we wv plus minus e v first second) (flow-form wi plus minus i first (inl second))
 
   ratio-form : (a b x y : List ℕ) → has_name (equation_words d.kind) (codes "lawa") ≡ true → has_name (equation_words d.kind) (codes "lawb") ≡ true → has_name (unknown_words d.kind) a ≡ true → has_name (unknown_words d.kind) b ≡ true → has_name (unknown_words d.kind) x ≡ true → has_name (unknown_words d.kind) y ≡ true → HaveForms d (put_ratio p d a b x y)
-  ratio-form a b x y la lb ua ub ux uy =
-      (own_constant (codes "lawa") a 1 la ua one_is,
-      both (put_constant (own d (codes "lawa")) (own d b) ((p - d.number) % p) ++ put_constant (own d (codes "lawb")) (own d x) d.number) (constant (own d (codes "lawb")) (own d y) 1 ∷ [])
-      (both (put_constant (own d (codes "lawa")) (own d b) ((p - d.number) % p)) (put_constant (own d (codes "lawb")) (own d x) d.number)
-      (put_constant-form (codes "lawa") b ((p - d.number) % p) la ub) (put_constant-form (codes "lawb") x d.number lb ux))
-      (own_constant (codes "lawb") y 1 lb uy one_is, tt))
+  ratio-form a b x y la lb ua ub ux uy = (
+    own_constant (codes "lawa") a 1 la ua one_is,
+    both (put_constant (own d (codes "lawa")) (own d b) ((p - d.number) % p) ++ put_constant (own d (codes "lawb")) (own d x) d.number) (constant (own d (codes "lawb")) (own d y) 1 ∷ [])
+        (both (put_constant (own d (codes "lawa")) (own d b) ((p - d.number) % p)) (put_constant (own d (codes "lawb")) (own d x) d.number)
+        (put_constant-form (codes "lawa") b ((p - d.number) % p) la ub) (put_constant-form (codes "lawb") x d.number lb ux))
+        (own_constant (codes "lawb") y 1 lb uy one_is, tt),
+  )
 
   -- a node of a device is among its nodes
   node-there : (k : ℕ) → k < length d.nodes → has_name d.nodes (node d k) ≡ true
   node-there k within = list_any_at (bytes_eq (node d k)) d.nodes k [] within (bytes_eq-refl (node d k))
 
   module _ (kind : DeviceKind) (is : d.kind ≡ kind) (wanted : length d.nodes ≡ nodes_wanted kind) where
-
     has_equation : (word : List ℕ) → has_name (equation_words kind) word ≡ true → has_name (equation_words d.kind) word ≡ true
     has_equation word there = ap (λ k. has_name (equation_words k) word) is ∙ there
 

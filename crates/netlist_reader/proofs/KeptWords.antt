@@ -1,14 +1,14 @@
 -- The first words of a line tell its device.
-use Rattle.std.proofs.Common.{◌≡◌, ℕ, suc, ◌+◌, ◌-◌, ◌<◌, ◌≤◌, Bool, true, false, List, [], ◌∷◌, length, take, drop, min, get_or, Option, Some, None, refl, sym, ap, ◌∙◌, arith, cond, nat_eq, nat_le, length-take, get_or-take, add-one}
+use Rattle.std.proofs.Common.{◌≡◌, ℕ, ◌+◌, ◌-◌, ◌<◌, ◌≤◌, Bool, true, false, List, [], ◌∷◌, length, take, drop, min, Option, Some, None, refl, ap, ◌∙◌, arith, cond, nat_eq, nat_le, length-take, get_or-take}
 use Rattle.std.specs.Option.{option_map, option_or, option_to_list}
 use Rattle.std.specs.Result.{result_unwrap_or}
 use Rattle.std.proofs.lemmas.List.{drop-take, take-take}
 use Rattle.std.proofs.lemmas.Bool.Decides.{nat_tests}
-use Rattle.refusals.specs.declared.Why.TheVariants.{BadShape, Unsupported}
+use Rattle.refusals.specs.declared.Why.TheVariants.{BadShape}
 use Rattle.line_lexer.specs.Numbers.{number_of}
 use Rattle.netlist_reader.specs.declared.kind.DeviceKind.{DeviceKind}
 use Rattle.netlist_reader.specs.declared.kind.DeviceKind.TheVariants.{Passive, Voltage, Current, VoltageByVoltage, CurrentByVoltage, CurrentByCurrent, VoltageByCurrent, Opamp, Transformer, Gyrator}
-use Rattle.netlist_reader.specs.Devices.{Device, device_in, device_of, from_name, has_number, has_source, is_directive, kind_of, nodes_wanted, word_after_nodes, words_wanted}
+use Rattle.netlist_reader.specs.Devices.{device_in, device_of, from_name, has_number, has_source, is_directive, kind_of, nodes_wanted, word_after_nodes, words_wanted}
 use Rattle.netlist_reader.specs.Rules.{name_rule, number_rule, shape_rule, unless}
 use Rattle.netlist_reader.specs.ReaderStates.{own_kind_rule, own_line_rule, own_rule}
 use Rattle.netlist_reader.proofs.DeviceSteps.{same_device}

@@ -1,7 +1,6 @@
 -- A line read by its words.
-use Rattle.std.proofs.Common.{◌≡◌, ℕ, List, [], ◌∷◌, take, Option, Some, None, Result, Ok, Err, sym, ap, subst, ◌∙◌}
+use Rattle.std.proofs.Common.{◌≡◌, ℕ, List, [], ◌∷◌, take, Some, None, Result, Err, sym, ap, subst, ◌∙◌}
 use Rattle.std.specs.Option.{option_or}
-use Rattle.refusals.specs.declared.Why.{Why}
 use Rattle.line_reader.specs.Answers.{AnswersRule, OnBroken}
 use Rattle.line_reader.specs.declared.fault.LineFault.{LineFault}
 use Rattle.netlist_reader.specs.Devices.{Device, device_in}

@@ -1,9 +1,8 @@
 -- A text gives at most one model, or has one refusal.
-use Rattle.std.proofs.Common.{◌≡◌, ℕ, ◌+◌, ◌<◌, List, length, Option, Some, None, unwrap_or, refl, sym, ap, ◌∙◌, arith, get_or, [], inl, inr, ⊎_elim}
+use Rattle.std.proofs.Common.{◌≡◌, ℕ, ◌+◌, List, length, Option, Some, None, unwrap_or, refl, sym, ap, ◌∙◌, arith, get_or, [], inl, inr, ⊎_elim}
 use Rattle.std.proofs.lemmas.Bool.{cases_lt, cases_order}
 use Rattle.std.proofs.lemmas.List.{get_or_past}
 use Rattle.refusals.specs.declared.Why.{Why}
-use Rattle.refusals.specs.declared.Place.{Place}
 use Rattle.refusals.specs.declared.Place.TheVariants.{Line, Document}
 use Rattle.refusals.specs.declared.Refused.{Refused}
 use Rattle.line_reader.proofs.Rules.{first_broken-one, keeps-unbroken}
@@ -15,7 +14,7 @@ use Rattle.mixed_model.proofs.RowLaws.{entry_in-filled}
 use Rattle.netlist_reader.specs.Devices.{Device, devices_in}
 use Rattle.netlist_reader.specs.Terms.{said_of, symbol_said, terms_of}
 use Rattle.netlist_reader.specs.Rules.{ground_rule, device_rules}
-use Rattle.netlist_reader.specs.Models.{BreaksFirst, GivesModel, IsFirstUnsourced, IsModelOf, SourcesBefore, lines_in, source_rule_at}
+use Rattle.netlist_reader.specs.Models.{BreaksFirst, GivesModel, IsFirstUnsourced, IsModelOf, lines_in, source_rule_at}
 
 -- a constant that is 0 is none
 no_zero : (p : ℕ) (entry : RowEntry) → IsFilled p entry → unwrap_or entry.constant 0 ≡ 0 → entry.constant ≡ None

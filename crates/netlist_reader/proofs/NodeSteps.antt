@@ -1,12 +1,11 @@
 -- Nodes that are put last one by one.
-use Rattle.std.proofs.Common.{◌≡◌, ℕ, ◌+◌, ◌<◌, ◌≤◌, Bool, true, false, List, [], ◌∷◌, ◌++◌, length, map, take, drop, get_or, position, Option, Some, None, Result, Ok, Err, refl, sym, ap, subst, ◌∙◌, arith, length-append, cond, ltb, ltb-false, not}
+use Rattle.std.proofs.Common.{◌≡◌, ℕ, ◌+◌, ◌<◌, ◌≤◌, Bool, true, false, List, [], ◌∷◌, ◌++◌, length, take, drop, get_or, position, Option, Some, None, Ok, Err, refl, sym, ap, ◌∙◌, arith, length-append, cond, ltb, ltb-false, not}
 use Rattle.std.specs.List.{filter, flat_map, fold}
 use Rattle.std.specs.Str.{bytes_eq}
 use Rattle.std.proofs.lemmas.List.{append-nil, take-append-drop, take_more}
 use Rattle.std.proofs.lemmas.List.Elements.{filter-append}
 use Rattle.std.proofs.lemmas.Grind.{flat_map-append}
 use Rattle.std.proofs.lemmas.List.Sums.{fold-append}
-use Rattle.refusals.specs.declared.Why.{Why}
 use Rattle.refusals.specs.declared.Why.TheVariants.{TooMany as IsFull}
 use Rattle.mixed_model.specs.Names.{AnswersAdd, has_name, place_or_end, see, seeing}
 use Rattle.mixed_model.specs.declared.errors.AddError.{AddError}

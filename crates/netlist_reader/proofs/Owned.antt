@@ -33,7 +33,6 @@ current-owned name current n k owned = by (is_ground n)
     by false = (owned, tt)
 
 module _ (p : ℕ) (d : Device) where
-
   difference-owned : (equation plus minus : List ℕ) → ((unknown : List ℕ) → owner_of equation unknown ≡ d.name) → AreOwned d.name (difference p equation plus minus)
   difference-owned equation plus minus owned =
       both d.name (node_voltage equation 1 plus) (node_voltage equation (p - 1) minus) (voltage-owned d.name equation plus 1 owned) (voltage-owned d.name equation minus (p - 1) owned)

@@ -130,7 +130,6 @@ source-there (first ∷ devices) name is =
     by false e b f is more = has-right (map (λ word. dotted word first.name) (unknown_words first.kind)) (own_names unknown_words devices) (dotted (codes "i") name) (more is)
 
 module _ (devices : List Device) (i : ℕ) (d : Device) (within : i < length devices) (is : d ≡ get_or devices i d) (sourced : has_source d.kind ≡ true → is_source devices d.source ≡ true) where
-
   equation-own : (word : List ℕ) → has_name (equation_words d.kind) word ≡ true → has_name (equations_of devices) (own d word) ≡ true
   equation-own word there = has-right (map (dotted (codes "kcl")) (nodes_of devices)) (own_names equation_words devices) (own d word) (own-there equation_words devices i d word within is there)
 

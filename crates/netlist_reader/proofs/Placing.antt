@@ -16,7 +16,6 @@ use Rattle.netlist_reader.proofs.Saying.{said_of-append, said_of-free, said_of-o
 module _ (p : ℕ) (old : MixedModel) (i j : ℕ) (term : Term) (is : IsModel p old)
     (row : i < length old.equations) (col : j < length old.unknowns)
     (at_equation : get_or old.equations i [] ≡ term.equation) (at_unknown : get_or old.unknowns j [] ≡ term.unknown) where
-
   -- the place of a term is told by its numbers
   stands : (k l : ℕ) → k < length old.equations → l < length old.unknowns → stands_at (get_or old.equations k []) (get_or old.unknowns l []) term ≡ (nat_eq i k && nat_eq j l)
   stands k l rk cl =
@@ -24,7 +23,6 @@ module _ (p : ℕ) (old : MixedModel) (i j : ℕ) (term : Term) (is : IsModel p 
 
   -- where terms leave the place free, nothing stands there
   module _ (before : List Term) (says : Says p before old) (free : IsFree before term.equation term.unknown) where
-
     free_here : (k l : ℕ) → (nat_eq i k && nat_eq j l) ≡ true → k < length old.equations → l < length old.unknowns → IsFree before (get_or old.equations k []) (get_or old.unknowns l [])
     free_here k l here rk cl = by (nat_eq i k) refl (nat_eq j l) refl here
       where
@@ -49,7 +47,6 @@ module _ (p : ℕ) (old : MixedModel) (i j : ℕ) (term : Term) (is : IsModel p 
         (equations : new.equations ≡ old.equations) (unknowns : new.unknowns ≡ old.unknowns)
         (constants : (k l : ℕ) → k < length old.equations → l < length old.unknowns → constant_at new k l ≡ cond (nat_eq i k && nat_eq j l) term.constant (constant_at old k l))
         (symbols : (k l : ℕ) → k < length old.equations → l < length old.unknowns → symbol_of new k l ≡ ((nat_eq i k && nat_eq j l) && term.symbol || symbol_of old k l)) where
-
       constant_says : (k l : ℕ) → k < length old.equations → l < length old.unknowns → constant_at new k l ≡ said_of p (before ++ term ∷ []) (get_or old.equations k []) (get_or old.unknowns l [])
       constant_says k l rk cl =
           constants k l rk cl

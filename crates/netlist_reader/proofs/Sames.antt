@@ -84,7 +84,7 @@ same-zero p e u n m is = by (nat_eq m 0) refl
   where
     by : (b : Bool) → nat_eq m 0 ≡ b → AreSame p (cond b [] (constant e u m ∷ [])) (constant e u n ∷ [])
     by true zero = record {
-      constants = λ equation unknown. here (stands_at equation unknown (constant e u n)) ;
+      constants = λ equation unknown. here (stands_at equation unknown (constant e u n));
       symbols = λ equation unknown. none (stands_at equation unknown (constant e u n));
     }
       where
@@ -128,7 +128,6 @@ same-flow p current plus minus big = by (bytes_eq plus minus) refl
     by false two = same p (flow p current plus minus)
 
 module _ (p : ℕ) (d : Device) (big : 2 < p) (small : d.number < p) where
-
   same-voltage : (e v plus minus : List ℕ) → AreSame p (put_voltage p e v plus minus) (voltage_is p e v plus minus)
   same-voltage e v plus minus = same-append p (constant e v 1 ∷ []) (constant e v 1 ∷ []) (put_difference p e minus plus) (difference p e minus plus) (same p (constant e v 1 ∷ [])) (same-difference p e minus plus big)
 
@@ -188,8 +187,8 @@ module _ (p : ℕ) (d : Device) (big : 2 < p) (small : d.number < p) where
   says_device earlier model says =
       let told = same-append p (terms_of p earlier) (terms_of p earlier) (put_by p d.kind d) (terms_by p d.kind d) (same p (terms_of p earlier)) (same-device d.kind) in
       let one : terms_of p (earlier ++ d ∷ []) ≡ terms_of p earlier ++ terms_by p d.kind d =
-          flat_map-append (λ (device : Device). terms_by p device.kind device) earlier (d ∷ [])
-          ∙ ap (λ last. terms_of p earlier ++ last) (flat_map-cons (λ (device : Device). terms_by p device.kind device) d [] ∙ append-nil (terms_by p d.kind d)) in
+      flat_map-append (λ (device : Device). terms_by p device.kind device) earlier (d ∷ [])
+      ∙ ap (λ last. terms_of p earlier ++ last) (flat_map-cons (λ (device : Device). terms_by p device.kind device) d [] ∙ append-nil (terms_by p d.kind d)) in
       subst (λ terms. Says p terms model) (sym one) record {
         constants = λ i j row column. says.constants i j row column ∙ told.constants (get_or model.equations i []) (get_or model.unknowns j []);
         symbols = λ i j row column. says.symbols i j row column ∙ told.symbols (get_or model.equations i []) (get_or model.unknowns j []);

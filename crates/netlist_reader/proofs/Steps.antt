@@ -94,7 +94,6 @@ the_source (first ∷ devices) (suc i) d differ within is source = by (is_voltag
     by false false e source more = more source
 
 module _ (p : ℕ) (devices : List Device) (distinct : IsDistinct bytes_eq (device_names devices)) (are : AreSourced devices) (i : ℕ) (d : Device) (within : i < length devices) (is : d ≡ get_or devices i d) where
-
   all_sourced : list_all (λ (device : Device). not (has_source device.kind) || is_source devices device.source) devices ≡ true
   all_sourced = by (list_all (λ (device : Device). not (has_source device.kind) || is_source devices device.source) devices) refl
     where

@@ -17,7 +17,6 @@ begins p old terms = record {
 }
 
 module _ (p : ℕ) (old now : MixedModel) (terms : List Term) (i : ℕ) (term : Term) (within : i < length terms) (is : term ≡ get_or terms i term) (so_far : PutsSoFar p old now terms i) where
-
   longer : (before : List Term) → before ++ take i terms ++ term ∷ [] ≡ before ++ take (i + 1) terms
   longer before = append_assoc before (take i terms) (term ∷ []) ∙ ap (λ taken. before ++ taken) (ap (λ last. take i terms ++ last ∷ []) is ∙ sym (take_more terms i term within))
 

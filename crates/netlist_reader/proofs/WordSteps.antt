@@ -1,7 +1,7 @@
 -- Words that are read one by one.
-use Rattle.std.proofs.Common.{◌≡◌, ℕ, ◌+◌, suc, ◌<◌, Bool, true, false, ◌&&◌, List, [], ◌∷◌, ◌++◌, Bor, length, map, take, refl, sym, ap, ◌∙◌, append_assoc, add-one, get_or, arith}
+use Rattle.std.proofs.Common.{◌≡◌, ℕ, ◌+◌, ◌<◌, true, false, ◌&&◌, List, [], ◌∷◌, ◌++◌, Bor, length, map, take, sym, ap, ◌∙◌, append_assoc, add-one, get_or}
 use Rattle.std.specs.List.{list_all}
-use Rattle.std.proofs.lemmas.List.{get_or-map, take_more, map_more, take-map}
+use Rattle.std.proofs.lemmas.List.{map_more, take-map}
 use Rattle.std.proofs.lemmas.List.Folds.{list_all-map, list_all_at, list_all_more}
 use Rattle.line_lexer.specs.Names.{is_node}
 

@@ -90,4 +90,5 @@ loses_no_term devices =
 abbrev pub all_kinds : List Device
 all_kinds =
     devices_of (codes "r1 a b" ∷ codes "V1 b 0" ∷ codes "I1 a 0" ∷ codes "E1 a b b c" ∷ codes "G1 a c b 0"
-    ∷ codes "F1 c 0 V1" ∷ codes "H1 a b V1" ∷ codes ".opamp U1 a b c" ∷ codes ".transformer T1 a b c 0 2" ∷ codes ".Gyrator Y1 a b c 0 2" ∷ [])
+    ∷ codes "F1 c 0 V1" ∷ codes "H1 a b V1" ∷ codes ".opamp U1 a b c"
+    ∷ codes ".transformer T1 a b c 0 2" ∷ codes ".Gyrator Y1 a b c 0 2" ∷ [])

@@ -1,12 +1,12 @@
 pub mod Circuits
-pub mod Naming
-pub mod Putting
-pub mod Owners
-pub mod ReaderStates
 pub mod Devices
 pub mod Examples
 pub mod Faults
 pub mod Feeding
 pub mod Models
+pub mod Naming
+pub mod Owners
+pub mod Putting
+pub mod ReaderStates
 pub mod Rules
 pub mod Terms

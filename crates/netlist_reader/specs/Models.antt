@@ -54,11 +54,11 @@ pub record IsFirstUnsourced (p : ℕ) (lines : List (List (List ℕ))) (n : ℕ)
 abbrev pub BreaksFirst : ℕ → List ℕ → Refusal → Type 0
 BreaksFirst p text refused =
     ((n : ℕ) × (why : Why) × (refused ≡ record { place = Line (n + 1); why = why })
-        × IsFirstBroken (device_rules p) text n why)
+    × IsFirstBroken (device_rules p) text n why)
     ⊎ (((why : Why) × (refused ≡ record { place = Document; why = why }) × KeepsAll (device_rules p) text
-        × (ground_rule (devices_in p (lines_in p text)) ≡ Some why))
+    × (ground_rule (devices_in p (lines_in p text)) ≡ Some why))
     ⊎ ((n : ℕ) × (why : Why) × (refused ≡ record { place = Line (n + 1); why = why }) × KeepsAll (device_rules p) text
-        × (ground_rule (devices_in p (lines_in p text)) ≡ None) × IsFirstUnsourced p (lines_in p text) n why))
+    × (ground_rule (devices_in p (lines_in p text)) ≡ None) × IsFirstUnsourced p (lines_in p text) n why))
 
 -- Why a text is not read: its first broken rule and the place of it, or memory ran out.
 abbrev pub IsRefusal : ℕ → List ℕ → ReadModel → Type 0

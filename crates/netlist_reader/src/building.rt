@@ -21,10 +21,7 @@ use residue_field::Field;
 use std::alloc::Global;
 
 /// The model of a circuit of which each source is a V device.
-pub(crate) fn build<F: Field>(
-    alloc: Global,
-    circuit: &Circuit<F>,
-) -> Result<Mixed<F>, NoMemory>
+pub(crate) fn build<F: Field>(alloc: Global, circuit: &Circuit<F>) -> Result<Mixed<F>, NoMemory>
     requires circuit { IsCircuit F.modulus circuit.now }
     requires sourced { AreSourced circuit.now.devices }
     ensures { IfOk result (IsModelOf F.modulus circuit.now.devices) }

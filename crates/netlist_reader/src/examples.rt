@@ -36,8 +36,8 @@ pub fn devices_at_examples()
     ensures opamp { ground_rule (devices_of (codes ".opamp U1 a b c" ∷ [])) ≡ None }
     ensures no_source { source_rule (devices_of (codes "F1 a 0 V9" ∷ [])) (devices_of (codes "F1 a 0 V9" ∷ []))
         ≡ Some Why.NoSuchSource }
-    ensures later_source { source_rule (devices_of (codes "F1 a 0 V9" ∷ codes "V9 a 0" ∷ [])) (devices_of (codes "F1 a 0 V9" ∷ []))
-        ≡ None }
+    ensures later_source { source_rule (devices_of (codes "F1 a 0 V9" ∷ codes "V9 a 0" ∷ []))
+        (devices_of (codes "F1 a 0 V9" ∷ [])) ≡ None }
 {}
 
 /// A voltage that is controlled by another: the equations, the unknowns, and what stands in each equation.

@@ -101,7 +101,8 @@ fn word_at<'a>(words: &[&'a str], place: usize) -> &'a str
 
 // Whether there are words enough from the name on, and for a directive not too many.
 fn has_shape(kind: DeviceKind, count: usize) -> bool
-    ensures { result ≡ (if is_directive kind then nat_eq count (words_wanted kind) else nat_le (words_wanted kind) count) }
+    ensures { result ≡ (if is_directive kind then nat_eq count (words_wanted kind)
+        else nat_le (words_wanted kind) count) }
 {
     if kind.is_directive() {
         count == kind.words_wanted()

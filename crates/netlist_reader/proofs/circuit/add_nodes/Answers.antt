@@ -1,9 +1,8 @@
-use Rattle.std.proofs.Common.{◌≡◌, ℕ, List, String, Global, ◌<◌, ◌+◌, [], length, map, take, get_or, ap, sym, subst, ◌∙◌, arith}
+use Rattle.std.proofs.Common.{◌≡◌, ℕ, List, String, Global, ◌<◌, ◌+◌, [], length, map, take, get_or, ap, sym, ◌∙◌, arith}
 use Rattle.std.specs.String.{string_bytes}
 use Rattle.std.proofs.lemmas.List.{get_or-map, length-map}
 use Rattle.std.proofs.lemmas.Result.{err_from_is_err_and}
 use Rattle.line_lexer.specs.Names.{is_node}
-use Rattle.line_reader.specs.Answers.{OnBroken}
 use Rattle.refusals.specs.declared.Why.TheVariants.{TooMany}
 use Rattle.netlist_reader.specs.ReaderStates.{see_node, see_nodes}
 use Rattle.netlist_reader.proofs.FaultSteps.{on_same}

@@ -1,4 +1,4 @@
-use Rattle.std.proofs.Common.{ℕ, List, ◌≡◌, ◌++◌, ◌∷◌, [], Bor, map, take, ap, ◌∙◌, sym}
+use Rattle.std.proofs.Common.{ℕ, List, ◌++◌, ◌∷◌, [], Bor, map, take, ap, ◌∙◌, sym}
 use Rattle.std.proofs.lemmas.List.{map-append}
 use Rattle.netlist_reader.proofs.WordSteps.{take_one, bytes_of}
 use Rattle.netlist_reader.proofs.words.first_words.Goals as goal

@@ -1,20 +1,18 @@
-use Rattle.std.proofs.Common.{◌≡◌, true, false, Bool, ◌+◌, ◌-◌, [], Some, None, Err, map, take, drop, if◌then◌else◌, ap, ◌∙◌, sym, subst, get_or, Bor, List, ℕ, rules, refl}
+use Rattle.std.proofs.Common.{◌≡◌, false, ◌+◌, ◌-◌, [], Some, map, take, drop, if◌then◌else◌, ap, ◌∙◌, sym, subst, get_or, refl}
 use Rattle.std.specs.List.{list_all}
 use Rattle.std.proofs.lemmas.Result.{err_from_is_err_and}
-use Rattle.refusals.specs.declared.Why.{Why}
 use Rattle.refusals.specs.declared.Why.TheVariants.{BadName}
 use Rattle.std.specs.Result.{result_unwrap_or}
 use Rattle.std.specs.String.{string_bytes}
 use Rattle.line_lexer.specs.Names.{is_name, is_node}
 use Rattle.line_lexer.specs.Numbers.{number_of}
 use Rattle.line_reader.specs.Answers.{OnBroken}
-use Rattle.line_reader.specs.declared.fault.LineFault.TheVariants.{Broken}
 use Rattle.netlist_reader.specs.Devices.{Device, device_of, has_number, has_source, nodes_wanted, word_after_nodes}
 use Rattle.netlist_reader.specs.Rules.{number_rule}
-use Rattle.netlist_reader.specs.ReaderStates.{ReadsDevice, keeps_source_name, own_rule}
+use Rattle.netlist_reader.specs.ReaderStates.{keeps_source_name, own_rule}
 use Rattle.netlist_reader.proofs.WordSteps.{bytes_of}
 use Rattle.netlist_reader.proofs.FaultSteps.{on_same}
-use Rattle.netlist_reader.proofs.DeviceSteps.{name_good, nodes_good, source_good, shape_kept, bad_first, bad_node, bad_source, number_left, nodes_taken, device_kept, same_device}
+use Rattle.netlist_reader.proofs.DeviceSteps.{shape_kept, bad_node, bad_source, number_left, nodes_taken, device_kept, same_device}
 use Rattle.netlist_reader.proofs.words.read_device.Goals as goal
 
 pub returns-in_err-nodes-clause-read : goal.returns-in_err-nodes-clause-read

@@ -1,12 +1,11 @@
-use Rattle.std.proofs.Common.{◌≡◌, ℕ, ◌+◌, ◌<◌, true, false, List, [], ◌∷◌, ◌++◌, length, map, Err, Ok, Some, None, refl, sym, ap, subst, ◌∙◌}
+use Rattle.std.proofs.Common.{◌≡◌, false, [], ◌∷◌, ◌++◌, map, sym, ap, ◌∙◌}
 use Rattle.std.specs.String.{string_bytes}
 use Rattle.std.proofs.lemmas.Result.{err_from_is_err_and}
-use Rattle.refusals.specs.declared.Why.TheVariants.{TooMany}
 use Rattle.mixed_model.specs.Names.{has_name}
 use Rattle.netlist_reader.specs.Devices.{Device}
 use Rattle.netlist_reader.specs.Rules.{place_rule}
 use Rattle.netlist_reader.specs.Circuits.{Parts}
-use Rattle.netlist_reader.specs.ReaderStates.{AddsName, PutsLast, TakesRoom, has_room, see_nodes}
+use Rattle.netlist_reader.specs.ReaderStates.{PutsLast, see_nodes}
 use Rattle.netlist_reader.proofs.FaultSteps.{fault_answers}
 use Rattle.netlist_reader.proofs.CircuitSteps.{name-fault, nodes-fault, room-fault, counted, counted-kept}
 use Rattle.netlist_reader.proofs.circuit.Circuit.add.Goals as goal
