@@ -7,6 +7,7 @@ ghost use Rattle.dense_q.specs.Tables.{height};
 use crate::draws::{Draws, Family, Place, equation};
 use dense_q::Mat;
 use independent_matching::NoMemory;
+use limits::COLUMN_LIMIT;
 use mixed_model::{Layered, Origin};
 use residue_field::{Field, Res};
 use sparse_t::Pattern;
@@ -32,8 +33,8 @@ pub(crate) fn layered(
         .filter(|places| has_constants(places))
         .count();
     let split = equations.iter().filter(|places| is_split(places)).count();
-    let columns = size.saturating_add(split).min(8_192);
-    let mut q = Mat::zeros(alloc, with_constants.min(8_192), columns)?;
+    let columns = size.saturating_add(split).min(COLUMN_LIMIT);
+    let mut q = Mat::zeros(alloc, with_constants.min(COLUMN_LIMIT), columns)?;
     let mut t = Pattern::empty(alloc, columns)?;
     let mut row = 0_usize;
     let mut auxiliary = size;
@@ -111,10 +112,10 @@ fn put_symbols(
 fn push_row(t: &mut Pattern, columns: &[usize]) -> Result<(), NoMemory>
     ensures { t.new.width ≡ t.old.width }
 {
-    if t.rows() >= 8_192 {
+    if t.rows() >= COLUMN_LIMIT {
         return Ok(());
     }
-    let width = t.cols().min(8_192);
+    let width = t.cols().min(COLUMN_LIMIT);
     match columns {
         [a] if *a < width => t.push_row(&[*a as u32])?,
         [a, b] if a < b && *b < width => t.push_row(&[*a as u32, *b as u32])?,

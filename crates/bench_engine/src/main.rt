@@ -11,6 +11,7 @@ mod layering;
 mod solving;
 
 use draws::Family;
+use limits::EQUATION_LIMIT;
 use solving::{Found, solve};
 use std::env;
 use std::marker::Brand;
@@ -55,7 +56,7 @@ fn words(rt: &(impl Env + AllocGlobal)) -> Option<(Family, usize)>
         [_, family, size] => {
             let family = Family::named(family.as_str())?;
             let size = size.as_str().parse::<usize>().ok()?;
-            if 1 <= size && size <= 4_096 {
+            if 1 <= size && size <= EQUATION_LIMIT {
                 Some((family, size))
             } else {
                 None

@@ -2,17 +2,15 @@
 //! bench/reading.sh measures.
 #![tactic(auto)]
 
+use limits::INPUT_LIMIT;
 use matrix_reader::read;
 use port_io::{StdSource, read_all};
 use residue_field::Res;
 use std::process::ExitCode;
 
-// The most bytes of a model's text.
-const MODEL_LIMIT: u64 = 8_388_608;
-
 fn main(rt: HostRuntime) -> ExitCode {
     let mut source = StdSource::new(rt.stdin());
-    let Ok(input) = read_all(rt.alloc(), &mut source, MODEL_LIMIT) else {
+    let Ok(input) = read_all(rt.alloc(), &mut source, INPUT_LIMIT as u64) else {
         return ExitCode::FAILURE;
     };
     let Ok(model) = read::<Res>(rt.alloc(), &input) else {

@@ -7,4 +7,5 @@ use Rattle.line_lexer.specs.Numbers.{is_point}
 -- Its name follows the equation's word, and in the equation of a node's currents the current's.
 abbrev pub owner_of : List ℕ → List ℕ → List ℕ
 owner_of equation unknown =
-    if bytes_eq (before_first is_point equation) (codes "kcl") then after_first is_point unknown else after_first is_point equation
+    if bytes_eq (before_first is_point equation) (codes "kcl") then after_first is_point unknown
+    else after_first is_point equation

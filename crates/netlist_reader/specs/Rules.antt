@@ -30,8 +30,8 @@ shape_rule kind words =
 -- the names in a device: its own, its nodes, its source
 abbrev pub name_rule : Device → Option Why
 name_rule device =
-    unless (is_name device.name && list_all is_node device.nodes && (not (has_source device.kind) || is_name device.source))
-    BadName
+    unless (is_name device.name && list_all is_node device.nodes
+    && (not (has_source device.kind) || is_name device.source)) BadName
 
 -- the text of its number
 abbrev pub number_rule : ℕ → DeviceKind → List ℕ → Option Why
@@ -44,8 +44,8 @@ new_rule before device = unless (not (has_name (device_names before) device.name
 -- with it there are at most 4,096 equations and unknowns
 abbrev pub room_rule : List Device → Option Why
 room_rule devices =
-    unless (nat_le (length (equations_of devices)) equation_limit && nat_le (length (unknowns_of devices)) equation_limit)
-    TooMany
+    unless (nat_le (length (equations_of devices)) equation_limit
+    && nat_le (length (unknowns_of devices)) equation_limit) TooMany
 
 -- a device among those before it
 abbrev pub place_rule : List Device → Device → Option Why

@@ -3,6 +3,7 @@
 ghost use Rattle.std.specs.Prelude.{◌≡◌, ℕ, ◌+◌, ◌++◌, ◌<◌, codes, length, slice_index};
 ghost use Rattle.cert_text.specs.Texts.{numbers_text};
 ghost use Rattle.dense_q.specs.Tables.{height, row_at};
+ghost use Rattle.limits.specs.Limits.{column_limit};
 ghost use Rattle.mixed_layering.specs.Layers.{AreLayersOf};
 ghost use Rattle.report_cli.specs.LayerTexts.{name_at, line_head, column_name, column_line, column_lines, entry_text, row_entries_text, q_line, t_line, row_lines, columns_text, layer_text};
 ghost use Rattle.report_cli.specs.Columns.{IsOriginIn};
@@ -154,7 +155,7 @@ fn put_q_line<F: Field, K: Sink>(
 )
     requires layers { AreLayersOf model.now layered.now }
     requires row { row < height layered.now.q }
-    requires few { row < 8192 }
+    requires few { row < column_limit }
     ensures { Puts K.Sink out.old out.new (q_line (row + 1)
         (name_at model.now.equations (slice_index layered.now.q_origins row)) (row_at layered.now.q row)) }
 {
@@ -208,7 +209,7 @@ fn put_t_line<F: Field, K: Sink>(
 )
     requires layers { AreLayersOf model.now layered.now }
     requires row { row < length layered.now.t.rows }
-    requires few { row < 8192 }
+    requires few { row < column_limit }
     ensures { Puts K.Sink out.old out.new (t_line (row + 1)
         (name_at model.now.equations (slice_index layered.now.t_origins row)) (columns_at layered.now.t row)) }
 {
