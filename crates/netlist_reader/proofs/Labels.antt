@@ -23,13 +23,15 @@ all_solid (byte ∷ bytes) h = by (continues_name byte) refl h (λ rest. all_sol
     by true e rest more = rw (solid_continue byte e) (more rest)
     by false e rest more = let f : ⊥ = cc in absurd f
 
--- a text of at most 64 bytes, all of which continue a name
+-- a text of 1 to 64 bytes, all of which continue a name
 pub record IsPart (text : List ℕ) : Type 0 where
+  pub some : 1 ≤ length text
   pub bytes : list_all continues_name text ≡ true
   pub short : length text ≤ 64
 
 pub node-part : (node : List ℕ) → is_node node ≡ true → IsPart node
 node-part node h = record {
+  some = grind (arith, nat_tests);
   bytes = grind (arith, nat_tests);
   short = grind (arith, nat_tests);
 }
@@ -43,9 +45,22 @@ name-part (byte ∷ bytes) h =
     let first : begins_name byte ≡ true = grind (arith, nat_tests) in
     let others : list_all continues_name bytes ≡ true = grind (arith, nat_tests) in
     record {
+      some = omega arith;
       bytes = rw (begins-continues byte first) others;
       short = grind (arith, nat_tests);
     }
+
+part-label : (text : List ℕ) → IsPart text → IsTrue (is_label text)
+part-label text part =
+    let some : leb 1 (length text) ≡ true = le-leb 1 (length text) part.some in
+    let few : leb (length text) 96 ≡ true = le-leb (length text) 96 (omega (arith, part.short)) in
+    (λ t. some t && few t && all_solid text part.bytes t)
+
+pub name_is_label : (name : List ℕ) → is_name name ≡ true → IsTrue (is_label name)
+name_is_label name h = part-label name (name-part name h)
+
+pub node_is_label : (node : List ℕ) → is_node node ≡ true → IsTrue (is_label node)
+node_is_label node h = part-label node (node-part node h)
 
 -- a word of at most 8 bytes, none of them a space or a tab
 pub record IsWord (word : List ℕ) : Type 0 where

@@ -7,7 +7,6 @@ pub mod EndSteps
 pub mod FaultSteps
 pub mod Forms
 pub mod KeptWords
-pub mod LabelLaws
 pub mod Labels
 pub mod LineSteps
 pub mod Lists

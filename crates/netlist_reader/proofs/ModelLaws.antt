@@ -1,42 +1,17 @@
 -- A text gives at most one model, or has one refusal.
-use Rattle.std.proofs.Common.{◌≡◌, ℕ, ◌+◌, List, length, Option, Some, None, unwrap_or, refl, sym, ap, ◌∙◌, arith, get_or, [], inl, inr, ⊎_elim}
-use Rattle.std.proofs.lemmas.Bool.{cases_lt, cases_order}
-use Rattle.std.proofs.lemmas.List.{get_or_past}
+use Rattle.std.proofs.Common.{◌≡◌, ℕ, ◌+◌, List, length, Option, Some, None, unwrap_or, refl, sym, ap, ◌∙◌, arith, get_or, [], inl, inr}
+use Rattle.std.proofs.lemmas.Bool.{cases_order}
 use Rattle.refusals.specs.declared.Why.{Why}
 use Rattle.refusals.specs.declared.Place.TheVariants.{Line, Document}
 use Rattle.refusals.specs.declared.Refused.{Refused}
 use Rattle.line_reader.proofs.Rules.{first_broken-one, keeps-unbroken}
-use Rattle.mixed_model.specs.Entries.{RowEntry}
-use Rattle.mixed_model.specs.Models.{MixedModel, IsModel, constant_at, constant_of, row_of}
-use Rattle.mixed_model.specs.Rows.{IsFilled, constant_at_place, constant_in, entry_in}
+use Rattle.mixed_model.specs.Models.{MixedModel, IsModel, constant_at, constant_of}
 use Rattle.mixed_model.proofs.ModelLaws.{same_models}
-use Rattle.mixed_model.proofs.RowLaws.{entry_in-filled}
 use Rattle.netlist_reader.specs.Devices.{Device, devices_in}
 use Rattle.netlist_reader.specs.Terms.{said_of, symbol_said, terms_of}
 use Rattle.netlist_reader.specs.Rules.{ground_rule, device_rules}
 use Rattle.netlist_reader.specs.Models.{BreaksFirst, GivesModel, IsFirstUnsourced, IsModelOf, lines_in, source_rule_at}
-
--- a constant that is 0 is none
-no_zero : (p : ℕ) (entry : RowEntry) → IsFilled p entry → unwrap_or entry.constant 0 ≡ 0 → entry.constant ≡ None
-no_zero p entry filled zero_there = by entry.constant refl
-  where
-    by : (found : Option ℕ) → entry.constant ≡ found → entry.constant ≡ None
-    by None e = e
-    by (Some constant) e =
-        let same : constant ≡ 0 = sym (ap (λ o. unwrap_or o 0) e) ∙ zero_there in
-        absurd (omega (arith, filled.positive constant e, same))
-
-constant_of-None : (p : ℕ) (model : MixedModel) → IsModel p model → (i j : ℕ) → constant_at model i j ≡ 0 → constant_of model i j ≡ None
-constant_of-None p model is i j zero_there = by (entry_in (row_of model i) j) refl
-  where
-    by : (found : Option RowEntry) → entry_in (row_of model i) j ≡ found → constant_of model i j ≡ None
-    by None e = ap constant_at_place e
-    by (Some entry) e = ⊎_elim
-        (λ within.
-        let filled = entry_in-filled p 0 (row_of model i) (is.rows i [] within).0 j entry e in
-        ap constant_at_place e ∙ no_zero p entry filled (sym (ap (λ o. unwrap_or (constant_at_place o) 0) e) ∙ zero_there))
-        (λ past. ap (λ row. constant_in row j) (get_or_past model.rows i [] past))
-        (cases_lt i (length model.rows))
+use Rattle.netlist_reader.proofs.Names.{constant_of-None}
 
 -- constants are the same where they are, 0 for none
 same_constant : (p : ℕ) (a b : MixedModel) → IsModel p a → IsModel p b → (i j : ℕ) → constant_at a i j ≡ constant_at b i j → constant_of a i j ≡ constant_of b i j

@@ -1,7 +1,8 @@
 -- The names of a circuit's unknowns, and those of its equations, are lists of names.
 use Rattle.std.proofs.Common.{◌≡◌, ℕ, true, false, IsTrue, List, [], ◌∷◌, map, filter, not, codes, ◌&&◌, refl, sym, ap, subst}
-use Rattle.std.specs.List.{AllByRecursion, flat_map, list_all}
+use Rattle.std.specs.List.{AllByRecursion, after_first, flat_map, list_all}
 use Rattle.std.proofs.lemmas.List.Concat.{flat_map-cons}
+use Rattle.line_lexer.specs.Numbers.{is_point}
 use Rattle.mixed_model.specs.Names.{IsNameList, is_label, has_name}
 use Rattle.line_lexer.specs.Names.{is_node}
 use Rattle.netlist_reader.specs.declared.kind.DeviceKind.{DeviceKind}
@@ -55,7 +56,7 @@ own-differ words good apart (d ∷ devices) differ =
     (own-differ words good apart devices differ.1)
     (words-new words good devices d.name (words d.kind) (good d.kind) differ.0))
 
-nodes-differ : (word : List ℕ) → ((name : List ℕ) → Rattle.std.specs.List.after_first Rattle.line_lexer.specs.Numbers.is_point (dotted word name) ≡ name) → (nodes : List (List ℕ)) → Differ nodes → Differ (map (dotted word) nodes)
+nodes-differ : (word : List ℕ) → ((name : List ℕ) → after_first is_point (dotted word name) ≡ name) → (nodes : List (List ℕ)) → Differ nodes → Differ (map (dotted word) nodes)
 nodes-differ word good [] differ = tt
 nodes-differ word good (node ∷ nodes) differ = (node-new word good nodes node differ.0, nodes-differ word good nodes differ.1)
 

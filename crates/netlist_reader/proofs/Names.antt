@@ -1,5 +1,5 @@
 -- Names of a list of names that differ, and constants of a model.
-use Rattle.std.proofs.Common.{◌≡◌, ◌≢◌, ℕ, ◌<◌, Bool, true, false, List, [], length, get_or, nat_eq, Option, Some, None, unwrap_or, refl, sym, ap, ◌∙◌, arith, ⊎_elim}
+use Rattle.std.proofs.Common.{◌≡◌, ◌≢◌, ℕ, ◌<◌, Bool, true, false, ◌||◌, List, [], length, get_or, nat_eq, Option, Some, None, unwrap_or, refl, sym, ap, ◌∙◌, arith, ⊎_elim}
 use Rattle.std.specs.List.{IsDistinct}
 use Rattle.std.specs.Str.{bytes_eq}
 use Rattle.std.proofs.lemmas.Bool.{cases_lt, eqb-true, eqb-false, false_from_ne_true}
@@ -10,6 +10,10 @@ use Rattle.mixed_model.specs.Entries.{RowEntry}
 use Rattle.mixed_model.specs.Models.{MixedModel, IsModel, row_of, constant_of, constant_at}
 use Rattle.mixed_model.specs.Rows.{entry_in, constant_at_place, constant_in, IsFilled}
 use Rattle.mixed_model.proofs.RowLaws.{entry_in-filled}
+
+pub or_true : (a : Bool) → (a || true) ≡ true
+or_true true = refl
+or_true false = refl
 
 pub bytes_eq-refl : (name : List ℕ) → bytes_eq name name ≡ true
 bytes_eq-refl name = (bytes_eq-Decides name name).1 refl

@@ -13,7 +13,7 @@ use Rattle.netlist_reader.specs.Owners.{owner_of}
 use Rattle.netlist_reader.specs.Terms.{Term, dotted, own, own_names, equation_words, unknown_words, equations_of, unknowns_of, terms_of, terms_by, stands_at}
 use Rattle.netlist_reader.specs.Rules.{is_source, is_voltage}
 use Rattle.netlist_reader.specs.Putting.{IsFree, IsPlaced}
-use Rattle.netlist_reader.proofs.Names.{bytes_eq-refl}
+use Rattle.netlist_reader.proofs.Names.{bytes_eq-refl, or_true}
 use Rattle.netlist_reader.proofs.Forms.{HasForm, Place, IsNodeOf}
 use Rattle.netlist_reader.proofs.Owned.{Owned, AreOwned, device-owned}
 
@@ -25,14 +25,6 @@ has-map f (other ∷ names) name there = by (bytes_eq name other) refl there (ha
     by : (b : Bool) → bytes_eq name other ≡ b → (b || has_name names name) ≡ true → (has_name names name ≡ true → has_name (map f names) (f name) ≡ true) → has_name (map f (other ∷ names)) (f name) ≡ true
     by true e there more = ap (λ b. b || has_name (map f names) (f name)) ((bytes_eq-Decides (f name) (f other)).1 (ap f ((bytes_eq-Decides name other).0 e)))
     by false e there more = (λ t. bytes_eq (f name) (f other) || more there t) ∙ or_true (bytes_eq (f name) (f other))
-      where
-        or_true : (a : Bool) → (a || true) ≡ true
-        or_true true = refl
-        or_true false = refl
-
-pub or_true : (a : Bool) → (a || true) ≡ true
-or_true true = refl
-or_true false = refl
 
 has-left : (xs ys : List (List ℕ)) (name : List ℕ) → has_name xs name ≡ true → has_name (xs ++ ys) name ≡ true
 has-left xs ys name there = list_any-append (bytes_eq name) xs ys ∙ ap (λ b. b || has_name ys name) there
