@@ -347,11 +347,19 @@ fn circuits(rt: HostRuntime) -> Result<(), Fail> {
     Ok(())
 }
 
+// The same case, of `layer netlist`.
+fn of_netlist(case: Case<'_>) -> Case<'_> {
+    Case {
+        words: &["mixed", "layer", "netlist"],
+        ..case
+    }
+}
+
 #[test]
 fn layers_of_netlists(rt: HostRuntime) -> Result<(), Fail> {
     let controlled =
         b"columns 7\nc1 u.a\nc2 u.b\nc3 v.V1\nc4 i.V1\nc5 v.E1\nc6 i.E1\nc7 w.E1\nq1 kcl.a 4=1\nq2 kcl.b 6=1\nq3 kvl.V1 1=65520 3=1\nq4 law.V1 3=1\nq5 kvl.E1 2=65520 5=1\nq6 ctl.E1 1=65520 7=1\nt1 law.E1 5 7\n";
-    let mut cases = [
+    let cases = [
         calm(b"V1 a 0\nE1 b 0 a 0\n", 0, controlled, controlled, b""),
         calm(
             b"V1 a 0\r\ne1 b 0 a 0 # 2\r\n",
@@ -371,9 +379,8 @@ fn layers_of_netlists(rt: HostRuntime) -> Result<(), Fail> {
             b"mixed: line 3: no such source\n",
         ),
     ];
-    for case in &mut cases {
-        case.words = &["mixed", "layer", "netlist"];
-        expect_case(&rt, rt.alloc(), case)?;
+    for case in cases {
+        expect_case(&rt, rt.alloc(), &of_netlist(case))?;
     }
     Ok(())
 }
