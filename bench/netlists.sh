@@ -9,7 +9,8 @@ set -eu
 export LC_ALL=C
 here=$(cd "$(dirname "$0")" && pwd)
 program=$here/../crates/mixed/out/mixed
-test -x "$program" || { echo "no $program: see the head of this file" >&2; exit 1; }
+. "$here/timing.sh"
+needs_program
 input=$(mktemp)
 trap 'rm -f "$input"' EXIT
 
@@ -43,24 +44,12 @@ netlist() {
         }'
 }
 
-# The shortest of ten runs of a command on the input, in nanoseconds.
-shortest() {
-    best=
-    for run in 1 2 3 4 5 6 7 8 9 10; do
-        start=$(date +%s%N)
-        "$@" < "$input" > /dev/null
-        taken=$(($(date +%s%N) - start))
-        if [ -z "$best" ] || [ "$taken" -lt "$best" ]; then best=$taken; fi
-    done
-    echo "$best"
-}
-
 row() {
     netlist "$1" "$2" "$3" 0 > "$input"
-    bare=$(shortest "$program" layer netlist)
+    bare=$(shortest 10 "$program" layer netlist)
     netlist "$1" "$2" "$3" 8388608 > "$input"
-    layer=$(shortest "$program" layer netlist)
-    count=$(shortest wc -w)
+    layer=$(shortest 10 "$program" layer netlist)
+    count=$(shortest 10 wc -w)
     bytes=$(wc -c < "$input")
     awk -v devices=$(($1 + $2)) -v bytes="$bytes" -v layer="$layer" -v count="$count" -v bare="$bare" 'BEGIN {
         printf "%7d %8d %15.0f %15.0f %12.2f %16.3f\n",

@@ -4,7 +4,8 @@
 set -eu
 here=$(cd "$(dirname "$0")" && pwd)
 program=$here/../crates/bench_reader/out/bench_reader
-test -x "$program" || { echo "no $program: see the head of this file" >&2; exit 1; }
+. "$here/timing.sh"
+needs_program
 input=$(mktemp)
 trap 'rm -f "$input"' EXIT
 
@@ -20,23 +21,11 @@ equations() {
     }'
 }
 
-# The shortest of five runs of a command on the input, in nanoseconds.
-shortest() {
-    best=
-    for run in 1 2 3 4 5; do
-        start=$(date +%s%N)
-        "$@" < "$input" > /dev/null
-        taken=$(($(date +%s%N) - start))
-        if [ -z "$best" ] || [ "$taken" -lt "$best" ]; then best=$taken; fi
-    done
-    echo "$best"
-}
-
 echo "MiB      bytes   reader bytes/s   wc -w bytes/s   reader / wc"
 for size in 1 2 4 8; do
     equations $((size * 512)) > "$input"
     bytes=$(wc -c < "$input")
-    awk -v size="$size" -v bytes="$bytes" -v read="$(shortest "$program")" -v count="$(shortest wc -w)" 'BEGIN {
+    awk -v size="$size" -v bytes="$bytes" -v read="$(shortest 5 "$program")" -v count="$(shortest 5 wc -w)" 'BEGIN {
         printf "%3d %10d %16.0f %15.0f %13.2f\n", size, bytes, bytes * 1e9 / read, bytes * 1e9 / count, count / read
     }'
 done
