@@ -7,4 +7,6 @@ pub enum Kind {
     Matrix,
     /// A circuit.
     Netlist,
+    /// A flowsheet of a plant.
+    Flowsheet,
 }

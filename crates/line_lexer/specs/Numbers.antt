@@ -1,5 +1,5 @@
 -- Numbers, and their residues modulo p.
-use Rattle.std.specs.Prelude.{ℕ, ◌+◌, ◌*◌, ◌%◌, ◌^◌, Bool, true, false, not, ◌&&◌, ◌||◌, List, ◌++◌, length, codes, nat_eq, nat_le, nat_lt, if◌then◌else◌, Option, Some, None, Result, Ok, Err}
+use Rattle.std.specs.Prelude.{ℕ, ℤ, pos, int_lt, unsigned_abs, ◌+◌, ◌*◌, ◌%◌, ◌^◌, Bool, true, false, not, ◌&&◌, ◌||◌, List, ◌++◌, length, codes, nat_eq, nat_le, nat_lt, if◌then◌else◌, Option, Some, None, Result, Ok, Err}
 use Rattle.std.specs.Char.{is_ascii_digit}
 use Rattle.std.specs.List.{list_all, position_or_len, before_first, after_first, range_with_len}
 use Rattle.std.specs.Str.Parse.{digits_value, starts_with_minus, without_leading_sign}
@@ -68,3 +68,8 @@ residue_of p negative (Some fraction) =
 -- The residue of the number that a text is, or why there is none.
 abbrev pub number_of : ℕ → List ℕ → Result ℕ Why
 number_of p text = residue_of p (starts_with_minus text) (fraction_of (without_leading_sign text))
+
+-- The residue of a whole number: its magnitude over 1, with its sign.
+abbrev pub integer_of : ℕ → ℤ → Result ℕ Why
+integer_of p integer =
+    residue_of p (int_lt integer (pos 0)) (Some (record { numerator = unsigned_abs integer; denominator = 1 }))

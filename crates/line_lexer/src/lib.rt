@@ -10,7 +10,7 @@ mod token;
 pub use cuts::{before_comment, tokens};
 pub use line::{Line, first_line_feed, without_return};
 pub use names::{name, node, short_name};
-pub use numbers::number;
+pub use numbers::{integer, number};
 pub use token::{Token, Tokens, is_blank};
 
 #[cfg(test)]

@@ -4,7 +4,7 @@ ghost use Rattle.std.specs.Prelude.{◌≡◌, ◌≤◌, ◌+◌, ◌<◌, ℕ,
 ghost use Rattle.std.specs.Char.{is_ascii_digit};
 ghost use Rattle.std.specs.List.{list_all};
 ghost use Rattle.std.specs.Str.Parse.{starts_with_minus, without_leading_sign};
-ghost use Rattle.line_lexer.specs.Numbers.{is_numeral, numeral_of, quotient_of, decimal_of, fraction_of, residue_of, number_of};
+ghost use Rattle.line_lexer.specs.Numbers.{is_numeral, numeral_of, quotient_of, decimal_of, fraction_of, residue_of, number_of, integer_of};
 
 use refusals::Why;
 use residue_field::Field;
@@ -33,6 +33,21 @@ pub fn number<F: Field>(text: &str) -> Result<F, Why>
         Some(fraction) => residue(negative, fraction),
         None => Err(Why::BadNumber),
     }
+}
+
+/// The value of a whole number in the field. It is `Why::Vanish` where the modulus divides it though it is not 0.
+pub fn integer<F: Field>(integer: i64) -> Result<F, Why>
+    ensures { MatchResult result
+        (λ value. integer_of F.modulus integer ≡ Ok (F.number value))
+        (λ why. integer_of F.modulus integer ≡ Err why) }
+{
+    residue(
+        integer.is_negative(),
+        Ratio {
+            numerator: integer.unsigned_abs(),
+            denominator: 1,
+        },
+    )
 }
 
 // Whether a text begins with a minus, and the text without its sign.

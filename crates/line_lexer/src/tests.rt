@@ -93,3 +93,13 @@ fn numbers_are_told(rt: HostRuntime) {
         assert_eq!(rt; number::<Res>(text), Err(Why::Vanish), "{text}");
     }
 }
+
+#[test]
+fn whole_numbers_are_told(rt: HostRuntime) {
+    for (whole, residue) in [(0, 0), (-1, 65_520), (65_522, 1), (i64::MAX, 58_072)] {
+        assert_eq!(rt; integer::<Res>(whole), Ok(Res::of(residue)));
+    }
+    for whole in [65_521, -65_521] {
+        assert_eq!(rt; integer::<Res>(whole), Err(Why::Vanish));
+    }
+}

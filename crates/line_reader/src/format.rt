@@ -4,8 +4,8 @@ ghost use Rattle.std.specs.Prelude.{◌≡◌, ℕ, List, map, OnOk};
 ghost use Rattle.line_reader.specs.LineRules.{Rules};
 ghost use Rattle.line_reader.specs.Answers.{ReadsWords};
 
-use crate::fault::LineFault;
 use line_lexer::Tokens;
+use refusals::Fault;
 
 /// A format of which each line is read by its words, with what was read so far.
 pub trait LineFormat: Drop {
@@ -25,7 +25,7 @@ pub trait LineFormat: Drop {
         ensures { result ≡ rules.remark };
 
     /// Reads the words of the line of this number, or answers which rule it breaks. After a fault nothing is read.
-    fn read_line(&mut self, number: u32, words: Tokens<'_>) -> Result<(), LineFault>
+    fn read_line(&mut self, number: u32, words: Tokens<'_>) -> Result<(), Fault>
         requires { is_ready self.old }
         ensures ready { OnOk result (is_ready self.new) }
         ensures read { ReadsWords rules.words has_read number self.old self.new

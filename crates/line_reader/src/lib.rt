@@ -1,13 +1,11 @@
 //! What every line format shares: the lines of a text, read as the text comes piece by piece.
 #![tactic(auto)]
 
-mod fault;
 mod format;
 mod laws;
 mod reader;
 mod remark;
 
-pub use fault::LineFault;
 pub use format::LineFormat;
 pub use laws::a_text_has_one_first_broken_rule;
 pub use reader::LineReader;

@@ -9,12 +9,11 @@ ghost use Rattle.line_reader.specs.LineRules.{KeepsAll, IsRefusal, words_in};
 ghost use Rattle.line_reader.specs.Answers.{ReadsBytes};
 ghost use Rattle.line_reader.specs.Readings.{IsFed, ReadsEnded, ReadsLine, reading};
 
-use crate::fault::LineFault;
 use crate::format::LineFormat;
 use crate::remark::{becomes_remark, content};
 use line_lexer::{Line, before_comment, first_line_feed, tokens, without_return};
 use out_of_memory::NoMemory;
-use refusals::{Place, ReadModel, Refused};
+use refusals::{Fault, Place, ReadModel, Refused};
 use std::alloc::Global;
 use std::marker::Model;
 
@@ -253,16 +252,16 @@ fn read_or_refuse<R: LineFormat>(
 {
     match read_bytes(format, number, bytes) {
         Ok(()) => Ok(None),
-        Err(LineFault::Broken(why)) => {
+        Err(Fault::Broken(why)) => {
             let place = Place::Line(number);
             Ok(Some(Refused { place, why }))
         }
-        Err(LineFault::NoMemory) => Err(NoMemory),
+        Err(Fault::NoMemory) => Err(NoMemory),
     }
 }
 
 // Reads a line by its bytes: nothing of a comment as a whole.
-fn read_bytes<R: LineFormat>(format: &mut R, number: u32, bytes: &[u8]) -> Result<(), LineFault>
+fn read_bytes<R: LineFormat>(format: &mut R, number: u32, bytes: &[u8]) -> Result<(), Fault>
     requires { R.is_ready format.old }
     ensures ready { OnOk result (R.is_ready format.new) }
     ensures read { ReadsBytes R.rules R.has_read number format.old format.new bytes.now result }
@@ -270,6 +269,6 @@ fn read_bytes<R: LineFormat>(format: &mut R, number: u32, bytes: &[u8]) -> Resul
     let bytes = content::<R>(bytes);
     match tokens(Line { number, bytes }) {
         Ok(words) => format.read_line(number, words),
-        Err(why) => Err(LineFault::Broken(why)),
+        Err(why) => Err(Fault::Broken(why)),
     }
 }

@@ -2,7 +2,7 @@
 
 use super::*;
 use line_lexer::Tokens;
-use refusals::{Place, ReadModel, Refused, Why};
+use refusals::{Fault, Place, ReadModel, Refused, Why};
 use std::alloc::Global;
 use std::test::Fail;
 
@@ -27,7 +27,7 @@ impl LineFormat for Count {
         Some(b'*')
     }
 
-    fn read_line(&mut self, number: u32, words: Tokens<'_>) -> Result<(), LineFault> {
+    fn read_line(&mut self, number: u32, words: Tokens<'_>) -> Result<(), Fault> {
         self.line = number;
         for word in words {
             self.words = self.words.saturating_add(1);

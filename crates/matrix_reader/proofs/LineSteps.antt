@@ -11,10 +11,11 @@ use Rattle.mixed_model.proofs.NameLaws.{has_name-Some, has_name-None}
 use Rattle.matrix_reader.specs.EquationLists.{equation_of, equations_in, names_in, unknowns_in}
 use Rattle.matrix_reader.specs.Models.{IsModelOf, LinesGive}
 use Rattle.matrix_reader.specs.Rules.{each_rule, name_rule, room_rule, equation_rule, item_rule, unknown_rule, equation_line_rule, unknown_line_rule}
-use Rattle.line_reader.specs.Answers.{OnBroken, AnswersRule}
+use Rattle.line_reader.specs.Answers.{AnswersRule}
+use Rattle.refusals.specs.Faults.{OnBroken}
 use Rattle.matrix_reader.specs.ReaderStates.{IsRead, IsWithin, SeenFrom, UnseenFrom, AddsEquation, so_far}
-use Rattle.line_reader.specs.declared.fault.LineFault.{LineFault}
-use Rattle.line_reader.specs.declared.fault.LineFault.TheVariants.{Broken, NoMemory}
+use Rattle.refusals.specs.declared.fault.Fault.{Fault}
+use Rattle.refusals.specs.declared.fault.Fault.TheVariants.{Broken, NoMemory}
 use Rattle.matrix_reader.proofs.LineForms.{name_seen, no_equation, LinesGive-blank, lines_name_only}
 use Rattle.matrix_reader.proofs.ModelSteps.{IsModelOf-unknown}
 use Rattle.matrix_reader.proofs.RuleSteps.{answers_same, answers_fault_same, first_broken, first_kept, each_more, each_broken}
@@ -36,7 +37,7 @@ ItemsSoFar-more p before name all seen left item line old new lines new_lines pr
 }
 
 pub ItemsSoFar-broken : (p : ℕ) (before : List (List (List ℕ))) (name : List ℕ) (all seen left : List (List ℕ)) (item : List ℕ) (line : ℕ) (old : MixedModel) (lines : List ℕ) → ItemsSoFar p before name all seen (item ∷ left) line old lines
-    → (Left Right : Type 0) (fault : LineFault) → AnswersRule (item_rule p before (so_far name seen) item) Left (Err fault) → AnswersRule (each_rule (item_rule p before) (so_far name []) all) Right (Err fault)
+    → (Left Right : Type 0) (fault : Fault) → AnswersRule (item_rule p before (so_far name seen) item) Left (Err fault) → AnswersRule (each_rule (item_rule p before) (so_far name []) all) Right (Err fault)
 ItemsSoFar-broken p before name all seen left item line old lines progress Left Right fault answer =
     answers_fault_same (item_rule p before (so_far name seen) item) (each_rule (item_rule p before) (so_far name []) all) Left Right fault
     (λ why broken. each_broken (item_rule p before) (so_far name []) (so_far name seen) all left item why progress.rule broken) answer
@@ -68,7 +69,7 @@ NamesSoFar-more p before names all seen left name line old new lines new_lines p
     }
 
 pub NamesSoFar-broken : (p : ℕ) (before : List (List (List ℕ))) (names all seen left : List (List ℕ)) (name : List ℕ) (line : ℕ) (old : MixedModel) (lines : List ℕ) → NamesSoFar p before names all seen (name ∷ left) line old lines
-    → (Left Right : Type 0) (fault : LineFault) → AnswersRule (unknown_rule before (codes "unknown" ∷ names ++ seen) name) Left (Err fault) → AnswersRule (each_rule (unknown_rule before) (codes "unknown" ∷ names) all) Right (Err fault)
+    → (Left Right : Type 0) (fault : Fault) → AnswersRule (unknown_rule before (codes "unknown" ∷ names ++ seen) name) Left (Err fault) → AnswersRule (each_rule (unknown_rule before) (codes "unknown" ∷ names) all) Right (Err fault)
 NamesSoFar-broken p before names all seen left name line old lines progress Left Right fault answer =
     answers_fault_same (unknown_rule before (codes "unknown" ∷ names ++ seen) name) (each_rule (unknown_rule before) (codes "unknown" ∷ names) all) Left Right fault
     (λ why broken. each_broken (unknown_rule before) (codes "unknown" ∷ names) (codes "unknown" ∷ names ++ seen) all left name why progress.rule broken) answer
@@ -139,7 +140,7 @@ module _ (p : ℕ) (before : List (List (List ℕ))) (names : List (List ℕ)) (
           ap (λ unknowns. room_rule unknowns name) (sym read.gives.unknowns_are) ∙ rw (same, has_name-None old.unknowns name e, le-ltb (length old.unknowns) 4096 full) refl
 
   -- what seeing a name answers, from where it stood
-  pub sees_answer : (new : MixedModel) (new_lines : List ℕ) (result : Result (Unit {0}) LineFault) → name_rule name ≡ None
+  pub sees_answer : (new : MixedModel) (new_lines : List ℕ) (result : Result (Unit {0}) Fault) → name_rule name ≡ None
       → OnOk result (SeenFrom p (position (bytes_eq name) old.unknowns) line old new old_lines new_lines name)
       → IfErr result (λ fault. OnBroken fault (UnseenFrom (position (bytes_eq name) old.unknowns) old))
       → AnswersRule (unknown_rule before (codes "unknown" ∷ names) name) (IsRead p (before ++ (codes "unknown" ∷ names ++ name ∷ []) ∷ []) (line + 1) new new_lines) result
@@ -150,7 +151,7 @@ module _ (p : ℕ) (before : List (List (List ℕ))) (names : List (List ℕ)) (
   sees_answer new new_lines (Err NoMemory) right seen unseen = tt
 
 -- an equation line, from its name and its items
-pub equation_answer : (p : ℕ) (before : List (List (List ℕ))) (all items : List (List ℕ)) (name : List ℕ) (line : ℕ) (new : MixedModel) (new_lines : List ℕ) (result : Result (Unit {0}) LineFault) → all ≡ name ∷ items → equation_rule before name ≡ None
+pub equation_answer : (p : ℕ) (before : List (List (List ℕ))) (all items : List (List ℕ)) (name : List ℕ) (line : ℕ) (new : MixedModel) (new_lines : List ℕ) (result : Result (Unit {0}) Fault) → all ≡ name ∷ items → equation_rule before name ≡ None
     → AnswersRule (each_rule (item_rule p before) (so_far name []) items) (IsWithin p before (so_far name items) line new new_lines) result
     → AnswersRule (equation_line_rule p before all) (IsRead p (before ++ (codes "eq" ∷ all) ∷ []) (line + 1) new new_lines) result
 equation_answer p before all items name line new new_lines result split kept answer =
@@ -158,14 +159,14 @@ equation_answer p before all items name line new new_lines result split kept ans
     (answers_same (each_rule (item_rule p before) (so_far name []) items) (equation_line_rule p before (name ∷ items)) (IsWithin p before (so_far name items) line new new_lines) (IsRead p (before ++ so_far name items ∷ []) (line + 1) new new_lines) result
     (first_kept (equation_rule before name) (each_rule (item_rule p before) (so_far name []) items) kept) (λ within. within.read) answer)
 
-pub equation_fault : (p : ℕ) (before : List (List (List ℕ))) (all items : List (List ℕ)) (name : List ℕ) (line : ℕ) (old new : MixedModel) (lines : List ℕ) (fault : LineFault) (Left : Type 0) → all ≡ name ∷ items → IsRead p before line old lines
+pub equation_fault : (p : ℕ) (before : List (List (List ℕ))) (all items : List (List ℕ)) (name : List ℕ) (line : ℕ) (old new : MixedModel) (lines : List ℕ) (fault : Fault) (Left : Type 0) → all ≡ name ∷ items → IsRead p before line old lines
     → AddsEquation p line old new lines name (Err fault) → AnswersRule (equation_line_rule p before all) Left (Err fault)
 equation_fault p before all items name line old new lines (Broken why) Left split read added =
     ap (equation_line_rule p before) split ∙ first_broken (equation_rule before name) (each_rule (item_rule p before) (so_far name []) items) why (added before read)
 equation_fault p before all items name line old new lines NoMemory Left split read added = tt
 
 -- an `unknown` line, from its first name and the others
-pub unknowns_answer : (p : ℕ) (before : List (List (List ℕ))) (all more : List (List ℕ)) (name : List ℕ) (line : ℕ) (new : MixedModel) (new_lines : List ℕ) (result : Result (Unit {0}) LineFault) → all ≡ name ∷ more → unknown_rule before (codes "unknown" ∷ []) name ≡ None
+pub unknowns_answer : (p : ℕ) (before : List (List (List ℕ))) (all more : List (List ℕ)) (name : List ℕ) (line : ℕ) (new : MixedModel) (new_lines : List ℕ) (result : Result (Unit {0}) Fault) → all ≡ name ∷ more → unknown_rule before (codes "unknown" ∷ []) name ≡ None
     → AnswersRule (each_rule (unknown_rule before) (codes "unknown" ∷ name ∷ []) more) (IsRead p (before ++ (codes "unknown" ∷ name ∷ more) ∷ []) (line + 1) new new_lines) result
     → AnswersRule (unknown_line_rule before all) (IsRead p (before ++ (codes "unknown" ∷ all) ∷ []) (line + 1) new new_lines) result
 unknowns_answer p before all more name line new new_lines result split kept answer =
@@ -173,7 +174,7 @@ unknowns_answer p before all more name line new new_lines result split kept answ
     (answers_same (each_rule (unknown_rule before) (codes "unknown" ∷ name ∷ []) more) (unknown_line_rule before (name ∷ more)) (IsRead p (before ++ (codes "unknown" ∷ name ∷ more) ∷ []) (line + 1) new new_lines) (IsRead p (before ++ (codes "unknown" ∷ name ∷ more) ∷ []) (line + 1) new new_lines) result
     (first_kept (unknown_rule before (codes "unknown" ∷ []) name) (each_rule (unknown_rule before) (codes "unknown" ∷ name ∷ []) more) kept) (λ read. read) answer)
 
-pub unknowns_broken : (before : List (List (List ℕ))) (all more : List (List ℕ)) (name : List ℕ) (Left Right : Type 0) (fault : LineFault) → all ≡ name ∷ more
+pub unknowns_broken : (before : List (List (List ℕ))) (all more : List (List ℕ)) (name : List ℕ) (Left Right : Type 0) (fault : Fault) → all ≡ name ∷ more
     → AnswersRule (unknown_rule before (codes "unknown" ∷ []) name) Left (Err fault) → AnswersRule (unknown_line_rule before all) Right (Err fault)
 unknowns_broken before all more name Left Right fault split answer =
     answers_fault_same (unknown_rule before (codes "unknown" ∷ []) name) (unknown_line_rule before all) Left Right fault

@@ -3,5 +3,4 @@ pub mod EquationLists
 pub mod Rules
 pub mod Models
 pub mod ReaderStates
-pub mod Faults
 pub mod Feeding

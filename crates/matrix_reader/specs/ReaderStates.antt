@@ -9,8 +9,8 @@ use Rattle.mixed_model.specs.Models.{MixedModel, IsModel, constant_of, symbol_of
 use Rattle.matrix_reader.specs.EquationLists.{equations_in, names_in}
 use Rattle.matrix_reader.specs.Models.{LinesGive}
 use Rattle.matrix_reader.specs.Rules.{each_rule, equation_rule, item_rule, unknown_rule, equation_line_rule, unknown_line_rule, words_rule}
-use Rattle.line_reader.specs.declared.fault.LineFault.{LineFault}
-use Rattle.line_reader.specs.declared.fault.LineFault.TheVariants.{Broken, NoMemory}
+use Rattle.refusals.specs.declared.fault.Fault.{Fault}
+use Rattle.refusals.specs.declared.fault.Fault.TheVariants.{Broken, NoMemory}
 
 -- lines are read: the model is theirs, and the unknowns last stood in lines with a lower number than the next
 pub record IsRead
@@ -69,7 +69,7 @@ pub record PutsValue (p : ℕ) (old new : MixedModel) (i j constant : ℕ) (symb
 
 -- What reading an item answers and leaves, wherever in an equation line the reader is.
 abbrev pub ReadsItem : ℕ → ℕ → ℕ → MixedModel → MixedModel → List ℕ → List ℕ → List ℕ
-    → Result (Unit {0}) LineFault → Type 0
+    → Result (Unit {0}) Fault → Type 0
 ReadsItem p line i old new old_lines new_lines item result =
     (before : List (List (List ℕ))) (name : List ℕ) (items : List (List ℕ)) → i ≡ length (equations_in before)
     → IsWithin p before (so_far name items) line old old_lines
@@ -78,7 +78,7 @@ ReadsItem p line i old new old_lines new_lines item result =
 
 -- and of all items of an equation line
 abbrev pub ReadsItems : ℕ → ℕ → ℕ → MixedModel → MixedModel → List ℕ → List ℕ → List (List ℕ)
-    → Result (Unit {0}) LineFault → Type 0
+    → Result (Unit {0}) Fault → Type 0
 ReadsItems p line i old new old_lines new_lines items result =
     (before : List (List (List ℕ))) (name : List ℕ) → i ≡ length (equations_in before)
     → IsWithin p before (so_far name []) line old old_lines
@@ -86,7 +86,7 @@ ReadsItems p line i old new old_lines new_lines items result =
     (IsWithin p before (so_far name items) line new new_lines) result
 
 -- What adding an equation answers and leaves, wherever between two lines the reader is: its number among the others.
-abbrev pub AddsEquation : ℕ → ℕ → MixedModel → MixedModel → List ℕ → List ℕ → Result ℕ LineFault → Type 0
+abbrev pub AddsEquation : ℕ → ℕ → MixedModel → MixedModel → List ℕ → List ℕ → Result ℕ Fault → Type 0
 AddsEquation p line old new lines name (Ok i) =
     (before : List (List (List ℕ))) → IsRead p before line old lines
     → (equation_rule before name ≡ None) × (i ≡ length (equations_in before))
@@ -97,7 +97,7 @@ AddsEquation p line old new lines name (Err NoMemory) = Unit {0}
 
 -- What reading an equation line answers and leaves, by the words after its first one.
 abbrev pub ReadsEquation : ℕ → ℕ → MixedModel → MixedModel → List ℕ → List ℕ → List (List ℕ)
-    → Result (Unit {0}) LineFault → Type 0
+    → Result (Unit {0}) Fault → Type 0
 ReadsEquation p line old new old_lines new_lines words result =
     (before : List (List (List ℕ))) → IsRead p before line old old_lines
     → AnswersRule (equation_line_rule p before words)
@@ -105,7 +105,7 @@ ReadsEquation p line old new old_lines new_lines words result =
 
 -- What seeing one more name of an `unknown` line answers and leaves, wherever in the line the reader is.
 abbrev pub SeesUnknown : ℕ → ℕ → MixedModel → MixedModel → List ℕ → List ℕ → List ℕ
-    → Result (Unit {0}) LineFault → Type 0
+    → Result (Unit {0}) Fault → Type 0
 SeesUnknown p line old new old_lines new_lines name result =
     (before : List (List (List ℕ))) (names : List (List ℕ))
     → IsRead p (before ++ (codes "unknown" ∷ names) ∷ []) (line + 1) old old_lines
@@ -114,7 +114,7 @@ SeesUnknown p line old new old_lines new_lines name result =
 
 -- and some names
 abbrev pub SeesUnknowns : ℕ → ℕ → MixedModel → MixedModel → List ℕ → List ℕ → List (List ℕ)
-    → Result (Unit {0}) LineFault → Type 0
+    → Result (Unit {0}) Fault → Type 0
 SeesUnknowns p line old new old_lines new_lines more result =
     (before : List (List (List ℕ))) (names : List (List ℕ))
     → IsRead p (before ++ (codes "unknown" ∷ names) ∷ []) (line + 1) old old_lines
@@ -123,7 +123,7 @@ SeesUnknowns p line old new old_lines new_lines more result =
 
 -- What reading an `unknown` line answers and leaves, by the words after its first one.
 abbrev pub ReadsUnknowns : ℕ → ℕ → MixedModel → MixedModel → List ℕ → List ℕ → List (List ℕ)
-    → Result (Unit {0}) LineFault → Type 0
+    → Result (Unit {0}) Fault → Type 0
 ReadsUnknowns p line old new old_lines new_lines words result =
     (before : List (List (List ℕ))) → IsRead p before line old old_lines
     → AnswersRule (unknown_line_rule before words)
@@ -131,7 +131,7 @@ ReadsUnknowns p line old new old_lines new_lines words result =
 
 -- What reading a line by its words answers and leaves.
 abbrev pub ReadsLine : ℕ → ℕ → MixedModel → MixedModel → List ℕ → List ℕ → List (List ℕ)
-    → Result (Unit {0}) LineFault → Type 0
+    → Result (Unit {0}) Fault → Type 0
 ReadsLine p line old new old_lines new_lines words result =
     (before : List (List (List ℕ))) → IsRead p before line old old_lines
     → AnswersRule (words_rule p before words) (IsRead p (before ++ words ∷ []) (line + 1) new new_lines) result

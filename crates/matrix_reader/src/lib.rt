@@ -3,7 +3,6 @@
 
 mod equation_list;
 mod examples;
-mod fault;
 mod item;
 mod laws;
 mod place;

@@ -4,16 +4,16 @@ ghost use Rattle.std.specs.Prelude.{◌≡◌, ◌<◌, ℕ, [], length, map, ve
 ghost use Rattle.std.specs.Str.{bytes_eq};
 ghost use Rattle.mixed_model.specs.Names.{is_label};
 ghost use Rattle.mixed_model.specs.Models.{IsModel, empty_model};
-ghost use Rattle.line_reader.specs.Answers.{OnBroken};
+ghost use Rattle.refusals.specs.Faults.{OnBroken};
 ghost use Rattle.matrix_reader.specs.ReaderStates.{MarkedFrom, UnmarkedFrom, SeenFrom, UnseenFrom, ReadsItem, ReadsItems, AddsEquation, ReadsEquation, SeesUnknown, SeesUnknowns, ReadsUnknowns, ReadsLine};
 
 use crate::fault::fault_of;
 use crate::item::read_term;
 use crate::place::put_value;
 use line_lexer::{Tokens, name};
-use line_reader::{LineFault, LineFormat};
+use line_reader::LineFormat;
 use mixed_model::{Mixed, NoMemory};
-use refusals::Why;
+use refusals::{Fault, Why};
 use residue_field::Field;
 use std::alloc::Global;
 
@@ -40,7 +40,7 @@ impl<F: Field> LineFormat for Reader<F> {
         None
     }
 
-    fn read_line(&mut self, number: u32, words: Tokens<'_>) -> Result<(), LineFault> {
+    fn read_line(&mut self, number: u32, words: Tokens<'_>) -> Result<(), Fault> {
         self.read_words(number, words)
     }
 }
@@ -58,7 +58,7 @@ impl<F: Field> Reader<F> {
     }
 
     // Reads the line of this number by its words.
-    fn read_words(&mut self, line: u32, mut words: Tokens<'_>) -> Result<(), LineFault>
+    fn read_words(&mut self, line: u32, mut words: Tokens<'_>) -> Result<(), Fault>
         requires { vec_len self.old.last_lines ≡ length self.old.model.unknowns }
         ensures lengths { OnOk result (vec_len self.new.last_lines ≡ length self.new.model.unknowns) }
         ensures read { ReadsLine F.modulus line
@@ -73,12 +73,12 @@ impl<F: Field> Reader<F> {
         } else if word.text == "unknown" {
             self.read_unknowns(line, words)
         } else {
-            Err(LineFault::Broken(Why::BadWord))
+            Err(Fault::Broken(Why::BadWord))
         }
     }
 
     // Reads the words of an equation line after its first one.
-    fn read_equation(&mut self, line: u32, mut words: Tokens<'_>) -> Result<(), LineFault>
+    fn read_equation(&mut self, line: u32, mut words: Tokens<'_>) -> Result<(), Fault>
         requires { vec_len self.old.last_lines ≡ length self.old.model.unknowns }
         ensures lengths { OnOk result (vec_len self.new.last_lines ≡ length self.new.model.unknowns) }
         ensures read { ReadsEquation F.modulus line
@@ -86,14 +86,14 @@ impl<F: Field> Reader<F> {
             (map (λ word. word.1) words.entry) result }
     {
         let Some(equation) = words.next() else {
-            return Err(LineFault::Broken(Why::BadShape));
+            return Err(Fault::Broken(Why::BadShape));
         };
         let i = self.add_equation(equation.text)?;
         self.read_items(line, i, words)
     }
 
     #[tactic(auto, using(crate::proofs::LabelLaws::name_is_label))]
-    fn add_equation(&mut self, equation: &str) -> Result<usize, LineFault>
+    fn add_equation(&mut self, equation: &str) -> Result<usize, Fault>
         requires { vec_len self.old.last_lines ≡ length self.old.model.unknowns }
         ensures within { IfOk result (λ i. i < length self.new.model.equations) }
         ensures lengths { OnOk result (vec_len self.new.last_lines ≡ length self.new.model.unknowns) }
@@ -109,7 +109,7 @@ impl<F: Field> Reader<F> {
     }
 
     // Puts what some items say into equation `i`, in the line of this number.
-    fn read_items(&mut self, line: u32, i: usize, items: Tokens<'_>) -> Result<(), LineFault>
+    fn read_items(&mut self, line: u32, i: usize, items: Tokens<'_>) -> Result<(), Fault>
         requires lengths { vec_len self.old.last_lines ≡ length self.old.model.unknowns }
         requires equation { i < length self.old.model.equations }
         ensures lengths { OnOk result (vec_len self.new.last_lines ≡ length self.new.model.unknowns) }
@@ -125,7 +125,7 @@ impl<F: Field> Reader<F> {
 
     // Puts what an item says into equation `i`, in the line of this number.
     #[tactic(auto, using(crate::proofs::LabelLaws::name_is_label))]
-    fn read_item(&mut self, line: u32, i: usize, item: &str) -> Result<(), LineFault>
+    fn read_item(&mut self, line: u32, i: usize, item: &str) -> Result<(), Fault>
         requires lengths { vec_len self.old.last_lines ≡ length self.old.model.unknowns }
         requires equation { i < length self.old.model.equations }
         ensures lengths { OnOk result (vec_len self.new.last_lines ≡ length self.new.model.unknowns) }
@@ -135,7 +135,7 @@ impl<F: Field> Reader<F> {
     {
         let term = match read_term(item) {
             Ok(term) => term,
-            Err(why) => return Err(LineFault::Broken(why)),
+            Err(why) => return Err(Fault::Broken(why)),
         };
         let j = self.mark(line, term.unknown)?;
         match put_value(&mut self.model, i, j, term.value) {
@@ -145,7 +145,7 @@ impl<F: Field> Reader<F> {
     }
 
     // The column of an unknown, which now stands in this equation line. It may not have stood there before.
-    fn mark(&mut self, line: u32, unknown: &str) -> Result<usize, LineFault>
+    fn mark(&mut self, line: u32, unknown: &str) -> Result<usize, Fault>
         requires lengths { vec_len self.old.last_lines ≡ length self.old.model.unknowns }
         requires label { IsTrue (is_label unknown.now) }
         ensures within { IfOk result (λ j. j < length self.new.model.unknowns) }
@@ -168,14 +168,14 @@ impl<F: Field> Reader<F> {
             return Ok(j);
         }
         if self.last_lines[j] == line {
-            return Err(LineFault::Broken(Why::Twice));
+            return Err(Fault::Broken(Why::Twice));
         }
         self.last_lines[j] = line;
         Ok(j)
     }
 
     // Reads the words of an `unknown` line after its first one.
-    fn read_unknowns(&mut self, line: u32, mut words: Tokens<'_>) -> Result<(), LineFault>
+    fn read_unknowns(&mut self, line: u32, mut words: Tokens<'_>) -> Result<(), Fault>
         requires { vec_len self.old.last_lines ≡ length self.old.model.unknowns }
         ensures lengths { OnOk result (vec_len self.new.last_lines ≡ length self.new.model.unknowns) }
         ensures read { ReadsUnknowns F.modulus line
@@ -183,13 +183,13 @@ impl<F: Field> Reader<F> {
             (map (λ word. word.1) words.entry) result }
     {
         let Some(first) = words.next() else {
-            return Err(LineFault::Broken(Why::BadShape));
+            return Err(Fault::Broken(Why::BadShape));
         };
         self.see_unknown(line, first.text)?;
         self.see_unknowns(line, words)
     }
 
-    fn see_unknowns(&mut self, line: u32, unknowns: Tokens<'_>) -> Result<(), LineFault>
+    fn see_unknowns(&mut self, line: u32, unknowns: Tokens<'_>) -> Result<(), Fault>
         requires { vec_len self.old.last_lines ≡ length self.old.model.unknowns }
         ensures lengths { OnOk result (vec_len self.new.last_lines ≡ length self.new.model.unknowns) }
         ensures seen { SeesUnknowns F.modulus line
@@ -203,7 +203,7 @@ impl<F: Field> Reader<F> {
     }
 
     #[tactic(auto, using(crate::proofs::LabelLaws::name_is_label))]
-    fn see_unknown(&mut self, line: u32, unknown: &str) -> Result<(), LineFault>
+    fn see_unknown(&mut self, line: u32, unknown: &str) -> Result<(), Fault>
         requires { vec_len self.old.last_lines ≡ length self.old.model.unknowns }
         ensures lengths { OnOk result (vec_len self.new.last_lines ≡ length self.new.model.unknowns) }
         ensures seen { SeesUnknown F.modulus line
@@ -214,7 +214,7 @@ impl<F: Field> Reader<F> {
     }
 
     // Adds an unknown, unless it is there.
-    fn see(&mut self, line: u32, unknown: &str) -> Result<(), LineFault>
+    fn see(&mut self, line: u32, unknown: &str) -> Result<(), Fault>
         requires lengths { vec_len self.old.last_lines ≡ length self.old.model.unknowns }
         requires label { IsTrue (is_label unknown.now) }
         ensures lengths { OnOk result (vec_len self.new.last_lines ≡ length self.new.model.unknowns) }

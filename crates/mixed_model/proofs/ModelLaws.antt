@@ -1,15 +1,15 @@
 -- What one changed row leaves of a model.
-use Rattle.std.proofs.Common.{◌≡◌, ◌≢◌, ℕ, ◌<◌, Bool, true, false, cond, ◌&&◌, ◌||◌, List, [], ◌∷◌, ◌++◌, ◌+◌, length, length-append, map, get_or, set, Some, refl, sym, ap, subst, ◌∙◌, arith, eqb, eqb-true, get_or-set_same, get_or-set_other, length-set, Vec, None, ⊎_elim, ◌≤◌}
+use Rattle.std.proofs.Common.{◌≡◌, ◌≢◌, ℕ, ◌<◌, Bool, true, false, cond, ◌&&◌, ◌||◌, List, [], ◌∷◌, ◌++◌, ◌+◌, length, length-append, map, get_or, set, Some, refl, sym, ap, subst, ◌∙◌, arith, eqb, eqb-true, get_or-set_same, get_or-set_other, length-set, Vec, Option, None, unwrap_or, ⊎_elim, ◌≤◌}
 use Rattle.std.specs.Prelude.{All}
 use Rattle.std.proofs.lemmas.Bool.{cases_lt, eqb-false}
 use Rattle.std.proofs.Math.Seq.{map-set_same}
-use Rattle.std.proofs.lemmas.List.{get_or-map, length-map, map-append, map-set, ext_get_or}
+use Rattle.std.proofs.lemmas.List.{get_or-map, get_or_past, length-map, map-append, map-set, ext_get_or}
 use Rattle.std.proofs.lemmas.List.Elements.{All-push, All-set}
-use Rattle.mixed_model.proofs.RowLaws.{entry_in-None, same_rows}
+use Rattle.mixed_model.proofs.RowLaws.{entry_in-None, entry_in-filled, same_rows}
 use Rattle.mixed_model.specs.Entries.{RowEntry}
 use Rattle.mixed_model.specs.Names.{IsNameList}
-use Rattle.mixed_model.specs.Rows.{IsRow, IsWithin, PutsConstant, PutsSymbol, ChangesRow, constant_in, symbol_in, constant_at_place, symbol_at_place}
-use Rattle.mixed_model.specs.Models.{MixedModel, IsModel, PutsAt, PutsSymbolAt, constant_of, symbol_of}
+use Rattle.mixed_model.specs.Rows.{IsFilled, IsRow, IsWithin, entry_in, PutsConstant, PutsSymbol, ChangesRow, constant_in, symbol_in, constant_at_place, symbol_at_place}
+use Rattle.mixed_model.specs.Models.{MixedModel, IsModel, PutsAt, PutsSymbolAt, constant_at, constant_of, row_of, symbol_of}
 
 -- rows that are vectors
 pub rows_are_rows : {A : Type 0} (p : ℕ) (rows : List (Vec RowEntry A)) (columns : ℕ) → All (λ row. IsRow p row × IsWithin columns row) (map (λ row. row.items) rows) → All (λ row. IsRow p row.items) rows
@@ -156,3 +156,39 @@ same_models p a b is_a is_b equations unknowns constants symbols = λ i. record 
         (beyond_unknowns (length a.unknowns) (get_or a.rows k []) j here.1 beyond).1
         ∙ sym (beyond_unknowns (length b.unknowns) (get_or b.rows k []) j there.1 (past j beyond)).1)
         (cases_lt j (length a.unknowns))))
+
+-- a constant that is 0 is none
+no_zero : (p : ℕ) (entry : RowEntry) → IsFilled p entry → unwrap_or entry.constant 0 ≡ 0 → entry.constant ≡ None
+no_zero p entry filled zero_there = by entry.constant refl
+  where
+    by : (found : Option ℕ) → entry.constant ≡ found → entry.constant ≡ None
+    by None e = e
+    by (Some constant) e =
+        let same : constant ≡ 0 = sym (ap (λ o. unwrap_or o 0) e) ∙ zero_there in
+        absurd (omega (arith, filled.positive constant e, same))
+
+pub constant_of-None : (p : ℕ) (model : MixedModel) → IsModel p model → (i j : ℕ) → constant_at model i j ≡ 0 → constant_of model i j ≡ None
+constant_of-None p model is i j zero_there = by (entry_in (row_of model i) j) refl
+  where
+    by : (found : Option RowEntry) → entry_in (row_of model i) j ≡ found → constant_of model i j ≡ None
+    by None e = ap constant_at_place e
+    by (Some entry) e = ⊎_elim
+        (λ within.
+        let filled = entry_in-filled p 0 (row_of model i) (is.rows i [] within).0 j entry e in
+        ap constant_at_place e ∙ no_zero p entry filled (sym (ap (λ o. unwrap_or (constant_at_place o) 0) e) ∙ zero_there))
+        (λ past. ap (λ row. constant_in row j) (get_or_past model.rows i [] past))
+        (cases_lt i (length model.rows))
+
+-- constants are the same where they are, 0 for none
+pub same_constant : (p : ℕ) (a b : MixedModel) → IsModel p a → IsModel p b → (i j : ℕ) → constant_at a i j ≡ constant_at b i j → constant_of a i j ≡ constant_of b i j
+same_constant p a b is_a is_b i j same = by (constant_of a i j) refl (constant_of b i j) refl
+  where
+    by : (x : Option ℕ) → constant_of a i j ≡ x → (y : Option ℕ) → constant_of b i j ≡ y → constant_of a i j ≡ constant_of b i j
+    by None e y f = e ∙ sym (constant_of-None p b is_b i j (sym same ∙ ap (λ o. unwrap_or o 0) e))
+    by (Some x) e None f = constant_of-None p a is_a i j (same ∙ ap (λ o. unwrap_or o 0) f) ∙ sym f
+    by (Some x) e (Some y) f = e ∙ ap Some (sym (ap (λ o. unwrap_or o 0) e) ∙ same ∙ ap (λ o. unwrap_or o 0) f) ∙ sym f
+
+-- models with the same names, and the same constants and symbols, are the same
+pub models_told : (p : ℕ) (a b : MixedModel) → IsModel p a → IsModel p b → a.equations ≡ b.equations → a.unknowns ≡ b.unknowns → ((i j : ℕ) → i < length a.equations → j < length a.unknowns → constant_at a i j ≡ constant_at b i j) → ((i j : ℕ) → i < length a.equations → j < length a.unknowns → symbol_of a i j ≡ symbol_of b i j) → a ≡ b
+models_told p a b is_a is_b equations unknowns constants symbols =
+    same_models p a b is_a is_b equations unknowns (λ i j at col. same_constant p a b is_a is_b i j (constants i j at col)) symbols

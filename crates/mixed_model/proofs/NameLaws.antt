@@ -1,5 +1,5 @@
 -- Lists of names, and a name that is added to one.
-use Rattle.std.proofs.Common.{◌≡◌, ℕ, ◌+◌, ◌<◌, ◌≤◌, Bool, IsTrue, true, false, not, ◌||◌, cond, List, [], ◌∷◌, ◌++◌, length, map, position, get_or, Result, Ok, Err, Some, None, refl, sym, ap, subst, ◌∙◌, arith, ltb, ltb-false, lt-ltb, le-ltb, length-append}
+use Rattle.std.proofs.Common.{◌≡◌, ◌≢◌, ℕ, ◌+◌, ◌<◌, ◌≤◌, nat_eq, ⊎_elim, Bool, IsTrue, true, false, not, ◌||◌, cond, List, [], ◌∷◌, ◌++◌, length, map, position, get_or, Result, Ok, Err, Some, None, refl, sym, ap, subst, ◌∙◌, arith, ltb, ltb-false, lt-ltb, le-ltb, length-append}
 use Rattle.std.specs.List.{IsDistinct, list_any, position_or_len}
 use Rattle.std.proofs.lemmas.List.Folds.{list_any_at, list_any_none}
 use Rattle.std.proofs.lemmas.List.Quantifiers.{position-Some}
@@ -12,7 +12,8 @@ use Rattle.std.specs.String.{string_bytes, string_eq}
 use Rattle.std.specs.declared.string.String.{String}
 use Rattle.indexmap.specs.IndexSet.{insert_key}
 use Rattle.std.proofs.lemmas.List.Elements.{All-push}
-use Rattle.std.proofs.lemmas.Map.Keys.{IsDistinct-push}
+use Rattle.std.proofs.lemmas.Map.Keys.{IsDistinct-push, apart_from_distinct}
+use Rattle.std.proofs.lemmas.Bool.{cases_lt, eqb-true, eqb-false, false_from_ne_true}
 use Rattle.mixed_model.specs.declared.errors.AddError.TheVariants.{Twice, TooMany}
 use Rattle.mixed_model.specs.Names.{is_label, IsNameList, has_name, see, appending, adding, seeing, place_or_end, AnswersAdd}
 use Rattle.mixed_model.specs.declared.errors.AddError.{AddError}
@@ -99,3 +100,27 @@ map-insert_key keys text name bytes new =
     ap (λ there. map string_bytes (cond there keys (keys ++ text ∷ []))) absent
     ∙ map-append string_bytes keys (text ∷ [])
     ∙ ap (λ t. map string_bytes keys ++ t ∷ []) bytes
+
+-- a name is itself
+pub bytes_eq-refl : (name : List ℕ) → bytes_eq name name ≡ true
+bytes_eq-refl name = (bytes_eq-Decides name name).1 refl
+
+-- names at different places differ
+pub names_apart : (names : List (List ℕ)) (i j : ℕ) → IsDistinct bytes_eq names → i ≢ j → i < length names → j < length names → bytes_eq (get_or names i []) (get_or names j []) ≡ false
+names_apart names i j distinct differs here there = ⊎_elim
+    (λ less. apart_from_distinct bytes_eq names i j [] distinct less there)
+    (λ more.
+    let apart = apart_from_distinct bytes_eq names j i [] distinct (omega arith) here in
+    false_from_ne_true (bytes_eq (get_or names i []) (get_or names j [])) (λ same.
+    let e : get_or names i [] ≡ get_or names j [] = (bytes_eq-Decides (get_or names i []) (get_or names j [])).0 same in
+    let back : bytes_eq (get_or names j []) (get_or names i []) ≡ true = (bytes_eq-Decides (get_or names j []) (get_or names i [])).1 (sym e) in
+    let f : ⊥ = cc in f))
+    (cases_lt i j)
+
+-- a name stands at one place of names that differ
+pub stands_once : (names : List (List ℕ)) (name : List ℕ) (i k : ℕ) → IsDistinct bytes_eq names → i < length names → k < length names → get_or names i [] ≡ name → bytes_eq (get_or names k []) name ≡ nat_eq i k
+stands_once names name i k distinct within also here = by (nat_eq i k) refl
+  where
+    by : (b : Bool) → nat_eq i k ≡ b → bytes_eq (get_or names k []) name ≡ b
+    by true e = (bytes_eq-Decides (get_or names k []) name).1 (ap (λ n. get_or names n []) (sym (eqb-true i k e)) ∙ here)
+    by false e = ap (bytes_eq (get_or names k [])) (sym here) ∙ names_apart names k i distinct (λ same. eqb-false i k e (sym same)) also within

@@ -1,4 +1,5 @@
 pub mod Entries
+pub mod Faults
 pub mod Names
 pub mod Rows
 pub mod Models

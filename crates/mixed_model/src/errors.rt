@@ -1,5 +1,6 @@
 //! Why nothing was added to a model.
 
+use refusals::{Fault, Why};
 use std::alloc::{AllocError, AllocFailed};
 use thiserror::Error;
 
@@ -33,5 +34,20 @@ impl<T: Drop> From<AllocFailed<T>> for AddError {
 
     fn from(_error: AllocFailed<T>) -> AddError {
         AddError::NoMemory
+    }
+}
+
+impl From<AddError> for Fault {
+    ghost use Rattle.std.specs.Prelude.{◌≡◌};
+    ghost use Rattle.mixed_model.specs.Faults.{fault_of};
+
+    ghost from_gives = { λ error fault. fault ≡ fault_of error };
+
+    fn from(error: AddError) -> Fault {
+        match error {
+            AddError::Twice => Fault::Broken(Why::Twice),
+            AddError::TooMany => Fault::Broken(Why::TooMany),
+            AddError::NoMemory => Fault::NoMemory,
+        }
     }
 }

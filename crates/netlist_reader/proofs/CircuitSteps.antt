@@ -17,9 +17,9 @@ use Rattle.netlist_reader.specs.Devices.{Device, device_names, nodes_of}
 use Rattle.netlist_reader.specs.Terms.{dotted, equations_of, equation_words, own_names, unknowns_of, unknown_words}
 use Rattle.netlist_reader.specs.Rules.{new_rule, place_rule, room_rule, unless}
 use Rattle.netlist_reader.specs.Circuits.{IsCircuit, IsDevice, Parts}
-use Rattle.line_reader.specs.Answers.{OnBroken}
-use Rattle.line_reader.specs.declared.fault.LineFault.{LineFault}
-use Rattle.line_reader.specs.declared.fault.LineFault.TheVariants.{Broken, NoMemory}
+use Rattle.refusals.specs.Faults.{OnBroken}
+use Rattle.refusals.specs.declared.fault.Fault.{Fault}
+use Rattle.refusals.specs.declared.fault.Fault.TheVariants.{Broken, NoMemory}
 use Rattle.netlist_reader.specs.ReaderStates.{AddsName, TakesRoom, has_room, see_nodes}
 use Rattle.netlist_reader.proofs.FaultSteps.{on_broken}
 use Rattle.netlist_reader.proofs.DeviceSteps.{first_broken, first_kept, unless_false}
@@ -133,7 +133,7 @@ circuit-push p old new device circuit good fresh devices names nodes equations u
     }
 
 -- what a fault at the device's name says
-pub name-fault : (devices : List Device) (device : Device) (names new : List (List ℕ)) (name : List ℕ) (fault : LineFault) → names ≡ device_names devices → name ≡ device.name → AddsName names new name (Err fault) → OnBroken fault (λ why. place_rule devices device ≡ Some why)
+pub name-fault : (devices : List Device) (device : Device) (names new : List (List ℕ)) (name : List ℕ) (fault : Fault) → names ≡ device_names devices → name ≡ device.name → AddsName names new name (Err fault) → OnBroken fault (λ why. place_rule devices device ≡ Some why)
 name-fault devices device names new name NoMemory all same adds = tt
 name-fault devices device names new name (Broken why) all same (inl twice) =
     place-twice devices device ((λ i. has_name (sym all i) (sym same i)) ∙ twice.1) ∙ ap Some (sym twice.0)
@@ -141,7 +141,7 @@ name-fault devices device names new name (Broken why) all same (inr full) =
     place-full devices device ((λ i. has_name (sym all i) (sym same i)) ∙ full.1) (subst (λ list. 4096 ≤ length list) all full.2) ∙ ap Some (sym full.0)
 
 -- and one at its nodes, or at the room
-pub nodes-fault : (p : ℕ) (parts : Parts) (device : Device) (nodes : List (List ℕ)) (fault : LineFault) → IsCircuit p parts → has_name parts.names device.name ≡ false → nodes ≡ see_nodes parts.nodes device.nodes
+pub nodes-fault : (p : ℕ) (parts : Parts) (device : Device) (nodes : List (List ℕ)) (fault : Fault) → IsCircuit p parts → has_name parts.names device.name ≡ false → nodes ≡ see_nodes parts.nodes device.nodes
     → OnBroken fault (λ why. (why ≡ TooMany) × (4096 < length nodes)) → OnBroken fault (λ why. place_rule parts.devices device ≡ Some why)
 nodes-fault p parts device nodes fault circuit new seen said =
     let equations = length (own_names equation_words parts.devices) + length (equation_words device.kind) in
@@ -160,7 +160,7 @@ place-counted p parts device nodes equations unknowns room circuit new seen own_
     (own_equations ∙ ap (λ n. n + length (equation_words device.kind)) circuit.own_equations)
     (own_unknowns ∙ ap (λ n. n + length (unknown_words device.kind)) circuit.own_unknowns) has
 
-pub room-fault : (p : ℕ) (parts : Parts) (device : Device) (middle new : Parts) (kind : DeviceKind) (fault : LineFault) → IsCircuit p parts → has_name parts.names device.name ≡ false → middle.nodes ≡ see_nodes parts.nodes device.nodes
+pub room-fault : (p : ℕ) (parts : Parts) (device : Device) (middle new : Parts) (kind : DeviceKind) (fault : Fault) → IsCircuit p parts → has_name parts.names device.name ≡ false → middle.nodes ≡ see_nodes parts.nodes device.nodes
     → middle.own_equations ≡ parts.own_equations → middle.own_unknowns ≡ parts.own_unknowns → kind ≡ device.kind → TakesRoom kind middle new (Err fault) → OnBroken fault (λ why. place_rule parts.devices device ≡ Some why)
 room-fault p parts device middle new kind NoMemory circuit fresh seen equations unknowns same takes = tt
 room-fault p parts device middle new kind (Broken why) circuit fresh seen equations unknowns same takes =

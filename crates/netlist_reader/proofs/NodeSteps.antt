@@ -11,7 +11,7 @@ use Rattle.mixed_model.specs.Names.{AnswersAdd, has_name, place_or_end, see, see
 use Rattle.mixed_model.specs.declared.errors.AddError.{AddError}
 use Rattle.mixed_model.specs.declared.errors.AddError.TheVariants.{Twice, TooMany, NoMemory}
 use Rattle.mixed_model.proofs.NameLaws.{has_name-None, see-new}
-use Rattle.line_reader.specs.Answers.{OnBroken}
+use Rattle.refusals.specs.Faults.{OnBroken}
 use Rattle.netlist_reader.specs.Devices.{Device, is_ground, nodes_of}
 use Rattle.netlist_reader.specs.Faults.{fault_of}
 use Rattle.netlist_reader.specs.ReaderStates.{see_node, see_nodes}

@@ -6,8 +6,8 @@ use Rattle.std.proofs.lemmas.List.{append-nil, length-map}
 use Rattle.std.proofs.lemmas.Grind.{flat_map-append}
 use Rattle.refusals.specs.declared.Why.{Why}
 use Rattle.line_reader.specs.Answers.{ReadsWords}
-use Rattle.line_reader.specs.declared.fault.LineFault.{LineFault}
-use Rattle.line_reader.specs.declared.fault.LineFault.TheVariants.{Broken, NoMemory}
+use Rattle.refusals.specs.declared.fault.Fault.{Fault}
+use Rattle.refusals.specs.declared.fault.Fault.TheVariants.{Broken, NoMemory}
 use Rattle.netlist_reader.specs.declared.kind.DeviceKind.{DeviceKind}
 use Rattle.netlist_reader.specs.Devices.{Device, device_in, device_of, devices_in, from_name, kind_of, word_after_nodes}
 use Rattle.netlist_reader.specs.Rules.{kind_rule, name_rule, number_rule, place_rule, shape_rule, words_rule}
@@ -57,7 +57,7 @@ same-rule : (p : ℕ) (old : Parts) (before : List (List (List ℕ))) (words : L
 same-rule p old before words has = line-rule p before words ∙ ap (λ devices. option_or (own_line_rule p words) (here_rule devices (device_in p words))) (sym has.devices)
 
 -- A line that is read, whatever was read before.
-pub reads-words : (p number : ℕ) (old new : Parts) (words : List (List ℕ)) (result : Result (Unit {0}) LineFault) → OnOk result (IsCircuit p new) → ReadsLine p number old new words result → ReadsWords (words_rule p) (HasRead p) number old new words result
+pub reads-words : (p number : ℕ) (old new : Parts) (words : List (List ℕ)) (result : Result (Unit {0}) Fault) → OnOk result (IsCircuit p new) → ReadsLine p number old new words result → ReadsWords (words_rule p) (HasRead p) number old new words result
 reads-words p number old new words (Ok done) circuit (kept, puts) = λ before has numbered.
     (same-rule p old before words has ∙ kept, read-push p number old new before words has numbered circuit puts)
 reads-words p number old new words (Err (Broken why)) circuit broken = λ before has numbered. same-rule p old before words has ∙ broken
@@ -72,6 +72,6 @@ one_each : (number : ℕ) (old new : Parts) (devices : List Device) → PutsLast
 one_each number old new devices puts same =
     omega (arith, ap length puts.0, ap length puts.1, length-append old.devices devices, length-append old.lines (map (λ (device : Device). number) devices), length-map devices (λ (device : Device). number), same)
 
-pub ready-read : (p number : ℕ) (old new : Parts) (words : List (List ℕ)) (result : Result (Unit {0}) LineFault) → IsReady p old → OnOk result (IsCircuit p new) → ReadsLine p number old new words result → OnOk result (IsReady p new)
+pub ready-read : (p number : ℕ) (old new : Parts) (words : List (List ℕ)) (result : Result (Unit {0}) Fault) → IsReady p old → OnOk result (IsCircuit p new) → ReadsLine p number old new words result → OnOk result (IsReady p new)
 ready-read p number old new words (Ok done) ready circuit read = record { circuit = circuit; one_line_each = one_each number old new (device_in p words) read.1 ready.one_line_each }
 ready-read p number old new words (Err fault) ready circuit read = tt

@@ -1,7 +1,6 @@
 pub mod Circuits
 pub mod Devices
 pub mod Examples
-pub mod Faults
 pub mod Feeding
 pub mod Models
 pub mod Naming

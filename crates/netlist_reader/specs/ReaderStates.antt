@@ -8,9 +8,10 @@ use Rattle.refusals.specs.declared.Refused.{Refused as Refusal}
 use Rattle.limits.specs.Limits.{equation_limit}
 use Rattle.line_lexer.specs.Names.{is_name}
 use Rattle.mixed_model.specs.Names.{has_name, see}
-use Rattle.line_reader.specs.Answers.{AnswersRule, OnBroken}
-use Rattle.line_reader.specs.declared.fault.LineFault.{LineFault}
-use Rattle.line_reader.specs.declared.fault.LineFault.TheVariants.{Broken, NoMemory}
+use Rattle.line_reader.specs.Answers.{AnswersRule}
+use Rattle.refusals.specs.Faults.{OnBroken}
+use Rattle.refusals.specs.declared.fault.Fault.{Fault}
+use Rattle.refusals.specs.declared.fault.Fault.TheVariants.{Broken, NoMemory}
 use Rattle.netlist_reader.specs.declared.kind.DeviceKind.{DeviceKind}
 use Rattle.netlist_reader.specs.Devices.{Device, device_in, device_of, from_name, has_source, is_ground, kind_of, word_after_nodes}
 use Rattle.netlist_reader.specs.Rules.{shape_rule, name_rule, number_rule, place_rule, ground_rule, is_source}
@@ -43,12 +44,12 @@ here_rule before [] = None
 here_rule before (device ∷ devices) = place_rule before device
 
 -- What reading a device by the words from its name on answers.
-abbrev pub ReadsDevice : ℕ → DeviceKind → List (List ℕ) → Result Device LineFault → Type 0
+abbrev pub ReadsDevice : ℕ → DeviceKind → List (List ℕ) → Result Device Fault → Type 0
 ReadsDevice p kind words (Ok device) = (own_rule p kind words ≡ None) × (device ≡ device_of p kind words)
 ReadsDevice p kind words (Err fault) = OnBroken fault (λ why. own_rule p kind words ≡ Some why)
 
 -- What reading the device of a line answers, by its words.
-abbrev pub ReadsWords : ℕ → List (List ℕ) → Result (Option Device) LineFault → Type 0
+abbrev pub ReadsWords : ℕ → List (List ℕ) → Result (Option Device) Fault → Type 0
 ReadsWords p words (Ok device) = (own_line_rule p words ≡ None) × (option_to_list device ≡ device_in p words)
 ReadsWords p words (Err fault) = OnBroken fault (λ why. own_line_rule p words ≡ Some why)
 
@@ -58,18 +59,18 @@ PutsLast line old new devices =
     (new.devices ≡ old.devices ++ devices) × (new.lines ≡ old.lines ++ map (λ device. line) devices)
 
 -- What adding a device answers and leaves.
-abbrev pub AddsDevice : ℕ → Parts → Parts → Device → Result (Unit {0}) LineFault → Type 0
+abbrev pub AddsDevice : ℕ → Parts → Parts → Device → Result (Unit {0}) Fault → Type 0
 AddsDevice line old new device result =
     AnswersRule (place_rule old.devices device) (PutsLast line old new (device ∷ [])) result
 
 -- What reading a line answers and leaves.
-abbrev pub ReadsLine : ℕ → ℕ → Parts → Parts → List (List ℕ) → Result (Unit {0}) LineFault → Type 0
+abbrev pub ReadsLine : ℕ → ℕ → Parts → Parts → List (List ℕ) → Result (Unit {0}) Fault → Type 0
 ReadsLine p line old new words result =
     AnswersRule (option_or (own_line_rule p words) (here_rule old.devices (device_in p words)))
     (PutsLast line old new (device_in p words)) result
 
 -- What putting a device's name last answers and leaves.
-abbrev pub AddsName : List (List ℕ) → List (List ℕ) → List ℕ → Result (Unit {0}) LineFault → Type 0
+abbrev pub AddsName : List (List ℕ) → List (List ℕ) → List ℕ → Result (Unit {0}) Fault → Type 0
 AddsName old new name (Ok _) = (has_name old name ≡ false) × (new ≡ old ++ name ∷ [])
 AddsName old new name (Err (Broken why)) =
     ((why ≡ Twice) × (has_name old name ≡ true))
@@ -90,7 +91,7 @@ has_room nodes equations unknowns =
     nat_le (nodes + equations) equation_limit && nat_le (nodes + unknowns) equation_limit
 
 -- What counting the equations and unknowns of one more device answers and leaves.
-abbrev pub TakesRoom : DeviceKind → Parts → Parts → Result (Unit {0}) LineFault → Type 0
+abbrev pub TakesRoom : DeviceKind → Parts → Parts → Result (Unit {0}) Fault → Type 0
 TakesRoom kind old new (Ok _) =
     (new ≡ record old {
       own_equations = old.own_equations + length (equation_words kind);

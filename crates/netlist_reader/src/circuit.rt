@@ -4,7 +4,7 @@ ghost use Rattle.std.specs.Prelude.{◌≡◌, ◌<◌, ◌≤◌, All, true, []
 ghost use Rattle.std.specs.String.{string_bytes};
 ghost use Rattle.limits.specs.Limits.{equation_limit};
 ghost use Rattle.line_lexer.specs.Names.{is_name, is_node};
-ghost use Rattle.line_reader.specs.Answers.{OnBroken};
+ghost use Rattle.refusals.specs.Faults.{OnBroken};
 ghost use Rattle.netlist_reader.specs.Circuits.{IsCircuit, IsDevice};
 ghost use Rattle.netlist_reader.specs.ReaderStates.{AddsDevice, AddsName, IsReady, ReadsLine, TakesRoom, see_node, see_nodes};
 
@@ -14,9 +14,9 @@ use crate::kind::DeviceKind;
 use crate::words::{first_words, read_words};
 use limits::EQUATION_LIMIT;
 use line_lexer::Tokens;
-use line_reader::{LineFault, LineFormat};
+use line_reader::LineFormat;
 use mixed_model::Names;
-use refusals::Why;
+use refusals::{Fault, Why};
 use residue_field::Field;
 use std::alloc::Global;
 use std::marker::Model;
@@ -63,7 +63,7 @@ impl<F: Field> LineFormat for Circuit<F> {
         Some(b'*')
     }
 
-    fn read_line(&mut self, number: u32, words: Tokens<'_>) -> Result<(), LineFault> {
+    fn read_line(&mut self, number: u32, words: Tokens<'_>) -> Result<(), Fault> {
         self.read(number, words)
     }
 }
@@ -91,7 +91,7 @@ impl<F: Field> Circuit<F> {
     }
 
     /// Reads the line of this number by its words.
-    pub(crate) fn read(&mut self, line: u32, words: Tokens<'_>) -> Result<(), LineFault>
+    pub(crate) fn read(&mut self, line: u32, words: Tokens<'_>) -> Result<(), Fault>
         requires { IsCircuit F.modulus self.old }
         ensures circuit { OnOk result (IsCircuit F.modulus self.new) }
         ensures read { ReadsLine F.modulus line self.old self.new (map (λ word. word.1) words.entry) result }
@@ -105,7 +105,7 @@ impl<F: Field> Circuit<F> {
     }
 
     // Puts the device of the line of this number last.
-    fn add(&mut self, line: u32, device: Device<F>) -> Result<(), LineFault>
+    fn add(&mut self, line: u32, device: Device<F>) -> Result<(), Fault>
         requires circuit { IsCircuit F.modulus self.old }
         requires device { IsDevice F.modulus device }
         ensures circuit { OnOk result (IsCircuit F.modulus self.new) }
@@ -120,7 +120,7 @@ impl<F: Field> Circuit<F> {
     }
 
     // Counts the equations and the unknowns of one more device of this kind, whose nodes are there.
-    fn take_room(&mut self, kind: DeviceKind) -> Result<(), LineFault>
+    fn take_room(&mut self, kind: DeviceKind) -> Result<(), Fault>
         requires equations { self.old.own_equations ≤ equation_limit }
         requires unknowns { self.old.own_unknowns ≤ equation_limit }
         ensures taken { TakesRoom kind self.old self.new result }
@@ -131,7 +131,7 @@ impl<F: Field> Circuit<F> {
         if nodes + self.own_equations > EQUATION_LIMIT
             || nodes + self.own_unknowns > EQUATION_LIMIT
         {
-            return Err(LineFault::Broken(Why::TooMany));
+            return Err(Fault::Broken(Why::TooMany));
         }
         Ok(())
     }
@@ -139,7 +139,7 @@ impl<F: Field> Circuit<F> {
 
 // Puts the name of a device last.
 #[tactic(auto, using(crate::proofs::Labels::name_is_label))]
-fn add_name(names: &mut Names, name: &str) -> Result<(), LineFault>
+fn add_name(names: &mut Names, name: &str) -> Result<(), Fault>
     requires { is_name name.now ≡ true }
     ensures { AddsName names.old names.new name.now result }
 {
@@ -150,7 +150,7 @@ fn add_name(names: &mut Names, name: &str) -> Result<(), LineFault>
 }
 
 // Puts the nodes but the ground last, each unless it is there.
-fn add_nodes(seen: &mut Names, nodes: &[String]) -> Result<(), LineFault>
+fn add_nodes(seen: &mut Names, nodes: &[String]) -> Result<(), Fault>
     requires { All (λ node. is_node node ≡ true) (map string_bytes nodes.now) }
     ensures added { OnOk result (seen.new ≡ see_nodes seen.old (map string_bytes nodes.now)) }
     ensures full { IfErr result (λ fault. OnBroken fault (λ why.
@@ -164,7 +164,7 @@ fn add_nodes(seen: &mut Names, nodes: &[String]) -> Result<(), LineFault>
 
 // Puts a node last, unless it is the ground or there.
 #[tactic(auto, using(crate::proofs::Labels::node_is_label, crate::proofs::NodeSteps::node_fault))]
-fn add_node(seen: &mut Names, node: &str) -> Result<(), LineFault>
+fn add_node(seen: &mut Names, node: &str) -> Result<(), Fault>
     requires { is_node node.now ≡ true }
     ensures added { OnOk result (seen.new ≡ see_node seen.old node.now) }
     ensures full { IfErr result (λ fault. OnBroken fault (λ why.

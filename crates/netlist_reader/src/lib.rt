@@ -6,7 +6,6 @@ mod circuit;
 mod device;
 mod ending;
 mod examples;
-mod fault;
 mod kind;
 mod laws;
 mod netlist;

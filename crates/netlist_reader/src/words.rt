@@ -6,7 +6,7 @@ ghost use Rattle.std.specs.Result.{result_unwrap_or};
 ghost use Rattle.std.specs.String.{string_bytes};
 ghost use Rattle.line_lexer.specs.Names.{is_name, is_node};
 ghost use Rattle.line_lexer.specs.Numbers.{number_of};
-ghost use Rattle.line_reader.specs.Answers.{OnBroken};
+ghost use Rattle.refusals.specs.Faults.{OnBroken};
 ghost use Rattle.netlist_reader.specs.Circuits.{IsDevice};
 ghost use Rattle.netlist_reader.specs.Devices.{from_name, has_number, has_source, is_directive, words_wanted};
 ghost use Rattle.netlist_reader.specs.Rules.{number_rule};
@@ -15,8 +15,7 @@ ghost use Rattle.netlist_reader.specs.ReaderStates.{ReadsDevice, ReadsWords, kee
 use crate::device::Device;
 use crate::kind::DeviceKind;
 use line_lexer::{Tokens, name, node, number};
-use line_reader::LineFault;
-use refusals::Why;
+use refusals::{Fault, Why};
 use residue_field::Field;
 use std::alloc::{AllocError, Global};
 
@@ -38,7 +37,7 @@ pub(crate) fn first_words<'a>(alloc: Global, words: Tokens<'a>) -> Result<Vec<&'
 pub(crate) fn read_words<F: Field>(
     alloc: Global,
     words: &[&str],
-) -> Result<Option<Device<F>>, LineFault>
+) -> Result<Option<Device<F>>, Fault>
     ensures device { IfOk result (λ device. IfSome device (IsDevice F.modulus)) }
     ensures read { ReadsWords F.modulus (map (λ word. word.now) words.now) result }
 {
@@ -46,7 +45,7 @@ pub(crate) fn read_words<F: Field>(
         return Ok(None);
     };
     let Some(kind) = DeviceKind::of(first) else {
-        return Err(LineFault::Broken(Why::Unsupported));
+        return Err(Fault::Broken(Why::Unsupported));
     };
     let device = read_device(alloc, kind, from_name(kind, words))?;
     Ok(Some(device))
@@ -69,12 +68,12 @@ fn read_device<F: Field>(
     alloc: Global,
     kind: DeviceKind,
     words: &[&str],
-) -> Result<Device<F>, LineFault>
+) -> Result<Device<F>, Fault>
     ensures device { IfOk result (IsDevice F.modulus) }
     ensures read { ReadsDevice F.modulus kind (map (λ word. word.now) words.now) result }
 {
     if !has_shape(kind, words.len()) {
-        return Err(LineFault::Broken(Why::BadShape));
+        return Err(Fault::Broken(Why::BadShape));
     }
     let after = 1 + kind.nodes_wanted();
     let name = read_name(alloc, word_at(words, 0))?;
@@ -112,7 +111,7 @@ fn has_shape(kind: DeviceKind, count: usize) -> bool
 }
 
 // A name.
-fn read_name(alloc: Global, text: &str) -> Result<String, LineFault>
+fn read_name(alloc: Global, text: &str) -> Result<String, Fault>
     ensures { MatchResult result
         (λ name. (is_name text.now ≡ true) × (string_bytes name ≡ text.now))
         (λ fault. OnBroken fault (λ why. (is_name text.now ≡ false) × (why ≡ Why.BadName))) }
@@ -123,7 +122,7 @@ fn read_name(alloc: Global, text: &str) -> Result<String, LineFault>
 }
 
 // The name of a device's source, where its kind has one.
-fn read_source(alloc: Global, kind: DeviceKind, text: &str) -> Result<String, LineFault>
+fn read_source(alloc: Global, kind: DeviceKind, text: &str) -> Result<String, Fault>
     ensures { let source = (if has_source kind then text.now else []) in MatchResult result
         (λ name. (keeps_source_name kind source ≡ true) × (string_bytes name ≡ source))
         (λ fault. OnBroken fault (λ why. (keeps_source_name kind source ≡ false) × (why ≡ Why.BadName))) }
@@ -150,7 +149,7 @@ fn read_number<F: Field>(kind: DeviceKind, text: &str) -> Result<F, Why>
 }
 
 // Some nodes.
-fn read_nodes(alloc: Global, texts: &[&str]) -> Result<Vec<String>, LineFault>
+fn read_nodes(alloc: Global, texts: &[&str]) -> Result<Vec<String>, Fault>
     ensures { MatchResult result
         (λ nodes. (list_all is_node (map (λ text. text.now) texts.now) ≡ true)
         × (map string_bytes nodes.items ≡ map (λ text. text.now) texts.now))

@@ -4,7 +4,8 @@ use Rattle.std.specs.Fmt.{decimal}
 use Rattle.refusals.specs.declared.Place.{Place}
 use Rattle.refusals.specs.declared.Place.TheVariants.{Line, Document, Component, Stream, Unit as Unit_of}
 use Rattle.refusals.specs.declared.Why.{Why}
-use Rattle.refusals.specs.declared.Why.TheVariants.{BadByte, BadWord, BadShape, BadName, BadNumber, Vanish, Twice, TooMany, Unsupported, NoGround, NoSuchSource}
+use Rattle.refusals.specs.declared.Why.TheVariants.{BadByte, BadWord, BadShape, BadName, BadNumber, Vanish, Twice, TooMany, Unsupported, NoGround, NoSuchSource,
+    NotToml, BadVersion, UnknownKey, Missing, BadValue, BadKind, Undeclared}
 use Rattle.refusals.specs.declared.Refused.{Refused}
 
 -- the word for a place
@@ -45,6 +46,13 @@ why_text TooMany = codes "too many"
 why_text Unsupported = codes "unsupported"
 why_text NoGround = codes "no ground"
 why_text NoSuchSource = codes "no such source"
+why_text NotToml = codes "not TOML"
+why_text BadVersion = codes "bad version"
+why_text UnknownKey = codes "unknown key"
+why_text Missing = codes "missing key"
+why_text BadValue = codes "bad value"
+why_text BadKind = codes "bad kind"
+why_text Undeclared = codes "undeclared"
 
 -- the place, a colon and the reason
 abbrev pub refusal_text : Refused → List ℕ

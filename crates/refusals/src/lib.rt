@@ -1,7 +1,10 @@
 //! Why an input is refused, and at which place in it.
 #![tactic(auto)]
 
+mod fault;
 mod putting;
+
+pub use fault::Fault;
 
 ghost use Rattle.std.specs.Prelude.{◌≡◌};
 ghost use Rattle.refusals.specs.Texts.{place_word, place_number, why_text};
@@ -44,6 +47,20 @@ pub enum Why {
     NoGround,
     /// The source of a device is no voltage source of the netlist.
     NoSuchSource,
+    /// An input that is no TOML document.
+    NotToml,
+    /// A document of a version that the program does not know.
+    BadVersion,
+    /// A key that may not stand there.
+    UnknownKey,
+    /// A key that is due and is not there.
+    Missing,
+    /// A value of another type than is due, or a list with too few or too many items.
+    BadValue,
+    /// A unit of no known kind.
+    BadKind,
+    /// A name that is declared nowhere.
+    Undeclared,
 }
 
 /// A refusal: the first place at which an input breaks a rule, and the rule.
@@ -107,6 +124,13 @@ impl Why {
             Why::Unsupported => "unsupported",
             Why::NoGround => "no ground",
             Why::NoSuchSource => "no such source",
+            Why::NotToml => "not TOML",
+            Why::BadVersion => "bad version",
+            Why::UnknownKey => "unknown key",
+            Why::Missing => "missing key",
+            Why::BadValue => "bad value",
+            Why::BadKind => "bad kind",
+            Why::Undeclared => "undeclared",
         }
     }
 }

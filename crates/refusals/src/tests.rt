@@ -19,6 +19,13 @@ fn puts_places_and_reasons(rt: HostRuntime) -> Result<(), Fail> {
         (Place::Line(5), Why::Unsupported, "line 5: unsupported"),
         (Place::Document, Why::NoGround, "document: no ground"),
         (Place::Line(6), Why::NoSuchSource, "line 6: no such source"),
+        (Place::Document, Why::NotToml, "document: not TOML"),
+        (Place::Document, Why::BadVersion, "document: bad version"),
+        (Place::Document, Why::UnknownKey, "document: unknown key"),
+        (Place::Unit(1), Why::Missing, "unit 1: missing key"),
+        (Place::Component(2), Why::BadValue, "component 2: bad value"),
+        (Place::Unit(3), Why::BadKind, "unit 3: bad kind"),
+        (Place::Unit(4), Why::Undeclared, "unit 4: undeclared"),
     ];
     for (place, why, want) in cases {
         let mut sink = MemSink::new(rt.alloc(), 64, 64, &[])?;

@@ -6,7 +6,7 @@ use Rattle.std.specs.Result.{result_unwrap_or}
 use Rattle.std.specs.String.{string_bytes}
 use Rattle.line_lexer.specs.Names.{is_name, is_node}
 use Rattle.line_lexer.specs.Numbers.{number_of}
-use Rattle.line_reader.specs.Answers.{OnBroken}
+use Rattle.refusals.specs.Faults.{OnBroken}
 use Rattle.netlist_reader.specs.Devices.{Device, device_of, has_number, has_source, nodes_wanted, word_after_nodes}
 use Rattle.netlist_reader.specs.Rules.{number_rule}
 use Rattle.netlist_reader.specs.ReaderStates.{keeps_source_name, own_rule}

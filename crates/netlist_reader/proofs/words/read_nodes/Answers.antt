@@ -5,7 +5,7 @@ use Rattle.std.proofs.lemmas.List.{map-append}
 use Rattle.std.proofs.lemmas.Result.{err_from_is_err_and}
 use Rattle.refusals.specs.declared.Why.TheVariants.{BadName}
 use Rattle.line_lexer.specs.Names.{is_node}
-use Rattle.line_reader.specs.Answers.{OnBroken}
+use Rattle.refusals.specs.Faults.{OnBroken}
 use Rattle.netlist_reader.proofs.WordSteps.{bytes_of, no_node, node_more, bytes_more}
 use Rattle.netlist_reader.proofs.words.read_nodes.Goals as goal
 
