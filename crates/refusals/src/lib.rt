@@ -12,14 +12,14 @@ ghost use Rattle.refusals.specs.Texts.{place_word, place_number, why_text};
 use std::alloc::{AllocError, AllocFailed};
 use thiserror::Error;
 
-/// A place in an input. Its number counts from 1.
+/// A place in an input. Its number counts from 1: of a line in a text, or of an item in an array of a document.
 #[derive(Clone, Copy, Debug, PartialEq, Eq)]
 pub enum Place {
     Line(u32),
     Document,
-    Component(u32),
-    Stream(u32),
-    Unit(u32),
+    Component(usize),
+    Stream(usize),
+    Unit(usize),
 }
 
 /// Why an input is refused.
@@ -94,15 +94,15 @@ impl Place {
     }
 
     /// The number of this place, where it has one.
-    pub fn number(self) -> Option<u32>
+    pub fn number(self) -> Option<u64>
         ensures { result ≡ place_number self }
     {
         match self {
             Place::Document => None,
-            Place::Line(number)
-            | Place::Component(number)
-            | Place::Stream(number)
-            | Place::Unit(number) => Some(number),
+            Place::Line(number) => Some(u64::from(number)),
+            Place::Component(number) | Place::Stream(number) | Place::Unit(number) => {
+                Some(number as u64)
+            }
         }
     }
 }

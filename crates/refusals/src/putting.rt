@@ -40,7 +40,7 @@ fn put_place_number<K: Sink>(out: &mut TextWriter<'_, K>, place: Place)
 {
     match place.number() {
         None => {}
-        Some(number) => out.number(b' ', u64::from(number)),
+        Some(number) => out.number(b' ', number),
     }
 }
 
