@@ -1,0 +1,10 @@
+pub mod Adding
+pub mod Answers
+pub mod Chains
+pub mod Keeping
+pub mod Kinds
+pub mod Models
+pub mod Parts
+pub mod Sheets
+pub mod Units
+pub mod Values
