@@ -4,8 +4,26 @@ use Rattle.std.specs.Fmt.{decimal}
 use Rattle.refusals.specs.declared.Place.{Place}
 use Rattle.refusals.specs.declared.Place.TheVariants.{Line, Document, Component, Stream, Unit as Unit_of}
 use Rattle.refusals.specs.declared.Why.{Why}
-use Rattle.refusals.specs.declared.Why.TheVariants.{BadByte, BadWord, BadShape, BadName, BadNumber, Vanish, Twice, TooMany, Unsupported, NoGround, NoSuchSource,
-    NotToml, BadVersion, UnknownKey, Missing, BadValue, BadKind, Undeclared}
+use Rattle.refusals.specs.declared.Why.TheVariants.{
+  BadByte,
+  BadWord,
+  BadShape,
+  BadName,
+  BadNumber,
+  Vanish,
+  Twice,
+  TooMany,
+  Unsupported,
+  NoGround,
+  NoSuchSource,
+  NotToml,
+  BadVersion,
+  UnknownKey,
+  Missing,
+  BadValue,
+  BadKind,
+  Undeclared,
+}
 use Rattle.refusals.specs.declared.Refused.{Refused}
 
 -- the word for a place

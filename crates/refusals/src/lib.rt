@@ -4,11 +4,10 @@
 mod fault;
 mod putting;
 
-pub use fault::Fault;
-
 ghost use Rattle.std.specs.Prelude.{◌≡◌};
 ghost use Rattle.refusals.specs.Texts.{place_word, place_number, why_text};
 
+pub use fault::Fault;
 use std::alloc::{AllocError, AllocFailed};
 use thiserror::Error;
 
