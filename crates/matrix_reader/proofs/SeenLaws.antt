@@ -1,15 +1,14 @@
 -- Names in the order in which they first stand.
-use Rattle.std.proofs.Common.{◌≡◌, ◌≢◌, ℕ, ◌<◌, Bool, true, false, cond, List, [], ◌∷◌, ◌++◌, length, fold, get_or, refl, sym, ap, subst, ◌∙◌, arith, ⊎_elim}
-use Rattle.std.specs.List.{flat_map, IsDistinct}
+use Rattle.std.proofs.Common.{◌≡◌, ℕ, Bool, true, false, cond, List, [], ◌∷◌, ◌++◌, fold, refl, ap, subst, ◌∙◌}
+use Rattle.std.specs.List.{flat_map}
 use Rattle.std.specs.Str.{bytes_eq}
-use Rattle.std.proofs.lemmas.Bool.{cases_lt, false_from_ne_true}
 use Rattle.std.proofs.lemmas.List.{append-nil}
 use Rattle.std.proofs.lemmas.List.Concat.{flat_map-append}
 use Rattle.std.proofs.lemmas.List.Folds.{list_any-append}
 use Rattle.std.proofs.lemmas.List.Sums.{fold-append}
-use Rattle.std.proofs.lemmas.Map.Keys.{apart_from_distinct}
 use Rattle.std.proofs.lemmas.Slice.Eq.{bytes_eq-Decides}
 use Rattle.mixed_model.specs.Names.{see, has_name}
+use Rattle.mixed_model.proofs.NameLaws.{bytes_eq-refl}
 use Rattle.matrix_reader.specs.EquationLists.{equation_of, equations_in, names_in, unknowns_in}
 
 -- the equations and the unknowns of one more line
@@ -33,9 +32,6 @@ has_name-fold : (seen names : List (List ℕ)) (name : List ℕ) → has_name se
 has_name-fold seen [] name there = there
 has_name-fold seen (new ∷ names) name there = has_name-fold (see seen new) names name (has_name-see seen new name there)
 
-bytes_eq-refl : (name : List ℕ) → bytes_eq name name ≡ true
-bytes_eq-refl name = (bytes_eq-Decides name name).1 refl
-
 has_name-last : (seen : List (List ℕ)) (name : List ℕ) → has_name (see seen name) name ≡ true
 has_name-last seen name = by (has_name seen name) refl
   where
@@ -56,15 +52,3 @@ has_name-unseen seen (new ∷ names) name unseen =
         let seen_now : has_name (fold see (see seen new) names) name ≡ true =
         has_name-fold (see seen new) names name (subst (λ other. has_name (see seen other) name ≡ true) same (has_name-last seen name)) in
         let f : ⊥ = cc in absurd f
-
--- names at different places differ
-pub names_apart : (names : List (List ℕ)) (i j : ℕ) → IsDistinct bytes_eq names → i ≢ j → i < length names → j < length names → bytes_eq (get_or names i []) (get_or names j []) ≡ false
-names_apart names i j distinct differs here there = ⊎_elim
-    (λ less. apart_from_distinct bytes_eq names i j [] distinct less there)
-    (λ more.
-    let apart = apart_from_distinct bytes_eq names j i [] distinct (omega arith) here in
-    false_from_ne_true (bytes_eq (get_or names i []) (get_or names j [])) (λ same.
-    let e : get_or names i [] ≡ get_or names j [] = (bytes_eq-Decides (get_or names i []) (get_or names j [])).0 same in
-    let back : bytes_eq (get_or names j []) (get_or names i []) ≡ true = (bytes_eq-Decides (get_or names j []) (get_or names i [])).1 (sym e) in
-    let f : ⊥ = cc in f))
-    (cases_lt i j)

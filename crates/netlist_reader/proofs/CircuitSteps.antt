@@ -21,8 +21,9 @@ use Rattle.refusals.specs.Faults.{OnBroken}
 use Rattle.refusals.specs.declared.fault.Fault.{Fault}
 use Rattle.refusals.specs.declared.fault.Fault.TheVariants.{Broken, NoMemory}
 use Rattle.netlist_reader.specs.ReaderStates.{AddsName, TakesRoom, has_room, see_nodes}
-use Rattle.netlist_reader.proofs.FaultSteps.{on_broken}
-use Rattle.netlist_reader.proofs.DeviceSteps.{first_broken, first_kept, unless_false}
+use Rattle.line_reader.proofs.Faults.{on_broken}
+use Rattle.line_reader.proofs.Rules.{first_broken, first_kept}
+use Rattle.netlist_reader.proofs.DeviceSteps.{unless_false}
 use Rattle.netlist_reader.proofs.NodeSteps.{nodes_of-push}
 
 -- the names of one device more

@@ -10,7 +10,7 @@ use Rattle.netlist_reader.specs.declared.kind.DeviceKind.TheVariants.{Passive, V
 use Rattle.netlist_reader.specs.Devices.{Device, is_ground, ground, has_source, nodes_wanted}
 use Rattle.netlist_reader.specs.Terms.{Term, constant, symbol, dotted, own, node, node_voltage, node_current, difference, flow, proportion, equation_words, unknown_words}
 use Rattle.netlist_reader.specs.Putting.{IsPut, put_constant, put_difference, put_flow, put_voltage, put_branch_between, put_branch, put_two_branches, put_control, put_ratio, put_by}
-use Rattle.netlist_reader.proofs.Names.{bytes_eq-refl}
+use Rattle.mixed_model.proofs.NameLaws.{bytes_eq-refl}
 use Rattle.netlist_reader.proofs.Lists.{all-append}
 
 -- a node of a device that is not the ground

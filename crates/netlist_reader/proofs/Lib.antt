@@ -4,7 +4,6 @@ pub mod Blank
 pub mod CircuitSteps
 pub mod DeviceSteps
 pub mod EndSteps
-pub mod FaultSteps
 pub mod Forms
 pub mod KeptWords
 pub mod Labels
@@ -12,7 +11,6 @@ pub mod LineSteps
 pub mod Lists
 pub mod ModelLaws
 pub mod NameLists
-pub mod Names
 pub mod NamesDiffer
 pub mod NodeSteps
 pub mod Numbers

@@ -2,6 +2,7 @@
 use Rattle.std.proofs.Common.{◌≡◌, ℕ, ◌<◌, inl, inr, Bool, true, false, cond, not, ◌&&◌, ◌||◌, List, [], ◌∷◌, ◌++◌, map, filter, fold, codes, length, get_or, zero, suc, refl, sym, ap, subst, ◌∙◌, arith}
 use Rattle.std.specs.List.{AllByRecursion, flat_map, list_any}
 use Rattle.std.specs.Str.{bytes_eq}
+use Rattle.std.proofs.Math.Bool.{or-true}
 use Rattle.std.proofs.lemmas.List.Concat.{flat_map-cons}
 use Rattle.std.proofs.lemmas.List.Folds.{list_any-append}
 use Rattle.std.proofs.lemmas.Slice.Eq.{bytes_eq-Decides}
@@ -13,7 +14,7 @@ use Rattle.netlist_reader.specs.Owners.{owner_of}
 use Rattle.netlist_reader.specs.Terms.{Term, dotted, own, own_names, equation_words, unknown_words, equations_of, unknowns_of, terms_of, terms_by, stands_at}
 use Rattle.netlist_reader.specs.Rules.{is_source, is_voltage}
 use Rattle.netlist_reader.specs.Putting.{IsFree, IsPlaced}
-use Rattle.netlist_reader.proofs.Names.{bytes_eq-refl, or_true}
+use Rattle.mixed_model.proofs.NameLaws.{bytes_eq-refl}
 use Rattle.netlist_reader.proofs.Forms.{HasForm, Place, IsNodeOf}
 use Rattle.netlist_reader.proofs.Owned.{Owned, AreOwned, device-owned}
 
@@ -24,13 +25,13 @@ has-map f (other ∷ names) name there = by (bytes_eq name other) refl there (ha
   where
     by : (b : Bool) → bytes_eq name other ≡ b → (b || has_name names name) ≡ true → (has_name names name ≡ true → has_name (map f names) (f name) ≡ true) → has_name (map f (other ∷ names)) (f name) ≡ true
     by true e there more = ap (λ b. b || has_name (map f names) (f name)) ((bytes_eq-Decides (f name) (f other)).1 (ap f ((bytes_eq-Decides name other).0 e)))
-    by false e there more = (λ t. bytes_eq (f name) (f other) || more there t) ∙ or_true (bytes_eq (f name) (f other))
+    by false e there more = (λ t. bytes_eq (f name) (f other) || more there t) ∙ or-true (bytes_eq (f name) (f other))
 
 has-left : (xs ys : List (List ℕ)) (name : List ℕ) → has_name xs name ≡ true → has_name (xs ++ ys) name ≡ true
 has-left xs ys name there = list_any-append (bytes_eq name) xs ys ∙ ap (λ b. b || has_name ys name) there
 
 has-right : (xs ys : List (List ℕ)) (name : List ℕ) → has_name ys name ≡ true → has_name (xs ++ ys) name ≡ true
-has-right xs ys name there = list_any-append (bytes_eq name) xs ys ∙ ap (λ b. has_name xs name || b) there ∙ or_true (has_name xs name)
+has-right xs ys name there = list_any-append (bytes_eq name) xs ys ∙ ap (λ b. has_name xs name || b) there ∙ or-true (has_name xs name)
 
 -- a device's own names are among those of the devices
 own-there : (words : DeviceKind → List (List ℕ)) (devices : List Device) (i : ℕ) (d : Device) (word : List ℕ) → i < length devices → d ≡ get_or devices i d → has_name (words d.kind) word ≡ true → has_name (own_names words devices) (own d word) ≡ true
@@ -72,7 +73,7 @@ filter-there [] name above there = let g : ⊥ = cc in absurd g
 filter-there (other ∷ names) name above there = by (bytes_eq name other) refl there (filter-there names name above)
   where
     skip : (b : Bool) → has_name (filter (λ node. not (is_ground node)) names) name ≡ true → has_name (cond b (other ∷ filter (λ node. not (is_ground node)) names) (filter (λ node. not (is_ground node)) names)) name ≡ true
-    skip true rest = (λ t. bytes_eq name other || rest t) ∙ or_true (bytes_eq name other)
+    skip true rest = (λ t. bytes_eq name other || rest t) ∙ or-true (bytes_eq name other)
     skip false rest = rest
 
     by : (b : Bool) → bytes_eq name other ≡ b → (b || has_name names name) ≡ true → (has_name names name ≡ true → has_name (filter (λ node. not (is_ground node)) names) name ≡ true) → has_name (filter (λ node. not (is_ground node)) (other ∷ names)) name ≡ true

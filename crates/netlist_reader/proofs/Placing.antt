@@ -9,7 +9,8 @@ use Rattle.mixed_model.specs.declared.errors.AddError.{AddError}
 use Rattle.mixed_model.specs.declared.errors.AddError.TheVariants.{Twice, TooMany, NoMemory}
 use Rattle.netlist_reader.specs.Terms.{Term, said_of, symbol_said, stands_at}
 use Rattle.netlist_reader.specs.Putting.{IsFree, IsPlaceOf, Says, PutsTerms, LacksRoom}
-use Rattle.netlist_reader.proofs.Names.{constant_of-None, stands_once}
+use Rattle.mixed_model.proofs.ModelLaws.{constant_of-None}
+use Rattle.mixed_model.proofs.NameLaws.{stands_once}
 use Rattle.netlist_reader.proofs.Saying.{said_of-append, said_of-free, said_of-one, symbol_said-append, symbol_said-free}
 
 -- what is put at the place of equation i and unknown j

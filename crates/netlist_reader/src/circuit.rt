@@ -9,7 +9,6 @@ ghost use Rattle.netlist_reader.specs.Circuits.{IsCircuit, IsDevice};
 ghost use Rattle.netlist_reader.specs.ReaderStates.{AddsDevice, AddsName, IsReady, ReadsLine, TakesRoom, see_node, see_nodes};
 
 use crate::device::Device;
-use crate::fault::fault_of;
 use crate::kind::DeviceKind;
 use crate::words::{first_words, read_words};
 use limits::EQUATION_LIMIT;
@@ -143,10 +142,8 @@ fn add_name(names: &mut Names, name: &str) -> Result<(), Fault>
     requires { is_name name.now ≡ true }
     ensures { AddsName names.old names.new name.now result }
 {
-    match names.add(name) {
-        Ok(_) => Ok(()),
-        Err(error) => Err(fault_of(error)),
-    }
+    names.add(name)?;
+    Ok(())
 }
 
 // Puts the nodes but the ground last, each unless it is there.
@@ -173,8 +170,6 @@ fn add_node(seen: &mut Names, node: &str) -> Result<(), Fault>
     if node == "0" {
         return Ok(());
     }
-    match seen.find_or_add(node) {
-        Ok(_) => Ok(()),
-        Err(error) => Err(fault_of(error)),
-    }
+    seen.find_or_add(node)?;
+    Ok(())
 }
