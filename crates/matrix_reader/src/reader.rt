@@ -91,7 +91,7 @@ impl<F: Field> Reader<F> {
         self.read_items(line, i, words)
     }
 
-    #[tactic(auto, using(crate::proofs::LabelLaws::name_is_label))]
+    #[tactic(auto, using(term_model::proofs::Labels::name_is_label))]
     fn add_equation(&mut self, equation: &str) -> Result<usize, Fault>
         requires { vec_len self.old.last_lines ≡ length self.old.model.unknowns }
         ensures within { IfOk result (λ i. i < length self.new.model.equations) }
@@ -121,7 +121,7 @@ impl<F: Field> Reader<F> {
     }
 
     // Puts what an item says into equation `i`, in the line of this number.
-    #[tactic(auto, using(crate::proofs::LabelLaws::name_is_label))]
+    #[tactic(auto, using(term_model::proofs::Labels::name_is_label))]
     fn read_item(&mut self, line: u32, i: usize, item: &str) -> Result<(), Fault>
         requires lengths { vec_len self.old.last_lines ≡ length self.old.model.unknowns }
         requires equation { i < length self.old.model.equations }
@@ -194,7 +194,7 @@ impl<F: Field> Reader<F> {
         Ok(())
     }
 
-    #[tactic(auto, using(crate::proofs::LabelLaws::name_is_label))]
+    #[tactic(auto, using(term_model::proofs::Labels::name_is_label))]
     fn see_unknown(&mut self, line: u32, unknown: &str) -> Result<(), Fault>
         requires { vec_len self.old.last_lines ≡ length self.old.model.unknowns }
         ensures lengths { OnOk result (vec_len self.new.last_lines ≡ length self.new.model.unknowns) }

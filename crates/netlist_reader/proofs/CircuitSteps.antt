@@ -11,10 +11,11 @@ use Rattle.std.proofs.lemmas.Map.Keys.{IsDistinct-push}
 use Rattle.std.proofs.lemmas.Grind.{flat_map-append}
 use Rattle.refusals.specs.declared.Why.TheVariants.{Twice, TooMany}
 use Rattle.mixed_model.specs.Names.{has_name}
+use Rattle.term_model.specs.Terms.{dotted}
 use Rattle.netlist_reader.specs.declared.kind.DeviceKind.{DeviceKind}
 use Rattle.netlist_reader.specs.declared.kind.DeviceKind.TheVariants.{Passive, Voltage, Current, VoltageByVoltage, CurrentByVoltage, CurrentByCurrent, VoltageByCurrent, Opamp, Transformer, Gyrator}
 use Rattle.netlist_reader.specs.Devices.{Device, device_names, nodes_of}
-use Rattle.netlist_reader.specs.Terms.{dotted, equations_of, equation_words, own_names, unknowns_of, unknown_words}
+use Rattle.netlist_reader.specs.Terms.{equations_of, equation_words, own_names, unknowns_of, unknown_words}
 use Rattle.netlist_reader.specs.Rules.{new_rule, place_rule, room_rule, unless}
 use Rattle.netlist_reader.specs.Circuits.{IsCircuit, IsDevice, Parts}
 use Rattle.refusals.specs.Faults.{OnBroken}

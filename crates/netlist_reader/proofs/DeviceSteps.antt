@@ -1,11 +1,10 @@
 -- The rules of a device by itself, one by one.
 use Rattle.std.proofs.Common.{◌≡◌, ℕ, ◌+◌, ◌-◌, ◌<◌, ◌≤◌, Bool, true, false, ◌&&◌, List, [], Bor, All, length, take, drop, length-drop, subst, leb-true, if◌then◌else◌, get_or, refl, sym, ap, ◌∙◌, arith, Some, None, nat_eq, nat_le}
-use Rattle.std.specs.List.{list_all}
+use Rattle.std.specs.List.{list_all, drop-map}
 use Rattle.std.specs.Option.{option_or}
 use Rattle.std.proofs.lemmas.List.{take-map, length-map, length-take-le}
 use Rattle.std.proofs.lemmas.Bool.{eqb-true}
 use Rattle.std.proofs.lemmas.List.Sums.{AllPass-from_list_all}
-use Rattle.std.specs.List.{drop-map}
 use Rattle.refusals.specs.declared.Why.{Why}
 use Rattle.refusals.specs.declared.Why.TheVariants.{BadShape, BadName}
 use Rattle.line_lexer.specs.Names.{is_name, is_node}

@@ -9,6 +9,10 @@ use Rattle.std.proofs.lemmas.Slice.Eq.{bytes_eq-Decides}
 use Rattle.mixed_model.specs.Models.{MixedModel}
 use Rattle.mixed_model.specs.Names.{has_name}
 use Rattle.mixed_model.specs.declared.errors.AddError.{AddError}
+use Rattle.term_model.specs.Putting.{AreFree, LacksRoom, PutsTerms, Says}
+use Rattle.term_model.proofs.Adding.{new_among}
+use Rattle.term_model.proofs.Clearing.{free-split}
+use Rattle.term_model.proofs.Lists.{Differ, distinct-differ}
 use Rattle.netlist_reader.specs.declared.kind.DeviceKind.{DeviceKind}
 use Rattle.netlist_reader.specs.declared.kind.DeviceKind.TheVariants.{Passive, Voltage, Current, VoltageByVoltage, CurrentByVoltage, CurrentByCurrent, VoltageByCurrent, Opamp, Transformer, Gyrator}
 use Rattle.netlist_reader.specs.Devices.{Device, device_names, has_source}
@@ -16,11 +20,9 @@ use Rattle.netlist_reader.specs.Terms.{terms_of}
 use Rattle.refusals.specs.declared.Why.TheVariants.{NoSuchSource}
 use Rattle.netlist_reader.specs.Rules.{is_source, is_voltage, unless}
 use Rattle.netlist_reader.specs.Circuits.{AreSourced, IsDevice}
-use Rattle.netlist_reader.specs.Putting.{AreFree, IsNew, LacksMemory, LacksRoom, PutsDevice, PutsTerms, Says, put_by}
-use Rattle.netlist_reader.proofs.Adding.{new_among}
-use Rattle.netlist_reader.proofs.Apart.{device-free, free-split}
+use Rattle.netlist_reader.specs.Putting.{IsNew, LacksMemory, PutsDevice, put_by}
+use Rattle.netlist_reader.proofs.Apart.{device-free}
 use Rattle.netlist_reader.proofs.Forms.{forms}
-use Rattle.netlist_reader.proofs.Lists.{Differ, distinct-differ}
 use Rattle.netlist_reader.proofs.Placed.{new-free}
 use Rattle.netlist_reader.proofs.Sames.{says_device}
 

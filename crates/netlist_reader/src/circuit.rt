@@ -137,7 +137,7 @@ impl<F: Field> Circuit<F> {
 }
 
 // Puts the name of a device last.
-#[tactic(auto, using(crate::proofs::Labels::name_is_label))]
+#[tactic(auto, using(term_model::proofs::Labels::name_is_label))]
 fn add_name(names: &mut Names, name: &str) -> Result<(), Fault>
     requires { is_name name.now ≡ true }
     ensures { AddsName names.old names.new name.now result }
@@ -160,7 +160,7 @@ fn add_nodes(seen: &mut Names, nodes: &[String]) -> Result<(), Fault>
 }
 
 // Puts a node last, unless it is the ground or there.
-#[tactic(auto, using(crate::proofs::Labels::node_is_label, crate::proofs::NodeSteps::node_fault))]
+#[tactic(auto, using(term_model::proofs::Labels::node_is_label, crate::proofs::NodeSteps::node_fault))]
 fn add_node(seen: &mut Names, node: &str) -> Result<(), Fault>
     requires { is_node node.now ≡ true }
     ensures added { OnOk result (seen.new ≡ see_node seen.old node.now) }
