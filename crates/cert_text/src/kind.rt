@@ -7,6 +7,4 @@ pub enum Kind {
     Matrix,
     /// A circuit.
     Netlist,
-    /// A flowsheet of a plant.
-    Flowsheet,
 }
