@@ -1,0 +1,5 @@
+pub mod Dots
+pub mod EquationNames
+pub mod Keyed
+pub mod Spelled
+pub mod SplitNames
