@@ -3,3 +3,4 @@ pub mod EquationNames
 pub mod Keyed
 pub mod Spelled
 pub mod SplitNames
+pub mod Summands
