@@ -4,3 +4,4 @@ pub mod Keyed
 pub mod Spelled
 pub mod SplitNames
 pub mod Summands
+pub mod UnitParts
