@@ -1,6 +1,8 @@
 pub mod Dots
 pub mod EquationNames
+pub mod Inversion
 pub mod Keyed
+pub mod Sound
 pub mod Spelled
 pub mod SplitNames
 pub mod Summands
