@@ -6,4 +6,5 @@ pub mod Sound
 pub mod Spelled
 pub mod SplitNames
 pub mod Summands
+pub mod UnitKept
 pub mod UnitParts
