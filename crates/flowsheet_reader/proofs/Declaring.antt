@@ -1,5 +1,5 @@
 -- Names that are declared.
-use Rattle.std.proofs.Common.{◌≡◌, ℕ, List, Option, Some, None, is_some, position, ap, sym, ◌∙◌, refl}
+use Rattle.std.proofs.Common.{◌≡◌, ℕ, List, Option, Some, None, is_some, position, sym, refl}
 use Rattle.std.specs.Str.{bytes_eq}
 use Rattle.mixed_model.specs.Names.{has_name}
 use Rattle.mixed_model.proofs.NameLaws.{has_name-None, has_name-Some}

@@ -1,1 +1,4 @@
+pub mod Chains
+pub mod Data
 pub mod Declaring
+pub mod Items

@@ -5,7 +5,6 @@ use Rattle.refusals.specs.declared.Refused.{Refused}
 use Rattle.refusals.specs.declared.Why.{Why}
 
 infixl 10 ◌>>=◌
-
 -- what a rule gives, under the rules after it
 abbrev pub ◌>>=◌ : {A B E : Type 0} → Result A E → (A → Result B E) → Result B E
 Ok value >>= next = next value
