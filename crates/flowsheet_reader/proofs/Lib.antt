@@ -1,6 +1,10 @@
+pub mod Chains
+pub mod Data
+pub mod Declaring
 pub mod Dots
 pub mod EquationNames
 pub mod Inversion
+pub mod Items
 pub mod Keyed
 pub mod Sound
 pub mod Spelled

@@ -7,6 +7,11 @@ use Rattle.refusals.specs.declared.ReadModel.TheVariants.{Refused, NoMemory as O
 use Rattle.refusals.specs.declared.Refused.{Refused as Refusal}
 use Rattle.refusals.specs.declared.Why.{Why}
 
+-- The answer is the wanted one, of whose value it holds what `see` sees.
+abbrev pub Gives : {V T : Type 0} → (V → T) → Result V Why → Result T Why → Type 0
+Gives see (Ok value) wanted = wanted ≡ Ok (see value)
+Gives see (Err why) wanted = wanted ≡ Err why
+
 -- The answer is the wanted one, of whose value it holds what `see` sees; or memory ran out.
 abbrev pub Answers : {V T : Type 0} → (V → T) → Result V Fault → Result T Why → Type 0
 Answers see (Ok value) wanted = wanted ≡ Ok (see value)

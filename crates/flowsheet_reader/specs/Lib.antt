@@ -8,3 +8,4 @@ pub mod Parts
 pub mod Sheets
 pub mod Units
 pub mod Values
+pub mod Words

@@ -1,5 +1,5 @@
 -- Values of a document, and what they are to be.
-use Rattle.std.specs.Prelude.{ℕ, ◌≤◌, Bool, not, nat_eq, nat_le, List, [], ◌∷◌, ◌++◌, length, map, option_map, Result, Ok, Err}
+use Rattle.std.specs.Prelude.{ℕ, Bool, not, nat_eq, nat_le, List, [], ◌∷◌, ◌++◌, length, option_map, Result, Ok, Err}
 use Rattle.std.specs.List.{list_all}
 use Rattle.refusals.specs.declared.Why.{Why}
 use Rattle.refusals.specs.declared.Why.TheVariants.{BadName, BadValue, Missing, Twice, Undeclared}

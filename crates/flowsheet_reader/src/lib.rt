@@ -5,4 +5,5 @@ mod kind;
 mod names;
 mod part;
 mod sheet;
+mod values;
 mod version;
