@@ -5,6 +5,7 @@ pub mod Keeping
 pub mod Kinds
 pub mod Models
 pub mod Parts
+pub mod Reached
 pub mod Sheets
 pub mod Units
 pub mod Values

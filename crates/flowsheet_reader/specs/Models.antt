@@ -37,13 +37,17 @@ components_in found [] = Ok found
 components_in found (datum ∷ items) =
     at (Component (length found + 1)) (new_name found datum) >>= (λ name. components_in (found ++ name ∷ []) items)
 
--- the streams, after those found: each adds its flows
+-- a new stream, for whose flows there is room
+abbrev pub new_stream : List (List ℕ) → List (List ℕ) → Data → Result (List ℕ) Why
+new_stream components found datum =
+    new_name found datum
+    >>= (λ name. keeping (nat_le (length (flows components (found ++ name ∷ []))) equation_limit) TooMany name)
+
+-- the streams, after those found
 abbrev pub streams_in : List (List ℕ) → List (List ℕ) → List Data → Result (List (List ℕ)) Refusal
 streams_in components found [] = Ok found
 streams_in components found (datum ∷ items) =
-    at (Stream (length found + 1))
-    (new_name found datum
-    >>= (λ name. keeping (nat_le (length (flows components (found ++ name ∷ []))) equation_limit) TooMany name))
+    at (Stream (length found + 1)) (new_stream components found datum)
     >>= (λ name. streams_in components (found ++ name ∷ []) items)
 
 -- the flowsheet with some units more

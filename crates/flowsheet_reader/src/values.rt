@@ -1,11 +1,12 @@
 //! Values of a document, and what they are to be.
 
-ghost use Rattle.std.specs.Prelude.{◌≡◌, ◌||◌, ◌++◌, map, IfOk};
+ghost use Rattle.std.specs.Prelude.{◌≡◌, ◌||◌, ◌++◌, map, option_map, IfOk};
 ghost use Rattle.std.specs.List.{list_all, list_any};
 ghost use Rattle.std.specs.Map.{keys_of};
 ghost use Rattle.std.specs.Str.{bytes_eq};
 ghost use Rattle.std.specs.String.{string_bytes};
 ghost use Rattle.mixed_model.specs.Names.{has_name};
+ghost use Rattle.toml.specs.Data.{get_member};
 ghost use Rattle.toml.specs.View.{table_view, view};
 ghost use Rattle.flowsheet_reader.specs.Answers.{Answers, Gives};
 ghost use Rattle.flowsheet_reader.specs.Values.{declared_name, declared_names, due, has_only, list_of, list_of_length, list_with, new_name, number_in, numbers_in, table_of, text_of};
@@ -62,6 +63,13 @@ pub(crate) fn list_of_length(value: &Value, count: usize) -> Result<&[Value], Wh
         return Err(Why::BadValue);
     }
     Ok(items)
+}
+
+/// The value at a key of a table, where one is.
+pub(crate) fn find<'t>(table: &'t Table, key: &str) -> Option<&'t Value>
+    ensures { option_map (λ value. view value.now) result ≡ get_member key.now (table_view table.now) }
+{
+    table.get(key)
 }
 
 /// The value at a key that is due.
