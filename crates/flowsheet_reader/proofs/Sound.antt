@@ -6,10 +6,12 @@ use Rattle.std.proofs.lemmas.List.{append-nil}
 use Rattle.std.proofs.lemmas.List.Folds.{list_any-append}
 use Rattle.std.proofs.lemmas.Slice.Eq.{bytes_eq-Decides}
 use Rattle.mixed_model.specs.Names.{has_name, is_label}
-use Rattle.term_model.specs.Terms.{System, Term}
+use Rattle.term_model.specs.Systems.{System}
+use Rattle.term_model.specs.Terms.{Term}
 use Rattle.term_model.proofs.Lists.{Differ, all-append, all-flat_map, all-map, all_at, at_all, differ-append, differ-distinct}
 use Rattle.flowsheet_reader.specs.declared.version.Version.{Version}
-use Rattle.flowsheet_reader.specs.Adding.{ArePlaced, AreSummands, IsNewPart, IsPlacedTerm}
+use Rattle.flowsheet_reader.specs.Adding.{ArePlaced, AreSummands, IsNewPart}
+use Rattle.term_model.specs.Putting.{IsPlaced}
 use Rattle.flowsheet_reader.specs.Kinds.{flow, flows}
 use Rattle.flowsheet_reader.specs.Parts.{Summand, UnitEquation, UnitPart, system_of, terms_of, together}
 use Rattle.flowsheet_reader.specs.Sheets.{Sheet, sheet_without_units, with_unit}
@@ -97,15 +99,15 @@ module _ (p : ℕ) (sheet : Sheet) (unit : List ℕ) (part : UnitPart) (sound : 
   }
 
   -- each new term stands at an equation and an unknown that are there
-  old-placed : AllByRecursion (IsPlacedTerm (sheet.system.equations ++ names_of part.equations) (sheet.system.unknowns ++ part.unknowns)) sheet.system.terms
+  old-placed : AllByRecursion (IsPlaced (sheet.system.equations ++ names_of part.equations) (sheet.system.unknowns ++ part.unknowns)) sheet.system.terms
   old-placed =
-      all-weaker (IsPlacedTerm sheet.system.equations sheet.system.unknowns) (IsPlacedTerm (sheet.system.equations ++ names_of part.equations) (sheet.system.unknowns ++ part.unknowns)) sheet.system.terms
+      all-weaker (IsPlaced sheet.system.equations sheet.system.unknowns) (IsPlaced (sheet.system.equations ++ names_of part.equations) (sheet.system.unknowns ++ part.unknowns)) sheet.system.terms
       (λ term at. record { equation = has-front sheet.system.equations (names_of part.equations) term.equation at.equation; unknown = has-front sheet.system.unknowns part.unknowns term.unknown at.unknown })
-      (at_all (IsPlacedTerm sheet.system.equations sheet.system.unknowns) sheet.system.terms sound.placed)
+      (at_all (IsPlaced sheet.system.equations sheet.system.unknowns) sheet.system.terms sound.placed)
 
-  terms-placed : (equation : UnitEquation) → has_name (names_of part.equations) equation.name ≡ true → Stand p (flows sheet.components sheet.streams ++ (sound.own ++ part.unknowns)) equation.summands → AllByRecursion (IsPlacedTerm (sheet.system.equations ++ names_of part.equations) (sheet.system.unknowns ++ part.unknowns)) (terms_of equation)
+  terms-placed : (equation : UnitEquation) → has_name (names_of part.equations) equation.name ≡ true → Stand p (flows sheet.components sheet.streams ++ (sound.own ++ part.unknowns)) equation.summands → AllByRecursion (IsPlaced (sheet.system.equations ++ names_of part.equations) (sheet.system.unknowns ++ part.unknowns)) (terms_of equation)
   terms-placed equation there stand =
-      all-map (λ summand. has_name (flows sheet.components sheet.streams ++ (sound.own ++ part.unknowns)) summand.unknown ≡ true) (IsPlacedTerm (sheet.system.equations ++ names_of part.equations) (sheet.system.unknowns ++ part.unknowns))
+      all-map (λ summand. has_name (flows sheet.components sheet.streams ++ (sound.own ++ part.unknowns)) summand.unknown ≡ true) (IsPlaced (sheet.system.equations ++ names_of part.equations) (sheet.system.unknowns ++ part.unknowns))
       (λ summand. record { equation = equation.name; unknown = summand.unknown; constant = summand.constant; symbol = summand.symbol }) equation.summands
       (λ summand at. record { equation = has-back sheet.system.equations (names_of part.equations) equation.name there; unknown = ap (λ names. has_name names summand.unknown) all-unknowns ∙ at }) stand.there
 
@@ -130,9 +132,9 @@ module _ (p : ℕ) (sheet : Sheet) (unit : List ℕ) (part : UnitPart) (sound : 
         (all-weaker (λ name. has_name sheet.units (unit_of name) ≡ true) (λ name. has_name (sheet.units ++ unit ∷ []) (unit_of name) ≡ true) sheet.system.equations (λ name old. has-front sheet.units (unit ∷ []) (unit_of name) old) sound.equation_units)
         (all-weaker (λ name. unit_of name ≡ unit) (λ name. has_name (sheet.units ++ unit ∷ []) (unit_of name) ≡ true) (names_of part.equations) (λ name told. has-back sheet.units (unit ∷ []) (unit_of name) (has-self [] unit (unit_of name) told)) named);
     equations_differ = all-equations-differ;
-    placed = all_at (IsPlacedTerm (sheet.system.equations ++ names_of part.equations) (sheet.system.unknowns ++ part.unknowns)) (sheet.system.terms ++ flat_map terms_of part.equations)
-        (all-append (IsPlacedTerm (sheet.system.equations ++ names_of part.equations) (sheet.system.unknowns ++ part.unknowns)) sheet.system.terms (flat_map terms_of part.equations) old-placed
-        (all-flat_map (λ equation. (has_name (names_of part.equations) equation.name ≡ true) × Stand p (flows sheet.components sheet.streams ++ (sound.own ++ part.unknowns)) equation.summands) (IsPlacedTerm (sheet.system.equations ++ names_of part.equations) (sheet.system.unknowns ++ part.unknowns)) terms_of part.equations
+    placed = all_at (IsPlaced (sheet.system.equations ++ names_of part.equations) (sheet.system.unknowns ++ part.unknowns)) (sheet.system.terms ++ flat_map terms_of part.equations)
+        (all-append (IsPlaced (sheet.system.equations ++ names_of part.equations) (sheet.system.unknowns ++ part.unknowns)) sheet.system.terms (flat_map terms_of part.equations) old-placed
+        (all-flat_map (λ equation. (has_name (names_of part.equations) equation.name ≡ true) × Stand p (flows sheet.components sheet.streams ++ (sound.own ++ part.unknowns)) equation.summands) (IsPlaced (sheet.system.equations ++ names_of part.equations) (sheet.system.unknowns ++ part.unknowns)) terms_of part.equations
         (λ equation both. terms-placed equation both.0 both.1)
         (all-both (λ equation. has_name (names_of part.equations) equation.name ≡ true) (λ equation. Stand p (flows sheet.components sheet.streams ++ (sound.own ++ part.unknowns)) equation.summands) part.equations (own-named part.equations) is.stand)));
   }
@@ -150,5 +152,5 @@ sound-start version components streams good apart short differ = record {
   unknowns_differ = flows-differ components streams good apart short differ;
   equation_units = tt;
   equations_differ = tt;
-  placed = all_at (IsPlacedTerm [] (flows components streams)) [] tt;
+  placed = all_at (IsPlaced [] (flows components streams)) [] tt;
 }

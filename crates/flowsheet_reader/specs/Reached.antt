@@ -1,6 +1,6 @@
 -- Flowsheets that the items of a document make.
 use Rattle.std.specs.Prelude.{◌≡◌, ℕ, List, [], Result, Ok, Err}
-use Rattle.term_model.specs.Terms.{IsModelOf}
+use Rattle.term_model.specs.Systems.{IsModelOf}
 use Rattle.toml.specs.Data.{Data}
 use Rattle.flowsheet_reader.specs.Keeping.{KeptSheet}
 use Rattle.flowsheet_reader.specs.Models.{components_in, streams_in, units_in}
