@@ -6,6 +6,7 @@ pub mod EquationNames
 pub mod Inversion
 pub mod Items
 pub mod Keyed
+pub mod NamesRead
 pub mod Rooms
 pub mod Sound
 pub mod Spelled

@@ -1,7 +1,7 @@
 -- Room for the flows of a stream more.
 use Rattle.std.proofs.Common.{◌≡◌, ℕ, suc, ◌+◌, ◌*◌, ◌/◌, ◌<◌, ◌≤◌, Bool, true, false, List, [], ◌∷◌, ◌++◌, length, map, Ok, Err, refl, sym, ap, ◌∙◌, arith, length-append, leb}
 use Rattle.std.proofs.Math.Nat.{div-lt_iff_lt-mul, le-div_iff_mul-le}
-use Rattle.std.proofs.lemmas.Bool.{le-leb, leb-false_of_lt}
+use Rattle.std.proofs.lemmas.Bool.{le-leb, lt-leb}
 use Rattle.std.proofs.lemmas.List.{length-map}
 use Rattle.std.proofs.lemmas.List.Concat.{flat_map-cons}
 use Rattle.refusals.specs.declared.Why.TheVariants.{TooMany}
@@ -30,7 +30,7 @@ module _ (components found : List (List ℕ)) (name : List ℕ) (n : ℕ) (count
   pub full-stream : (datum : Data) → new_name found datum ≡ Ok name → 4096 / n < length components → new_stream components found datum ≡ Err TooMany
   full-stream datum kept more =
       let many : 4096 < length components * n = (div-lt_iff_lt-mul {k = n} {x = 4096} {y = length components} (omega (arith, count))).0 more in
-      let over : leb (length (flows components (found ++ name ∷ []))) 4096 ≡ false = leb-false_of_lt (length (flows components (found ++ name ∷ []))) 4096 (omega (arith, many, all-length)) in
+      let over : leb (length (flows components (found ++ name ∷ []))) 4096 ≡ false = lt-leb (length (flows components (found ++ name ∷ []))) 4096 (omega (arith, many, all-length)) in
       then (new_name found datum) (λ name. keeping (leb (length (flows components (found ++ name ∷ []))) 4096) TooMany name) name kept
       ∙ ap (λ b. keeping b TooMany name) over
 

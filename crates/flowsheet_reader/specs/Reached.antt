@@ -1,18 +1,22 @@
 -- Flowsheets that the items of a document make.
-use Rattle.std.specs.Prelude.{◌≡◌, ℕ, List, [], Result, Ok, Err}
+use Rattle.std.specs.Prelude.{◌≡◌, ℕ, List, Result, Ok, Err}
 use Rattle.term_model.specs.Systems.{IsModelOf}
 use Rattle.toml.specs.Data.{Data}
 use Rattle.flowsheet_reader.specs.Keeping.{KeptSheet}
 use Rattle.flowsheet_reader.specs.Models.{components_in, streams_in, units_in}
 use Rattle.flowsheet_reader.specs.Sheets.{Sheet, sheet_without_units}
 
--- Some items are its components, some its streams and some its units.
-pub record IsReached (p : ℕ) (sheet : Sheet) : Type 0 where
+-- Some items give the components, and some the streams.
+pub record AreListed (components streams : List (List ℕ)) : Type 0 where
   pub component_items : List Data
   pub stream_items : List Data
+  pub components_are : components_in component_items ≡ Ok components
+  pub streams_are : streams_in components stream_items ≡ Ok streams
+
+-- Some items give its names, and some its units.
+pub record IsReached (p : ℕ) (sheet : Sheet) : Type 0 where
+  pub listed : AreListed sheet.components sheet.streams
   pub unit_items : List Data
-  pub components : components_in [] component_items ≡ Ok sheet.components
-  pub streams : streams_in sheet.components [] stream_items ≡ Ok sheet.streams
   pub units : units_in p (sheet_without_units sheet.version sheet.components sheet.streams) unit_items ≡ Ok sheet
 
 -- What is kept is what was read of a flowsheet.

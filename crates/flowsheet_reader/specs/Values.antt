@@ -63,7 +63,7 @@ declared_name declared before datum =
     >>= (λ name. keeping (not (has_name before name)) Twice name)
 
 -- what each item gives, after what was found before
-abbrev pub each : {A : Type 0} → (List A → Data → Result A Why) → List A → List Data → Result (List A) Why
+abbrev pub each : {A E : Type 0} → (List A → Data → Result A E) → List A → List Data → Result (List A) E
 each one found [] = Ok found
 each one found (datum ∷ items) = one found datum >>= (λ value. each one (found ++ value ∷ []) items)
 

@@ -2,13 +2,10 @@
 
 ghost use Rattle.std.specs.Prelude.{◌≡◌, ◌+◌, ◌∷◌, ◌++◌, [], codes, false, length, map, Some, IfErr, OnOk};
 ghost use Rattle.mixed_model.specs.Names.{has_name};
-ghost use Rattle.refusals.specs.declared.Place.TheVariants.{Component, Stream};
 ghost use Rattle.toml.specs.Data.{get_member};
 ghost use Rattle.toml.specs.View.{table_view, view};
 ghost use Rattle.flowsheet_reader.specs.Answers.{AddsName, Gives, Reads};
-ghost use Rattle.flowsheet_reader.specs.Chains.{at};
-ghost use Rattle.flowsheet_reader.specs.Models.{components_in, list_at_key, new_stream, streams_in, version_of};
-ghost use Rattle.flowsheet_reader.specs.Values.{new_name};
+ghost use Rattle.flowsheet_reader.specs.Models.{component_in, components_in, list_at_key, new_stream, stream_in, streams_in, version_of};
 
 use crate::names::NameSet;
 use crate::refusing::at;
@@ -52,7 +49,7 @@ pub(crate) fn list_at<'t>(document: &'t Table, key: &str) -> Result<&'t [Value],
 
 /// The components that some items name.
 pub(crate) fn components(alloc: Global, items: &[Value]) -> Result<NameSet, ReadModel>
-    ensures { Reads (λ names. names) result (components_in [] (map view items.now)) }
+    ensures { Reads (λ names. names) result (components_in (map view items.now)) }
 {
     let mut names = NameSet::new(alloc);
     for (place, item) in items.iter().enumerate() {
@@ -63,7 +60,8 @@ pub(crate) fn components(alloc: Global, items: &[Value]) -> Result<NameSet, Read
 
 // Puts the component of this number last.
 fn add_component(names: &mut NameSet, number: usize, value: &Value) -> Result<(), ReadModel>
-    ensures { AddsName names.old names.new result (at (Component number) (new_name names.old (view value.now))) }
+    requires { number ≡ length names.old + 1 }
+    ensures { AddsName names.old names.new result (component_in names.old (view value.now)) }
 {
     let name = at(Place::Component(number), new_name(names, value))?;
     push(names, name)
@@ -75,7 +73,7 @@ pub(crate) fn streams(
     components: &NameSet,
     items: &[Value],
 ) -> Result<NameSet, ReadModel>
-    ensures { Reads (λ names. names) result (streams_in components.now [] (map view items.now)) }
+    ensures { Reads (λ names. names) result (streams_in components.now (map view items.now)) }
 {
     let mut names = NameSet::new(alloc);
     for (place, item) in items.iter().enumerate() {
@@ -92,8 +90,7 @@ fn add_stream(
     value: &Value,
 ) -> Result<(), ReadModel>
     requires { number ≡ length names.old + 1 }
-    ensures { AddsName names.old names.new result (at (Stream number)
-        (new_stream components.now names.old (view value.now))) }
+    ensures { AddsName names.old names.new result (stream_in components.now names.old (view value.now)) }
 {
     let name = at(
         Place::Stream(number),
