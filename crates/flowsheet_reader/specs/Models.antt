@@ -64,15 +64,31 @@ units_in p sheet (datum ∷ items) = unit_at p sheet datum >>= (λ next. units_i
 abbrev pub document_keys : List (List ℕ)
 document_keys = codes "version" ∷ codes "components" ∷ codes "streams" ∷ codes "unit" ∷ []
 
--- The flowsheet of a document, or the first rule that the document breaks.
-abbrev pub sheet_in : ℕ → Members → Result Sheet Refusal
-sheet_in p document =
+-- the components and the streams that a document lists
+abbrev pub components_of : Members → Result (List (List ℕ)) Refusal
+components_of document = at Document (list_at_key (get_member (codes "components") document)) >>= components_in
+
+abbrev pub streams_of : Members → List (List ℕ) → Result (List (List ℕ)) Refusal
+streams_of document components =
+    at Document (list_at_key (get_member (codes "streams") document)) >>= streams_in components
+
+-- the flowsheet of a document, without its units
+abbrev pub start_of : Members → Result Sheet Refusal
+start_of document =
     at Document (keeping (has_only document_keys document) UnknownKey (tt {0}))
     >>= (λ _. at Document (version_of (get_member (codes "version") document))
-    >>= (λ version. at Document (list_at_key (get_member (codes "components") document)) >>= components_in
-    >>= (λ components. at Document (list_at_key (get_member (codes "streams") document)) >>= streams_in components
-    >>= (λ streams. at Document (list_at_key (get_member (codes "unit") document))
-    >>= units_in p (sheet_without_units version components streams)))))
+    >>= (λ version. components_of document
+    >>= (λ components. streams_of document components
+    >>= (λ streams. Ok (sheet_without_units version components streams)))))
+
+-- and with them
+abbrev pub with_units_of : ℕ → Members → Sheet → Result Sheet Refusal
+with_units_of p document sheet =
+    at Document (list_at_key (get_member (codes "unit") document)) >>= units_in p sheet
+
+-- The flowsheet of a document, or the first rule that the document breaks.
+abbrev pub sheet_in : ℕ → Members → Result Sheet Refusal
+sheet_in p document = start_of document >>= with_units_of p document
 
 -- A text gives a model: it is a document in UTF-8, of a flowsheet whose system of equations the model is.
 pub record GivesModel (p : ℕ) (text : List ℕ) (model : MixedModel) : Type 0 where

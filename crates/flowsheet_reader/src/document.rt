@@ -4,12 +4,14 @@ ghost use Rattle.std.specs.Prelude.{◌≡◌, ◌+◌, ◌∷◌, ◌++◌, [],
 ghost use Rattle.mixed_model.specs.Names.{has_name};
 ghost use Rattle.toml.specs.Data.{get_member};
 ghost use Rattle.toml.specs.View.{table_view, view};
+ghost use Rattle.flowsheet_reader.specs.Values.{has_only};
 ghost use Rattle.flowsheet_reader.specs.Answers.{AddsName, Gives, Reads};
-ghost use Rattle.flowsheet_reader.specs.Models.{component_in, components_in, list_at_key, new_stream, stream_in, streams_in, version_of};
+ghost use Rattle.flowsheet_reader.specs.Chains.{keeping};
+ghost use Rattle.flowsheet_reader.specs.Models.{component_in, components_in, components_of, document_keys, list_at_key, new_stream, stream_in, streams_in, streams_of, version_of};
 
 use crate::names::NameSet;
 use crate::refusing::at;
-use crate::values::{find, list, new_name};
+use crate::values::{find, has_only, list, new_name};
 use crate::version::Version;
 use limits::EQUATION_LIMIT;
 use refusals::{Place, ReadModel, Why};
@@ -47,8 +49,40 @@ pub(crate) fn list_at<'t>(document: &'t Table, key: &str) -> Result<&'t [Value],
     }
 }
 
-/// The components that some items name.
-pub(crate) fn components(alloc: Global, items: &[Value]) -> Result<NameSet, ReadModel>
+/// That a document has no other keys than its own.
+pub(crate) fn keys(document: &Table) -> Result<(), Why>
+    ensures { Gives (λ done. done) result
+        (keeping (has_only document_keys (table_view document.now)) Why.UnknownKey (tt {0})) }
+{
+    if has_only(document, &["version", "components", "streams", "unit"], &[]) {
+        Ok(())
+    } else {
+        Err(Why::UnknownKey)
+    }
+}
+
+/// The components that a document lists.
+pub(crate) fn read_components(alloc: Global, document: &Table) -> Result<NameSet, ReadModel>
+    ensures { Reads (λ names. names) result (components_of (table_view document.now)) }
+{
+    let items = at(Place::Document, list_at(document, "components"))?;
+    components(alloc, items)
+}
+
+/// The streams that a document lists, for whose flows of these components there is room.
+pub(crate) fn read_streams(
+    alloc: Global,
+    document: &Table,
+    components: &NameSet,
+) -> Result<NameSet, ReadModel>
+    ensures { Reads (λ names. names) result (streams_of (table_view document.now) components.now) }
+{
+    let items = at(Place::Document, list_at(document, "streams"))?;
+    streams(alloc, components, items)
+}
+
+// The components that some items name.
+fn components(alloc: Global, items: &[Value]) -> Result<NameSet, ReadModel>
     ensures { Reads (λ names. names) result (components_in (map view items.now)) }
 {
     let mut names = NameSet::new(alloc);
@@ -67,8 +101,8 @@ fn add_component(names: &mut NameSet, number: usize, value: &Value) -> Result<()
     push(names, name)
 }
 
-/// The streams that some items name, for whose flows of these components there is room.
-pub(crate) fn streams(
+// The streams that some items name, for whose flows of these components there is room.
+fn streams(
     alloc: Global,
     components: &NameSet,
     items: &[Value],

@@ -5,13 +5,13 @@ ghost use Rattle.term_model.specs.Systems.{IsModelOf};
 ghost use Rattle.toml.specs.View.{table_view};
 ghost use Rattle.flowsheet_reader.specs.Answers.{OnRefused};
 ghost use Rattle.flowsheet_reader.specs.Feeding.{IsFed};
-ghost use Rattle.flowsheet_reader.specs.Models.{GivesModel, IsRefusal, sheet_in};
+ghost use Rattle.flowsheet_reader.specs.Models.{GivesModel, IsRefusal, sheet_in, start_of};
+ghost use Rattle.flowsheet_reader.specs.Reached.{Keeps};
 ghost use Rattle.flowsheet_reader.specs.Sheets.{Sheet};
 
-use crate::document::{components, list_at, streams, version};
+use crate::document::{keys, list_at, read_components, read_streams, version};
 use crate::refusing::at;
 use crate::sheet::Sheet;
-use crate::values::has_only;
 use mixed_model::Mixed;
 use out_of_memory::NoMemory;
 use refusals::{Place, ReadModel, Refused, Why};
@@ -100,6 +100,26 @@ fn read_document<F: Field>(alloc: Global, document: &Table) -> Result<Mixed<F>, 
     ensures refused { IfErr result (λ why. OnRefused why (λ refused.
         sheet_in F.modulus (table_view document.now) ≡ Err refused)) }
 {
-    let sheet = read_names::<F>(alloc, document)?;
-    read_units(alloc, document, sheet)
+    let mut sheet = read_names::<F>(alloc, document)?;
+    let units = at(Place::Document, list_at(document, "unit"))?;
+    sheet.add_units(alloc, units)?;
+    Ok(sheet.model)
+}
+
+// The flowsheet without its units.
+fn read_names<F: Field>(alloc: Global, document: &Table) -> Result<Sheet<F>, ReadModel>
+    ensures kept { IfOk result (λ kept. (sheet : Sheet) × (start_of (table_view document.now) ≡ Ok sheet)
+        × Keeps F.modulus kept sheet) }
+    ensures none { IfOk result (λ kept. kept.units ≡ []) }
+    ensures refused { IfErr result (λ why. OnRefused why (λ refused.
+        start_of (table_view document.now) ≡ Err refused)) }
+{
+    at(Place::Document, keys(document))?;
+    let version = at(Place::Document, version(document))?;
+    let components = read_components(alloc, document)?;
+    let streams = read_streams(alloc, document, &components)?;
+    match Sheet::without_units(alloc, version, components, streams) {
+        Ok(sheet) => Ok(sheet),
+        Err(_) => Err(ReadModel::NoMemory),
+    }
 }
