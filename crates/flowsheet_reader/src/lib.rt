@@ -1,9 +1,11 @@
 //! Reads flowsheets: streams of components between units, and the equations that the units make.
 #![tactic(auto)]
 
+mod equations;
 mod kind;
 mod names;
 mod part;
 mod sheet;
+mod unit;
 mod values;
 mod version;
