@@ -1,4 +1,4 @@
 pub mod Chains
 pub mod Data
 pub mod Declaring
-pub mod Items
+pub mod UnitSteps
