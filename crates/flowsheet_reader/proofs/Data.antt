@@ -17,11 +17,6 @@ pub items_in-list : (items : List Data) → items_in (items_of items) ≡ items
 items_in-list [] = refl
 items_in-list (datum ∷ items) = ap (λ rest. datum ∷ rest) (items_in-list items)
 
--- the entries of a table
-pub members_in-entries : (entries : List (String Global × Value)) → members_in (members_view entries) ≡ map (λ entry. (string_bytes entry.0, view entry.1)) entries
-members_in-entries [] = refl
-members_in-entries (entry ∷ entries) = ap (λ rest. (string_bytes entry.0, view entry.1) ∷ rest) (members_in-entries entries)
-
 -- the keys of a table are among some words
 pub has_only-keys : (words : List (List ℕ)) (entries : List (String Global × Value)) → list_all (λ key. has_name words (string_bytes key)) (keys_of entries) ≡ has_only words (members_view entries)
 has_only-keys words [] = refl

@@ -7,5 +7,6 @@ mod names;
 mod part;
 mod sheet;
 mod unit;
+mod unit_keys;
 mod values;
 mod version;

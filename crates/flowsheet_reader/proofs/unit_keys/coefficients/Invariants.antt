@@ -3,7 +3,7 @@ use Rattle.std.specs.String.{string_bytes}
 use Rattle.toml.specs.Data.{get_member}
 use Rattle.toml.specs.View.{table_view}
 use Rattle.flowsheet_reader.specs.Units.{coefficient_of}
-use Rattle.flowsheet_reader.proofs.unit.coefficients.Given as goal
+use Rattle.flowsheet_reader.proofs.unit_keys.coefficients.Given as goal
 
 abbrev pub invariant-loop-component : goal.invariant-loop-component
 invariant-loop-component g l =

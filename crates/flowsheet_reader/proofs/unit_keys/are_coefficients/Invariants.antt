@@ -2,7 +2,7 @@ use Rattle.std.proofs.Common.{◌≡◌}
 use Rattle.toml.specs.View.{members_view}
 use Rattle.flowsheet_reader.specs.Units.{are_coefficients}
 use Rattle.flowsheet_reader.specs.Values.{members_in}
-use Rattle.flowsheet_reader.proofs.unit.are_coefficients.Given as goal
+use Rattle.flowsheet_reader.proofs.unit_keys.are_coefficients.Given as goal
 
 abbrev pub invariant-loop-component : goal.invariant-loop-component
 invariant-loop-component g l = record {

@@ -5,7 +5,7 @@ use Rattle.toml.specs.Data.{get_member}
 use Rattle.toml.specs.View.{table_view}
 use Rattle.flowsheet_reader.specs.Units.{coefficient_of}
 use Rattle.std.proofs.lemmas.Simd.{map-map}
-use Rattle.flowsheet_reader.proofs.unit.coefficients.Goals as goal
+use Rattle.flowsheet_reader.proofs.unit_keys.coefficients.Goals as goal
 
 pub returns : goal.returns
 returns g c =
