@@ -1,5 +1,5 @@
 -- Values of a document beside the data that they are.
-use Rattle.std.proofs.Common.{◌≡◌, ◌&&◌, ℕ, true, false, Bor, List, [], ◌∷◌, ◌++◌, map, String, Global, string_bytes, refl, ap}
+use Rattle.std.proofs.Common.{◌≡◌, ◌&&◌, ℕ, true, false, Bor, List, [], ◌∷◌, ◌++◌, String, Global, string_bytes, refl, ap}
 use Rattle.std.specs.List.{list_all, list_any}
 use Rattle.std.specs.Map.{keys_of}
 use Rattle.std.specs.Str.{bytes_eq}
@@ -7,9 +7,9 @@ use Rattle.std.proofs.lemmas.List.Folds.{list_any-append}
 use Rattle.mixed_model.specs.Names.{has_name}
 use Rattle.mixed_model.proofs.NameLaws.{list_any_map}
 use Rattle.toml.specs.Data.{Data}
-use Rattle.toml.specs.View.{items_of, members_view, view}
+use Rattle.toml.specs.View.{items_of, members_view}
 use Rattle.toml.specs.declared.value.Value.{Value}
-use Rattle.flowsheet_reader.specs.Values.{has_only, items_in, members_in}
+use Rattle.flowsheet_reader.specs.Values.{has_only, items_in}
 use Rattle.flowsheet_reader.specs.Words.{texts}
 
 -- a list is the items of its array

@@ -1,6 +1,6 @@
 //! Names in the order in which they were declared.
 
-ghost use Rattle.std.specs.Prelude.{◌≡◌, ◌∷◌, ◌++◌, [], ◌<◌, false, length, map, slice_get, Some, List, ℕ, IfOk, OnOk, OnErr};
+ghost use Rattle.std.specs.Prelude.{◌≡◌, ◌∷◌, ◌++◌, [], ◌<◌, false, length, map, slice_get, Some, IfOk, OnOk, OnErr};
 ghost use Rattle.std.specs.String.{string_bytes};
 ghost use Rattle.mixed_model.specs.Names.{has_name};
 
@@ -93,7 +93,7 @@ pub(crate) trait Declared {
 
     ghost names: { Self → List (List ℕ) };
 
-    /// Whether a name is among them.
+    // Whether a name is among them.
     fn declares(&self, name: &str) -> bool
         ensures { result ≡ has_name (names self.now) name.now };
 }

@@ -69,6 +69,7 @@ fn read_part<F: Field>(
     }
 }
 
+// What a mixer of this name adds.
 fn read_mixer<F: Field>(
     alloc: Global,
     sheet: &Sheet<F>,
@@ -85,6 +86,7 @@ fn read_mixer<F: Field>(
     Ok(part)
 }
 
+// What a separator of this name adds.
 fn read_separator<F: Field>(
     alloc: Global,
     sheet: &Sheet<F>,
@@ -107,6 +109,7 @@ fn read_separator<F: Field>(
     Ok(part)
 }
 
+// What a reactor of this name adds.
 fn read_reactor<F: Field>(
     alloc: Global,
     sheet: &Sheet<F>,
@@ -126,6 +129,7 @@ fn read_reactor<F: Field>(
     Ok(part)
 }
 
+// What a tee of this name adds.
 fn read_tee<F: Field>(
     alloc: Global,
     sheet: &Sheet<F>,
@@ -150,6 +154,7 @@ fn read_tee<F: Field>(
     Ok(part)
 }
 
+// What a specification of this name adds.
 fn read_specification<F: Field>(
     alloc: Global,
     sheet: &Sheet<F>,
@@ -166,6 +171,7 @@ fn read_specification<F: Field>(
     Ok(part)
 }
 
+// What a balance of this name adds.
 fn read_balance<F: Field>(
     alloc: Global,
     sheet: &Sheet<F>,
@@ -181,6 +187,7 @@ fn read_balance<F: Field>(
     Ok(part)
 }
 
+// What a relation of this name adds.
 fn read_relation<F: Field>(
     alloc: Global,
     sheet: &Sheet<F>,

@@ -69,6 +69,7 @@ pub(crate) fn outlets<F: Field>(
     }
 }
 
+// The streams at two keys.
 fn two_outlets<F: Field>(
     alloc: Global,
     sheet: &Sheet<F>,
@@ -90,6 +91,7 @@ fn two_outlets<F: Field>(
     Ok(outlets)
 }
 
+// The streams of a list.
 fn listed_outlets<F: Field>(
     alloc: Global,
     sheet: &Sheet<F>,
@@ -122,6 +124,7 @@ pub(crate) fn fractions<F: Field>(
     }
 }
 
+// The fraction of the first of two outlets.
 fn one_fraction<F: Field>(alloc: Global, table: &Table) -> Result<Vec<F>, Fault>
     ensures { Answers (λ fractions. map F.number fractions.items) result
         (fractions_in F.modulus Version.One [] (table_view table.now)) }
