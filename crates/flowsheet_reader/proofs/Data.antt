@@ -1,5 +1,5 @@
 -- Values of a document beside the data that they are.
-use Rattle.std.proofs.Common.{◌≡◌, ◌&&◌, ℕ, true, false, Bor, List, [], ◌∷◌, ◌++◌, map, String, Global, string_bytes, refl, ap}
+use Rattle.std.proofs.Common.{◌≡◌, ◌&&◌, ℕ, true, false, Bor, List, [], ◌∷◌, ◌++◌, String, Global, string_bytes, refl, ap}
 use Rattle.std.specs.List.{list_all, list_any}
 use Rattle.std.specs.Map.{keys_of}
 use Rattle.std.specs.Str.{bytes_eq}
@@ -7,20 +7,15 @@ use Rattle.std.proofs.lemmas.List.Folds.{list_any-append}
 use Rattle.mixed_model.specs.Names.{has_name}
 use Rattle.mixed_model.proofs.NameLaws.{list_any_map}
 use Rattle.toml.specs.Data.{Data}
-use Rattle.toml.specs.View.{items_of, members_view, view}
+use Rattle.toml.specs.View.{items_of, members_view}
 use Rattle.toml.specs.declared.value.Value.{Value}
-use Rattle.flowsheet_reader.specs.Values.{has_only, items_in, members_in}
+use Rattle.flowsheet_reader.specs.Values.{has_only, items_in}
 use Rattle.flowsheet_reader.specs.Words.{texts}
 
 -- a list is the items of its array
 pub items_in-list : (items : List Data) → items_in (items_of items) ≡ items
 items_in-list [] = refl
 items_in-list (datum ∷ items) = ap (λ rest. datum ∷ rest) (items_in-list items)
-
--- the entries of a table
-pub members_in-entries : (entries : List (String Global × Value)) → members_in (members_view entries) ≡ map (λ entry. (string_bytes entry.0, view entry.1)) entries
-members_in-entries [] = refl
-members_in-entries (entry ∷ entries) = ap (λ rest. (string_bytes entry.0, view entry.1) ∷ rest) (members_in-entries entries)
 
 -- the keys of a table are among some words
 pub has_only-keys : (words : List (List ℕ)) (entries : List (String Global × Value)) → list_all (λ key. has_name words (string_bytes key)) (keys_of entries) ≡ has_only words (members_view entries)

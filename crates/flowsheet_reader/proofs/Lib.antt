@@ -14,3 +14,4 @@ pub mod SplitNames
 pub mod Summands
 pub mod UnitKept
 pub mod UnitParts
+pub mod UnitSteps

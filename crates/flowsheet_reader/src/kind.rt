@@ -1,7 +1,8 @@
 //! The kinds of units.
 
-ghost use Rattle.std.specs.Prelude.{◌≡◌, map};
+ghost use Rattle.std.specs.Prelude.{◌≡◌};
 ghost use Rattle.flowsheet_reader.specs.Kinds.{keys_of, kind_beside, kinds};
+ghost use Rattle.flowsheet_reader.specs.Words.{texts};
 
 use crate::version::Version;
 
@@ -43,7 +44,7 @@ impl UnitKind {
 
     /// The keys of a unit of this kind beside its name and its kind.
     pub(crate) fn keys(self, version: Version) -> &'static [&'static str]
-        ensures { map (λ key. key.now) result.now ≡ keys_of version self }
+        ensures { texts result.now ≡ keys_of version self }
     {
         match (self, version) {
             (UnitKind::Mixer, _) => &["inlets", "outlet"],

@@ -2,10 +2,13 @@
 #![tactic(auto)]
 
 mod document;
+mod equations;
 mod kind;
 mod names;
 mod part;
 mod refusing;
 mod sheet;
+mod unit;
+mod unit_keys;
 mod values;
 mod version;

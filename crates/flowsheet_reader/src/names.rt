@@ -1,6 +1,6 @@
 //! Names in the order in which they were declared.
 
-ghost use Rattle.std.specs.Prelude.{◌≡◌, ◌∷◌, ◌++◌, [], ◌<◌, false, length, map, slice_get, Some, List, ℕ, OnOk, OnErr};
+ghost use Rattle.std.specs.Prelude.{◌≡◌, ◌∷◌, ◌++◌, [], ◌<◌, false, length, map, slice_get, Some, IfOk, OnOk, OnErr};
 ghost use Rattle.std.specs.String.{string_bytes};
 ghost use Rattle.mixed_model.specs.Names.{has_name};
 
@@ -36,6 +36,15 @@ impl NameSet {
         }
     }
 
+    /// One name.
+    pub(crate) fn of_one(alloc: Global, name: &str) -> Result<NameSet, NoMemory>
+        ensures { IfOk result (λ names. names ≡ name.now ∷ []) }
+    {
+        let mut names = NameSet::new(alloc);
+        names.push(name)?;
+        Ok(names)
+    }
+
     /// How many names there are.
     pub(crate) fn len(&self) -> usize
         ensures { result ≡ length self.now }
@@ -59,6 +68,13 @@ impl NameSet {
         self.texts.as_slice()[place].as_str()
     }
 
+    /// The names, as a slice.
+    pub(crate) fn as_slice(&self) -> &[String]
+        ensures { map string_bytes result.now ≡ self.now }
+    {
+        self.texts.as_slice()
+    }
+
     /// Puts a new name last. A want of memory changes nothing.
     pub(crate) fn push(&mut self, name: &str) -> Result<(), NoMemory>
         requires { has_name self.old name.now ≡ false }
@@ -77,7 +93,7 @@ pub(crate) trait Declared {
 
     ghost names: { Self → List (List ℕ) };
 
-    /// Whether a name is among them.
+    // Whether a name is among them.
     fn declares(&self, name: &str) -> bool
         ensures { result ≡ has_name (names self.now) name.now };
 }

@@ -1,6 +1,6 @@
 //! Values of a document, and what they are to be.
 
-ghost use Rattle.std.specs.Prelude.{◌≡◌, ◌||◌, ◌++◌, map, option_map, IfOk};
+ghost use Rattle.std.specs.Prelude.{◌≡◌, ◌++◌, map, option_map, IfOk};
 ghost use Rattle.std.specs.List.{list_all, list_any};
 ghost use Rattle.std.specs.Map.{keys_of};
 ghost use Rattle.std.specs.Str.{bytes_eq};
@@ -160,6 +160,7 @@ pub(crate) fn has_only(table: &Table, words: &[&str], others: &[&str]) -> bool
     keys_are_among(table, words, others)
 }
 
+// Whether each key of a table is among these words and the others.
 fn keys_are_among(table: &Table, words: &[&str], others: &[&str]) -> bool
     ensures { result ≡ list_all (λ key. has_name (texts words.now ++ texts others.now) (string_bytes key))
         (keys_of table.now.entries) }
@@ -167,12 +168,14 @@ fn keys_are_among(table: &Table, words: &[&str], others: &[&str]) -> bool
     table.keys().all(|key| is_among(key, words, others))
 }
 
+// Whether a word is among these and the others.
 fn is_among(word: &str, words: &[&str], others: &[&str]) -> bool
     ensures { result ≡ has_name (texts words.now ++ texts others.now) word.now }
 {
     is_one(word, words) || is_one(word, others)
 }
 
+// Whether a word is one of these.
 fn is_one(word: &str, words: &[&str]) -> bool
     ensures { result ≡ list_any (λ other. bytes_eq word.now other.now) words.now }
 {
