@@ -1,8 +1,12 @@
 //! Reads flowsheets: streams of components between units, and the equations that the units make.
 #![tactic(auto)]
 
+mod equation_list;
+mod equations;
 mod kind;
 mod names;
+mod naming;
 mod part;
 mod sheet;
+mod summands;
 mod version;

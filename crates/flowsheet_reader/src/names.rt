@@ -23,3 +23,12 @@ impl Model for NameSet {
 
     ghost view = { λ n. map string_bytes n.texts.keys };
 }
+
+impl NameSet {
+    /// The names, as a slice.
+    pub(crate) fn as_slice(&self) -> &[String]
+        ensures { map string_bytes result.now ≡ self.now }
+    {
+        self.texts.as_slice()
+    }
+}

@@ -1,0 +1,3 @@
+pub mod NumberedPairs
+pub mod Numbers
+pub mod Pairing
