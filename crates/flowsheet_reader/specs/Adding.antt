@@ -3,7 +3,8 @@ use Rattle.std.specs.Prelude.{◌≡◌, ◌≢◌, ℕ, ◌<◌, All, true, fal
 use Rattle.std.specs.List.{IsDistinct}
 use Rattle.std.specs.Str.{bytes_eq}
 use Rattle.mixed_model.specs.Names.{has_name, is_label}
-use Rattle.term_model.specs.Terms.{System, Term}
+use Rattle.term_model.specs.Putting.{IsPlaced}
+use Rattle.term_model.specs.Systems.{System}
 use Rattle.flowsheet_reader.specs.Parts.{Summand, UnitEquation, UnitPart}
 
 -- a constant other than 0, below p, or a symbol
@@ -27,9 +28,5 @@ pub record IsNewPart (p : ℕ) (equations unknowns : List (List ℕ)) (part : Un
   pub summands : All (λ equation. AreSummands p (unknowns ++ part.unknowns) equation.summands) part.equations
 
 -- each term of a system stands at an equation and an unknown of it
-pub record IsPlacedTerm (equations unknowns : List (List ℕ)) (term : Term) : Type 0 where
-  pub equation : has_name equations term.equation ≡ true
-  pub unknown : has_name unknowns term.unknown ≡ true
-
 abbrev pub ArePlaced : System → Type 0
-ArePlaced system = All (IsPlacedTerm system.equations system.unknowns) system.terms
+ArePlaced system = All (IsPlaced system.equations system.unknowns) system.terms

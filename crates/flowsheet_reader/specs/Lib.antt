@@ -1,6 +1,7 @@
 pub mod Adding
 pub mod Answers
 pub mod Chains
+pub mod Growing
 pub mod Keeping
 pub mod Kinds
 pub mod Models

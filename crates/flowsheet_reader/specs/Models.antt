@@ -8,7 +8,7 @@ use Rattle.refusals.specs.declared.Refused.{Refused as Refusal}
 use Rattle.refusals.specs.declared.Why.{Why}
 use Rattle.refusals.specs.declared.Why.TheVariants.{BadVersion, NotToml, TooMany, UnknownKey}
 use Rattle.mixed_model.specs.Models.{MixedModel}
-use Rattle.term_model.specs.Terms.{IsModelOf}
+use Rattle.term_model.specs.Systems.{IsModelOf}
 use Rattle.toml.specs.Data.{Data, integer, Members, get_member}
 use Rattle.toml.specs.Parse.{parse_document}
 use Rattle.flowsheet_reader.specs.declared.version.Version.{Version}

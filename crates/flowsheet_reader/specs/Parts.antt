@@ -1,7 +1,8 @@
 -- What a unit adds to a flowsheet: unknowns of its own, and equations.
 use Rattle.std.specs.Prelude.{ℕ, ◌-◌, ◌%◌, Bool, true, false, List, [], ◌∷◌, ◌++◌, map, nat_eq, if◌then◌else◌}
 use Rattle.std.specs.List.{flat_map}
-use Rattle.term_model.specs.Terms.{Term, System}
+use Rattle.term_model.specs.Systems.{System}
+use Rattle.term_model.specs.Terms.{Term}
 
 -- what an equation has at an unknown: a constant or a symbol
 pub record Summand : Type 0 where

@@ -1,7 +1,7 @@
 -- A flowsheet, as far as it was read.
 use Rattle.std.specs.Prelude.{ℕ, Bool, ◌&&◌, List, [], ◌∷◌, ◌++◌, length, nat_le}
 use Rattle.limits.specs.Limits.{equation_limit}
-use Rattle.term_model.specs.Terms.{System}
+use Rattle.term_model.specs.Systems.{System}
 use Rattle.flowsheet_reader.specs.declared.version.Version.{Version}
 use Rattle.flowsheet_reader.specs.Kinds.{flows}
 use Rattle.flowsheet_reader.specs.Parts.{UnitPart, system_of, together}

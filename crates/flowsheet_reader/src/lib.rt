@@ -1,6 +1,7 @@
 //! Reads flowsheets: streams of components between units, and the equations that the units make.
 #![tactic(auto)]
 
+mod adding;
 mod equation_list;
 mod equations;
 mod kind;
