@@ -1,11 +1,19 @@
 -- Rules of lines that go on, and the first broken one.
-use Rattle.std.proofs.Common.{◌≡◌, ℕ, ◌<◌, List, [], ◌∷◌, ◌++◌, length, map, take, get_or, Some, None, sym, ap, subst, ◌∙◌, inl, inr, arith, below_more, length-append}
+use Rattle.std.proofs.Common.{◌≡◌, ℕ, ◌<◌, List, [], ◌∷◌, ◌++◌, length, map, take, get_or, Option, Some, None, refl, sym, ap, subst, ◌∙◌, inl, inr, arith, below_more, length-append}
+use Rattle.std.specs.Option.{option_or}
 use Rattle.std.proofs.Math.Seq.{take-append_seam, get_or-append_seam}
 use Rattle.std.proofs.lemmas.Bool.{cases_order}
 use Rattle.std.proofs.lemmas.List.{take-append-le, get_or_append_left}
 use Rattle.refusals.specs.declared.Why.{Why}
 use Rattle.line_lexer.specs.Lines.{lines_of}
 use Rattle.line_reader.specs.LineRules.{Rules, KeepBefore, KeepsAll, IsFirstBroken, line_rule, rule_at, words_in}
+
+-- the first of two rules is broken, or kept
+pub first_broken : (first next : Option Why) (why : Why) → first ≡ Some why → option_or first next ≡ Some why
+first_broken first next why e = rw e refl
+
+pub first_kept : (first next : Option Why) → first ≡ None → option_or first next ≡ next
+first_kept first next e = rw e refl
 
 -- a text that keeps all rules has no first broken one
 pub keeps-unbroken : (rules : Rules) (text : List ℕ) (n : ℕ) (why : Why) → KeepsAll rules text → IsFirstBroken rules text n why → ⊥

@@ -8,14 +8,14 @@ use Rattle.mixed_model.specs.Names.{has_name}
 use Rattle.mixed_model.specs.Models.{MixedModel, IsModel, constant_of, constant_at, symbol_of}
 use Rattle.matrix_reader.specs.Items.{unknown_of, item_constant, item_symbol}
 use Rattle.matrix_reader.specs.EquationLists.{equations_in, unknowns_in}
-use Rattle.matrix_reader.specs.Faults.{fault_of}
+use Rattle.mixed_model.specs.Faults.{fault_of}
 use Rattle.matrix_reader.specs.Models.{IsModelOf, LinesGive}
 use Rattle.matrix_reader.specs.Rules.{term_rule, place_rule, item_rule}
 use Rattle.line_reader.specs.Answers.{AnswersRule}
 use Rattle.matrix_reader.specs.ReaderStates.{IsWithin, UnmarkedFrom, PutsValue, so_far}
 use Rattle.matrix_reader.proofs.LineForms.{equation_last, item_seen, lines_name_only}
 use Rattle.matrix_reader.proofs.MarkLaws.{Marks, marked_rule, unmarked_rule}
-use Rattle.matrix_reader.proofs.RuleSteps.{first_kept}
+use Rattle.line_reader.proofs.Rules.{first_kept}
 use Rattle.matrix_reader.proofs.ModelSteps.{NamesOnly, IsModelOf-item, constant_of-fresh, symbol_of-fresh}
 
 -- what stands at a place, where it is this one

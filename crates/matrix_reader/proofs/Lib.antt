@@ -1,6 +1,5 @@
 pub mod FirstBroken
 pub mod ItemSteps
-pub mod LabelLaws
 pub mod LineForms
 pub mod LineSteps
 pub mod MarkLaws

@@ -18,7 +18,9 @@ use Rattle.refusals.specs.declared.fault.Fault.{Fault}
 use Rattle.refusals.specs.declared.fault.Fault.TheVariants.{Broken, NoMemory}
 use Rattle.matrix_reader.proofs.LineForms.{name_seen, no_equation, LinesGive-blank, lines_name_only}
 use Rattle.matrix_reader.proofs.ModelSteps.{IsModelOf-unknown}
-use Rattle.matrix_reader.proofs.RuleSteps.{answers_same, answers_fault_same, first_broken, first_kept, each_more, each_broken}
+use Rattle.line_reader.proofs.Faults.{answers_same, answers_fault_same}
+use Rattle.line_reader.proofs.Rules.{first_broken, first_kept}
+use Rattle.matrix_reader.proofs.RuleSteps.{each_more, each_broken}
 
 -- the words of tokens
 abbrev pub words : List (ℕ × List ℕ) → List (List ℕ)

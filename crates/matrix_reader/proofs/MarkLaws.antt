@@ -10,14 +10,13 @@ use Rattle.refusals.specs.declared.Why.TheVariants.{Twice as StandsTwice, TooMan
 use Rattle.mixed_model.specs.declared.errors.AddError.TheVariants.{TooMany}
 use Rattle.mixed_model.specs.Names.{see, has_name, seeing, place_or_end}
 use Rattle.mixed_model.specs.Models.{MixedModel, IsModel, with_unknown, with_seen_unknown}
-use Rattle.mixed_model.proofs.NameLaws.{has_name-Some, has_name-None}
+use Rattle.mixed_model.proofs.NameLaws.{has_name-Some, has_name-None, names_apart}
 use Rattle.matrix_reader.specs.Items.{unknown_of}
 use Rattle.matrix_reader.specs.EquationLists.{equations_in, unknowns_in}
 use Rattle.matrix_reader.specs.Rules.{place_rule, room_rule}
 use Rattle.matrix_reader.specs.ReaderStates.{IsWithin, MarkedFrom, UnmarkedFrom, SeenFrom, so_far}
 use Rattle.matrix_reader.specs.Models.{items_at}
 use Rattle.matrix_reader.proofs.SaidLaws.{items_at-last, absent-unseen}
-use Rattle.matrix_reader.proofs.SeenLaws.{names_apart}
 use Rattle.matrix_reader.proofs.LineForms.{equation_last}
 
 -- an unknown that was found or added: by where it stood

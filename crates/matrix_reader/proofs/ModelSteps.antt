@@ -1,47 +1,18 @@
 -- How the model of some equations and unknowns grows: by an equation, by an unknown, and by an item of the last equation.
-use Rattle.std.proofs.Common.{◌≡◌, ◌≢◌, ℕ, ◌<◌, ◌≤◌, Bool, true, false, cond, ◌&&◌, List, [], ◌∷◌, ◌++◌, length, map, get_or, Option, Some, None, unwrap_or, refl, sym, ap, subst, ◌∙◌, arith, eqb, eqb-true, ⊎_elim, length-append}
+use Rattle.std.proofs.Common.{◌≡◌, ◌≢◌, ℕ, ◌<◌, ◌≤◌, Bool, true, false, cond, ◌&&◌, List, [], ◌∷◌, ◌++◌, length, map, get_or, None, unwrap_or, refl, sym, ap, subst, ◌∙◌, arith, eqb, eqb-true, ⊎_elim, length-append}
 use Rattle.std.specs.Str.{bytes_eq}
 use Rattle.std.proofs.lemmas.Bool.{cases_lt, eqb-false}
-use Rattle.std.proofs.lemmas.List.{map-append, get_or_append_left, get_or_push, get_or_past, length-map}
-use Rattle.mixed_model.specs.Entries.{RowEntry}
+use Rattle.std.proofs.lemmas.List.{map-append, get_or_append_left, get_or_push, length-map}
 use Rattle.mixed_model.specs.Names.{see, has_name}
 use Rattle.mixed_model.specs.Models.{MixedModel, IsModel, row_of, constant_of, constant_at, symbol_of, with_equation}
-use Rattle.mixed_model.specs.Rows.{entry_in, constant_at_place, constant_in, symbol_in, IsFilled}
-use Rattle.mixed_model.proofs.RowLaws.{entry_in-None, entry_in-filled}
+use Rattle.mixed_model.specs.Rows.{constant_in, symbol_in}
+use Rattle.mixed_model.proofs.ModelLaws.{constant_of-None}
+use Rattle.mixed_model.proofs.NameLaws.{names_apart}
+use Rattle.term_model.proofs.Growing.{entry-beyond}
 use Rattle.matrix_reader.specs.Items.{unknown_of, item_constant, item_symbol}
 use Rattle.matrix_reader.specs.EquationLists.{Equation}
 use Rattle.matrix_reader.specs.Models.{IsModelOf, items_at}
 use Rattle.matrix_reader.proofs.SaidLaws.{Reading, constants, symbols, items_at-before, items_at-last}
-use Rattle.matrix_reader.proofs.SeenLaws.{names_apart}
-
--- a place past the last row or the last column has no entry
-entry-beyond : (p : ℕ) (model : MixedModel) → IsModel p model → (i j : ℕ) → length model.unknowns ≤ j → entry_in (row_of model i) j ≡ None
-entry-beyond p model is i j beyond = ⊎_elim
-    (λ within. entry_in-None (row_of model i) j (λ k d at same. let below = (is.rows i [] within).1 k d at in omega (arith, below, same)))
-    (λ past. ap (λ row. entry_in row j) (get_or_past model.rows i [] past))
-    (cases_lt i (length model.rows))
-
--- a constant that is 0 is none
-no_zero : (p : ℕ) (entry : RowEntry) → IsFilled p entry → unwrap_or entry.constant 0 ≡ 0 → entry.constant ≡ None
-no_zero p entry filled zero_there = by entry.constant refl
-  where
-    by : (found : Option ℕ) → entry.constant ≡ found → entry.constant ≡ None
-    by None e = e
-    by (Some constant) e =
-        let same : constant ≡ 0 = sym (ap (λ o. unwrap_or o 0) e) ∙ zero_there in
-        absurd (omega (arith, filled.positive constant e, same))
-
-pub constant_of-None : (p : ℕ) (model : MixedModel) → IsModel p model → (i j : ℕ) → constant_at model i j ≡ 0 → constant_of model i j ≡ None
-constant_of-None p model is i j zero_there = by (entry_in (row_of model i) j) refl
-  where
-    by : (found : Option RowEntry) → entry_in (row_of model i) j ≡ found → constant_of model i j ≡ None
-    by None e = ap constant_at_place e
-    by (Some entry) e = ⊎_elim
-        (λ within.
-        let filled = entry_in-filled p 0 (row_of model i) (is.rows i [] within).0 j entry e in
-        ap constant_at_place e ∙ no_zero p entry filled (sym (ap (λ o. unwrap_or (constant_at_place o) 0) e) ∙ zero_there))
-        (λ past. ap (λ row. constant_in row j) (get_or_past model.rows i [] past))
-        (cases_lt i (length model.rows))
 
 -- the items of equations name unknowns of this list alone
 pub NamesOnly : List Equation → List (List ℕ) → Type 0

@@ -1,15 +1,11 @@
 -- Names in the order in which they first stand.
-use Rattle.std.proofs.Common.{◌≡◌, ◌≢◌, ℕ, ◌<◌, Bool, true, false, cond, List, [], ◌∷◌, ◌++◌, length, fold, get_or, refl, sym, ap, subst, ◌∙◌, arith, ⊎_elim}
-use Rattle.std.specs.List.{flat_map, IsDistinct}
-use Rattle.std.specs.Str.{bytes_eq}
-use Rattle.std.proofs.lemmas.Bool.{cases_lt, false_from_ne_true}
+use Rattle.std.proofs.Common.{◌≡◌, ℕ, Bool, true, false, List, [], ◌∷◌, ◌++◌, fold, refl, sym, ap, ◌∙◌}
+use Rattle.std.specs.List.{flat_map}
 use Rattle.std.proofs.lemmas.List.{append-nil}
 use Rattle.std.proofs.lemmas.List.Concat.{flat_map-append}
-use Rattle.std.proofs.lemmas.List.Folds.{list_any-append}
 use Rattle.std.proofs.lemmas.List.Sums.{fold-append}
-use Rattle.std.proofs.lemmas.Map.Keys.{apart_from_distinct}
-use Rattle.std.proofs.lemmas.Slice.Eq.{bytes_eq-Decides}
 use Rattle.mixed_model.specs.Names.{see, has_name}
+use Rattle.term_model.proofs.NamesAmong.{seen-there}
 use Rattle.matrix_reader.specs.EquationLists.{equation_of, equations_in, names_in, unknowns_in}
 
 -- the equations and the unknowns of one more line
@@ -21,50 +17,12 @@ unknowns_in-push lines words =
     ap (fold see []) (flat_map-append names_in lines (words ∷ []) ∙ ap (λ names. flat_map names_in lines ++ names) (append-nil (names_in words)))
     ∙ fold-append see [] (flat_map names_in lines) (names_in words)
 
--- what is seen after one more name
-has_name-see : (seen : List (List ℕ)) (new name : List ℕ) → has_name seen name ≡ true → has_name (see seen new) name ≡ true
-has_name-see seen new name there = by (has_name seen new)
-  where
-    by : (b : Bool) → has_name (cond b seen (seen ++ new ∷ [])) name ≡ true
-    by true = there
-    by false = list_any-append (bytes_eq name) seen (new ∷ []) ∙ rw there refl
-
-has_name-fold : (seen names : List (List ℕ)) (name : List ℕ) → has_name seen name ≡ true → has_name (fold see seen names) name ≡ true
-has_name-fold seen [] name there = there
-has_name-fold seen (new ∷ names) name there = has_name-fold (see seen new) names name (has_name-see seen new name there)
-
-bytes_eq-refl : (name : List ℕ) → bytes_eq name name ≡ true
-bytes_eq-refl name = (bytes_eq-Decides name name).1 refl
-
-has_name-last : (seen : List (List ℕ)) (name : List ℕ) → has_name (see seen name) name ≡ true
-has_name-last seen name = by (has_name seen name) refl
-  where
-    by : (b : Bool) → has_name seen name ≡ b → has_name (see seen name) name ≡ true
-    by true e = rw e e
-    by false e = rw e (list_any-append (bytes_eq name) seen (name ∷ []) ∙ rw (e, bytes_eq-refl name) refl)
-
 -- a name that is not seen is none of the names
 pub has_name-unseen : (seen names : List (List ℕ)) (name : List ℕ) → has_name (fold see seen names) name ≡ false → has_name names name ≡ false
-has_name-unseen seen [] name unseen = refl
-has_name-unseen seen (new ∷ names) name unseen =
-    by (bytes_eq name new) refl (has_name-unseen (see seen new) names name unseen)
+has_name-unseen seen names name unseen = by (has_name names name) refl
   where
-    by : (b : Bool) → bytes_eq name new ≡ b → has_name names name ≡ false → has_name (new ∷ names) name ≡ false
-    by false e rest = rw e rest
-    by true e rest =
-        let same : name ≡ new = (bytes_eq-Decides name new).0 e in
-        let seen_now : has_name (fold see (see seen new) names) name ≡ true =
-        has_name-fold (see seen new) names name (subst (λ other. has_name (see seen other) name ≡ true) same (has_name-last seen name)) in
+    by : (b : Bool) → has_name names name ≡ b → has_name names name ≡ false
+    by false e = e
+    by true e =
+        let both : true ≡ false = sym (seen-there seen names name e) ∙ unseen in
         let f : ⊥ = cc in absurd f
-
--- names at different places differ
-pub names_apart : (names : List (List ℕ)) (i j : ℕ) → IsDistinct bytes_eq names → i ≢ j → i < length names → j < length names → bytes_eq (get_or names i []) (get_or names j []) ≡ false
-names_apart names i j distinct differs here there = ⊎_elim
-    (λ less. apart_from_distinct bytes_eq names i j [] distinct less there)
-    (λ more.
-    let apart = apart_from_distinct bytes_eq names j i [] distinct (omega arith) here in
-    false_from_ne_true (bytes_eq (get_or names i []) (get_or names j [])) (λ same.
-    let e : get_or names i [] ≡ get_or names j [] = (bytes_eq-Decides (get_or names i []) (get_or names j [])).0 same in
-    let back : bytes_eq (get_or names j []) (get_or names i []) ≡ true = (bytes_eq-Decides (get_or names j []) (get_or names i [])).1 (sym e) in
-    let f : ⊥ = cc in f))
-    (cases_lt i j)

@@ -7,7 +7,6 @@ ghost use Rattle.mixed_model.specs.Models.{IsModel, empty_model};
 ghost use Rattle.refusals.specs.Faults.{OnBroken};
 ghost use Rattle.matrix_reader.specs.ReaderStates.{MarkedFrom, UnmarkedFrom, SeenFrom, UnseenFrom, ReadsItem, ReadsItems, AddsEquation, ReadsEquation, SeesUnknown, SeesUnknowns, ReadsUnknowns, ReadsLine};
 
-use crate::fault::fault_of;
 use crate::item::read_term;
 use crate::place::put_value;
 use line_lexer::{Tokens, name};
@@ -92,7 +91,7 @@ impl<F: Field> Reader<F> {
         self.read_items(line, i, words)
     }
 
-    #[tactic(auto, using(crate::proofs::LabelLaws::name_is_label))]
+    #[tactic(auto, using(term_model::proofs::Labels::name_is_label))]
     fn add_equation(&mut self, equation: &str) -> Result<usize, Fault>
         requires { vec_len self.old.last_lines ≡ length self.old.model.unknowns }
         ensures within { IfOk result (λ i. i < length self.new.model.equations) }
@@ -102,10 +101,8 @@ impl<F: Field> Reader<F> {
             self.old.model self.new.model self.old.last_lines.items equation.now result }
     {
         name(equation)?;
-        match self.model.add_equation(equation) {
-            Ok(i) => Ok(i),
-            Err(error) => Err(fault_of(error)),
-        }
+        let i = self.model.add_equation(equation)?;
+        Ok(i)
     }
 
     // Puts what some items say into equation `i`, in the line of this number.
@@ -124,7 +121,7 @@ impl<F: Field> Reader<F> {
     }
 
     // Puts what an item says into equation `i`, in the line of this number.
-    #[tactic(auto, using(crate::proofs::LabelLaws::name_is_label))]
+    #[tactic(auto, using(term_model::proofs::Labels::name_is_label))]
     fn read_item(&mut self, line: u32, i: usize, item: &str) -> Result<(), Fault>
         requires lengths { vec_len self.old.last_lines ≡ length self.old.model.unknowns }
         requires equation { i < length self.old.model.equations }
@@ -138,10 +135,8 @@ impl<F: Field> Reader<F> {
             Err(why) => return Err(Fault::Broken(why)),
         };
         let j = self.mark(line, term.unknown)?;
-        match put_value(&mut self.model, i, j, term.value) {
-            Ok(()) => Ok(()),
-            Err(error) => Err(fault_of(error)),
-        }
+        put_value(&mut self.model, i, j, term.value)?;
+        Ok(())
     }
 
     // The column of an unknown, which now stands in this equation line. It may not have stood there before.
@@ -159,10 +154,7 @@ impl<F: Field> Reader<F> {
             self.old.last_lines.items)) }
     {
         let known = self.last_lines.len();
-        let j = match self.model.find_or_add_unknown(unknown) {
-            Ok(j) => j,
-            Err(error) => return Err(fault_of(error)),
-        };
+        let j = self.model.find_or_add_unknown(unknown)?;
         if j == known {
             self.last_lines.push(line)?;
             return Ok(j);
@@ -202,7 +194,7 @@ impl<F: Field> Reader<F> {
         Ok(())
     }
 
-    #[tactic(auto, using(crate::proofs::LabelLaws::name_is_label))]
+    #[tactic(auto, using(term_model::proofs::Labels::name_is_label))]
     fn see_unknown(&mut self, line: u32, unknown: &str) -> Result<(), Fault>
         requires { vec_len self.old.last_lines ≡ length self.old.model.unknowns }
         ensures lengths { OnOk result (vec_len self.new.last_lines ≡ length self.new.model.unknowns) }
@@ -223,10 +215,7 @@ impl<F: Field> Reader<F> {
         ensures unseen { IfErr result (λ fault. OnBroken fault
             (UnseenFrom (position (bytes_eq unknown.now) self.old.model.unknowns) self.old.model)) }
     {
-        let j = match self.model.find_or_add_unknown(unknown) {
-            Ok(j) => j,
-            Err(error) => return Err(fault_of(error)),
-        };
+        let j = self.model.find_or_add_unknown(unknown)?;
         if j == self.last_lines.len() {
             self.last_lines.push(line)?;
         }

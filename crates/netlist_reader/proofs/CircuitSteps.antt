@@ -11,18 +11,20 @@ use Rattle.std.proofs.lemmas.Map.Keys.{IsDistinct-push}
 use Rattle.std.proofs.lemmas.Grind.{flat_map-append}
 use Rattle.refusals.specs.declared.Why.TheVariants.{Twice, TooMany}
 use Rattle.mixed_model.specs.Names.{has_name}
+use Rattle.term_model.specs.Terms.{dotted}
 use Rattle.netlist_reader.specs.declared.kind.DeviceKind.{DeviceKind}
 use Rattle.netlist_reader.specs.declared.kind.DeviceKind.TheVariants.{Passive, Voltage, Current, VoltageByVoltage, CurrentByVoltage, CurrentByCurrent, VoltageByCurrent, Opamp, Transformer, Gyrator}
 use Rattle.netlist_reader.specs.Devices.{Device, device_names, nodes_of}
-use Rattle.netlist_reader.specs.Terms.{dotted, equations_of, equation_words, own_names, unknowns_of, unknown_words}
+use Rattle.netlist_reader.specs.Terms.{equations_of, equation_words, own_names, unknowns_of, unknown_words}
 use Rattle.netlist_reader.specs.Rules.{new_rule, place_rule, room_rule, unless}
 use Rattle.netlist_reader.specs.Circuits.{IsCircuit, IsDevice, Parts}
 use Rattle.refusals.specs.Faults.{OnBroken}
 use Rattle.refusals.specs.declared.fault.Fault.{Fault}
 use Rattle.refusals.specs.declared.fault.Fault.TheVariants.{Broken, NoMemory}
 use Rattle.netlist_reader.specs.ReaderStates.{AddsName, TakesRoom, has_room, see_nodes}
-use Rattle.netlist_reader.proofs.FaultSteps.{on_broken}
-use Rattle.netlist_reader.proofs.DeviceSteps.{first_broken, first_kept, unless_false}
+use Rattle.line_reader.proofs.Faults.{on_broken}
+use Rattle.line_reader.proofs.Rules.{first_broken, first_kept}
+use Rattle.netlist_reader.proofs.DeviceSteps.{unless_false}
 use Rattle.netlist_reader.proofs.NodeSteps.{nodes_of-push}
 
 -- the names of one device more

@@ -1,14 +1,14 @@
 -- The rules of a device by itself, one by one.
-use Rattle.std.proofs.Common.{◌≡◌, ℕ, ◌+◌, ◌-◌, ◌<◌, ◌≤◌, Bool, true, false, ◌&&◌, List, [], Bor, All, length, take, drop, length-drop, subst, leb-true, if◌then◌else◌, get_or, refl, sym, ap, ◌∙◌, arith, Option, Some, None, nat_eq, nat_le}
-use Rattle.std.specs.List.{list_all}
+use Rattle.std.proofs.Common.{◌≡◌, ℕ, ◌+◌, ◌-◌, ◌<◌, ◌≤◌, Bool, true, false, ◌&&◌, List, [], Bor, All, length, take, drop, length-drop, subst, leb-true, if◌then◌else◌, get_or, refl, sym, ap, ◌∙◌, arith, Some, None, nat_eq, nat_le}
+use Rattle.std.specs.List.{list_all, drop-map}
 use Rattle.std.specs.Option.{option_or}
 use Rattle.std.proofs.lemmas.List.{take-map, length-map, length-take-le}
 use Rattle.std.proofs.lemmas.Bool.{eqb-true}
 use Rattle.std.proofs.lemmas.List.Sums.{AllPass-from_list_all}
-use Rattle.std.specs.List.{drop-map}
 use Rattle.refusals.specs.declared.Why.{Why}
 use Rattle.refusals.specs.declared.Why.TheVariants.{BadShape, BadName}
 use Rattle.line_lexer.specs.Names.{is_name, is_node}
+use Rattle.line_reader.proofs.Rules.{first_broken, first_kept}
 use Rattle.netlist_reader.specs.declared.kind.DeviceKind.{DeviceKind}
 use Rattle.netlist_reader.specs.Devices.{Device, device_of, has_source, is_directive, nodes_wanted, word_after_nodes, words_wanted}
 use Rattle.netlist_reader.specs.Rules.{name_rule, number_rule, shape_rule, unless}
@@ -22,13 +22,6 @@ unless_false b why e = rw e refl
 
 pub unless_true : (b : Bool) (why : Why) → b ≡ true → unless b why ≡ None
 unless_true b why e = rw e refl
-
--- the first of two rules is broken, or kept
-pub first_broken : (first next : Option Why) (why : Why) → first ≡ Some why → option_or first next ≡ Some why
-first_broken first next why e = rw e refl
-
-pub first_kept : (first next : Option Why) → first ≡ None → option_or first next ≡ next
-first_kept first next e = rw e refl
 
 -- one of three tests fails, or none
 first_fails : (a b c : Bool) → a ≡ false → (a && b && c) ≡ false

@@ -5,13 +5,15 @@ use Rattle.std.specs.Str.{bytes_eq}
 use Rattle.std.proofs.lemmas.Bool.{eqb-false}
 use Rattle.std.proofs.lemmas.List.Folds.{list_any_at}
 use Rattle.mixed_model.specs.Names.{has_name}
+use Rattle.term_model.specs.Putting.{IsPut}
+use Rattle.term_model.specs.Terms.{Term, constant, symbol, dotted}
+use Rattle.term_model.proofs.Lists.{all-append}
 use Rattle.netlist_reader.specs.declared.kind.DeviceKind.{DeviceKind}
 use Rattle.netlist_reader.specs.declared.kind.DeviceKind.TheVariants.{Passive, Voltage, Current, VoltageByVoltage, CurrentByVoltage, CurrentByCurrent, VoltageByCurrent, Opamp, Transformer, Gyrator}
 use Rattle.netlist_reader.specs.Devices.{Device, is_ground, ground, has_source, nodes_wanted}
-use Rattle.netlist_reader.specs.Terms.{Term, constant, symbol, dotted, own, node, node_voltage, node_current, difference, flow, proportion, equation_words, unknown_words}
-use Rattle.netlist_reader.specs.Putting.{IsPut, put_constant, put_difference, put_flow, put_voltage, put_branch_between, put_branch, put_two_branches, put_control, put_ratio, put_by}
-use Rattle.netlist_reader.proofs.Names.{bytes_eq-refl}
-use Rattle.netlist_reader.proofs.Lists.{all-append}
+use Rattle.netlist_reader.specs.Terms.{own, node, node_voltage, node_current, difference, flow, proportion, equation_words, unknown_words}
+use Rattle.netlist_reader.specs.Putting.{put_constant, put_difference, put_flow, put_voltage, put_branch_between, put_branch, put_two_branches, put_control, put_ratio, put_by}
+use Rattle.mixed_model.proofs.NameLaws.{bytes_eq-refl}
 
 -- a node of a device that is not the ground
 pub record IsNodeOf (d : Device) (node : List ℕ) : Type 0 where

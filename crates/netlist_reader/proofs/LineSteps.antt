@@ -8,8 +8,8 @@ use Rattle.netlist_reader.specs.Devices.{Device, device_in}
 use Rattle.netlist_reader.specs.Rules.{place_rule}
 use Rattle.netlist_reader.specs.Circuits.{Parts}
 use Rattle.netlist_reader.specs.ReaderStates.{AddsDevice, PutsLast, ReadsLine, here_rule, own_line_rule}
-use Rattle.netlist_reader.proofs.DeviceSteps.{first_broken}
-use Rattle.netlist_reader.proofs.FaultSteps.{fault_answers, on_broken}
+use Rattle.line_reader.proofs.Rules.{first_broken}
+use Rattle.line_reader.proofs.Faults.{fault_answers, on_broken}
 use Rattle.netlist_reader.proofs.KeptWords.{kept-device, kept-rule}
 
 -- a line that breaks a rule of its own

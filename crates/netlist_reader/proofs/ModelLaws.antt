@@ -1,49 +1,18 @@
 -- A text gives at most one model, or has one refusal.
-use Rattle.std.proofs.Common.{◌≡◌, ℕ, ◌+◌, List, length, Option, Some, None, unwrap_or, refl, sym, ap, ◌∙◌, arith, get_or, [], inl, inr}
+use Rattle.std.proofs.Common.{◌≡◌, ℕ, ◌+◌, List, Option, Some, None, sym, ap, ◌∙◌, inl, inr}
 use Rattle.std.proofs.lemmas.Bool.{cases_order}
 use Rattle.refusals.specs.declared.Why.{Why}
 use Rattle.refusals.specs.declared.Place.TheVariants.{Line, Document}
 use Rattle.refusals.specs.declared.Refused.{Refused}
 use Rattle.line_reader.proofs.Rules.{first_broken-one, keeps-unbroken}
-use Rattle.mixed_model.specs.Models.{MixedModel, IsModel, constant_at, constant_of}
-use Rattle.mixed_model.proofs.ModelLaws.{same_models}
-use Rattle.netlist_reader.specs.Devices.{Device, devices_in}
-use Rattle.netlist_reader.specs.Terms.{said_of, symbol_said, terms_of}
+use Rattle.mixed_model.specs.Models.{MixedModel}
+use Rattle.term_model.proofs.Systems.{one_model}
+use Rattle.netlist_reader.specs.Devices.{devices_in}
 use Rattle.netlist_reader.specs.Rules.{ground_rule, device_rules}
-use Rattle.netlist_reader.specs.Models.{BreaksFirst, GivesModel, IsFirstUnsourced, IsModelOf, lines_in, source_rule_at}
-use Rattle.netlist_reader.proofs.Names.{constant_of-None}
-
--- constants are the same where they are, 0 for none
-same_constant : (p : ℕ) (a b : MixedModel) → IsModel p a → IsModel p b → (i j : ℕ) → constant_at a i j ≡ constant_at b i j → constant_of a i j ≡ constant_of b i j
-same_constant p a b is_a is_b i j same = by (constant_of a i j) refl (constant_of b i j) refl
-  where
-    by : (x : Option ℕ) → constant_of a i j ≡ x → (y : Option ℕ) → constant_of b i j ≡ y → constant_of a i j ≡ constant_of b i j
-    by None e y f = e ∙ sym (constant_of-None p b is_b i j (sym same ∙ ap (λ o. unwrap_or o 0) e))
-    by (Some x) e None f = constant_of-None p a is_a i j (same ∙ ap (λ o. unwrap_or o 0) f) ∙ sym f
-    by (Some x) e (Some y) f = e ∙ ap Some (sym (ap (λ o. unwrap_or o 0) e) ∙ same ∙ ap (λ o. unwrap_or o 0) f) ∙ sym f
-
-one_model : (p : ℕ) (devices : List Device) (a b : MixedModel) → IsModelOf p devices a → IsModelOf p devices b → a ≡ b
-one_model p devices a b gives_a gives_b =
-    same_models p a b gives_a.is_model gives_b.is_model equations unknowns (λ i j at col.
-    same_constant p a b gives_a.is_model gives_b.is_model i j
-    (gives_a.constants_are i j at col
-    ∙ ap (λ names. said_of p (terms_of p devices) (get_or names i []) (get_or a.unknowns j [])) equations
-    ∙ ap (λ names. said_of p (terms_of p devices) (get_or b.equations i []) (get_or names j [])) unknowns
-    ∙ sym (gives_b.constants_are i j (omega (arith, ap length equations)) (omega (arith, ap length unknowns)))))
-    (λ i j at col.
-    gives_a.symbols_are i j at col
-    ∙ ap (λ names. symbol_said (terms_of p devices) (get_or names i []) (get_or a.unknowns j [])) equations
-    ∙ ap (λ names. symbol_said (terms_of p devices) (get_or b.equations i []) (get_or names j [])) unknowns
-    ∙ sym (gives_b.symbols_are i j (omega (arith, ap length equations)) (omega (arith, ap length unknowns))))
-  where
-    equations : a.equations ≡ b.equations
-    equations = gives_a.equations_are ∙ sym gives_b.equations_are
-
-    unknowns : a.unknowns ≡ b.unknowns
-    unknowns = gives_a.unknowns_are ∙ sym gives_b.unknowns_are
+use Rattle.netlist_reader.specs.Models.{BreaksFirst, GivesModel, IsFirstUnsourced, lines_in, source_rule_at, system_of}
 
 pub text_gives_one : (p : ℕ) (text : List ℕ) (a b : MixedModel) → GivesModel p text a → GivesModel p text b → a ≡ b
-text_gives_one p text a b gives_a gives_b = one_model p (devices_in p (lines_in p text)) a b gives_a.given gives_b.given
+text_gives_one p text a b gives_a gives_b = one_model p (system_of p (devices_in p (lines_in p text))) a b gives_a.given gives_b.given
 
 not_both : (o : Option Why) (why : Why) → o ≡ None → o ≡ Some why → ⊥
 not_both o why kept broken = let both : None ≡ Some why = sym kept ∙ broken in cc

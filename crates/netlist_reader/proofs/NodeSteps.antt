@@ -13,7 +13,7 @@ use Rattle.mixed_model.specs.declared.errors.AddError.TheVariants.{Twice, TooMan
 use Rattle.mixed_model.proofs.NameLaws.{has_name-None, see-new}
 use Rattle.refusals.specs.Faults.{OnBroken}
 use Rattle.netlist_reader.specs.Devices.{Device, is_ground, nodes_of}
-use Rattle.netlist_reader.specs.Faults.{fault_of}
+use Rattle.mixed_model.specs.Faults.{fault_of}
 use Rattle.netlist_reader.specs.ReaderStates.{see_node, see_nodes}
 
 -- a node that is not the ground is seen

@@ -1,12 +1,13 @@
 -- Each term of a device stands at a place of the device.
 use Rattle.std.proofs.Common.{◌≡◌, ℕ, ◌-◌, Bool, true, false, cond, List, [], ◌∷◌, ◌++◌, codes, refl}
 use Rattle.std.specs.List.{AllByRecursion}
+use Rattle.term_model.specs.Terms.{Term, constant, dotted}
+use Rattle.term_model.proofs.Lists.{all-append}
 use Rattle.netlist_reader.specs.declared.kind.DeviceKind.{DeviceKind}
 use Rattle.netlist_reader.specs.declared.kind.DeviceKind.TheVariants.{Passive, Voltage, Current, VoltageByVoltage, CurrentByVoltage, CurrentByCurrent, VoltageByCurrent, Opamp, Transformer, Gyrator}
 use Rattle.netlist_reader.specs.Devices.{Device, is_ground, ground}
 use Rattle.netlist_reader.specs.Owners.{owner_of}
-use Rattle.netlist_reader.specs.Terms.{Term, difference, flow, node_voltage, node_current, voltage_is, terms_by, constant, dotted, own, node, branch_between, branch, control, two_branches, proportion}
-use Rattle.netlist_reader.proofs.Lists.{all-append}
+use Rattle.netlist_reader.specs.Terms.{difference, flow, node_voltage, node_current, voltage_is, terms_by, own, node, branch_between, branch, control, two_branches, proportion}
 
 -- a term stands at a place of this device
 abbrev pub Owned : List ℕ → Term → Type 0

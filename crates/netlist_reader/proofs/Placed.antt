@@ -1,78 +1,31 @@
 -- Each term that is put of a device stands at a place of the model, and none of another device there.
-use Rattle.std.proofs.Common.{◌≡◌, ℕ, ◌<◌, inl, inr, Bool, true, false, cond, not, ◌&&◌, ◌||◌, List, [], ◌∷◌, ◌++◌, map, filter, fold, codes, length, get_or, zero, suc, refl, sym, ap, subst, ◌∙◌, arith}
+use Rattle.std.proofs.Common.{◌≡◌, ℕ, ◌<◌, inl, inr, Bool, true, false, cond, not, ◌&&◌, ◌||◌, List, [], ◌∷◌, ◌++◌, map, filter, codes, length, get_or, zero, suc, refl, sym, ap, subst, ◌∙◌, arith}
 use Rattle.std.specs.List.{AllByRecursion, flat_map, list_any}
 use Rattle.std.specs.Str.{bytes_eq}
+use Rattle.std.proofs.Math.Bool.{or-true}
 use Rattle.std.proofs.lemmas.List.Concat.{flat_map-cons}
 use Rattle.std.proofs.lemmas.List.Folds.{list_any-append}
 use Rattle.std.proofs.lemmas.Slice.Eq.{bytes_eq-Decides}
-use Rattle.mixed_model.specs.Names.{has_name, see}
+use Rattle.mixed_model.specs.Names.{has_name}
+use Rattle.term_model.specs.Putting.{IsFree, IsPlaced}
+use Rattle.term_model.specs.Terms.{Term, dotted, stands_at}
+use Rattle.term_model.proofs.NamesAmong.{has-left, has-map, has-right, seen-there}
+use Rattle.term_model.proofs.OwnNames.{own-there}
 use Rattle.netlist_reader.specs.declared.kind.DeviceKind.{DeviceKind}
 use Rattle.netlist_reader.specs.declared.kind.DeviceKind.TheVariants.{Passive, Voltage, Current, VoltageByVoltage, CurrentByVoltage, CurrentByCurrent, VoltageByCurrent, Opamp, Transformer, Gyrator}
 use Rattle.netlist_reader.specs.Devices.{Device, is_ground, nodes_of, device_names, has_source}
 use Rattle.netlist_reader.specs.Owners.{owner_of}
-use Rattle.netlist_reader.specs.Terms.{Term, dotted, own, own_names, equation_words, unknown_words, equations_of, unknowns_of, terms_of, terms_by, stands_at}
+use Rattle.netlist_reader.specs.Terms.{own, own_names, equation_words, unknown_words, equations_of, unknowns_of, terms_of, terms_by}
 use Rattle.netlist_reader.specs.Rules.{is_source, is_voltage}
-use Rattle.netlist_reader.specs.Putting.{IsFree, IsPlaced}
-use Rattle.netlist_reader.proofs.Names.{bytes_eq-refl, or_true}
 use Rattle.netlist_reader.proofs.Forms.{HasForm, Place, IsNodeOf}
 use Rattle.netlist_reader.proofs.Owned.{Owned, AreOwned, device-owned}
-
--- a name among some, behind a word
-pub has-map : (f : List ℕ → List ℕ) (names : List (List ℕ)) (name : List ℕ) → has_name names name ≡ true → has_name (map f names) (f name) ≡ true
-has-map f [] name there = let g : ⊥ = cc in absurd g
-has-map f (other ∷ names) name there = by (bytes_eq name other) refl there (has-map f names name)
-  where
-    by : (b : Bool) → bytes_eq name other ≡ b → (b || has_name names name) ≡ true → (has_name names name ≡ true → has_name (map f names) (f name) ≡ true) → has_name (map f (other ∷ names)) (f name) ≡ true
-    by true e there more = ap (λ b. b || has_name (map f names) (f name)) ((bytes_eq-Decides (f name) (f other)).1 (ap f ((bytes_eq-Decides name other).0 e)))
-    by false e there more = (λ t. bytes_eq (f name) (f other) || more there t) ∙ or_true (bytes_eq (f name) (f other))
-
-has-left : (xs ys : List (List ℕ)) (name : List ℕ) → has_name xs name ≡ true → has_name (xs ++ ys) name ≡ true
-has-left xs ys name there = list_any-append (bytes_eq name) xs ys ∙ ap (λ b. b || has_name ys name) there
-
-has-right : (xs ys : List (List ℕ)) (name : List ℕ) → has_name ys name ≡ true → has_name (xs ++ ys) name ≡ true
-has-right xs ys name there = list_any-append (bytes_eq name) xs ys ∙ ap (λ b. has_name xs name || b) there ∙ or_true (has_name xs name)
-
--- a device's own names are among those of the devices
-own-there : (words : DeviceKind → List (List ℕ)) (devices : List Device) (i : ℕ) (d : Device) (word : List ℕ) → i < length devices → d ≡ get_or devices i d → has_name (words d.kind) word ≡ true → has_name (own_names words devices) (own d word) ≡ true
-own-there words [] i d word within is there = absurd (omega arith)
-own-there words (first ∷ devices) zero d word within is there =
-    ap (λ names. has_name names (own d word)) (flat_map-cons (λ (device : Device). map (λ word. dotted word device.name) (words device.kind)) first devices)
-    ∙ subst (λ (other : Device). has_name (map (λ word. dotted word other.name) (words other.kind) ++ own_names words devices) (own d word) ≡ true) is
-    (has-left (map (λ word. dotted word d.name) (words d.kind)) (own_names words devices) (own d word) (has-map (λ word. dotted word d.name) (words d.kind) word there))
-own-there words (first ∷ devices) (suc i) d word within is there =
-    ap (λ names. has_name names (own d word)) (flat_map-cons (λ (device : Device). map (λ word. dotted word device.name) (words device.kind)) first devices)
-    ∙ has-right (map (λ word. dotted word first.name) (words first.kind)) (own_names words devices) (own d word) (own-there words devices i d word (omega arith) is there)
-
--- a name that stands among some is seen
-seen-before : (seen names : List (List ℕ)) (name : List ℕ) → has_name seen name ≡ true → has_name (fold see seen names) name ≡ true
-seen-before seen [] name there = there
-seen-before seen (new ∷ names) name there = seen-before (see seen new) names name (by (has_name seen new))
-  where
-    by : (b : Bool) → has_name (cond b seen (seen ++ new ∷ [])) name ≡ true
-    by true = there
-    by false = has-left seen (new ∷ []) name there
-
-seen-now : (seen : List (List ℕ)) (name : List ℕ) → has_name (see seen name) name ≡ true
-seen-now seen name = by (has_name seen name) refl
-  where
-    by : (b : Bool) → has_name seen name ≡ b → has_name (cond b seen (seen ++ name ∷ [])) name ≡ true
-    by true e = e
-    by false e = has-right seen (name ∷ []) name (ap (λ b. b || false) (bytes_eq-refl name))
-
-pub seen-there : (seen names : List (List ℕ)) (name : List ℕ) → has_name names name ≡ true → has_name (fold see seen names) name ≡ true
-seen-there seen [] name there = let g : ⊥ = cc in absurd g
-seen-there seen (new ∷ names) name there = by (bytes_eq name new) refl there (seen-there (see seen new) names name)
-  where
-    by : (b : Bool) → bytes_eq name new ≡ b → (b || has_name names name) ≡ true → (has_name names name ≡ true → has_name (fold see (see seen new) names) name ≡ true) → has_name (fold see seen (new ∷ names)) name ≡ true
-    by true e there more = seen-before (see seen new) names name (subst (λ other. has_name (see seen other) name ≡ true) ((bytes_eq-Decides name new).0 e) (seen-now seen name))
-    by false e there more = more there
 
 filter-there : (names : List (List ℕ)) (name : List ℕ) → is_ground name ≡ false → has_name names name ≡ true → has_name (filter (λ node. not (is_ground node)) names) name ≡ true
 filter-there [] name above there = let g : ⊥ = cc in absurd g
 filter-there (other ∷ names) name above there = by (bytes_eq name other) refl there (filter-there names name above)
   where
     skip : (b : Bool) → has_name (filter (λ node. not (is_ground node)) names) name ≡ true → has_name (cond b (other ∷ filter (λ node. not (is_ground node)) names) (filter (λ node. not (is_ground node)) names)) name ≡ true
-    skip true rest = (λ t. bytes_eq name other || rest t) ∙ or_true (bytes_eq name other)
+    skip true rest = (λ t. bytes_eq name other || rest t) ∙ or-true (bytes_eq name other)
     skip false rest = rest
 
     by : (b : Bool) → bytes_eq name other ≡ b → (b || has_name names name) ≡ true → (has_name names name ≡ true → has_name (filter (λ node. not (is_ground node)) names) name ≡ true) → has_name (filter (λ node. not (is_ground node)) (other ∷ names)) name ≡ true
@@ -123,10 +76,10 @@ source-there (first ∷ devices) name is =
 
 module _ (devices : List Device) (i : ℕ) (d : Device) (within : i < length devices) (is : d ≡ get_or devices i d) (sourced : has_source d.kind ≡ true → is_source devices d.source ≡ true) where
   equation-own : (word : List ℕ) → has_name (equation_words d.kind) word ≡ true → has_name (equations_of devices) (own d word) ≡ true
-  equation-own word there = has-right (map (dotted (codes "kcl")) (nodes_of devices)) (own_names equation_words devices) (own d word) (own-there equation_words devices i d word within is there)
+  equation-own word there = has-right (map (dotted (codes "kcl")) (nodes_of devices)) (own_names equation_words devices) (own d word) (own-there (λ (device : Device). device.name) (λ (device : Device). equation_words device.kind) devices i d word within is there)
 
   unknown-own : (word : List ℕ) → has_name (unknown_words d.kind) word ≡ true → has_name (unknowns_of devices) (own d word) ≡ true
-  unknown-own word there = has-right (map (dotted (codes "u")) (nodes_of devices)) (own_names unknown_words devices) (own d word) (own-there unknown_words devices i d word within is there)
+  unknown-own word there = has-right (map (dotted (codes "u")) (nodes_of devices)) (own_names unknown_words devices) (own d word) (own-there (λ (device : Device). device.name) (λ (device : Device). unknown_words device.kind) devices i d word within is there)
 
   node-seen : (node : List ℕ) → IsNodeOf d node → has_name (nodes_of devices) node ≡ true
   node-seen node of = seen-there [] (filter (λ node. not (is_ground node)) (flat_map (λ (device : Device). device.nodes) devices)) node (filter-there (flat_map (λ (device : Device). device.nodes) devices) node of.above (nodes-there devices i d node within is of.there))

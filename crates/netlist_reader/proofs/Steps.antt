@@ -2,12 +2,17 @@
 use Rattle.std.proofs.Common.{◌≡◌, ℕ, ◌+◌, ◌<◌, Bool, true, false, not, ◌&&◌, ◌||◌, List, [], ◌∷◌, ◌++◌, take, length, get_or, zero, suc, refl, sym, ap, subst, ◌∙◌, arith, append-nil}
 use Rattle.std.specs.List.{IsDistinct, list_all}
 use Rattle.std.specs.Str.{bytes_eq}
+use Rattle.std.proofs.Math.Bool.{or-true}
 use Rattle.std.proofs.lemmas.List.{get_or-map, length-map, take-map, take_more}
 use Rattle.std.proofs.lemmas.List.Folds.{list_all_at}
 use Rattle.std.proofs.lemmas.Slice.Eq.{bytes_eq-Decides}
 use Rattle.mixed_model.specs.Models.{MixedModel}
 use Rattle.mixed_model.specs.Names.{has_name}
 use Rattle.mixed_model.specs.declared.errors.AddError.{AddError}
+use Rattle.term_model.specs.Putting.{AreFree, LacksRoom, PutsTerms, Says}
+use Rattle.term_model.proofs.Adding.{new_among}
+use Rattle.term_model.proofs.Clearing.{free-split}
+use Rattle.term_model.proofs.Lists.{Differ, distinct-differ}
 use Rattle.netlist_reader.specs.declared.kind.DeviceKind.{DeviceKind}
 use Rattle.netlist_reader.specs.declared.kind.DeviceKind.TheVariants.{Passive, Voltage, Current, VoltageByVoltage, CurrentByVoltage, CurrentByCurrent, VoltageByCurrent, Opamp, Transformer, Gyrator}
 use Rattle.netlist_reader.specs.Devices.{Device, device_names, has_source}
@@ -15,12 +20,9 @@ use Rattle.netlist_reader.specs.Terms.{terms_of}
 use Rattle.refusals.specs.declared.Why.TheVariants.{NoSuchSource}
 use Rattle.netlist_reader.specs.Rules.{is_source, is_voltage, unless}
 use Rattle.netlist_reader.specs.Circuits.{AreSourced, IsDevice}
-use Rattle.netlist_reader.specs.Putting.{AreFree, IsNew, LacksMemory, LacksRoom, PutsDevice, PutsTerms, Says, put_by}
-use Rattle.netlist_reader.proofs.Adding.{new_among}
-use Rattle.netlist_reader.proofs.Apart.{device-free, free-split}
+use Rattle.netlist_reader.specs.Putting.{IsNew, LacksMemory, PutsDevice, put_by}
+use Rattle.netlist_reader.proofs.Apart.{device-free}
 use Rattle.netlist_reader.proofs.Forms.{forms}
-use Rattle.netlist_reader.proofs.Lists.{Differ, distinct-differ}
-use Rattle.netlist_reader.proofs.Names.{or_true}
 use Rattle.netlist_reader.proofs.Placed.{new-free}
 use Rattle.netlist_reader.proofs.Sames.{says_device}
 
@@ -57,13 +59,13 @@ source-named (first ∷ devices) name is = by (is_voltage first.kind) (bytes_eq 
   where
     by : (a b : Bool) → bytes_eq name first.name ≡ b → ((a && b) || is_source devices name) ≡ true → (is_source devices name ≡ true → has_name (device_names devices) name ≡ true) → has_name (device_names (first ∷ devices)) name ≡ true
     by a true e is more = ap (λ b. b || has_name (device_names devices) name) e
-    by true false e is more = (λ t. bytes_eq name first.name || more is t) ∙ or_true (bytes_eq name first.name)
-    by false false e is more = (λ t. bytes_eq name first.name || more is t) ∙ or_true (bytes_eq name first.name)
+    by true false e is more = (λ t. bytes_eq name first.name || more is t) ∙ or-true (bytes_eq name first.name)
+    by false false e is more = (λ t. bytes_eq name first.name || more is t) ∙ or-true (bytes_eq name first.name)
 
 named-there : (devices : List Device) (i : ℕ) (d : Device) → i < length devices → d ≡ get_or devices i d → has_name (device_names devices) d.name ≡ true
 named-there [] i d within is = absurd (omega arith)
 named-there (first ∷ devices) zero d within is = ap (λ b. b || has_name (device_names devices) d.name) ((bytes_eq-Decides d.name first.name).1 (ap (λ (other : Device). other.name) is))
-named-there (first ∷ devices) (suc i) d within is = (λ t. bytes_eq d.name first.name || named-there devices i d (omega arith) is t) ∙ or_true (bytes_eq d.name first.name)
+named-there (first ∷ devices) (suc i) d within is = (λ t. bytes_eq d.name first.name || named-there devices i d (omega arith) is t) ∙ or-true (bytes_eq d.name first.name)
 
 -- the V device of a name is the one of that name
 the_source : (devices : List Device) (i : ℕ) (d : Device) → Differ (device_names devices) → i < length devices → d ≡ get_or devices i d → is_source devices d.name ≡ true → is_voltage d.kind ≡ true

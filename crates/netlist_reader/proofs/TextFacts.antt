@@ -13,7 +13,8 @@ use Rattle.mixed_model.specs.Entries.{RowEntry}
 use Rattle.mixed_model.specs.Models.{constant_at, symbol_of}
 use Rattle.mixed_model.specs.Names.{IsNameList, is_label}
 use Rattle.mixed_model.specs.Rows.{IsRow, IsWithin, IsFilled}
-use Rattle.netlist_reader.specs.Terms.{said_of, symbol_said, terms_of}
+use Rattle.term_model.specs.Terms.{said_of, symbol_said}
+use Rattle.netlist_reader.specs.Terms.{terms_of}
 use Rattle.netlist_reader.specs.Rules.{device_rules}
 use Rattle.netlist_reader.specs.Models.{GivesModel, IsRefusal, lines_in, source_rule_at}
 use Rattle.line_reader.specs.LineRules.{rule_at}

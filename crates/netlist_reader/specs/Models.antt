@@ -7,22 +7,23 @@ use Rattle.refusals.specs.declared.ReadModel.{ReadModel}
 use Rattle.refusals.specs.declared.ReadModel.TheVariants.{Refused, NoMemory}
 use Rattle.line_lexer.specs.Lines.{lines_of}
 use Rattle.line_reader.specs.LineRules.{KeepsAll, IsFirstBroken, words_in}
-use Rattle.mixed_model.specs.Models.{MixedModel, IsModel, constant_at, symbol_of}
+use Rattle.mixed_model.specs.Models.{MixedModel}
+use Rattle.term_model.specs.Systems.{System, IsModelOf as IsModelOfSystem}
 use Rattle.netlist_reader.specs.Devices.{Device, device_in, devices_in}
-use Rattle.netlist_reader.specs.Terms.{equations_of, unknowns_of, terms_of, said_of, symbol_said}
+use Rattle.netlist_reader.specs.Terms.{equations_of, unknowns_of, terms_of}
 use Rattle.netlist_reader.specs.Rules.{device_rules, ground_rule, source_rule}
 
+-- The system of some devices: their equations, their unknowns and their terms.
+abbrev pub system_of : ℕ → List Device → System
+system_of p devices = record {
+  equations = equations_of devices;
+  unknowns = unknowns_of devices;
+  terms = terms_of p devices;
+}
+
 -- The model of some devices: their equations and unknowns, and at each place what the devices' terms say of it.
-pub record IsModelOf (p : ℕ) (devices : List Device) (model : MixedModel) : Type 0 where
-  pub is_model : IsModel p model
-  pub equations_are : model.equations ≡ equations_of devices
-  pub unknowns_are : model.unknowns ≡ unknowns_of devices
-  pub constants_are : (i j : ℕ) → i < length model.equations → j < length model.unknowns
-      → constant_at model i j
-      ≡ said_of p (terms_of p devices) (slice_index_or model.equations i []) (slice_index_or model.unknowns j [])
-  pub symbols_are : (i j : ℕ) → i < length model.equations → j < length model.unknowns
-      → symbol_of model i j
-      ≡ symbol_said (terms_of p devices) (slice_index_or model.equations i []) (slice_index_or model.unknowns j [])
+abbrev pub IsModelOf : ℕ → List Device → MixedModel → Type 0
+IsModelOf p devices model = IsModelOfSystem p (system_of p devices) model
 
 -- the words of a text's lines: of one that is a comment as a whole, none
 abbrev pub lines_in : ℕ → List ℕ → List (List (List ℕ))

@@ -1,11 +1,11 @@
 -- The names of a circuit's unknowns or equations.
-use Rattle.std.specs.Prelude.{◌≡◌, ℕ, List, [], ◌++◌, map, codes}
-use Rattle.mixed_model.specs.Models.{MixedModel}
+use Rattle.std.specs.Prelude.{ℕ, List, ◌++◌, map, codes}
+use Rattle.term_model.specs.Terms.{dotted}
 use Rattle.netlist_reader.specs.declared.kind.DeviceKind.{DeviceKind}
 use Rattle.netlist_reader.specs.declared.side.Side.{Side}
 use Rattle.netlist_reader.specs.declared.side.Side.TheVariants.{Unknowns, Equations}
 use Rattle.netlist_reader.specs.Devices.{Device, nodes_of}
-use Rattle.netlist_reader.specs.Terms.{dotted, unknown_words, equation_words, own_names}
+use Rattle.netlist_reader.specs.Terms.{unknown_words, equation_words, own_names}
 
 -- the word before a node
 abbrev pub node_word : Side → List ℕ
@@ -20,7 +20,3 @@ own_words Equations = equation_words
 -- the names on a side: those of the nodes, and then those of the devices
 abbrev pub names_on : Side → List Device → List (List ℕ)
 names_on side devices = map (dotted (node_word side)) (nodes_of devices) ++ own_names (own_words side) devices
-
--- nothing stands in a model's equations
-abbrev pub IsBlank : MixedModel → Type 0
-IsBlank model = model.rows ≡ map (λ name. []) model.equations

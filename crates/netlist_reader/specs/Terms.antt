@@ -1,14 +1,10 @@
 -- The unknowns and the equations of devices, and the terms that stand in the equations.
-use Rattle.std.specs.Prelude.{ℕ, ◌-◌, ◌%◌, Bool, true, false, ◌&&◌, List, [], ◌∷◌, ◌++◌, map, codes, sum_by, if◌then◌else◌, slice_index_or}
-use Rattle.std.specs.List.{flat_map, list_any}
-use Rattle.std.specs.Str.{bytes_eq}
+use Rattle.std.specs.Prelude.{ℕ, ◌-◌, List, [], ◌∷◌, ◌++◌, map, codes, if◌then◌else◌, slice_index_or}
+use Rattle.std.specs.List.{flat_map}
+use Rattle.term_model.specs.Terms.{Term, constant, dotted, own_names_of, symbol}
 use Rattle.netlist_reader.specs.declared.kind.DeviceKind.{DeviceKind}
 use Rattle.netlist_reader.specs.declared.kind.DeviceKind.TheVariants.{Passive, Voltage, Current, VoltageByVoltage, CurrentByVoltage, CurrentByCurrent, VoltageByCurrent, Opamp, Transformer, Gyrator}
 use Rattle.netlist_reader.specs.Devices.{Device, is_ground, ground, nodes_of}
-
--- a word, a point and a name
-abbrev pub dotted : List ℕ → List ℕ → List ℕ
-dotted word name = word ++ codes "." ++ name
 
 -- the words of a device's own unknowns, in order
 abbrev pub unknown_words : DeviceKind → List (List ℕ)
@@ -30,7 +26,7 @@ equation_words _ = codes "kvl" ∷ codes "law" ∷ []
 
 -- some devices' own names, in order, by the words of their kinds
 abbrev pub own_names : (DeviceKind → List (List ℕ)) → List Device → List (List ℕ)
-own_names words devices = flat_map (λ device. map (λ word. dotted word device.name) (words device.kind)) devices
+own_names words devices = own_names_of (λ device. device.name) (λ device. words device.kind) devices
 
 -- The unknowns of some devices: a voltage for each node but the ground, and then each device's own.
 abbrev pub unknowns_of : List Device → List (List ℕ)
@@ -39,19 +35,6 @@ unknowns_of devices = map (dotted (codes "u")) (nodes_of devices) ++ own_names u
 -- Their equations: the currents at each node but the ground, and then each device's own.
 abbrev pub equations_of : List Device → List (List ℕ)
 equations_of devices = map (dotted (codes "kcl")) (nodes_of devices) ++ own_names equation_words devices
-
--- A term: what an equation has at an unknown, as a number that is added there, or a symbol.
-pub record Term : Type 0 where
-  pub equation : List ℕ
-  pub unknown : List ℕ
-  pub constant : ℕ
-  pub symbol : Bool
-
-abbrev pub constant : List ℕ → List ℕ → ℕ → Term
-constant equation unknown n = record { equation = equation; unknown = unknown; constant = n; symbol = false }
-
-abbrev pub symbol : List ℕ → List ℕ → Term
-symbol equation unknown = record { equation = equation; unknown = unknown; constant = 0; symbol = true }
 
 -- n times the voltage of a node, in an equation: nothing at the ground
 abbrev pub node_voltage : List ℕ → ℕ → List ℕ → List Term
@@ -131,16 +114,3 @@ terms_by p Gyrator d =
 -- the terms of some devices
 abbrev pub terms_of : ℕ → List Device → List Term
 terms_of p devices = flat_map (λ device. terms_by p device.kind device) devices
-
--- whether a term stands in this equation at this unknown
-abbrev pub stands_at : List ℕ → List ℕ → Term → Bool
-stands_at equation unknown term = bytes_eq equation term.equation && bytes_eq unknown term.unknown
-
--- What some terms say of a place: the sum of the constants there, modulo p. So 1 and -1 leave nothing.
-abbrev pub said_of : ℕ → List Term → List ℕ → List ℕ → ℕ
-said_of p terms equation unknown =
-    sum_by (λ term. if stands_at equation unknown term then term.constant else 0) terms % p
-
--- whether some terms say that a symbol stands there
-abbrev pub symbol_said : List Term → List ℕ → List ℕ → Bool
-symbol_said terms equation unknown = list_any (λ term. stands_at equation unknown term && term.symbol) terms

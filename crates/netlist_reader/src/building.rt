@@ -1,13 +1,12 @@
 //! The model of a circuit.
 
-ghost use Rattle.std.specs.Prelude.{◌≡◌, ◌++◌, ◌∷◌, [], All, map, IfOk, OnOk, IfErr};
+ghost use Rattle.std.specs.Prelude.{◌≡◌, [], All, map, IfOk, OnOk, IfErr};
 ghost use Rattle.std.specs.String.{string_bytes};
-ghost use Rattle.mixed_model.specs.Models.{IsModel};
 ghost use Rattle.mixed_model.specs.Names.{IsNameList};
+ghost use Rattle.term_model.specs.Putting.{IsBlank, IsPlaced, Says};
 ghost use Rattle.netlist_reader.specs.Circuits.{AreSourced, IsCircuit, IsDevice};
 ghost use Rattle.netlist_reader.specs.Models.{IsModelOf};
-ghost use Rattle.netlist_reader.specs.Naming.{IsBlank};
-ghost use Rattle.netlist_reader.specs.Putting.{IsPlaced, LacksMemory, PutsDevice, Says, put_by};
+ghost use Rattle.netlist_reader.specs.Putting.{LacksMemory, PutsDevice, put_by};
 ghost use Rattle.netlist_reader.specs.Terms.{equations_of, terms_of, unknowns_of};
 
 use crate::circuit::Circuit;

@@ -9,7 +9,6 @@ ghost use Rattle.netlist_reader.specs.Circuits.{IsCircuit, IsDevice};
 ghost use Rattle.netlist_reader.specs.ReaderStates.{AddsDevice, AddsName, IsReady, ReadsLine, TakesRoom, see_node, see_nodes};
 
 use crate::device::Device;
-use crate::fault::fault_of;
 use crate::kind::DeviceKind;
 use crate::words::{first_words, read_words};
 use limits::EQUATION_LIMIT;
@@ -138,15 +137,13 @@ impl<F: Field> Circuit<F> {
 }
 
 // Puts the name of a device last.
-#[tactic(auto, using(crate::proofs::Labels::name_is_label))]
+#[tactic(auto, using(term_model::proofs::Labels::name_is_label))]
 fn add_name(names: &mut Names, name: &str) -> Result<(), Fault>
     requires { is_name name.now ≡ true }
     ensures { AddsName names.old names.new name.now result }
 {
-    match names.add(name) {
-        Ok(_) => Ok(()),
-        Err(error) => Err(fault_of(error)),
-    }
+    names.add(name)?;
+    Ok(())
 }
 
 // Puts the nodes but the ground last, each unless it is there.
@@ -163,7 +160,7 @@ fn add_nodes(seen: &mut Names, nodes: &[String]) -> Result<(), Fault>
 }
 
 // Puts a node last, unless it is the ground or there.
-#[tactic(auto, using(crate::proofs::Labels::node_is_label, crate::proofs::NodeSteps::node_fault))]
+#[tactic(auto, using(term_model::proofs::Labels::node_is_label, crate::proofs::NodeSteps::node_fault))]
 fn add_node(seen: &mut Names, node: &str) -> Result<(), Fault>
     requires { is_node node.now ≡ true }
     ensures added { OnOk result (seen.new ≡ see_node seen.old node.now) }
@@ -173,8 +170,6 @@ fn add_node(seen: &mut Names, node: &str) -> Result<(), Fault>
     if node == "0" {
         return Ok(());
     }
-    match seen.find_or_add(node) {
-        Ok(_) => Ok(()),
-        Err(error) => Err(fault_of(error)),
-    }
+    seen.find_or_add(node)?;
+    Ok(())
 }

@@ -2,9 +2,10 @@
 
 ghost use Rattle.std.specs.Prelude.{◌≡◌, map, IfOk, OnOk, ◌++◌};
 ghost use Rattle.std.specs.String.{string_bytes};
+ghost use Rattle.term_model.specs.Terms.{dotted};
 ghost use Rattle.netlist_reader.specs.Circuits.{IsCircuit};
 ghost use Rattle.netlist_reader.specs.Naming.{node_word, own_words, names_on};
-ghost use Rattle.netlist_reader.specs.Terms.{dotted, own_names};
+ghost use Rattle.netlist_reader.specs.Terms.{own_names};
 
 use crate::circuit::Circuit;
 use crate::device::Device;
@@ -12,6 +13,7 @@ use crate::kind::DeviceKind;
 use out_of_memory::NoMemory;
 use residue_field::Field;
 use std::alloc::Global;
+use term_model::dotted;
 
 /// What is named.
 #[derive(Clone, Copy, Debug, PartialEq, Eq)]
@@ -62,16 +64,6 @@ fn equation_words(kind: DeviceKind) -> &'static [&'static str]
         DeviceKind::Transformer | DeviceKind::Gyrator => &["kvla", "kvlb", "lawa", "lawb"],
         _ => &["kvl", "law"],
     }
-}
-
-/// A word, a point and a name.
-pub(crate) fn dotted(alloc: Global, word: &str, name: &str) -> Result<String, NoMemory>
-    ensures { IfOk result (λ text. string_bytes text ≡ dotted word.now name.now) }
-{
-    let mut text = String::from_str(alloc, word)?;
-    text.push('.')?;
-    text.push_str(name)?;
-    Ok(text)
 }
 
 /// The names on a side, in order: those of the nodes, and then those of the devices.

@@ -2,14 +2,7 @@
 
 use residue_field::Field;
 use std::marker::Model;
-
-/// What stands at a place.
-#[derive(Clone, Copy)]
-pub(crate) enum Value<F: Field> {
-    /// A constant other than 0.
-    Constant(F),
-    Symbol,
-}
+use term_model::Value;
 
 /// What an equation has at an unknown, by their names.
 #[derive(Drop)]
@@ -21,8 +14,8 @@ pub(crate) struct Term<F: Field> {
 
 impl<F: Field> Model for Term<F> {
     ghost use Rattle.std.specs.String.{string_bytes};
-    ghost use Rattle.netlist_reader.specs.Terms.{Term};
-    ghost use Rattle.netlist_reader.specs.Putting.{constant_of_value, is_symbol};
+    ghost use Rattle.term_model.specs.Putting.{constant_of_value, is_symbol};
+    ghost use Rattle.term_model.specs.Terms.{Term};
 
     ghost Value = { Term };
 

@@ -1,19 +1,21 @@
 //! The terms of a device.
 
-ghost use Rattle.std.specs.Prelude.{◌≡◌, ◌≢◌, ◌+◌, ◌<◌, ◌≤◌, ◌∷◌, ◌++◌, [], ℕ, codes, length, OnOk, IfOk};
+ghost use Rattle.std.specs.Prelude.{◌≡◌, ◌≢◌, ◌+◌, ◌<◌, ◌≤◌, ◌∷◌, ◌++◌, [], codes, length, OnOk, IfOk};
 ghost use Rattle.std.specs.String.{string_bytes};
+ghost use Rattle.term_model.specs.Putting.{term_of_value};
+ghost use Rattle.term_model.specs.Terms.{constant, dotted};
 ghost use Rattle.netlist_reader.specs.Circuits.{IsDevice};
-ghost use Rattle.netlist_reader.specs.Putting.{constant_of_value, is_symbol, put_constant, put_difference, put_flow, put_voltage, put_branch_between, put_branch, put_two_branches, put_control, put_ratio, put_by};
-ghost use Rattle.netlist_reader.specs.Terms.{constant, symbol, dotted, own, node, node_voltage, node_current, proportion};
+ghost use Rattle.netlist_reader.specs.Putting.{put_constant, put_difference, put_flow, put_voltage, put_branch_between, put_branch, put_two_branches, put_control, put_ratio, put_by};
+ghost use Rattle.netlist_reader.specs.Terms.{own, node, node_voltage, node_current, proportion};
 
 use crate::device::Device;
 use crate::kind::DeviceKind;
-use crate::side::dotted;
-use crate::term::{Term, Value};
+use crate::term::Term;
 use out_of_memory::NoMemory;
 use residue_field::Field;
 use std::alloc::Global;
 use std::marker::Model;
+use term_model::{Value, dotted};
 
 const GROUND: &str = "0";
 
@@ -26,7 +28,7 @@ pub(crate) struct Terms<F: Field> {
 
 impl<F: Field> Model for Terms<F> {
     ghost use Rattle.std.specs.Prelude.{List};
-    ghost use Rattle.netlist_reader.specs.Terms.{Term};
+    ghost use Rattle.term_model.specs.Terms.{Term};
 
     ghost Value = { List Term };
 
@@ -280,12 +282,7 @@ impl<F: Field> Terms<F> {
 
     // Puts a term last.
     fn put(&mut self, equation: &str, unknown: &str, value: Value<F>) -> Result<(), NoMemory>
-        ensures { OnOk result (self.new ≡ self.old ++ record {
-          equation = equation.now;
-          unknown = unknown.now;
-          constant = constant_of_value F.number value;
-          symbol = is_symbol value;
-        } ∷ []) }
+        ensures { OnOk result (self.new ≡ self.old ++ term_of_value F.number equation.now unknown.now value ∷ []) }
     {
         let equation = String::from_str(self.alloc, equation)?;
         let unknown = String::from_str(self.alloc, unknown)?;

@@ -1,2 +1,3 @@
-pub mod Terms
 pub mod Putting
+pub mod Systems
+pub mod Terms

@@ -1,12 +1,15 @@
--- Terms: what an equation has at an unknown, by their names; and the model that they make.
-use Rattle.std.specs.Prelude.{◌≡◌, ℕ, ◌%◌, ◌<◌, Bool, true, false, ◌&&◌, List, [], ◌∷◌, ◌++◌, codes, length, sum_by, if◌then◌else◌, slice_index_or}
-use Rattle.std.specs.List.{list_any}
+-- Terms of equations, and what they say of a place.
+use Rattle.std.specs.Prelude.{ℕ, ◌%◌, Bool, true, false, ◌&&◌, List, ◌++◌, map, codes, sum_by, if◌then◌else◌}
+use Rattle.std.specs.List.{flat_map, list_any}
 use Rattle.std.specs.Str.{bytes_eq}
-use Rattle.mixed_model.specs.Models.{MixedModel, IsModel, constant_at, symbol_of}
 
 -- a word, a point and a name
 abbrev pub dotted : List ℕ → List ℕ → List ℕ
 dotted word name = word ++ codes "." ++ name
+
+-- the names that things have of their own, in order: each of a thing's words, a point and its name
+abbrev pub own_names_of : {X : Type 0} → (X → List ℕ) → (X → List (List ℕ)) → List X → List (List ℕ)
+own_names_of name words things = flat_map (λ thing. map (λ word. dotted word (name thing)) (words thing)) things
 
 -- A term: what an equation has at an unknown, as a number that is added there, or a symbol.
 pub record Term : Type 0 where
@@ -14,6 +17,12 @@ pub record Term : Type 0 where
   pub unknown : List ℕ
   pub constant : ℕ
   pub symbol : Bool
+
+abbrev pub constant : List ℕ → List ℕ → ℕ → Term
+constant equation unknown n = record { equation = equation; unknown = unknown; constant = n; symbol = false }
+
+abbrev pub symbol : List ℕ → List ℕ → Term
+symbol equation unknown = record { equation = equation; unknown = unknown; constant = 0; symbol = true }
 
 -- whether a term stands in this equation at this unknown
 abbrev pub stands_at : List ℕ → List ℕ → Term → Bool
@@ -27,21 +36,3 @@ said_of p terms equation unknown =
 -- whether some terms say that a symbol stands there
 abbrev pub symbol_said : List Term → List ℕ → List ℕ → Bool
 symbol_said terms equation unknown = list_any (λ term. stands_at equation unknown term && term.symbol) terms
-
--- A system of equations by names.
-pub record System : Type 0 where
-  pub equations : List (List ℕ)
-  pub unknowns : List (List ℕ)
-  pub terms : List Term
-
--- The model of a system: its equations and unknowns, and at each place what the terms say of it.
-pub record IsModelOf (p : ℕ) (system : System) (model : MixedModel) : Type 0 where
-  pub is_model : IsModel p model
-  pub equations_are : model.equations ≡ system.equations
-  pub unknowns_are : model.unknowns ≡ system.unknowns
-  pub constants_are : (i j : ℕ) → i < length model.equations → j < length model.unknowns
-      → constant_at model i j
-      ≡ said_of p system.terms (slice_index_or model.equations i []) (slice_index_or model.unknowns j [])
-  pub symbols_are : (i j : ℕ) → i < length model.equations → j < length model.unknowns
-      → symbol_of model i j
-      ≡ symbol_said system.terms (slice_index_or model.equations i []) (slice_index_or model.unknowns j [])

@@ -1,8 +1,13 @@
-//! Models that are said by terms: what stands at each place, by the names of its equation and of its unknown.
+//! Models said by terms: what each equation has at an unknown, by their names.
 #![tactic(auto)]
 
-mod naming;
+mod names;
+mod putting;
 mod value;
 
-pub use naming::dotted;
+pub use names::dotted;
+pub use putting::put_value;
 pub use value::Value;
+
+#[cfg(test)]
+mod tests;

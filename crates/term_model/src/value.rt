@@ -1,4 +1,4 @@
-//! What stands at a place.
+//! What an equation has at an unknown.
 
 use residue_field::Field;
 

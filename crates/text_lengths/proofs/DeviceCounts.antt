@@ -10,10 +10,11 @@ use Rattle.line_lexer.specs.Lines.{lines_of}
 use Rattle.line_lexer.specs.Tokens.{is_clean}
 use Rattle.line_reader.specs.LineRules.{is_remark, content, words_in, line_rule, KeepsAll}
 use Rattle.mixed_model.specs.Models.{MixedModel}
+use Rattle.term_model.specs.Terms.{dotted}
 use Rattle.netlist_reader.specs.declared.kind.DeviceKind.{DeviceKind}
 use Rattle.netlist_reader.specs.declared.kind.DeviceKind.TheVariants.{Passive, Voltage, Current, VoltageByVoltage, CurrentByVoltage, CurrentByCurrent, VoltageByCurrent, Opamp, Transformer, Gyrator}
 use Rattle.netlist_reader.specs.Devices.{Device, kind_of, is_directive, nodes_wanted, words_wanted, from_name, device_of, device_in, devices_in, is_ground, nodes_of}
-use Rattle.netlist_reader.specs.Terms.{dotted, unknown_words, equation_words, own_names, equations_of, unknowns_of}
+use Rattle.netlist_reader.specs.Terms.{unknown_words, equation_words, own_names, equations_of, unknowns_of}
 use Rattle.netlist_reader.specs.Rules.{shape_rule, kind_rule, words_rule, device_rules}
 use Rattle.netlist_reader.specs.Models.{GivesModel, lines_in}
 use Rattle.text_lengths.proofs.InputCounts.{bytes_of, text-bytes, words-short, seen-few}

@@ -1,6 +1,6 @@
 use Rattle.std.proofs.Common.{◌≡◌, map, take}
 use Rattle.std.specs.String.{string_bytes}
-use Rattle.netlist_reader.specs.Naming.{IsBlank}
+use Rattle.term_model.specs.Putting.{IsBlank}
 use Rattle.netlist_reader.proofs.building.add_equations.Given as goal
 
 abbrev pub invariant-loop-name : goal.invariant-loop-name

@@ -3,7 +3,7 @@ use Rattle.std.specs.String.{string_bytes}
 use Rattle.std.proofs.lemmas.List.{length-map}
 use Rattle.mixed_model.specs.Models.{MixedModel}
 use Rattle.mixed_model.specs.Names.{AnswersAdd, adding}
-use Rattle.netlist_reader.proofs.Adding.{label, refused, longer, text_at}
+use Rattle.term_model.proofs.Adding.{label, refused, longer, text_at}
 use Rattle.netlist_reader.proofs.building.add_unknowns.Goals as goal
 
 pub add_unknown-requires : goal.add_unknown-requires

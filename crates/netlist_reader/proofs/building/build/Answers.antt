@@ -1,8 +1,8 @@
 use Rattle.std.proofs.Common.{map, ap, sym, subst, ◌∙◌}
 use Rattle.std.specs.String.{string_bytes}
 use Rattle.mixed_model.specs.Names.{IsNameList}
+use Rattle.term_model.proofs.Blank.{blank_says}
 use Rattle.netlist_reader.proofs.NameLists.{equations-listed, unknowns-listed}
-use Rattle.netlist_reader.proofs.Blank.{blank_says}
 use Rattle.netlist_reader.proofs.building.build.Goals as goal
 
 pub add_unknowns-requires-clause-names : goal.add_unknowns-requires-clause-names

@@ -1,8 +1,9 @@
 use Rattle.std.proofs.Common.{All, refl, sym, subst, ◌∙◌}
 use Rattle.std.proofs.lemmas.Result.{on_ok_weaker, IfErr-weaker}
-use Rattle.netlist_reader.specs.Putting.{IsPlaced, IsPut, PutsTerms, LacksRoom, put_by}
+use Rattle.term_model.specs.Putting.{IsPlaced, IsPut, PutsTerms, LacksRoom}
+use Rattle.term_model.proofs.Lists.{all_at}
+use Rattle.netlist_reader.specs.Putting.{put_by}
 use Rattle.netlist_reader.proofs.Forms.{forms, puts}
-use Rattle.netlist_reader.proofs.Lists.{all_at}
 use Rattle.netlist_reader.proofs.Steps.{device_says, device_refused}
 use Rattle.netlist_reader.proofs.building.put_device.Goals as goal
 

@@ -1,9 +1,10 @@
 use Rattle.std.proofs.Common.{◌≡◌, ◌<◌, All, length, get_or, refl, sym, ap, subst, ◌∙◌, arith}
+use Rattle.term_model.specs.Putting.{IsPlaced}
+use Rattle.term_model.proofs.Lists.{all_at}
 use Rattle.netlist_reader.specs.Circuits.{IsDevice, Parts}
-use Rattle.netlist_reader.specs.Putting.{IsPlaced, put_by}
+use Rattle.netlist_reader.specs.Putting.{put_by}
 use Rattle.netlist_reader.specs.Terms.{equations_of, unknowns_of}
 use Rattle.netlist_reader.proofs.Forms.{forms}
-use Rattle.netlist_reader.proofs.Lists.{all_at}
 use Rattle.netlist_reader.proofs.Placed.{all-placed}
 use Rattle.netlist_reader.proofs.Steps.{sourced, is_new, next_says}
 use Rattle.netlist_reader.proofs.building.put_devices.Goals as goal

@@ -1,5 +1,5 @@
 use Rattle.std.proofs.Common.{◌≡◌, take}
-use Rattle.netlist_reader.specs.Putting.{Says}
+use Rattle.term_model.specs.Putting.{Says}
 use Rattle.netlist_reader.specs.Terms.{terms_of}
 use Rattle.netlist_reader.proofs.building.put_devices.Given as goal
 

@@ -5,7 +5,7 @@ use Rattle.std.proofs.lemmas.Result.{err_from_is_err_and}
 use Rattle.line_lexer.specs.Names.{is_node}
 use Rattle.refusals.specs.declared.Why.TheVariants.{TooMany}
 use Rattle.netlist_reader.specs.ReaderStates.{see_node, see_nodes}
-use Rattle.netlist_reader.proofs.FaultSteps.{on_same}
+use Rattle.line_reader.proofs.Faults.{on_same}
 use Rattle.netlist_reader.proofs.NodeSteps.{see_more, see_all}
 use Rattle.netlist_reader.proofs.circuit.add_nodes.Goals as goal
 

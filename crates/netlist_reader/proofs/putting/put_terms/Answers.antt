@@ -1,5 +1,5 @@
 use Rattle.std.proofs.Common.{◌∙◌, refl}
-use Rattle.netlist_reader.proofs.Taking.{begins, goes_on}
+use Rattle.term_model.proofs.Taking.{begins, goes_on}
 use Rattle.netlist_reader.proofs.putting.put_terms.Goals as goal
 
 pub loop-term-init : goal.loop-term-init

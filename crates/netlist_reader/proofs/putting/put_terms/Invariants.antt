@@ -1,5 +1,5 @@
 use Rattle.std.proofs.Common.{◌≡◌}
-use Rattle.netlist_reader.proofs.Taking.{PutsSoFar}
+use Rattle.term_model.proofs.Taking.{PutsSoFar}
 use Rattle.netlist_reader.proofs.putting.put_terms.Given as goal
 
 abbrev pub invariant-loop-term : goal.invariant-loop-term

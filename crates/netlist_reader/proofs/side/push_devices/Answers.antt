@@ -1,10 +1,10 @@
 use Rattle.std.proofs.Common.{◌≡◌, ◌++◌, length, map, get_or, ap, ◌∙◌, arith}
 use Rattle.std.specs.String.{string_bytes}
+use Rattle.term_model.specs.Terms.{dotted}
+use Rattle.term_model.proofs.Pushing.{texts_more}
 use Rattle.netlist_reader.specs.Circuits.{Parts}
 use Rattle.netlist_reader.specs.Devices.{Device}
 use Rattle.netlist_reader.specs.Naming.{own_words}
-use Rattle.netlist_reader.specs.Terms.{dotted}
-use Rattle.netlist_reader.proofs.Pushing.{texts_more}
 use Rattle.netlist_reader.proofs.side.push_devices.Goals as goal
 
 pub loop-device-preserved : goal.loop-device-preserved

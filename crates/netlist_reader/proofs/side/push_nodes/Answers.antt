@@ -2,9 +2,9 @@ use Rattle.std.proofs.Common.{◌≡◌, ◌<◌, [], Some, length, map, sym, ap
 use Rattle.std.specs.List.{slice_get}
 use Rattle.std.specs.String.{string_bytes}
 use Rattle.std.proofs.lemmas.Option.{get_or_from_slice_get}
+use Rattle.term_model.specs.Terms.{dotted}
+use Rattle.term_model.proofs.Pushing.{one_text_more}
 use Rattle.netlist_reader.specs.Circuits.{Parts}
-use Rattle.netlist_reader.specs.Terms.{dotted}
-use Rattle.netlist_reader.proofs.Pushing.{one_text_more}
 use Rattle.netlist_reader.proofs.side.push_nodes.Goals as goal
 
 pub loop-node-preserved : goal.loop-node-preserved

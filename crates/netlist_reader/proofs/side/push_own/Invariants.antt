@@ -1,6 +1,6 @@
 use Rattle.std.proofs.Common.{◌≡◌, map, ◌++◌, take}
 use Rattle.std.specs.String.{string_bytes}
-use Rattle.netlist_reader.specs.Terms.{dotted}
+use Rattle.term_model.specs.Terms.{dotted}
 use Rattle.netlist_reader.proofs.side.push_own.Given as goal
 
 abbrev pub invariant-loop-word : goal.invariant-loop-word

@@ -11,7 +11,7 @@ use Rattle.netlist_reader.specs.Devices.{Device, device_of, has_number, has_sour
 use Rattle.netlist_reader.specs.Rules.{number_rule}
 use Rattle.netlist_reader.specs.ReaderStates.{keeps_source_name, own_rule}
 use Rattle.netlist_reader.proofs.WordSteps.{bytes_of}
-use Rattle.netlist_reader.proofs.FaultSteps.{on_same}
+use Rattle.line_reader.proofs.Faults.{on_same}
 use Rattle.netlist_reader.proofs.DeviceSteps.{shape_kept, bad_node, bad_source, number_left, nodes_taken, device_kept, same_device}
 use Rattle.netlist_reader.proofs.words.read_device.Goals as goal
 

@@ -10,7 +10,7 @@ use Rattle.line_reader.specs.Answers.{AnswersRule}
 use Rattle.matrix_reader.specs.ReaderStates.{IsWithin, MarkedFrom, UnmarkedFrom, PutsValue, so_far}
 use Rattle.matrix_reader.proofs.MarkLaws.{Marks-from_mark}
 use Rattle.matrix_reader.proofs.ItemSteps.{unmarked_item, marked_item, grown_by_value, put_refused}
-use Rattle.matrix_reader.proofs.RuleSteps.{answers_fault}
+use Rattle.line_reader.proofs.Faults.{answers_fault}
 use Rattle.matrix_reader.proofs.reader.Reader.read_item.Goals as goal
 
 pub returns-in_err-j-clause-read : goal.returns-in_err-j-clause-read
@@ -28,8 +28,9 @@ returns-in_err-j-clause-read g c = λ before name items numbered at_line.
     (subst (λ unknown. UnmarkedFrom (position (bytes_eq unknown) old.unknowns) c.args.line old lines why) c.in-Ok.ensures.2 told))
     c.in_err-j.ensures.unmarked))
 
-pub returns-in-Err-put_value-clause-read : goal.returns-in-Err-put_value-clause-read
-returns-in-Err-put_value-clause-read g c = λ before name items numbered at_line.
+pub returns-in_err-put_value-clause-read : goal.returns-in_err-put_value-clause-read
+returns-in_err-put_value-clause-read g c = λ before name items numbered at_line.
+    let failed = err_from_is_err_and c.from_residual-in_err-put_value.result c.from_residual-in_err-put_value.ensures.1 in
     let old = c.args.self.now.model in
     let lines = c.args.self.now.last_lines.items in
     let item = c.args.item.now in
@@ -38,15 +39,16 @@ returns-in-Err-put_value-clause-read g c = λ before name items numbered at_line
     let j = c.in_ok-j.j in
     let rule = item_rule g.F.Field.modulus before (so_far name items) item in
     let left = IsWithin g.F.Field.modulus before (so_far name (items ++ item ∷ [])) c.args.line c.put_value.new.model c.mark.new.self.last_lines.items in
-    let error = c.in-Err-put_value.error in
+    let error = c.in_err-put_value.field-0.0 in
     let marks = Marks-from_mark g.F.Field.modulus before name items c.args.line old lines item at_line new new_lines j
     (subst (λ unknown. MarkedFrom g.F.Field.modulus (position (bytes_eq unknown) old.unknowns) c.args.line old new lines new_lines unknown j) c.in-Ok.ensures.2 c.in_ok-j.ensures.marked) in
-    subst (λ fault. AnswersRule rule left (Err fault)) (sym c.fault_of.ensures)
+    rw failed.1
+    (subst (λ fault. AnswersRule rule left (Err fault)) (sym failed.2)
     (put_refused g.F.Field.modulus before name items c.args.line old lines item at_line new new_lines j marks error rule left
-    (subst (λ i. constant_of new i j ≡ None → symbol_of new i j ≡ false → error ≡ NoMemory) numbered c.in-Err-put_value.ensures.refused))
+    (subst (λ i. constant_of new i j ≡ None → symbol_of new i j ≡ false → error ≡ NoMemory) numbered c.in_err-put_value.ensures.refused)))
 
-pub returns-in-Ok-put_value-clause-read : goal.returns-in-Ok-put_value-clause-read
-returns-in-Ok-put_value-clause-read g c = λ before name items numbered at_line.
+pub returns-clause-read : goal.returns-clause-read
+returns-clause-read g c = λ before name items numbered at_line.
     let old = c.args.self.now.model in
     let lines = c.args.self.now.last_lines.items in
     let item = c.args.item.now in
@@ -61,5 +63,5 @@ returns-in-Ok-put_value-clause-read g c = λ before name items numbered at_line.
       grown_by_value g.F.Field.modulus before name items c.args.line old lines item at_line new new_lines j marks last
           (subst (λ symbol. PutsValue g.F.Field.modulus new last (length (equations_in before)) j (item_constant g.F.Field.modulus item) symbol) c.in-Ok.ensures.4
           (subst (λ constant. PutsValue g.F.Field.modulus new last (length (equations_in before)) j constant value.symbol) c.in-Ok.ensures.3
-          (subst (λ i. PutsValue g.F.Field.modulus new last i j (g.F.Field.number value.constant) value.symbol) numbered c.in-Ok-put_value.ensures.put))),
+          (subst (λ i. PutsValue g.F.Field.modulus new last i j (g.F.Field.number value.constant) value.symbol) numbered c.in_ok-put_value.ensures.put))),
     )

@@ -6,7 +6,7 @@ use Rattle.netlist_reader.specs.Devices.{Device}
 use Rattle.netlist_reader.specs.Rules.{place_rule}
 use Rattle.netlist_reader.specs.Circuits.{Parts}
 use Rattle.netlist_reader.specs.ReaderStates.{PutsLast, see_nodes}
-use Rattle.netlist_reader.proofs.FaultSteps.{fault_answers}
+use Rattle.line_reader.proofs.Faults.{fault_answers}
 use Rattle.netlist_reader.proofs.CircuitSteps.{name-fault, nodes-fault, room-fault, counted, counted-kept}
 use Rattle.netlist_reader.proofs.circuit.Circuit.add.Goals as goal
 

@@ -1,10 +1,11 @@
 use Rattle.std.proofs.Common.{◌≡◌, ℕ, ◌-◌, ◌%◌, ◌+◌, ◌++◌, List, codes, sym, ap, ◌∙◌}
 use Rattle.std.proofs.lemmas.Result.{on_ok_weaker}
+use Rattle.term_model.specs.Terms.{Term}
+use Rattle.term_model.proofs.Pushing.{put_four}
 use Rattle.netlist_reader.specs.Devices.{Device}
 use Rattle.netlist_reader.specs.Putting.{put_constant}
-use Rattle.netlist_reader.specs.Terms.{own, Term}
+use Rattle.netlist_reader.specs.Terms.{own}
 use Rattle.netlist_reader.proofs.Numbers.{negative_is}
-use Rattle.netlist_reader.proofs.Pushing.{put_four}
 use Rattle.netlist_reader.proofs.terms.Terms.ratio.Goals as goal
 
 pub returns : goal.returns

@@ -1,4 +1,4 @@
-//! Names of two parts.
+//! Names behind a word and a point.
 
 ghost use Rattle.std.specs.Prelude.{◌≡◌, IfOk};
 ghost use Rattle.std.specs.String.{string_bytes};

@@ -1,6 +1,6 @@
 use Rattle.std.proofs.Common.{◌≡◌, true, false, ◌∙◌, sym}
 use Rattle.mixed_model.proofs.NameLaws.{has_name-Some, has_name-None}
-use Rattle.netlist_reader.proofs.putting.equation_of.Goals as goal
+use Rattle.term_model.proofs.putting.equation_of.Goals as goal
 
 pub unreachable-requires : goal.unreachable-requires
 unreachable-requires g c =

@@ -6,8 +6,7 @@ use Rattle.std.specs.String.{string_bytes}
 use Rattle.std.proofs.lemmas.List.{take_more, length-take-le, get_or-take, get_or-map, get_or_default}
 use Rattle.std.proofs.lemmas.List.Folds.{list_any_none}
 use Rattle.mixed_model.specs.Names.{IsNameList, is_label, has_name, adding, appending, AnswersAdd}
-use Rattle.mixed_model.proofs.NameLaws.{appending-Ok}
-use Rattle.netlist_reader.proofs.Names.{names_apart}
+use Rattle.mixed_model.proofs.NameLaws.{appending-Ok, names_apart}
 use Rattle.mixed_model.specs.declared.errors.AddError.{AddError}
 use Rattle.mixed_model.specs.declared.errors.AddError.TheVariants.{Twice, TooMany, NoMemory}
 

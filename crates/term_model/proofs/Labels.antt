@@ -6,7 +6,7 @@ use Rattle.std.proofs.lemmas.List.Folds.{list_all-append}
 use Rattle.std.proofs.lemmas.Bool.{le-leb, leb-true}
 use Rattle.line_lexer.specs.Names.{begins_name, continues_name, is_name, is_node}
 use Rattle.mixed_model.specs.Names.{is_label}
-use Rattle.netlist_reader.specs.Terms.{dotted}
+use Rattle.term_model.specs.Terms.{dotted}
 
 -- no space and no tab
 abbrev is_solid : ℕ → Bool

@@ -2,8 +2,8 @@
 use Rattle.std.proofs.Common.{◌≡◌, ℕ, ◌+◌, ◌<◌, List, [], ◌∷◌, ◌++◌, length, take, drop, get_or, sym, ap, subst, ◌∙◌, append_assoc, append-nil}
 use Rattle.std.proofs.lemmas.List.{take_more, drop_more}
 use Rattle.mixed_model.specs.Models.{MixedModel}
-use Rattle.netlist_reader.specs.Terms.{Term}
-use Rattle.netlist_reader.specs.Putting.{AreFree, Says, PutsTerms}
+use Rattle.term_model.specs.Putting.{AreFree, Says, PutsTerms}
+use Rattle.term_model.specs.Terms.{Term}
 
 -- what is left once the first terms are put
 pub record PutsSoFar (p : ℕ) (old now : MixedModel) (terms : List Term) (i : ℕ) : Type 0 where

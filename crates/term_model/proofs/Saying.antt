@@ -4,8 +4,8 @@ use Rattle.std.specs.List.{sum_by, list_any}
 use Rattle.std.proofs.lemmas.List.Sums.{sum_by-append, sum_by-cons}
 use Rattle.std.proofs.lemmas.List.Folds.{list_any-append}
 use Rattle.std.proofs.Math.Nat.{add-mod, zero-mod, mod-eq_of_lt}
-use Rattle.netlist_reader.specs.Terms.{Term, said_of, symbol_said, stands_at}
-use Rattle.netlist_reader.specs.Putting.{IsFree}
+use Rattle.term_model.specs.Putting.{IsFree}
+use Rattle.term_model.specs.Terms.{Term, said_of, symbol_said, stands_at}
 
 -- what a term has at a place
 abbrev pub part_at : List ℕ → List ℕ → Term → ℕ

@@ -5,8 +5,7 @@ use Rattle.std.proofs.Math.Nat.{zero-mod}
 use Rattle.mixed_model.specs.Entries.{RowEntry}
 use Rattle.mixed_model.specs.Models.{MixedModel, row_of}
 use Rattle.mixed_model.specs.Rows.{constant_in, symbol_in}
-use Rattle.netlist_reader.specs.Naming.{IsBlank}
-use Rattle.netlist_reader.specs.Putting.{Says}
+use Rattle.term_model.specs.Putting.{IsBlank, Says}
 
 no_row : (model : MixedModel) → IsBlank model → (i : ℕ) → row_of model i ≡ []
 no_row model blank i = ap (λ rows. get_or rows i []) blank ∙ get_or-map {A = List ℕ} {B = List RowEntry} (λ name. []) model.equations i []

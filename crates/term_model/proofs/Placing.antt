@@ -7,10 +7,11 @@ use Rattle.mixed_model.specs.Names.{AnswersAdd}
 use Rattle.mixed_model.specs.Rows.{putting, putting_symbol}
 use Rattle.mixed_model.specs.declared.errors.AddError.{AddError}
 use Rattle.mixed_model.specs.declared.errors.AddError.TheVariants.{Twice, TooMany, NoMemory}
-use Rattle.netlist_reader.specs.Terms.{Term, said_of, symbol_said, stands_at}
-use Rattle.netlist_reader.specs.Putting.{IsFree, IsPlaceOf, Says, PutsTerms, LacksRoom}
-use Rattle.netlist_reader.proofs.Names.{constant_of-None, stands_once}
-use Rattle.netlist_reader.proofs.Saying.{said_of-append, said_of-free, said_of-one, symbol_said-append, symbol_said-free}
+use Rattle.term_model.specs.Putting.{IsFree, IsPlaceOf, Says, PutsTerms, LacksRoom}
+use Rattle.term_model.specs.Terms.{Term, said_of, symbol_said, stands_at}
+use Rattle.term_model.proofs.Saying.{said_of-append, said_of-free, said_of-one, symbol_said-append, symbol_said-free}
+use Rattle.mixed_model.proofs.ModelLaws.{constant_of-None}
+use Rattle.mixed_model.proofs.NameLaws.{stands_once}
 
 -- what is put at the place of equation i and unknown j
 module _ (p : ℕ) (old : MixedModel) (i j : ℕ) (term : Term) (is : IsModel p old)
@@ -94,9 +95,9 @@ module _ (p : ℕ) (old : MixedModel) (i j : ℕ) (term : Term) (is : IsModel p 
       }
 
 -- a constant that is put
-pub constant_put : (p : ℕ) (old new : MixedModel) (i j c : ℕ) (term : Term) → IsModel p old → IsPlaceOf old term i j → term.constant ≡ c → term.symbol ≡ false → c < p → PutsAt old new i j c → PutsTerms p old new (term ∷ [])
+pub constant_put : (p : ℕ) (old new : MixedModel) (i j c : ℕ) (term : Term) → IsModel p old → IsPlaceOf old term.equation term.unknown i j → term.constant ≡ c → term.symbol ≡ false → c < p → PutsAt old new i j c → PutsTerms p old new (term ∷ [])
 constant_put p old new i j c term is place constant symbol below puts before says free =
-    says_more p old i j term is place.row place.column place.equation place.unknown before says free.0 new
+    says_more p old i j term is place.row place.column place.equation_is place.unknown_is before says free.0 new
     (subst (λ n. n < p) (sym constant) below) puts.equations puts.unknowns
     (λ k l rk cl. ap (λ o. unwrap_or o 0) (puts.constants k l) ∙ chosen (nat_eq i k && nat_eq j l) k l)
     (λ k l rk cl. puts.symbols k l ∙ same (nat_eq i k && nat_eq j l) (symbol_of old k l))
@@ -110,15 +111,15 @@ constant_put p old new i j c term is place constant symbol below puts before say
     same false old_symbol = refl
 
 -- a symbol that is put
-pub symbol_put : (p : ℕ) (old new : MixedModel) (i j : ℕ) (term : Term) → IsModel p old → IsPlaceOf old term i j → term.constant ≡ 0 → term.symbol ≡ true → 0 < p → PutsSymbolAt old new i j → PutsTerms p old new (term ∷ [])
+pub symbol_put : (p : ℕ) (old new : MixedModel) (i j : ℕ) (term : Term) → IsModel p old → IsPlaceOf old term.equation term.unknown i j → term.constant ≡ 0 → term.symbol ≡ true → 0 < p → PutsSymbolAt old new i j → PutsTerms p old new (term ∷ [])
 symbol_put p old new i j term is place constant symbol some puts before says free =
-    says_more p old i j term is place.row place.column place.equation place.unknown before says free.0 new
+    says_more p old i j term is place.row place.column place.equation_is place.unknown_is before says free.0 new
     (subst (λ n. n < p) (sym constant) some) puts.equations puts.unknowns
     (λ k l rk cl. ap (λ o. unwrap_or o 0) (puts.constants k l) ∙ by k l rk cl (nat_eq i k) refl (nat_eq j l) refl)
     (λ k l rk cl. puts.symbols k l ∙ same (nat_eq i k && nat_eq j l) (symbol_of old k l))
   where
     none : constant_at old i j ≡ 0
-    none = ap (λ o. unwrap_or o 0) (nothing_there p old i j term is place.row place.column place.equation place.unknown before says free.0)
+    none = ap (λ o. unwrap_or o 0) (nothing_there p old i j term is place.row place.column place.equation_is place.unknown_is before says free.0)
 
     by : (k l : ℕ) → k < length old.equations → l < length old.unknowns → (a : Bool) → nat_eq i k ≡ a → (b : Bool) → nat_eq j l ≡ b → constant_at old k l ≡ cond (nat_eq i k && nat_eq j l) term.constant (constant_at old k l)
     by k l rk cl false e b f = (λ t. cond (sym e t && nat_eq j l) term.constant (constant_at old k l))
@@ -133,10 +134,10 @@ symbol_put p old new i j term is place constant symbol some puts before says fre
     same false old_symbol = refl
 
 -- where nothing stands, memory alone is wanting
-pub constant_refused : (p : ℕ) (old : MixedModel) (i j : ℕ) (term : Term) (result : Result (Unit {0}) AddError) → IsModel p old → IsPlaceOf old term i j → AnswersAdd result (putting (row_of old i) j) → IfErr result (LacksRoom p old (term ∷ []))
+pub constant_refused : (p : ℕ) (old : MixedModel) (i j : ℕ) (term : Term) (result : Result (Unit {0}) AddError) → IsModel p old → IsPlaceOf old term.equation term.unknown i j → AnswersAdd result (putting (row_of old i) j) → IfErr result (LacksRoom p old (term ∷ []))
 constant_refused p old i j term (Ok done) is place answer = tt
 constant_refused p old i j term (Err error) is place answer = λ before says free.
-    let none : is_some (constant_of old i j) ≡ false = ap is_some (nothing_there p old i j term is place.row place.column place.equation place.unknown before says free.0) in
+    let none : is_some (constant_of old i j) ≡ false = ap is_some (nothing_there p old i j term is place.row place.column place.equation_is place.unknown_is before says free.0) in
     by error answer (ap (λ b. cond b (Err Twice) (Ok tt)) none)
   where
     by : (error : AddError) → AnswersAdd {T = Unit {0}} (Err error) (putting (row_of old i) j) → putting (row_of old i) j ≡ Ok tt → error ≡ NoMemory
@@ -144,10 +145,10 @@ constant_refused p old i j term (Err error) is place answer = λ before says fre
     by TooMany told kept = let both : ◌≡◌ {A = Result (Unit {0}) AddError} (Ok tt) (Err TooMany) = sym kept ∙ told in let f : ⊥ = cc in absurd f
     by NoMemory told kept = refl
 
-pub symbol_refused : (p : ℕ) (old : MixedModel) (i j : ℕ) (term : Term) (result : Result (Unit {0}) AddError) → IsModel p old → IsPlaceOf old term i j → AnswersAdd result (putting_symbol (row_of old i) j) → IfErr result (LacksRoom p old (term ∷ []))
+pub symbol_refused : (p : ℕ) (old : MixedModel) (i j : ℕ) (term : Term) (result : Result (Unit {0}) AddError) → IsModel p old → IsPlaceOf old term.equation term.unknown i j → AnswersAdd result (putting_symbol (row_of old i) j) → IfErr result (LacksRoom p old (term ∷ []))
 symbol_refused p old i j term (Ok done) is place answer = tt
 symbol_refused p old i j term (Err error) is place answer = λ before says free.
-    let none : symbol_of old i j ≡ false = no_symbol_there p old i j term is place.row place.column place.equation place.unknown before says free.0 in
+    let none : symbol_of old i j ≡ false = no_symbol_there p old i j term is place.row place.column place.equation_is place.unknown_is before says free.0 in
     by error answer (ap (λ b. cond b (Err Twice) (Ok tt)) none)
   where
     by : (error : AddError) → AnswersAdd {T = Unit {0}} (Err error) (putting_symbol (row_of old i) j) → putting_symbol (row_of old i) j ≡ Ok tt → error ≡ NoMemory

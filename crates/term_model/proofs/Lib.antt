@@ -1,0 +1,15 @@
+pub mod Adding
+pub mod Blank
+pub mod Clearing
+pub mod DottedNames
+pub mod Growing
+pub mod Labels
+pub mod Lists
+pub mod NamesAmong
+pub mod OwnNames
+pub mod Placing
+pub mod Pushing
+pub mod Sames
+pub mod Saying
+pub mod Systems
+pub mod Taking
