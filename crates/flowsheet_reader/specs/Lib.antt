@@ -2,6 +2,7 @@ pub mod Adding
 pub mod Answers
 pub mod Chains
 pub mod Feeding
+pub mod Growing
 pub mod Keeping
 pub mod Kinds
 pub mod Models

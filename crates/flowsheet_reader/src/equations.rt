@@ -5,16 +5,19 @@ ghost use Rattle.std.specs.List.{zip};
 ghost use Rattle.std.specs.String.{string_bytes};
 ghost use Rattle.flowsheet_reader.specs.Kinds.{balance, mixer, reactor, relation, separator, specification, tee};
 
+use crate::equation_list::EquationList;
 use crate::names::NameSet;
 use crate::part::UnitPart;
+use crate::summands::Summands;
 use crate::version::Version;
 use out_of_memory::NoMemory;
 use residue_field::Field;
 use std::alloc::Global;
+use term_model::dotted;
 
 /// What comes out of a mixer is the sum of what goes in.
 pub(crate) fn mixer<F: Field>(
-    _alloc: Global,
+    alloc: Global,
     components: &NameSet,
     unit: &str,
     inlets: &[String],
@@ -23,11 +26,16 @@ pub(crate) fn mixer<F: Field>(
     ensures { IfOk result (λ part. part
         ≡ mixer F.modulus components.now unit.now (map string_bytes inlets.now) outlet.now) }
 {
-    Err(NoMemory)
+    let mut equations = EquationList::new(alloc);
+    for component in components.as_slice() {
+        equations.mixed(unit, component, inlets, outlet)?;
+    }
+    Ok(equations.alone())
 }
 
+/// What goes into a separator is the sum of what comes out, and how it splits is open.
 pub(crate) fn separator<F: Field>(
-    _alloc: Global,
+    alloc: Global,
     version: Version,
     components: &NameSet,
     unit: &str,
@@ -37,11 +45,17 @@ pub(crate) fn separator<F: Field>(
     ensures { IfOk result (λ part. part
         ≡ separator F.modulus version components.now unit.now inlet.now (map string_bytes outlets.now)) }
 {
-    Err(NoMemory)
+    let mut equations = EquationList::new(alloc);
+    for component in components.as_slice() {
+        equations.conserved(unit, component, inlet, outlets)?;
+        equations.open_splits(version, unit, component, inlet, outlets)?;
+    }
+    Ok(equations.alone())
 }
 
+/// What goes into a tee is the sum of what comes out, and each outlet but the last has its fraction.
 pub(crate) fn tee<F: Field>(
-    _alloc: Global,
+    alloc: Global,
     version: Version,
     components: &NameSet,
     unit: &str,
@@ -52,11 +66,17 @@ pub(crate) fn tee<F: Field>(
     ensures { IfOk result (λ part. part ≡ tee F.modulus version components.now unit.now inlet.now
         (map string_bytes outlets.now) (map F.number fractions.now)) }
 {
-    Err(NoMemory)
+    let mut equations = EquationList::new(alloc);
+    for component in components.as_slice() {
+        equations.conserved(unit, component, inlet, outlets)?;
+        equations.fixed_splits(version, unit, component, inlet, outlets, fractions)?;
+    }
+    Ok(equations.alone())
 }
 
+/// What comes out of a reactor is what goes in and what the reaction makes, by the coefficients of the components.
 pub(crate) fn reactor<F: Field>(
-    _alloc: Global,
+    alloc: Global,
     components: &NameSet,
     unit: &str,
     inlet: &str,
@@ -66,37 +86,59 @@ pub(crate) fn reactor<F: Field>(
     ensures { IfOk result (λ part. part
         ≡ reactor F.modulus unit.now inlet.now outlet.now (zip components.now (map F.number coefficients.now))) }
 {
-    Err(NoMemory)
+    let mut equations = EquationList::new(alloc);
+    for (component, coefficient) in components.as_slice().iter().zip(coefficients) {
+        equations.made(unit, component, inlet, outlet, *coefficient)?;
+    }
+    equations.with_unknown(dotted(alloc, "x", unit)?)
 }
 
+/// The flow of a component in a stream is given.
 pub(crate) fn specification<F: Field>(
-    _alloc: Global,
+    alloc: Global,
     unit: &str,
     stream: &str,
     component: &str,
 ) -> Result<UnitPart<F>, NoMemory>
     ensures { IfOk result (λ part. part ≡ specification unit.now stream.now component.now) }
 {
-    Err(NoMemory)
+    let mut equations = EquationList::new(alloc);
+    let mut given = Summands::new(alloc);
+    given.flow(stream, component)?;
+    equations.push(given.named(dotted(alloc, "spec", unit)?))?;
+    Ok(equations.alone())
 }
 
+/// A heat is a combination, whose coefficients are open, of all flows of some streams.
 pub(crate) fn balance<F: Field>(
-    _alloc: Global,
+    alloc: Global,
     components: &NameSet,
     unit: &str,
     streams: &[String],
 ) -> Result<UnitPart<F>, NoMemory>
     ensures { IfOk result (λ part. part ≡ balance components.now unit.now (map string_bytes streams.now)) }
 {
-    Err(NoMemory)
+    let mut equations = EquationList::new(alloc);
+    let mut heat = Summands::new(alloc);
+    heat.once(dotted(alloc, "q", unit)?)?;
+    for stream in streams {
+        heat.open_flows(stream, components.as_slice())?;
+    }
+    equations.push(heat.named(dotted(alloc, "heat", unit)?))?;
+    equations.with_unknown(dotted(alloc, "q", unit)?)
 }
 
+/// An open relation between unknowns.
 pub(crate) fn relation<F: Field>(
-    _alloc: Global,
+    alloc: Global,
     unit: &str,
     unknowns: &[String],
 ) -> Result<UnitPart<F>, NoMemory>
     ensures { IfOk result (λ part. part ≡ relation unit.now (map string_bytes unknowns.now)) }
 {
-    Err(NoMemory)
+    let mut equations = EquationList::new(alloc);
+    let mut related = Summands::new(alloc);
+    related.open_each(unknowns)?;
+    equations.push(related.named(dotted(alloc, "rel", unit)?))?;
+    Ok(equations.alone())
 }
