@@ -16,7 +16,7 @@ pub mod Sound
 pub mod Spelled
 pub mod SplitNames
 pub mod SummandTerms
-pub mod Summands
+pub mod SummandLaws
 pub mod UnitKept
 pub mod UnitParts
 pub mod UnitSteps

@@ -19,7 +19,7 @@ use Rattle.flowsheet_reader.proofs.Dots.{unit_of, word_of}
 use Rattle.flowsheet_reader.proofs.EquationNames.{names_of}
 use Rattle.flowsheet_reader.proofs.Keyed.{all-both, all-own, all-weaker, has-back, has-front, has-more, has-self}
 use Rattle.flowsheet_reader.proofs.Spelled.{IsShort, IsSpelled, spelled-label}
-use Rattle.flowsheet_reader.proofs.Summands.{Stand, flow-word, flows-differ, stand-summands}
+use Rattle.flowsheet_reader.proofs.SummandLaws.{Stand, flow-word, flows-differ, stand-summands}
 use Rattle.flowsheet_reader.proofs.UnitParts.{IsUnitPart}
 
 -- what a flowsheet's names tell

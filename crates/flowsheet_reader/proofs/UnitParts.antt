@@ -17,7 +17,7 @@ use Rattle.flowsheet_reader.proofs.EquationNames.{AreNames, AreNumbers, IsWord, 
 use Rattle.flowsheet_reader.proofs.Keyed.{all-both, all-own, all-weaker, has-back, has-front, has-self, none-keyed}
 use Rattle.flowsheet_reader.proofs.Spelled.{IsShort, IsSpelled, spelled-dotted, spelled-more}
 use Rattle.flowsheet_reader.proofs.SplitNames.{AreOf, Fits, balance-and-splits, flat-each}
-use Rattle.flowsheet_reader.proofs.Summands.{Stand, flow-word, has-flow, flows-differ, less-differ, less-filled, less-new, less-there, minus-filled, one-filled, open-filled, open-stands, share-stands, sum-stands, unknowns_of}
+use Rattle.flowsheet_reader.proofs.SummandLaws.{Stand, flow-word, has-flow, flows-differ, less-differ, less-filled, less-new, less-there, minus-filled, one-filled, open-filled, open-stands, share-stands, sum-stands, unknowns_of}
 
 -- what a unit adds beside flows and other unknowns
 pub record IsUnitPart (p : ℕ) (unknowns : List (List ℕ)) (unit : List ℕ) (part : UnitPart) : Type 0 where

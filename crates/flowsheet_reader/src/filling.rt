@@ -1,17 +1,23 @@
 //! A flowsheet that fills, unit by unit.
 
-ghost use Rattle.std.specs.Prelude.{◌≡◌, ◌<◌, ◌≤◌, ◌+◌, [], length, map, IfErr, IfOk, OnOk};
+ghost use Rattle.std.specs.Prelude.{◌≡◌, ◌≤◌, ◌+◌, ◌++◌, [], length, map, IfErr, IfOk, OnOk};
+ghost use Rattle.std.specs.String.{string_bytes};
 ghost use Rattle.limits.specs.Limits.{equation_limit};
 ghost use Rattle.refusals.specs.Faults.{OnBroken};
+ghost use Rattle.term_model.specs.Systems.{IsModelOf, System};
 ghost use Rattle.toml.specs.View.{view};
+ghost use Rattle.flowsheet_reader.specs.Adding.{ArePlaced, IsNewPart};
 ghost use Rattle.flowsheet_reader.specs.Answers.{OnRefused};
+ghost use Rattle.flowsheet_reader.specs.Kinds.{flow, flows};
 ghost use Rattle.flowsheet_reader.specs.Models.{unit_at, units_in};
+ghost use Rattle.flowsheet_reader.specs.Parts.{system_of, together};
 ghost use Rattle.flowsheet_reader.specs.Reached.{AreListed, Grows, IsKept, IsRefusedBy, Keeps};
 ghost use Rattle.flowsheet_reader.specs.Sheets.{sheet_without_units};
 ghost use Rattle.flowsheet_reader.specs.Units.{add_unit};
 
 use crate::adding::add_part;
 use crate::names::NameSet;
+use crate::naming::flow;
 use crate::part::UnitPart;
 use crate::refusing::at_or_memory;
 use crate::sheet::Sheet;
@@ -22,7 +28,6 @@ use out_of_memory::NoMemory;
 use refusals::{Fault, Place, ReadModel};
 use residue_field::Field;
 use std::alloc::Global;
-use term_model::dotted;
 use toml::Value;
 
 impl<F: Field> Sheet<F> {
@@ -91,5 +96,56 @@ impl<F: Field> Sheet<F> {
         add_part(&mut self.model, &part)?;
         self.units.push(&name)?;
         Ok(())
+    }
+}
+
+// The flows of some components in some streams, stream by stream.
+fn flows(alloc: Global, components: &NameSet, streams: &NameSet) -> Result<Vec<String>, NoMemory>
+    ensures { IfOk result (λ names. map string_bytes names.items ≡ flows components.now streams.now) }
+{
+    let mut names = Vec::new(alloc);
+    for stream in streams.as_slice() {
+        push_flows(alloc, &mut names, stream, components)?;
+    }
+    Ok(names)
+}
+
+// Puts the flows of some components in a stream last.
+fn push_flows(
+    alloc: Global,
+    names: &mut Vec<String>,
+    stream: &str,
+    components: &NameSet,
+) -> Result<(), NoMemory>
+    ensures { OnOk result (map string_bytes names.new.items
+        ≡ map string_bytes names.old.items ++ map (flow stream.now) components.now) }
+{
+    for component in components.as_slice() {
+        names.push(flow(alloc, stream, component)?)?;
+    }
+    Ok(())
+}
+
+// Adds flows to an empty model, which has room for them.
+fn add_flows<F: Field>(model: &mut Mixed<F>, part: &UnitPart<F>) -> Result<(), NoMemory>
+    requires new { IsNewPart F.modulus model.old.equations model.old.unknowns part.now }
+    requires equations { length (model.old.equations ++ map (λ equation. equation.name) part.now.equations) ≤ equation_limit }
+    requires unknowns { length (model.old.unknowns ++ part.now.unknowns) ≤ equation_limit }
+    ensures { OnOk result ((system : System) → ArePlaced system → IsModelOf F.modulus system model.old
+        → IsModelOf F.modulus (together system (system_of part.now)) model.new) }
+{
+    match add_part(model, part) {
+        Ok(()) => Ok(()),
+        Err(fault) => Err(want_of_memory(fault)),
+    }
+}
+
+// The one fault that is left where there is room.
+fn want_of_memory(fault: Fault) -> NoMemory
+    requires { fault ≡ Fault.NoMemory }
+{
+    match fault {
+        Fault::NoMemory => NoMemory,
+        Fault::Broken(_) => unreachable!(),
     }
 }

@@ -5,6 +5,8 @@ mod adding;
 mod document;
 mod equation_list;
 mod equations;
+mod filling;
+mod flowsheet;
 mod kind;
 mod names;
 mod naming;
@@ -16,3 +18,5 @@ mod unit;
 mod unit_keys;
 mod values;
 mod version;
+
+pub use flowsheet::{FlowsheetReader, read};
