@@ -4,6 +4,7 @@ pub mod Declaring
 pub mod Dots
 pub mod EquationNames
 pub mod Free
+pub mod Growing
 pub mod Inversion
 pub mod Items
 pub mod Keyed
@@ -12,11 +13,12 @@ pub mod NumberedPairs
 pub mod Numbers
 pub mod Pairing
 pub mod Rooms
+pub mod SaidBy
 pub mod Sound
 pub mod Spelled
 pub mod SplitNames
-pub mod SummandTerms
 pub mod SummandLaws
+pub mod SummandTerms
 pub mod UnitKept
 pub mod UnitParts
 pub mod UnitSteps
