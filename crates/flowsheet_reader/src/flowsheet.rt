@@ -7,7 +7,7 @@ ghost use Rattle.flowsheet_reader.specs.Answers.{OnRefused};
 ghost use Rattle.flowsheet_reader.specs.Feeding.{IsFed};
 ghost use Rattle.flowsheet_reader.specs.Models.{GivesModel, IsRefusal, sheet_in, start_of};
 ghost use Rattle.flowsheet_reader.specs.Reached.{Keeps};
-ghost use Rattle.flowsheet_reader.specs.Sheets.{Sheet};
+ghost use Rattle.flowsheet_reader.specs.Sheets.{Sheet as Flowsheet};
 
 use crate::document::{keys, list_at, read_components, read_streams, version};
 use crate::refusing::at;
@@ -95,7 +95,7 @@ pub fn read<F: Field>(alloc: Global, bytes: &[u8]) -> Result<Mixed<F>, ReadModel
 
 // The model of a document.
 fn read_document<F: Field>(alloc: Global, document: &Table) -> Result<Mixed<F>, ReadModel>
-    ensures model { IfOk result (λ m. (sheet : Sheet) × (sheet_in F.modulus (table_view document.now) ≡ Ok sheet)
+    ensures model { IfOk result (λ m. (sheet : Flowsheet) × (sheet_in F.modulus (table_view document.now) ≡ Ok sheet)
         × IsModelOf F.modulus sheet.system m) }
     ensures refused { IfErr result (λ why. OnRefused why (λ refused.
         sheet_in F.modulus (table_view document.now) ≡ Err refused)) }
@@ -108,7 +108,7 @@ fn read_document<F: Field>(alloc: Global, document: &Table) -> Result<Mixed<F>, 
 
 // The flowsheet without its units.
 fn read_names<F: Field>(alloc: Global, document: &Table) -> Result<Sheet<F>, ReadModel>
-    ensures kept { IfOk result (λ kept. (sheet : Sheet) × (start_of (table_view document.now) ≡ Ok sheet)
+    ensures kept { IfOk result (λ kept. (sheet : Flowsheet) × (start_of (table_view document.now) ≡ Ok sheet)
         × Keeps F.modulus kept sheet) }
     ensures none { IfOk result (λ kept. kept.units ≡ []) }
     ensures refused { IfErr result (λ why. OnRefused why (λ refused.
