@@ -1,6 +1,6 @@
 -- Models that grow by systems of equations.
-use Rattle.std.proofs.Common.{◌≡◌, ℕ, ◌+◌, ◌<◌, ◌≤◌, false, true, ◌||◌, All, List, [], ◌∷◌, ◌++◌, length, map, take, get_or, refl, sym, ap, subst, ◌∙◌, arith, append_assoc, append-nil, length-append}
-use Rattle.std.specs.List.{AllByRecursion, IsDistinct, flat_map}
+use Rattle.std.proofs.Common.{◌≡◌, ℕ, ◌+◌, ◌<◌, ◌≤◌, false, true, ◌||◌, All, List, [], ◌∷◌, ◌++◌, length, map, take, get_or, sym, ap, subst, ◌∙◌, arith, append_assoc, append-nil, length-append}
+use Rattle.std.specs.List.{IsDistinct, flat_map}
 use Rattle.std.specs.Str.{bytes_eq}
 use Rattle.std.proofs.Math.Seq.{take-append-add}
 use Rattle.std.proofs.lemmas.List.{get_or-append-add, map-append}
@@ -22,7 +22,7 @@ use Rattle.term_model.proofs.Lists.{all-map, all_at, at_all}
 use Rattle.term_model.proofs.NamesAmong.{has-left, has-right}
 use Rattle.flowsheet_reader.specs.Adding.{ArePlaced, AreSummands, IsFilledSummand}
 use Rattle.flowsheet_reader.specs.Growing.{GrowsBy, IsFull, equations_alone, unknowns_alone}
-use Rattle.flowsheet_reader.specs.Parts.{Summand, UnitEquation, equation, terms_of, together}
+use Rattle.flowsheet_reader.specs.Parts.{Summand, UnitEquation, UnitPart, system_of, terms_of, together}
 use Rattle.flowsheet_reader.proofs.Free.{fresh-free}
 use Rattle.flowsheet_reader.proofs.SaidBy.{said_by}
 use Rattle.flowsheet_reader.proofs.SummandTerms.{term_of}
@@ -141,3 +141,11 @@ model-grows p old new more grows is system placed model = record {
     says : Says p (system.terms ++ more.terms) new
     says = grows.says system.terms (record { constants = model.constants_are; symbols = model.symbols_are })
         (subst (λ names. All (IsPlaced names old.unknowns) system.terms) (sym model.equations_are) (subst (λ names. All (IsPlaced system.equations names) system.terms) (sym model.unknowns_are) placed))
+
+-- unknowns and then equations over them are a part
+pub part-alone : (part : UnitPart) → together (unknowns_alone part.unknowns) (equations_alone part.equations) ≡ system_of part
+part-alone part = λ t. record {
+  equations = map (λ (e : UnitEquation). e.name) part.equations;
+  unknowns = append-nil part.unknowns t;
+  terms = flat_map terms_of part.equations;
+}

@@ -1,5 +1,5 @@
 -- Each model is said by some terms: those of its entries.
-use Rattle.std.proofs.Common.{◌≡◌, ◌≢◌, ℕ, zero, suc, ◌+◌, ◌%◌, ◌<◌, ◌≤◌, Bool, true, false, cond, ◌&&◌, ◌||◌, Option, Some, None, List, [], ◌∷◌, ◌++◌, All, filter, length, get_or, map, nat_eq, unwrap_or, refl, sym, ap, subst, ◌∙◌, arith, append-nil, ne_eqb}
+use Rattle.std.proofs.Common.{◌≡◌, ℕ, zero, suc, ◌+◌, ◌%◌, ◌<◌, Bool, true, false, cond, ◌&&◌, ◌||◌, Option, Some, None, List, [], ◌∷◌, ◌++◌, All, filter, length, get_or, map, nat_eq, unwrap_or, refl, sym, ap, subst, ◌∙◌, arith, append-nil, ne_eqb}
 use Rattle.std.specs.List.{AllByRecursion, IsDistinct, list_any, sum_by}
 use Rattle.std.specs.Str.{bytes_eq}
 use Rattle.std.proofs.Math.Nat.{mod-eq_of_lt, zero-mod}
@@ -9,13 +9,13 @@ use Rattle.std.proofs.lemmas.List.Elements.{filter-append}
 use Rattle.std.proofs.lemmas.List.Folds.{list_any_at}
 use Rattle.std.proofs.lemmas.List.Sums.{sum_by-cons}
 use Rattle.mixed_model.specs.Entries.{RowEntry}
-use Rattle.mixed_model.specs.Models.{MixedModel, IsModel, constant_at, symbol_of, row_of}
+use Rattle.mixed_model.specs.Models.{MixedModel, IsModel, row_of}
 use Rattle.mixed_model.specs.Names.{has_name}
 use Rattle.mixed_model.specs.Rows.{IsFilled, IsRow, IsWithin, RisesFrom, constant_at_place, entry_in, symbol_at_place}
 use Rattle.mixed_model.proofs.NameLaws.{bytes_eq-refl, stands_once}
 use Rattle.mixed_model.proofs.RowLaws.{entry_in-filled}
 use Rattle.term_model.specs.Putting.{IsPlaced, Says}
-use Rattle.term_model.specs.Terms.{Term, said_of, stands_at, symbol_said}
+use Rattle.term_model.specs.Terms.{Term, stands_at, symbol_said}
 use Rattle.term_model.proofs.Clearing.{bytes_eq-sym}
 use Rattle.term_model.proofs.Lists.{Differ, all-append, all_at, at_all, distinct-differ}
 use Rattle.term_model.proofs.Saying.{part_at}
@@ -201,8 +201,8 @@ said_by p model is = (
         ∙ sym (any-filter terms (get_or model.equations i []) (get_or model.unknowns j []));
   },
   all_at (IsPlaced model.equations model.unknowns) terms (placed-rows p model.equations model.equations model.unknowns model.rows
-  (at_all (λ name. has_name model.equations name ≡ true) model.equations (λ k d at. subst (λ name. has_name model.equations name ≡ true) (get_or_default model.equations k [] d at) (there-at model.equations k at)))
-  all_rows),
+      (at_all (λ name. has_name model.equations name ≡ true) model.equations (λ k d at. subst (λ name. has_name model.equations name ≡ true) (get_or_default model.equations k [] d at) (there-at model.equations k at)))
+      all_rows),
 )
   where
     terms : List Term

@@ -1,5 +1,5 @@
 -- The terms of summands, put one by one.
-use Rattle.std.proofs.Common.{◌≡◌, ℕ, ◌+◌, ◌<◌, List, [], ◌∷◌, ◌++◌, length, map, take, drop, get_or, refl, sym, ap, subst, ◌∙◌}
+use Rattle.std.proofs.Common.{◌≡◌, ℕ, ◌+◌, ◌<◌, List, [], ◌∷◌, ◌++◌, length, take, drop, get_or, refl, sym, ap, subst, ◌∙◌}
 use Rattle.std.proofs.lemmas.List.{drop_more}
 use Rattle.mixed_model.specs.Models.{MixedModel}
 use Rattle.mixed_model.specs.declared.errors.AddError.{AddError}

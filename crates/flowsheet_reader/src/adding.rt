@@ -63,10 +63,7 @@ fn add_unknown<F: Field>(model: &mut Mixed<F>, name: &str) -> Result<(), Fault>
 }
 
 // Adds equations.
-fn add_equations<F: Field>(
-    model: &mut Mixed<F>,
-    equations: &[UnitEquation<F>],
-) -> Result<(), Fault>
+fn add_equations<F: Field>(model: &mut Mixed<F>, equations: &[UnitEquation<F>]) -> Result<(), Fault>
     requires labels { All (λ equation. IsTrue (is_label equation.name)) equations.now }
     requires new { IsDistinct bytes_eq (model.old.equations ++ map (λ equation. equation.name) equations.now) }
     requires summands { All (λ equation. AreSummands F.modulus model.old.unknowns equation.summands) equations.now }
@@ -100,7 +97,8 @@ fn put_summands<F: Field>(
     name: &str,
     summands: &[Summand<F>],
 ) -> Result<(), AddError>
-    requires placed { All (IsPlaced model.old.equations model.old.unknowns) (terms_of (equation name.now summands.now)) }
+    requires placed { All (IsPlaced model.old.equations model.old.unknowns)
+        (terms_of (equation name.now summands.now)) }
     requires constants { All IsPut (terms_of (equation name.now summands.now)) }
     ensures equations { model.new.equations ≡ model.old.equations }
     ensures unknowns { model.new.unknowns ≡ model.old.unknowns }

@@ -155,7 +155,8 @@ impl<F: Field> EquationList<F> {
         outlets: &[String],
         fractions: &[F],
     ) -> Result<(), NoMemory>
-        ensures { OnOk result (self.new ≡ self.old ++ map (fixed_split F.modulus version unit.now inlet.now component.now)
+        ensures { OnOk result (self.new ≡ self.old
+            ++ map (fixed_split F.modulus version unit.now inlet.now component.now)
             (zip (but_last (map string_bytes outlets.now)) (map F.number fractions.now))) }
     {
         for (place, (outlet, fraction)) in but_last(outlets).iter().zip(fractions).enumerate() {
@@ -175,7 +176,8 @@ impl<F: Field> EquationList<F> {
         outlet: &str,
         fraction: F,
     ) -> Result<(), NoMemory>
-        ensures { OnOk result (self.new ≡ self.old ++ equation (string_bytes name) (times 1 (flow outlet.now component.now)
+        ensures { OnOk result (self.new ≡ self.old ++ equation (string_bytes name)
+            (times 1 (flow outlet.now component.now)
             ∷ less F.modulus (F.number fraction) (flow inlet.now component.now)) ∷ []) }
     {
         let mut split = Summands::new(self.alloc);

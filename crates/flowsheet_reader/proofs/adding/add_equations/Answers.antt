@@ -1,4 +1,4 @@
-use Rattle.std.proofs.Common.{◌≡◌, ◌+◌, ◌++◌, ◌∷◌, [], false, length, map, take, get_or, refl, sym, ap, subst, ◌∙◌}
+use Rattle.std.proofs.Common.{◌≡◌, ◌+◌, ◌++◌, ◌∷◌, [], false, map, take, get_or, refl, sym, ap, subst, ◌∙◌}
 use Rattle.std.proofs.lemmas.List.{get_or-map, take-map, take_more}
 use Rattle.mixed_model.specs.Names.{has_name}
 use Rattle.flowsheet_reader.specs.Growing.{GrowsBy, equations_alone}
@@ -25,6 +25,6 @@ loop-equation-preserved g c =
     let i = c.loop-equation.equation-index in
     let of = c.equation-item.result in
     let longer : take i equations ++ of ∷ [] ≡ take (i + 1) equations =
-        ap (λ last. take i equations ++ last ∷ []) c.equation-item.is ∙ sym (take_more equations i of c.loop-equation-test.true) in
+    ap (λ last. take i equations ++ last ∷ []) c.equation-item.is ∙ sym (take_more equations i of c.loop-equation-test.true) in
     subst (GrowsBy g.F.Field.modulus c.args.model.now c.add_equation.new.model) (alone-append (take i equations) of ∙ ap equations_alone longer)
     (grows-then g.F.Field.modulus c.args.model.now c.loop-equation.model c.add_equation.new.model (equations_alone (take i equations)) (equations_alone (of ∷ [])) c.loop-equation.invariant c.in_ok-add_equation.ensures.grown)

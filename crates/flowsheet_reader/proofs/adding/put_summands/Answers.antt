@@ -1,9 +1,8 @@
-use Rattle.std.proofs.Common.{◌≡◌, ℕ, ◌<◌, ◌∷◌, [], List, length, get_or, map, refl, sym, ap, subst, ◌∙◌, arith}
+use Rattle.std.proofs.Common.{refl, sym, ap, subst, ◌∙◌}
 use Rattle.std.proofs.lemmas.Result.{err_from_is_err_and}
-use Rattle.term_model.specs.Putting.{IsPlaced, IsPut, PutsTerms, term_of_value}
-use Rattle.term_model.specs.Terms.{Term}
+use Rattle.term_model.specs.Putting.{IsPlaced, IsPut, term_of_value}
 use Rattle.term_model.proofs.Taking.{begins, goes_on}
-use Rattle.flowsheet_reader.specs.Parts.{Summand, equation, terms_of}
+use Rattle.flowsheet_reader.specs.Parts.{equation, terms_of}
 use Rattle.flowsheet_reader.proofs.SummandTerms.{next-lacks, next_term, placed-at, term_of}
 use Rattle.flowsheet_reader.proofs.adding.put_summands.Goals as goal
 
@@ -11,7 +10,7 @@ pub put_value-requires-clause-placed : goal.put_value-requires-clause-placed
 put_value-requires-clause-placed g c =
     let name = c.args.name.now in
     let next = next_term name c.args.summands.now c.loop-summand.summand-index c.summand-item.result _ c.loop-summand-test.true c.summand-item.is
-        ((λ t. term_of_value g.F.Field.number name (c.deref.ensures t) c.summand.inside.value) ∙ ap (term_of name) c.summand.view_is) in
+    ((λ t. term_of_value g.F.Field.number name (c.deref.ensures t) c.summand.inside.value) ∙ ap (term_of name) c.summand.view_is) in
     placed-at c.args.model.now.equations c.args.model.now.unknowns c.loop-summand.model.equations c.loop-summand.model.unknowns _ c.loop-summand.invariant.equations c.loop-summand.invariant.unknowns
     (subst (IsPlaced c.args.model.now.equations c.args.model.now.unknowns) (sym next.is) (c.requires.placed _ _ next.within))
 
@@ -19,7 +18,7 @@ pub put_value-requires-clause-constant : goal.put_value-requires-clause-constant
 put_value-requires-clause-constant g c =
     let name = c.args.name.now in
     let next = next_term name c.args.summands.now c.loop-summand.summand-index c.summand-item.result _ c.loop-summand-test.true c.summand-item.is
-        ((λ t. term_of_value g.F.Field.number name (c.deref.ensures t) c.summand.inside.value) ∙ ap (term_of name) c.summand.view_is) in
+    ((λ t. term_of_value g.F.Field.number name (c.deref.ensures t) c.summand.inside.value) ∙ ap (term_of name) c.summand.view_is) in
     subst IsPut (sym next.is) (c.requires.constants _ _ next.within)
 
 pub loop-summand-init : goal.loop-summand-init
@@ -33,7 +32,7 @@ pub loop-summand-preserved : goal.loop-summand-preserved
 loop-summand-preserved g c =
     let name = c.args.name.now in
     let next = next_term name c.args.summands.now c.loop-summand.summand-index c.summand-item.result _ c.loop-summand-test.true c.summand-item.is
-        ((λ t. term_of_value g.F.Field.number name (c.deref.ensures t) c.summand.inside.value) ∙ ap (term_of name) c.summand.view_is) in
+    ((λ t. term_of_value g.F.Field.number name (c.deref.ensures t) c.summand.inside.value) ∙ ap (term_of name) c.summand.view_is) in
     record {
       equations = c.in_ok-put_value.ensures.equations ∙ c.loop-summand.invariant.equations;
       unknowns = c.in_ok-put_value.ensures.unknowns ∙ c.loop-summand.invariant.unknowns;
@@ -44,6 +43,6 @@ pub returns-in_err-put_value-clause-refused : goal.returns-in_err-put_value-clau
 returns-in_err-put_value-clause-refused g c =
     let name = c.args.name.now in
     let next = next_term name c.args.summands.now c.loop-summand.summand-index c.summand-item.result _ c.loop-summand-test.true c.summand-item.is
-        ((λ t. term_of_value g.F.Field.number name (c.deref.ensures t) c.summand.inside.value) ∙ ap (term_of name) c.summand.view_is) in
+    ((λ t. term_of_value g.F.Field.number name (c.deref.ensures t) c.summand.inside.value) ∙ ap (term_of name) c.summand.view_is) in
     let failed = err_from_is_err_and c.from_residual.result c.from_residual.ensures.1 in
     rw (failed.1, failed.2) (next-lacks g.F.Field.modulus c.args.model.now c.loop-summand.model (terms_of (equation name c.args.summands.now)) _ _ _ next c.loop-summand.invariant.says c.in_err-put_value.ensures.refused)
