@@ -11,6 +11,14 @@ use Rattle.term_model.proofs.Lists.{Differ, all-append, differ-last}
 use Rattle.flowsheet_reader.specs.Chains.{◌>>=◌, keeping}
 use Rattle.flowsheet_reader.specs.Values.{declared_name, declared_names, each, new_name, text_of}
 
+-- what keeps a rule goes on
+pub then : {A B E : Type 0} (first : Result A E) (next : A → Result B E) (value : A) → first ≡ Ok value → (first >>= next) ≡ next value
+then first next value kept = ap (λ given. given >>= next) kept
+
+-- what breaks it is the answer
+pub broken : {A B E : Type 0} (first : Result A E) (next : A → Result B E) (why : E) → first ≡ Err why → (first >>= next) ≡ Err why
+broken first next why breaks = ap (λ given. given >>= next) breaks
+
 -- a chain that gives something
 pub chain-Ok : {A B E : Type 0} (first : Result A E) (next : A → Result B E) (value : B) → (first >>= next) ≡ Ok value → (a : A) × (first ≡ Ok a) × (next a ≡ Ok value)
 chain-Ok (Ok a) next value kept = (a, refl, kept)

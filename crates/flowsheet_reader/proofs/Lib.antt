@@ -3,6 +3,7 @@ pub mod Data
 pub mod Declaring
 pub mod Dots
 pub mod EquationNames
+pub mod Failing
 pub mod Free
 pub mod Growing
 pub mod Inversion
@@ -12,6 +13,7 @@ pub mod NamesRead
 pub mod NumberedPairs
 pub mod Numbers
 pub mod Pairing
+pub mod Reaching
 pub mod Rooms
 pub mod SaidBy
 pub mod Sound

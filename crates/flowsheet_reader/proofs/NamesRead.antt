@@ -11,7 +11,7 @@ use Rattle.toml.specs.declared.value.Value.{Value}
 use Rattle.flowsheet_reader.specs.Answers.{AddsName, OnRefused, Reads}
 use Rattle.flowsheet_reader.specs.Chains.{◌>>=◌}
 use Rattle.flowsheet_reader.specs.Values.{each}
-use Rattle.flowsheet_reader.proofs.Chains.{broken, then}
+use Rattle.flowsheet_reader.proofs.Inversion.{broken, then}
 
 -- the items from a place on
 pub items-left : (items : List Value) (k : ℕ) (item : Value) → k < length items → item ≡ get_or items k item → map view (drop k items) ≡ view item ∷ map view (drop (k + 1) items)

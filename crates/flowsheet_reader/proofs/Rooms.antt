@@ -10,7 +10,7 @@ use Rattle.flowsheet_reader.specs.Chains.{keeping}
 use Rattle.flowsheet_reader.specs.Kinds.{flow, flows}
 use Rattle.flowsheet_reader.specs.Models.{new_stream}
 use Rattle.flowsheet_reader.specs.Values.{new_name}
-use Rattle.flowsheet_reader.proofs.Chains.{then}
+use Rattle.flowsheet_reader.proofs.Inversion.{then}
 
 flows-length : (components streams : List (List ℕ)) → length (flows components streams) ≡ length components * length streams
 flows-length components [] = omega arith
