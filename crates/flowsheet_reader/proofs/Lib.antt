@@ -7,7 +7,6 @@ pub mod Failing
 pub mod Free
 pub mod Growing
 pub mod Inversion
-pub mod Items
 pub mod Keyed
 pub mod NamesRead
 pub mod NumberedPairs
@@ -19,6 +18,7 @@ pub mod SaidBy
 pub mod Sound
 pub mod Spelled
 pub mod SplitNames
+pub mod Starting
 pub mod SummandLaws
 pub mod SummandTerms
 pub mod UnitKept
