@@ -8,6 +8,7 @@ mod equations;
 mod filling;
 mod flowsheet;
 mod kind;
+mod laws;
 mod names;
 mod naming;
 mod part;
@@ -20,3 +21,7 @@ mod values;
 mod version;
 
 pub use flowsheet::{FlowsheetReader, read};
+pub use laws::{a_flowsheet_gives_one_model, a_flowsheet_has_one_refusal};
+
+#[cfg(test)]
+mod tests;
