@@ -38,8 +38,7 @@ new_name-Ok names datum name kept =
     let (second, first, last) = chain-Ok (text_of datum >>= (λ name. keeping (is_short_name name) BadName name)) (λ name. keeping (not (has_name names name)) Twice name) name kept in
     let (text, told, good) = chain-Ok (text_of datum) (λ name. keeping (is_short_name name) BadName name) second first in
     let short = keeping-Ok (is_short_name text) BadName text second good in
-    let new = keeping-Ok (not (has_name names second)) Twice second name last in
-    (
+    let new = keeping-Ok (not (has_name names second)) Twice second name last in (
       sym (ap is_short_name (short.1 ∙ new.1)) ∙ short.0,
       sym (ap (has_name names) new.1) ∙ not-true (has_name names second) new.0,
     )
@@ -50,8 +49,7 @@ declared_name-Ok declared before datum name kept =
     let (second, first, last) = chain-Ok (text_of datum >>= (λ name. keeping (has_name declared name) Undeclared name)) (λ name. keeping (not (has_name before name)) Twice name) name kept in
     let (text, told, good) = chain-Ok (text_of datum) (λ name. keeping (has_name declared name) Undeclared name) second first in
     let there = keeping-Ok (has_name declared text) Undeclared text second good in
-    let new = keeping-Ok (not (has_name before second)) Twice second name last in
-    (
+    let new = keeping-Ok (not (has_name before second)) Twice second name last in (
       sym (ap (has_name declared) (there.1 ∙ new.1)) ∙ there.0,
       sym (ap (has_name before) new.1) ∙ not-true (has_name before second) new.0,
     )

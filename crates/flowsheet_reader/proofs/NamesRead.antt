@@ -40,8 +40,7 @@ module _ (one : List (List ℕ) → Data → Result (List ℕ) Refusal) (all : R
   -- after one that is put last
   pub read-more : (new : List (List ℕ)) (result : Result (Unit {0}) ReadModel) → result ≡ Ok tt → AddsName found new result (one found datum) → (all ≡ each one new rest) × (length new ≡ length found + 1)
   read-more new result was answer =
-      let (name, kept, added) = subst (λ result. AddsName found new result (one found datum)) was answer in
-      (
+      let (name, kept, added) = subst (λ result. AddsName found new result (one found datum)) was answer in (
         from-here ∙ then (one found datum) (λ name. each one (found ++ name ∷ []) rest) name kept ∙ ap (λ names. each one names rest) (sym added),
         ap length added ∙ length-append found (name ∷ []),
       )

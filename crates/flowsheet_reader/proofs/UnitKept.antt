@@ -51,8 +51,7 @@ outlets-Ok scope One inlet first second table outlets kept =
     let is_other = stream_at-Ok scope (inlet ∷ one ∷ []) second table other middle in
     let same : one ∷ other ∷ [] ≡ outlets = cc in
     let two : Differ (inlet ∷ one ∷ []) = differ-last (inlet ∷ []) one (refl, tt) is_one.1 in
-    let three : Differ (inlet ∷ one ∷ other ∷ []) = differ-last (inlet ∷ one ∷ []) other two is_other.1 in
-    (
+    let three : Differ (inlet ∷ one ∷ other ∷ []) = differ-last (inlet ∷ one ∷ []) other two is_other.1 in (
       subst (AllByRecursion (λ name. has_name scope.streams name ≡ true)) same (is_one.0, (is_other.0, tt)),
       subst (λ names. Differ (inlet ∷ names)) same three,
       subst (λ names. length (but_last names) ≤ 1) same (omega arith),
@@ -218,8 +217,7 @@ unit-kept p sheet datum unit part odd sound kept few =
     let pair : ◌≡◌ {A = List ℕ × UnitPart} (name, added) (unit, part) = cc in
     let names : name ≡ unit = ap (λ t. t.0) pair in
     let parts : added ≡ part = ap (λ t. t.1) pair in
-    let new = new_name-Ok sheet.units given name told in
-    (
+    let new = new_name-Ok sheet.units given name told in (
       ap (has_name sheet.units) (sym names) ∙ new.1,
       part-kept p odd sheet sound unit (short-name unit (ap is_short_name (sym names) ∙ new.0)) kind table part (ap (λ n. part_in p (scope_of sheet) kind n table) (sym names) ∙ fifth ∙ ap Ok parts) few,
     )

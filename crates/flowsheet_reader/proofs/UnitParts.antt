@@ -293,16 +293,19 @@ module _ (p : ℕ) (odd : 2 < p) (components streams rest : List (List ℕ)) (un
     words = (ap (λ name. bytes_eq name (codes "f")) (before-dotted (codes "q") unit refl), tt);
     differ = (refl, tt);
     spelled = (own-spelled (codes "q") unit q-word u, tt);
-    stand = (record {
-      there = (has-back (flows components streams) rest (dotted (codes "q") unit) heat, all-map (λ name. has_name (flows components streams ++ rest) name ≡ true) (λ summand. has_name (flows components streams ++ rest) summand.unknown ≡ true) open_at (flows components some) (λ name is. is) (flows-there some declared));
-      differ = (
-        subst (λ names. has_name names (dotted (codes "q") unit) ≡ false) (sym (map-map (λ summand. summand.unknown) open_at (flows components some)) ∙ refl)
-            (none-keyed word_of (codes "f" ∷ []) (map (λ name. name) (flows components some)) (dotted (codes "q") unit) (all-map (λ name. has_name (codes "f" ∷ []) (word_of name) ≡ true) (λ name. has_name (codes "f" ∷ []) (word_of name) ≡ true) (λ name. name) (flows components some) (λ name is. is) (flows-word some))
-            (ap (has_name (codes "f" ∷ [])) (before-dotted (codes "q") unit refl))),
-        symbols-differ (flows components some) (flows-differ components some good apart (shorts some declared) differ),
-      );
-      filled = (one-filled p (dotted (codes "q") unit) odd, all-map (λ name. has_name (flows components streams ++ rest) name ≡ true) (IsFilledSummand p) open_at (flows components some) (λ name is. open-filled p name odd) (flows-there some declared));
-    }, tt);
+    stand = (
+      record {
+        there = (has-back (flows components streams) rest (dotted (codes "q") unit) heat, all-map (λ name. has_name (flows components streams ++ rest) name ≡ true) (λ summand. has_name (flows components streams ++ rest) summand.unknown ≡ true) open_at (flows components some) (λ name is. is) (flows-there some declared));
+        differ = (
+          subst (λ names. has_name names (dotted (codes "q") unit) ≡ false) (sym (map-map (λ summand. summand.unknown) open_at (flows components some)) ∙ refl)
+              (none-keyed word_of (codes "f" ∷ []) (map (λ name. name) (flows components some)) (dotted (codes "q") unit) (all-map (λ name. has_name (codes "f" ∷ []) (word_of name) ≡ true) (λ name. has_name (codes "f" ∷ []) (word_of name) ≡ true) (λ name. name) (flows components some) (λ name is. is) (flows-word some))
+              (ap (has_name (codes "f" ∷ [])) (before-dotted (codes "q") unit refl))),
+          symbols-differ (flows components some) (flows-differ components some good apart (shorts some declared) differ),
+        );
+        filled = (one-filled p (dotted (codes "q") unit) odd, all-map (λ name. has_name (flows components streams ++ rest) name ≡ true) (IsFilledSummand p) open_at (flows components some) (λ name is. open-filled p name odd) (flows-there some declared));
+      },
+      tt,
+    );
   }
 
   pub relation-part : (names : List (List ℕ)) → AllByRecursion (λ name. has_name (flows components streams ++ rest) name ≡ true) names → Differ names → IsUnitPart p (flows components streams ++ rest) unit (relation unit names)
@@ -312,9 +315,12 @@ module _ (p : ℕ) (odd : 2 < p) (components streams rest : List (List ℕ)) (un
     words = tt;
     differ = tt;
     spelled = tt;
-    stand = (record {
-      there = all-map (λ name. has_name (flows components streams ++ rest) name ≡ true) (λ summand. has_name (flows components streams ++ rest) summand.unknown ≡ true) open_at names (λ name is. is) declared;
-      differ = symbols-differ names differ;
-      filled = all-map (λ name. has_name (flows components streams ++ rest) name ≡ true) (IsFilledSummand p) open_at names (λ name is. open-filled p name odd) declared;
-    }, tt);
+    stand = (
+      record {
+        there = all-map (λ name. has_name (flows components streams ++ rest) name ≡ true) (λ summand. has_name (flows components streams ++ rest) summand.unknown ≡ true) open_at names (λ name is. is) declared;
+        differ = symbols-differ names differ;
+        filled = all-map (λ name. has_name (flows components streams ++ rest) name ≡ true) (IsFilledSummand p) open_at names (λ name is. open-filled p name odd) declared;
+      },
+      tt,
+    );
   }

@@ -102,11 +102,7 @@ fn add_component(names: &mut NameSet, number: usize, value: &Value) -> Result<()
 }
 
 // The streams that some items name, for whose flows of these components there is room.
-fn streams(
-    alloc: Global,
-    components: &NameSet,
-    items: &[Value],
-) -> Result<NameSet, ReadModel>
+fn streams(alloc: Global, components: &NameSet, items: &[Value]) -> Result<NameSet, ReadModel>
     ensures { Reads (λ names. names) result (streams_in components.now (map view items.now)) }
 {
     let mut names = NameSet::new(alloc);

@@ -48,8 +48,7 @@ returns-clause-model g c =
     let document = table_view c.args.document.now in
     let start = c.in_ok-sheet.ensures.kept in
     let listed = listed-Ok Place.Document c.list_at.result (list_at_key (get_member (codes "unit") document)) c.in_ok-units.units c.list_at.ensures (sym c.at.ensures ∙ c.in_ok-units.was) in
-    let next = c.in_ok-add_units.ensures.added start.0 start.2 in
-    (
+    let next = c.in_ok-add_units.ensures.added start.0 start.2 in (
       next.0,
       then (start_of document) (with_units_of p document) start.0 start.1
           ∙ then (at Place.Document (list_at_key (get_member (codes "unit") document))) (units_in p start.0) (map view c.in_ok-units.units.now) listed

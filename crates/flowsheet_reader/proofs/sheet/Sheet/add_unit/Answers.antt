@@ -57,8 +57,7 @@ returns-clause-added g c = λ sheet given.
     let read = ap (λ kept. unit_in g.F.Field.modulus (scope_of_kept kept) (view c.args.value.now)) seen ∙ c.in_ok-name.ensures in
     let model = c.in_ok-add_part.ensures.added sheet.system ((reached-sound g.F.Field.modulus sheet g.met.F.Field.odd keeps.reached).placed) keeps.model in
     let new : KeptSheet = record { version = c.self.inside.version; components = c.self.inside.components; streams = c.self.inside.streams; units = c.push.new.self; model = c.add_part.new.model } in
-    let pushed : c.push.new.self ≡ c.self.inside.units ++ string_bytes c.in_ok-name.name ∷ [] = c.in_ok-push.ensures.pushed ∙ ap (λ name. c.self.inside.units ++ name ∷ []) c.deref.ensures in
-    (
+    let pushed : c.push.new.self ≡ c.self.inside.units ++ string_bytes c.in_ok-name.name ∷ [] = c.in_ok-push.ensures.pushed ∙ ap (λ name. c.self.inside.units ++ name ∷ []) c.deref.ensures in (
       with_unit sheet (string_bytes c.in_ok-name.name) c.in_ok-name.part,
       unit-added g.F.Field.modulus g.met.F.Field.odd kept sheet keeps (view c.args.value.now) (string_bytes c.in_ok-name.name) c.in_ok-name.part read few new model refl refl refl pushed,
       keeps-more g.F.Field.modulus g.met.F.Field.odd kept sheet keeps (view c.args.value.now) (string_bytes c.in_ok-name.name) c.in_ok-name.part read few new model refl refl refl pushed,

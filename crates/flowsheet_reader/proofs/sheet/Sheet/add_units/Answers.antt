@@ -26,11 +26,10 @@ loop-place-preserved g c =
       count = c.in_ok-add_unit_at.ensures.counted;
       grown = λ sheet keeps.
           let now = c.loop-place.invariant.grown sheet keeps in
-          let next = c.in_ok-add_unit_at.ensures.added now.0 now.2 in
-          (
+          let next = c.in_ok-add_unit_at.ensures.added now.0 now.2 in (
             next.0,
             now.1 ∙ ap (units_in g.F.Field.modulus now.0) left
-            ∙ then (unit_at g.F.Field.modulus now.0 (view c.index-items-place.result)) (λ next. units_in g.F.Field.modulus next (map view (drop (c.loop-place.place + 1) c.args.items.now))) next.0 next.1,
+                ∙ then (unit_at g.F.Field.modulus now.0 (view c.index-items-place.result)) (λ next. units_in g.F.Field.modulus next (map view (drop (c.loop-place.place + 1) c.args.items.now))) next.0 next.1,
             next.2,
           );
     }
