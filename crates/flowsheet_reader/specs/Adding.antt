@@ -5,7 +5,7 @@ use Rattle.std.specs.Str.{bytes_eq}
 use Rattle.mixed_model.specs.Names.{has_name, is_label}
 use Rattle.term_model.specs.Putting.{IsPlaced}
 use Rattle.term_model.specs.Systems.{System}
-use Rattle.flowsheet_reader.specs.Parts.{Summand, UnitEquation, UnitPart}
+use Rattle.flowsheet_reader.specs.Parts.{Summand, UnitPart}
 
 -- a constant other than 0, below p, or a symbol
 pub record IsFilledSummand (p : ℕ) (summand : Summand) : Type 0 where

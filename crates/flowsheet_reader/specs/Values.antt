@@ -1,5 +1,5 @@
 -- Values of a document, and what they are to be.
-use Rattle.std.specs.Prelude.{ℕ, ◌≤◌, Bool, not, nat_eq, nat_le, List, [], ◌∷◌, ◌++◌, length, map, option_map, Result, Ok, Err}
+use Rattle.std.specs.Prelude.{ℕ, Bool, not, nat_eq, nat_le, List, [], ◌∷◌, ◌++◌, length, option_map, Result, Ok, Err}
 use Rattle.std.specs.List.{list_all}
 use Rattle.refusals.specs.declared.Why.{Why}
 use Rattle.refusals.specs.declared.Why.TheVariants.{BadName, BadValue, Missing, Twice, Undeclared}
@@ -63,7 +63,7 @@ declared_name declared before datum =
     >>= (λ name. keeping (not (has_name before name)) Twice name)
 
 -- what each item gives, after what was found before
-abbrev pub each : {A : Type 0} → (List A → Data → Result A Why) → List A → List Data → Result (List A) Why
+abbrev pub each : {A E : Type 0} → (List A → Data → Result A E) → List A → List Data → Result (List A) E
 each one found [] = Ok found
 each one found (datum ∷ items) = one found datum >>= (λ value. each one (found ++ value ∷ []) items)
 

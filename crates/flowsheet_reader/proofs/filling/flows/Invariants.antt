@@ -1,0 +1,10 @@
+use Rattle.std.proofs.Common.{◌≡◌, ◌++◌, [], Global, String, map, take}
+use Rattle.std.specs.List.{flat_map}
+use Rattle.std.specs.String.{string_bytes}
+use Rattle.flowsheet_reader.specs.Kinds.{flow}
+use Rattle.flowsheet_reader.proofs.filling.flows.Given as goal
+
+abbrev pub invariant-loop-stream : goal.invariant-loop-stream
+invariant-loop-stream l =
+    map string_bytes l.names.items
+    ≡ flat_map (λ (stream : String Global). map (flow (string_bytes stream)) l.components) (take l.stream-index l.stream-items)
