@@ -7,7 +7,7 @@ use Rattle.mixed_model.specs.Names.{has_name}
 use Rattle.term_model.specs.Putting.{AreFree, IsFree}
 use Rattle.term_model.specs.Terms.{Term, stands_at}
 use Rattle.term_model.proofs.Clearing.{and_false, bytes_eq-sym}
-use Rattle.term_model.proofs.Growing.{equation-free}
+use Rattle.flowsheet_reader.proofs.Lasts.{equation-free}
 use Rattle.term_model.proofs.Lists.{Differ, distinct-differ}
 use Rattle.flowsheet_reader.specs.Parts.{Summand, equation, terms_of}
 

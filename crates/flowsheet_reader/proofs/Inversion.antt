@@ -7,7 +7,8 @@ use Rattle.refusals.specs.declared.Why.TheVariants.{BadName, BadValue, Twice, Un
 use Rattle.line_lexer.specs.Names.{is_short_name}
 use Rattle.mixed_model.specs.Names.{has_name}
 use Rattle.toml.specs.Data.{Data}
-use Rattle.term_model.proofs.Lists.{Differ, all-append, differ-last}
+use Rattle.term_model.proofs.Lists.{Differ, all-append}
+use Rattle.flowsheet_reader.proofs.Lasts.{differ-last}
 use Rattle.flowsheet_reader.specs.Chains.{◌>>=◌, keeping}
 use Rattle.flowsheet_reader.specs.Values.{declared_name, declared_names, each, new_name, text_of}
 

@@ -8,6 +8,7 @@ pub mod Free
 pub mod Growing
 pub mod Inversion
 pub mod Keyed
+pub mod Lasts
 pub mod ModelLaws
 pub mod NamesRead
 pub mod NumberedPairs

@@ -12,7 +12,8 @@ use Rattle.refusals.specs.declared.Why.TheVariants.{TooMany}
 use Rattle.mixed_model.specs.Models.{MixedModel}
 use Rattle.mixed_model.specs.Names.{has_name}
 use Rattle.term_model.specs.Systems.{IsModelOf}
-use Rattle.term_model.proofs.Lists.{Differ, all-append, differ-last}
+use Rattle.term_model.proofs.Lists.{Differ, all-append}
+use Rattle.flowsheet_reader.proofs.Lasts.{differ-last}
 use Rattle.toml.specs.Data.{Data}
 use Rattle.flowsheet_reader.specs.declared.version.Version.{Version}
 use Rattle.flowsheet_reader.specs.Adding.{IsNewPart}

@@ -11,7 +11,8 @@ use Rattle.refusals.specs.declared.Why.TheVariants.{BadKind, BadValue, UnknownKe
 use Rattle.line_lexer.specs.Names.{is_short_name}
 use Rattle.mixed_model.specs.Names.{has_name}
 use Rattle.term_model.specs.Terms.{dotted}
-use Rattle.term_model.proofs.Lists.{Differ, differ-last}
+use Rattle.term_model.proofs.Lists.{Differ}
+use Rattle.flowsheet_reader.proofs.Lasts.{differ-last}
 use Rattle.toml.specs.Data.{Data, Members, get_member}
 use Rattle.flowsheet_reader.specs.declared.kind.UnitKind.{UnitKind}
 use Rattle.flowsheet_reader.specs.declared.kind.UnitKind.TheVariants.{Mixer, Separator, Reactor, Tee, Specification, Balance, Relation}

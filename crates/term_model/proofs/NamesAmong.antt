@@ -1,11 +1,11 @@
 -- Names that stand among others.
-use Rattle.std.proofs.Common.{◌≡◌, ℕ, Bool, true, false, cond, ◌||◌, List, [], ◌∷◌, ◌++◌, map, fold, position, Option, Some, None, is_some, refl, sym, ap, subst, ◌∙◌}
+use Rattle.std.proofs.Common.{◌≡◌, ℕ, Bool, true, false, cond, ◌||◌, List, [], ◌∷◌, ◌++◌, map, fold, refl, ap, subst, ◌∙◌}
 use Rattle.std.specs.Str.{bytes_eq}
 use Rattle.std.proofs.Math.Bool.{or-true}
 use Rattle.std.proofs.lemmas.List.Folds.{list_any-append}
 use Rattle.std.proofs.lemmas.Slice.Eq.{bytes_eq-Decides}
 use Rattle.mixed_model.specs.Names.{has_name, see}
-use Rattle.mixed_model.proofs.NameLaws.{bytes_eq-refl, has_name-None, has_name-Some}
+use Rattle.mixed_model.proofs.NameLaws.{bytes_eq-refl}
 
 -- a name among some, behind a word
 pub has-map : (f : List ℕ → List ℕ) (names : List (List ℕ)) (name : List ℕ) → has_name names name ≡ true → has_name (map f names) (f name) ≡ true
@@ -45,11 +45,3 @@ seen-there seen (new ∷ names) name there = by (bytes_eq name new) refl there (
     by : (b : Bool) → bytes_eq name new ≡ b → (b || has_name names name) ≡ true → (has_name names name ≡ true → has_name (fold see (see seen new) names) name ≡ true) → has_name (fold see seen (new ∷ names)) name ≡ true
     by true e there more = seen-before (see seen new) names name (subst (λ other. has_name (see seen other) name ≡ true) ((bytes_eq-Decides name new).0 e) (seen-now seen name))
     by false e there more = more there
-
--- a name is among some where a place is found
-pub found_there : (names : List (List ℕ)) (name : List ℕ) → is_some (position (bytes_eq name) names) ≡ has_name names name
-found_there names name = by (position (bytes_eq name) names) refl
-  where
-    by : (found : Option ℕ) → position (bytes_eq name) names ≡ found → is_some (position (bytes_eq name) names) ≡ has_name names name
-    by (Some k) e = ap is_some e ∙ sym (has_name-Some names name k e).2
-    by None e = ap is_some e ∙ sym (has_name-None names name e)
