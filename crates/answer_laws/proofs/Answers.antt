@@ -11,6 +11,7 @@ use Rattle.cert_text.specs.Texts.{certificate_text}
 use Rattle.cert_text.specs.Contents.{Certificate}
 use Rattle.cert_text.specs.declared.kind.Kind.{Kind}
 use Rattle.certificate_laws.proofs.AgreedForms.{agreed}
+use Rattle.limits.specs.Limits.{input_limit}
 use Rattle.report_cli.specs.Answer.{IsAnswer, IsReported}
 use Rattle.report_cli.specs.LayerTexts.{layer_text}
 use Rattle.report_cli.specs.Reports.{IsReportFor, report_text}
@@ -18,7 +19,7 @@ use Rattle.report_cli.specs.RightFor.{IsRightFor}
 use Rattle.report_cli.specs.Rooms.{text_room}
 use Rattle.report_cli.specs.WholeLayers.{AreWholeLayers}
 use Rattle.report_cli.specs.Kinds.{Gives}
-use Rattle.report_cli.specs.Words.{AsksFor}
+use Rattle.report_cli.specs.Words.{AsksFor, kind_of}
 use Rattle.report_cli.specs.declared.command.Command.{Command}
 use Rattle.report_cli.specs.declared.command.Command.TheVariants.{Analyse, Layer}
 use Rattle.report_cli.specs.declared.report.Report.{Report}
@@ -100,7 +101,8 @@ one-answer words kind input text other asks first second =
     one.text_is ∙ one-layer-text one.model one.layers two.layers one.are one.whole (subst (λ m. AreLayersOf m two.layers) same two.are) two.whole
     ∙ sym (two.text_is ∙ ap (λ m. layer_text m two.layers) same)
 
-pub fitting : (words : List (List ℕ)) (input text : List ℕ) → IsAnswer words input Done text → length text ≤ text_room (length input)
-fitting words input text answer =
-    let reported : IsReported answer.0 input text = answer.2.1 in
-    subst (λ t. length t ≤ text_room (length input)) (sym reported.text_is) (report_fits answer.0 input reported.report reported.right answer.2.0)
+pub fitting : (words : List (List ℕ)) (command : Command) (input text : List ℕ) → AsksFor words command → IsAnswer words input Done text → length text ≤ text_room (kind_of command) (length input)
+fitting words command input text asks answer =
+    let reported : IsReported command input text = reported_by words command input text asks answer in
+    let short : length input ≤ input_limit = answer.2.0 in
+    subst (λ t. length t ≤ text_room (kind_of command) (length input)) (sym reported.text_is) (report_fits command input reported.report reported.right short)

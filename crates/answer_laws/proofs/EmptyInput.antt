@@ -7,7 +7,7 @@ use Rattle.cert_text.specs.Contents.{Contents, Certificate}
 use Rattle.cert_text.specs.Ranges.{IsCcf, IsPart, IsBlock, AreRising, ArePairs}
 use Rattle.cert_text.specs.Texts.{shape_text, pair_text, matrices_text, parts_text, echo_text, certificate_text}
 use Rattle.cert_text.specs.declared.kind.Kind.{Kind}
-use Rattle.cert_text.specs.declared.kind.Kind.TheVariants.{Matrix, Netlist}
+use Rattle.cert_text.specs.declared.kind.Kind.TheVariants.{Flowsheet, Matrix, Netlist}
 use Rattle.cert_text.specs.declared.part.CcfBlock.{CcfBlock}
 use Rattle.cert_text.specs.declared.part.CcfPart.{CcfPart}
 use Rattle.cert_text.specs.declared.shape.Shape.{Shape}
@@ -16,7 +16,7 @@ use Rattle.report_cli.specs.RightFor.{IsRightFor}
 use Rattle.report_cli.specs.Words.{AsksFor}
 use Rattle.report_cli.specs.declared.command.Command.TheVariants.{Analyse}
 use Rattle.report_cli.specs.declared.status.Status.TheVariants.{Done}
-use Rattle.report_cli.proofs.ByKind.{few-names}
+use Rattle.report_cli.proofs.ByKind.{no-names}
 use Rattle.report_cli.proofs.TextRooms.{members-few}
 use Rattle.answer_laws.specs.NoAnswers.{empty_text}
 use Rattle.answer_laws.proofs.Answers.{analysed}
@@ -100,10 +100,11 @@ nothing-text : (kind : Kind) → text_with kind [] (record { equations = 0; unkn
 unfolding digits
 nothing-text Matrix = refl
 nothing-text Netlist = refl
+nothing-text Flowsheet = refl
 
 empty-certificate : (kind : Kind) (c : Certificate) → IsRightFor kind [] c → certificate_text c ≡ empty_text kind
 empty-certificate kind c right =
-    let few = few-names kind [] right.model right.gives in
+    let few = no-names kind right.model right.gives in
     let shape = (right.right).shape in
     let lay = right.layers in
     let pair = (right.right).pair_and_rank in

@@ -1,5 +1,6 @@
-pub mod OneLayerText
 pub mod Answers
 pub mod EmptyInput
-pub mod OneEquation
 pub mod InMemory
+pub mod OneEquation
+pub mod OneLayerText
+pub mod Rooms

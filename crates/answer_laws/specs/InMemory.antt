@@ -2,18 +2,18 @@
 use Rattle.std.specs.Prelude.{◌≡◌, ◌⊎◌, ℕ, ◌+◌, ◌-◌, ◌^◌, ◌≤◌, ◌<◌, List, [], ◌++◌, length}
 use Rattle.port_io.specs.Memory.{MemorySink, MemorySource}
 use Rattle.report_cli.specs.Answer.{IsAnswer, ReadsAll}
-use Rattle.report_cli.specs.Rooms.{text_room}
+use Rattle.report_cli.specs.Rooms.{HasRoom}
 use Rattle.report_cli.specs.declared.status.Status.{Status}
 use Rattle.report_cli.specs.declared.status.Status.TheVariants.{Memory}
 
 -- no call is to fail, no count of faults stands at its last value, and the sink has room for each text that may answer
--- the input
-pub record IsCalm (source : MemorySource) (out : MemorySink) : Type 0 where
+-- the input by these words
+pub record IsCalm (words : List (List ℕ)) (source : MemorySource) (out : MemorySink) : Type 0 where
   pub source_fails : source.fails ≡ []
   pub out_fails : out.fails ≡ []
   pub source_count : source.faults < 2 ^ 64 - 1
   pub out_count : out.faults < 2 ^ 64 - 1
-  pub room : length out.written + text_room (length source.left) ≤ out.room
+  pub room : HasRoom (λ size. length out.written + size ≤ out.room) words (length source.left)
 
 -- a run took the bytes `read` from the source, all of them where it tells of the whole input, and this status and the
 -- appended text answer them

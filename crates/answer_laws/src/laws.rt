@@ -19,7 +19,7 @@ pub fn answers_of_layer_are_one()
     ensures { AnswersOfLayerAreOne }
 {}
 
-/// No answer to an input is longer than the room that the input's length gives.
+/// No answer to an input is longer than the room that its kind and its length give.
 pub fn answers_fit_in_their_room()
     ensures { AnswersFit }
 {}

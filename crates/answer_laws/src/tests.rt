@@ -1,18 +1,31 @@
 //! A run with no more room than an answer may need, and a row transform times its inverse.
 
+ghost use Rattle.std.specs.Prelude.{◌≡◌, ◌∷◌, [], codes, map, IfOk};
+ghost use Rattle.std.specs.String.{string_bytes};
+
 use crate::answer;
 use dense_q::{Mat, NoMemory};
 use residue_field::{Field, Res};
-use std::alloc::Global;
+use std::alloc::{AllocError, Global};
 use std::test::Fail;
 
+// The words that ask for the certificate of an equation list.
+fn words(alloc: Global) -> Result<Vec<String>, AllocError>
+    ensures { IfOk result (λ words. map string_bytes words.items
+        ≡ codes "mixed" ∷ codes "analyse" ∷ codes "matrix" ∷ []) }
+{
+    let mut words = Vec::with_capacity(alloc, 3)?;
+    words.push(String::from_str(alloc, "mixed")?)?;
+    words.push(String::from_str(alloc, "analyse")?)?;
+    words.push(String::from_str(alloc, "matrix")?)?;
+    Ok(words)
+}
+
 #[test]
+#[tactic(auto, using(crate::proofs::Rooms::matrix_room))]
 fn an_equation_is_answered_in_its_room(rt: HostRuntime) -> Result<(), Fail> {
     let alloc = rt.alloc();
-    let mut words = Vec::new(alloc);
-    for word in ["mixed", "analyse", "matrix"] {
-        words.push(String::from_str(alloc, word)?)?;
-    }
+    let words = words(alloc)?;
     // 9 bytes, and so at most 18 rows and columns
     let (status, out) = answer(alloc, &words, b"eq a x=1\n", 35_756)?;
     assert_eq!(rt; status.number(), 0);

@@ -4,7 +4,7 @@ use Rattle.std.specs.Prelude.{ℕ, ◌+◌, List, [], ◌∷◌, ◌++◌, lengt
 pub use Rattle.text_writer.specs.Numbers.{marked, spaced, item}
 use Rattle.cert_text.specs.Contents.{Contents, Certificate}
 use Rattle.cert_text.specs.declared.kind.Kind.{Kind}
-use Rattle.cert_text.specs.declared.kind.Kind.TheVariants.{Matrix, Netlist}
+use Rattle.cert_text.specs.declared.kind.Kind.TheVariants.{Flowsheet, Matrix, Netlist}
 use Rattle.cert_text.specs.declared.shape.Shape.{Shape}
 use Rattle.cert_text.specs.declared.part.CcfPart.{CcfPart}
 use Rattle.cert_text.specs.declared.part.CcfBlock.{CcfBlock}
@@ -74,6 +74,7 @@ blocks_text number (block ∷ blocks) = block_line number block ++ blocks_text (
 abbrev pub kind_text : Kind → List ℕ
 kind_text Matrix = codes "matrix"
 kind_text Netlist = codes "netlist"
+kind_text Flowsheet = codes "flowsheet"
 
 -- the version, the kind, the length and the echo
 abbrev pub echo_text : Kind → List ℕ → List ℕ

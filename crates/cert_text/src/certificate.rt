@@ -70,5 +70,6 @@ fn word_of(kind: Kind) -> &'static [u8]
     match kind {
         Kind::Matrix => b"matrix",
         Kind::Netlist => b"netlist",
+        Kind::Flowsheet => b"flowsheet",
     }
 }

@@ -7,4 +7,6 @@ pub enum Kind {
     Matrix,
     /// A circuit.
     Netlist,
+    /// A plant.
+    Flowsheet,
 }

@@ -7,7 +7,7 @@ use Rattle.term_model.proofs.Systems.{one_model}
 use Rattle.toml.specs.Data.{Members, no_members}
 use Rattle.toml.specs.Parse.{parse_document}
 use Rattle.toml.proofs.OnLiterals.{toml_on_literals}
-use Rattle.flowsheet_reader.specs.declared.version.Version.TheVariants.{One}
+use Rattle.unit_equations.specs.declared.version.Version.TheVariants.{One}
 use Rattle.flowsheet_reader.specs.Models.{BreaksFirst, GivesModel, sheet_in}
 use Rattle.flowsheet_reader.specs.Sheets.{Sheet, sheet_without_units}
 

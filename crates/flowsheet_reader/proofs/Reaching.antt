@@ -12,26 +12,25 @@ use Rattle.refusals.specs.declared.Why.TheVariants.{TooMany}
 use Rattle.mixed_model.specs.Models.{MixedModel}
 use Rattle.mixed_model.specs.Names.{has_name}
 use Rattle.term_model.specs.Systems.{IsModelOf}
-use Rattle.term_model.proofs.Lists.{Differ, all-append}
-use Rattle.flowsheet_reader.proofs.Lasts.{differ-last}
+use Rattle.term_model.proofs.Lists.{all-append, Differ, differ-last}
 use Rattle.toml.specs.Data.{Data}
-use Rattle.flowsheet_reader.specs.declared.version.Version.{Version}
-use Rattle.flowsheet_reader.specs.Adding.{IsNewPart}
-use Rattle.flowsheet_reader.specs.Chains.{◌>>=◌, at, keeping}
+use Rattle.unit_equations.specs.declared.version.Version.{Version}
+use Rattle.unit_equations.specs.Adding.{IsNewPart}
+use Rattle.document_values.specs.Chains.{◌>>=◌, at, keeping}
 use Rattle.flowsheet_reader.specs.Keeping.{KeptSheet, scope_of_kept}
-use Rattle.flowsheet_reader.specs.Kinds.{flows}
+use Rattle.unit_equations.specs.Kinds.{flows}
 use Rattle.flowsheet_reader.specs.Models.{component_in, new_stream, stream_in, unit_at, units_in}
-use Rattle.flowsheet_reader.specs.Parts.{UnitPart, system_of, together}
+use Rattle.unit_equations.specs.Parts.{UnitPart, system_of, together}
 use Rattle.flowsheet_reader.specs.Reached.{AreListed, IsReached, Keeps}
 use Rattle.flowsheet_reader.specs.Sheets.{Scope, Sheet, has_room, scope_of, sheet_without_units, with_unit}
 use Rattle.flowsheet_reader.specs.Units.{add_unit, extended, unit_in}
-use Rattle.flowsheet_reader.specs.Values.{each, new_name}
-use Rattle.flowsheet_reader.proofs.EquationNames.{names_of}
-use Rattle.flowsheet_reader.proofs.Inversion.{chain-Ok, keeping-Ok, new_name-Ok, then}
+use Rattle.document_values.specs.Values.{each, new_name}
+use Rattle.unit_equations.proofs.EquationNames.{names_of}
+use Rattle.document_values.proofs.Inversion.{chain-Ok, keeping-Ok, new_name-Ok, then}
 use Rattle.flowsheet_reader.proofs.Sound.{IsSound, new-part, sound-more, sound-start}
-use Rattle.flowsheet_reader.proofs.Spelled.{IsShort, short-name}
+use Rattle.unit_equations.proofs.Spelled.{IsShort, short-name}
 use Rattle.flowsheet_reader.proofs.UnitKept.{unit-kept}
-use Rattle.flowsheet_reader.proofs.UnitParts.{IsUnitPart}
+use Rattle.unit_equations.proofs.UnitParts.{IsUnitPart}
 
 at-Ok : {A : Type 0} (place : Place) (given : Result A Why) (value : A) → at place given ≡ Ok value → given ≡ Ok value
 at-Ok place (Ok other) value kept = let told : other ≡ value = cc in ap Ok told

@@ -6,11 +6,11 @@ use Rattle.std.proofs.lemmas.List.{length-map}
 use Rattle.std.proofs.lemmas.List.Concat.{flat_map-cons}
 use Rattle.refusals.specs.declared.Why.TheVariants.{TooMany}
 use Rattle.toml.specs.Data.{Data}
-use Rattle.flowsheet_reader.specs.Chains.{keeping}
-use Rattle.flowsheet_reader.specs.Kinds.{flow, flows}
+use Rattle.document_values.specs.Chains.{keeping}
+use Rattle.unit_equations.specs.Kinds.{flow, flows}
 use Rattle.flowsheet_reader.specs.Models.{new_stream}
-use Rattle.flowsheet_reader.specs.Values.{new_name}
-use Rattle.flowsheet_reader.proofs.Inversion.{then}
+use Rattle.document_values.specs.Values.{new_name}
+use Rattle.document_values.proofs.Inversion.{then}
 
 flows-length : (components streams : List (List ℕ)) → length (flows components streams) ≡ length components * length streams
 flows-length components [] = omega arith

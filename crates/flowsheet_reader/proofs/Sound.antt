@@ -9,18 +9,19 @@ use Rattle.mixed_model.specs.Names.{has_name, is_label}
 use Rattle.term_model.specs.Systems.{System}
 use Rattle.term_model.specs.Terms.{Term}
 use Rattle.term_model.proofs.Lists.{Differ, all-append, all-flat_map, all-map, all_at, at_all, differ-append, differ-distinct}
-use Rattle.flowsheet_reader.specs.declared.version.Version.{Version}
-use Rattle.flowsheet_reader.specs.Adding.{ArePlaced, AreSummands, IsNewPart}
+use Rattle.term_model.proofs.NamesAmong.{has-left, has-right}
+use Rattle.unit_equations.specs.declared.version.Version.{Version}
+use Rattle.unit_equations.specs.Adding.{ArePlaced, AreSummands, IsNewPart}
 use Rattle.term_model.specs.Putting.{IsPlaced}
-use Rattle.flowsheet_reader.specs.Kinds.{flow, flows}
-use Rattle.flowsheet_reader.specs.Parts.{Summand, UnitEquation, UnitPart, system_of, terms_of, together}
+use Rattle.unit_equations.specs.Kinds.{flow, flows}
+use Rattle.unit_equations.specs.Parts.{Summand, UnitEquation, UnitPart, system_of, terms_of, together}
 use Rattle.flowsheet_reader.specs.Sheets.{Sheet, sheet_without_units, with_unit}
-use Rattle.flowsheet_reader.proofs.Dots.{unit_of, word_of}
-use Rattle.flowsheet_reader.proofs.EquationNames.{names_of}
-use Rattle.flowsheet_reader.proofs.Keyed.{all-both, all-own, all-weaker, has-back, has-front, has-more, has-self}
-use Rattle.flowsheet_reader.proofs.Spelled.{IsShort, IsSpelled, spelled-label}
-use Rattle.flowsheet_reader.proofs.SummandLaws.{Stand, flow-word, flows-differ, stand-summands}
-use Rattle.flowsheet_reader.proofs.UnitParts.{IsUnitPart}
+use Rattle.unit_equations.proofs.Dots.{unit_of, word_of}
+use Rattle.unit_equations.proofs.EquationNames.{names_of}
+use Rattle.unit_equations.proofs.Keyed.{all-both, all-own, all-weaker, has-more, has-self}
+use Rattle.unit_equations.proofs.Spelled.{IsShort, IsSpelled, spelled-label}
+use Rattle.unit_equations.proofs.SummandLaws.{Stand, flow-word, flows-differ, stand-summands}
+use Rattle.unit_equations.proofs.UnitParts.{IsUnitPart}
 
 -- what a flowsheet's names tell
 pub record IsSound (sheet : Sheet) : Type 0 where
@@ -102,14 +103,14 @@ module _ (p : ℕ) (sheet : Sheet) (unit : List ℕ) (part : UnitPart) (sound : 
   old-placed : AllByRecursion (IsPlaced (sheet.system.equations ++ names_of part.equations) (sheet.system.unknowns ++ part.unknowns)) sheet.system.terms
   old-placed =
       all-weaker (IsPlaced sheet.system.equations sheet.system.unknowns) (IsPlaced (sheet.system.equations ++ names_of part.equations) (sheet.system.unknowns ++ part.unknowns)) sheet.system.terms
-      (λ term at. record { equation = has-front sheet.system.equations (names_of part.equations) term.equation at.equation; unknown = has-front sheet.system.unknowns part.unknowns term.unknown at.unknown })
+      (λ term at. record { equation = has-left sheet.system.equations (names_of part.equations) term.equation at.equation; unknown = has-left sheet.system.unknowns part.unknowns term.unknown at.unknown })
       (at_all (IsPlaced sheet.system.equations sheet.system.unknowns) sheet.system.terms sound.placed)
 
   terms-placed : (equation : UnitEquation) → has_name (names_of part.equations) equation.name ≡ true → Stand p (flows sheet.components sheet.streams ++ (sound.own ++ part.unknowns)) equation.summands → AllByRecursion (IsPlaced (sheet.system.equations ++ names_of part.equations) (sheet.system.unknowns ++ part.unknowns)) (terms_of equation)
   terms-placed equation there stand =
       all-map (λ summand. has_name (flows sheet.components sheet.streams ++ (sound.own ++ part.unknowns)) summand.unknown ≡ true) (IsPlaced (sheet.system.equations ++ names_of part.equations) (sheet.system.unknowns ++ part.unknowns))
       (λ summand. record { equation = equation.name; unknown = summand.unknown; constant = summand.constant; symbol = summand.symbol }) equation.summands
-      (λ summand at. record { equation = has-back sheet.system.equations (names_of part.equations) equation.name there; unknown = ap (λ names. has_name names summand.unknown) all-unknowns ∙ at }) stand.there
+      (λ summand at. record { equation = has-right sheet.system.equations (names_of part.equations) equation.name there; unknown = ap (λ names. has_name names summand.unknown) all-unknowns ∙ at }) stand.there
 
   own-named : (equations : List UnitEquation) → AllByRecursion (λ equation. has_name (names_of equations) equation.name ≡ true) equations
   own-named [] = tt
@@ -125,12 +126,12 @@ module _ (p : ℕ) (sheet : Sheet) (unit : List ℕ) (part : UnitPart) (sound : 
     own = sound.own ++ part.unknowns;
     unknowns_are = all-unknowns;
     own_units = all-append (λ name. has_name (sheet.units ++ unit ∷ []) (unit_of name) ≡ true) sound.own part.unknowns
-        (all-weaker (λ name. has_name sheet.units (unit_of name) ≡ true) (λ name. has_name (sheet.units ++ unit ∷ []) (unit_of name) ≡ true) sound.own (λ name old. has-front sheet.units (unit ∷ []) (unit_of name) old) sound.own_units)
-        (all-weaker (λ name. unit_of name ≡ unit) (λ name. has_name (sheet.units ++ unit ∷ []) (unit_of name) ≡ true) part.unknowns (λ name told. has-back sheet.units (unit ∷ []) (unit_of name) (has-self [] unit (unit_of name) told)) is.units);
+        (all-weaker (λ name. has_name sheet.units (unit_of name) ≡ true) (λ name. has_name (sheet.units ++ unit ∷ []) (unit_of name) ≡ true) sound.own (λ name old. has-left sheet.units (unit ∷ []) (unit_of name) old) sound.own_units)
+        (all-weaker (λ name. unit_of name ≡ unit) (λ name. has_name (sheet.units ++ unit ∷ []) (unit_of name) ≡ true) part.unknowns (λ name told. has-right sheet.units (unit ∷ []) (unit_of name) (has-self [] unit (unit_of name) told)) is.units);
     unknowns_differ = all-unknowns-differ;
     equation_units = all-append (λ name. has_name (sheet.units ++ unit ∷ []) (unit_of name) ≡ true) sheet.system.equations (names_of part.equations)
-        (all-weaker (λ name. has_name sheet.units (unit_of name) ≡ true) (λ name. has_name (sheet.units ++ unit ∷ []) (unit_of name) ≡ true) sheet.system.equations (λ name old. has-front sheet.units (unit ∷ []) (unit_of name) old) sound.equation_units)
-        (all-weaker (λ name. unit_of name ≡ unit) (λ name. has_name (sheet.units ++ unit ∷ []) (unit_of name) ≡ true) (names_of part.equations) (λ name told. has-back sheet.units (unit ∷ []) (unit_of name) (has-self [] unit (unit_of name) told)) named);
+        (all-weaker (λ name. has_name sheet.units (unit_of name) ≡ true) (λ name. has_name (sheet.units ++ unit ∷ []) (unit_of name) ≡ true) sheet.system.equations (λ name old. has-left sheet.units (unit ∷ []) (unit_of name) old) sound.equation_units)
+        (all-weaker (λ name. unit_of name ≡ unit) (λ name. has_name (sheet.units ++ unit ∷ []) (unit_of name) ≡ true) (names_of part.equations) (λ name told. has-right sheet.units (unit ∷ []) (unit_of name) (has-self [] unit (unit_of name) told)) named);
     equations_differ = all-equations-differ;
     placed = all_at (IsPlaced (sheet.system.equations ++ names_of part.equations) (sheet.system.unknowns ++ part.unknowns)) (sheet.system.terms ++ flat_map terms_of part.equations)
         (all-append (IsPlaced (sheet.system.equations ++ names_of part.equations) (sheet.system.unknowns ++ part.unknowns)) sheet.system.terms (flat_map terms_of part.equations) old-placed

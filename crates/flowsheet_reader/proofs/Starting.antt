@@ -16,21 +16,21 @@ use Rattle.term_model.proofs.Lists.{all-flat_map, all-map, all_at, differ-distin
 use Rattle.toml.specs.Data.{Data, Members, get_member}
 use Rattle.toml.specs.View.{view}
 use Rattle.toml.specs.declared.value.Value.{Value}
-use Rattle.flowsheet_reader.specs.declared.version.Version.{Version}
-use Rattle.flowsheet_reader.specs.Adding.{ArePlaced, AreSummands, IsNewPart}
-use Rattle.flowsheet_reader.specs.Answers.{Gives, OnRefused, fault_at, refused_at}
-use Rattle.flowsheet_reader.specs.Chains.{◌>>=◌, at}
+use Rattle.unit_equations.specs.declared.version.Version.{Version}
+use Rattle.unit_equations.specs.Adding.{ArePlaced, AreSummands, IsNewPart}
+use Rattle.document_values.specs.Answers.{Gives, OnRefused, fault_at, refused_at}
+use Rattle.document_values.specs.Chains.{◌>>=◌, at}
 use Rattle.flowsheet_reader.specs.Keeping.{KeptSheet}
-use Rattle.flowsheet_reader.specs.Kinds.{flow, flows}
+use Rattle.unit_equations.specs.Kinds.{flow, flows}
 use Rattle.flowsheet_reader.specs.Models.{components_in, components_of, list_at_key, streams_in, streams_of}
-use Rattle.flowsheet_reader.specs.Parts.{UnitEquation, UnitPart, system_of, terms_of, together}
+use Rattle.unit_equations.specs.Parts.{UnitEquation, UnitPart, system_of, terms_of, together}
 use Rattle.flowsheet_reader.specs.Reached.{AreListed, Grows, Keeps}
 use Rattle.flowsheet_reader.specs.Sheets.{Sheet, sheet_without_units}
-use Rattle.flowsheet_reader.proofs.EquationNames.{IsWord, own_for-spelled}
-use Rattle.flowsheet_reader.proofs.Inversion.{chain-Ok}
-use Rattle.flowsheet_reader.proofs.Keyed.{all-own, all-weaker}
+use Rattle.unit_equations.proofs.EquationNames.{IsWord, own_for-spelled}
+use Rattle.document_values.proofs.Inversion.{chain-Ok}
+use Rattle.unit_equations.proofs.Keyed.{all-own, all-weaker}
 use Rattle.flowsheet_reader.proofs.Reaching.{listed-sound}
-use Rattle.flowsheet_reader.proofs.Spelled.{IsShort, spelled-label, spelled-more}
+use Rattle.unit_equations.proofs.Spelled.{IsShort, spelled-label, spelled-more}
 
 -- a unit at its place
 pub grows-at : (p : ℕ) (old new : KeptSheet) (place : Place) (result : Result (Unit {0}) Fault) (final : Result (Unit {0}) ReadModel) (wanted : Sheet → Result Sheet Why) (here : Sheet → Result Sheet Refusal)

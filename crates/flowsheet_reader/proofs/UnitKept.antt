@@ -11,25 +11,25 @@ use Rattle.refusals.specs.declared.Why.TheVariants.{BadKind, BadValue, UnknownKe
 use Rattle.line_lexer.specs.Names.{is_short_name}
 use Rattle.mixed_model.specs.Names.{has_name}
 use Rattle.term_model.specs.Terms.{dotted}
-use Rattle.term_model.proofs.Lists.{Differ}
-use Rattle.flowsheet_reader.proofs.Lasts.{differ-last}
+use Rattle.term_model.proofs.Lists.{Differ, differ-last}
 use Rattle.toml.specs.Data.{Data, Members, get_member}
-use Rattle.flowsheet_reader.specs.declared.kind.UnitKind.{UnitKind}
-use Rattle.flowsheet_reader.specs.declared.kind.UnitKind.TheVariants.{Mixer, Separator, Reactor, Tee, Specification, Balance, Relation}
-use Rattle.flowsheet_reader.specs.declared.version.Version.{Version}
-use Rattle.flowsheet_reader.specs.declared.version.Version.TheVariants.{One, Two}
-use Rattle.flowsheet_reader.specs.Chains.{◌>>=◌, keeping}
-use Rattle.flowsheet_reader.specs.Kinds.{balance, but_last, conserved, fixed_split, flows, keys_of, mixer, open_split, reactor, relation, separator, specification, tee}
-use Rattle.flowsheet_reader.specs.Parts.{UnitEquation, UnitPart}
+use Rattle.term_model.proofs.NamesAmong.{has-left, has-right}
+use Rattle.unit_equations.specs.declared.kind.UnitKind.{UnitKind}
+use Rattle.unit_equations.specs.declared.kind.UnitKind.TheVariants.{Mixer, Separator, Reactor, Tee, Specification, Balance, Relation}
+use Rattle.unit_equations.specs.declared.version.Version.{Version}
+use Rattle.unit_equations.specs.declared.version.Version.TheVariants.{One, Two}
+use Rattle.document_values.specs.Chains.{◌>>=◌, keeping}
+use Rattle.unit_equations.specs.Kinds.{balance, but_last, conserved, fixed_split, flows, keys_of, mixer, open_split, reactor, relation, separator, specification, tee}
+use Rattle.unit_equations.specs.Parts.{UnitEquation, UnitPart}
 use Rattle.flowsheet_reader.specs.Sheets.{Scope, Sheet, scope_of}
 use Rattle.flowsheet_reader.specs.Units.{are_coefficients, coefficient_of, coefficients, fractions_in, kind_in, outlets_in, part_in, stream_at, streams_at, unit_in}
-use Rattle.flowsheet_reader.specs.Values.{declared_name, declared_names, due, each, has_only, list_of, list_of_length, list_with, members_in, new_name, number_in, numbers_in, table_of}
-use Rattle.flowsheet_reader.proofs.Inversion.{chain-Ok, declared_name-Ok, declared_names-Ok, keeping-Ok, new_name-Ok}
-use Rattle.flowsheet_reader.proofs.Keyed.{all-own, all-weaker, has-back, has-front, has-self}
+use Rattle.document_values.specs.Values.{declared_name, declared_names, due, each, has_only, list_of, list_of_length, list_with, members_in, new_name, number_in, numbers_in, table_of}
+use Rattle.document_values.proofs.Inversion.{chain-Ok, declared_name-Ok, declared_names-Ok, keeping-Ok, new_name-Ok}
+use Rattle.unit_equations.proofs.Keyed.{all-own, all-weaker, has-self}
 use Rattle.flowsheet_reader.proofs.Sound.{IsSound}
-use Rattle.flowsheet_reader.proofs.Spelled.{IsShort, short-name}
-use Rattle.flowsheet_reader.proofs.SplitNames.{Fits}
-use Rattle.flowsheet_reader.proofs.UnitParts.{IsUnitPart, balance-part, mixer-part, reactor-part, relation-part, separator-part, specification-part, tee-part}
+use Rattle.unit_equations.proofs.Spelled.{IsShort, short-name}
+use Rattle.unit_equations.proofs.SplitNames.{Fits}
+use Rattle.unit_equations.proofs.UnitParts.{IsUnitPart, balance-part, mixer-part, reactor-part, relation-part, separator-part, specification-part, tee-part}
 
 -- the stream at a key
 stream_at-Ok : (scope : Scope) (before : List (List ℕ)) (key : List ℕ) (table : Members) (stream : List ℕ) → stream_at scope before key table ≡ Ok stream → (has_name scope.streams stream ≡ true) × (has_name before stream ≡ false)
@@ -170,7 +170,7 @@ module _ (p : ℕ) (odd : 2 < p) (sheet : Sheet) (sound : IsSound sheet) (unit :
       (out.0, (inlet_is.0, tt)) (out.1, (refl, tt))
       (zip-all (λ component. has_name sheet.components component ≡ true) value sheet.components sheet.components (all-own sheet.components))
       (subst Differ (sym (zip-first value sheet.components)) sound.apart)
-      (has-back sound.own (dotted (codes "x") unit ∷ []) (dotted (codes "x") unit) (has-self [] (dotted (codes "x") unit) (dotted (codes "x") unit) refl)))
+      (has-right sound.own (dotted (codes "x") unit ∷ []) (dotted (codes "x") unit) (has-self [] (dotted (codes "x") unit) (dotted (codes "x") unit) refl)))
   part-kept Tee table part kept few =
       let (inlet, first, rest) = chain-Ok (stream_at (scope_of sheet) [] (codes "inlet") table) (λ inlet. outlets_in (scope_of sheet) sheet.version inlet (codes "first") (codes "second") table >>= (λ outlets. fractions_in p sheet.version outlets table >>= (λ fractions. Ok (tee p sheet.version sheet.components unit inlet outlets fractions)))) part kept in
       let (outlets, second, more) = chain-Ok (outlets_in (scope_of sheet) sheet.version inlet (codes "first") (codes "second") table) (λ outlets. fractions_in p sheet.version outlets table >>= (λ fractions. Ok (tee p sheet.version sheet.components unit inlet outlets fractions))) part rest in
@@ -194,7 +194,7 @@ module _ (p : ℕ) (odd : 2 < p) (sheet : Sheet) (sound : IsSound sheet) (unit :
       let same : balance sheet.components unit streams ≡ part = cc in
       subst Adds same
       (balance-part p odd sheet.components sheet.streams (sound.own ++ dotted (codes "q") unit ∷ []) unit sound.good sound.apart sound.short u streams is.0 is.1
-      (has-back sound.own (dotted (codes "q") unit ∷ []) (dotted (codes "q") unit) (has-self [] (dotted (codes "q") unit) (dotted (codes "q") unit) refl)))
+      (has-right sound.own (dotted (codes "q") unit ∷ []) (dotted (codes "q") unit) (has-self [] (dotted (codes "q") unit) (dotted (codes "q") unit) refl)))
   part-kept Relation table part kept few =
       let (names, first, last) = chain-Ok (due (codes "unknowns") table >>= list_with 1 >>= declared_names sheet.system.unknowns []) (λ names. Ok (relation unit names)) part kept in
       let (items, second, told) = chain-Ok (due (codes "unknowns") table >>= list_with 1) (declared_names sheet.system.unknowns []) names first in

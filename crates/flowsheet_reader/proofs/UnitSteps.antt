@@ -1,11 +1,11 @@
 -- What a unit adds, step by step.
 use Rattle.std.proofs.Common.{◌≡◌, ℕ, List, [], ◌∷◌, codes, Ok, refl}
 use Rattle.toml.specs.Data.{Data, Members}
-use Rattle.flowsheet_reader.specs.declared.kind.UnitKind.TheVariants.{Reactor}
-use Rattle.flowsheet_reader.specs.Kinds.{reactor}
+use Rattle.unit_equations.specs.declared.kind.UnitKind.TheVariants.{Reactor}
+use Rattle.unit_equations.specs.Kinds.{reactor}
 use Rattle.flowsheet_reader.specs.Sheets.{Scope}
 use Rattle.flowsheet_reader.specs.Units.{are_coefficients, coefficients, part_in, stream_at}
-use Rattle.flowsheet_reader.specs.Values.{due, members_in, table_of}
+use Rattle.document_values.specs.Values.{due, members_in, table_of}
 
 -- a reactor that keeps each rule
 pub reactor-kept : (p : ℕ) (scope : Scope) (unit : List ℕ) (table stoich : Members) (value : Data) (inlet outlet : List ℕ)

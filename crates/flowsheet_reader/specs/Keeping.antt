@@ -1,7 +1,7 @@
 -- What a flowsheet keeps as it is read.
 use Rattle.std.specs.Prelude.{List, ℕ}
 use Rattle.mixed_model.specs.Models.{MixedModel}
-use Rattle.flowsheet_reader.specs.declared.version.Version.{Version}
+use Rattle.unit_equations.specs.declared.version.Version.{Version}
 use Rattle.flowsheet_reader.specs.Sheets.{Scope}
 
 -- the names of its components, of its streams and of its units, and the model of its equations

@@ -1,14 +1,6 @@
-pub mod Adding
-pub mod Answers
-pub mod Chains
 pub mod Feeding
-pub mod Growing
 pub mod Keeping
-pub mod Kinds
 pub mod Models
-pub mod Parts
 pub mod Reached
 pub mod Sheets
 pub mod Units
-pub mod Values
-pub mod Words

@@ -11,13 +11,13 @@ use Rattle.mixed_model.specs.Models.{MixedModel}
 use Rattle.term_model.specs.Systems.{IsModelOf}
 use Rattle.toml.specs.Data.{Data, integer, Members, get_member}
 use Rattle.toml.specs.Parse.{parse_document}
-use Rattle.flowsheet_reader.specs.declared.version.Version.{Version}
-use Rattle.flowsheet_reader.specs.declared.version.Version.TheVariants.{One, Two}
-use Rattle.flowsheet_reader.specs.Chains.{◌>>=◌, at, keeping}
-use Rattle.flowsheet_reader.specs.Kinds.{flows}
+use Rattle.unit_equations.specs.declared.version.Version.{Version}
+use Rattle.unit_equations.specs.declared.version.Version.TheVariants.{One, Two}
+use Rattle.document_values.specs.Chains.{◌>>=◌, at, keeping}
+use Rattle.unit_equations.specs.Kinds.{flows}
 use Rattle.flowsheet_reader.specs.Sheets.{Sheet, sheet_without_units}
 use Rattle.flowsheet_reader.specs.Units.{add_unit}
-use Rattle.flowsheet_reader.specs.Values.{each, has_only, list_of, new_name}
+use Rattle.document_values.specs.Values.{each, has_only, list_of, new_name}
 
 -- the version that a value at the key `version` tells: 1 where there is none
 abbrev pub version_of : Option Data → Result Version Why

@@ -2,9 +2,9 @@
 use Rattle.std.specs.Prelude.{ℕ, Bool, ◌&&◌, List, [], ◌∷◌, ◌++◌, length, nat_le}
 use Rattle.limits.specs.Limits.{equation_limit}
 use Rattle.term_model.specs.Systems.{System}
-use Rattle.flowsheet_reader.specs.declared.version.Version.{Version}
-use Rattle.flowsheet_reader.specs.Kinds.{flows}
-use Rattle.flowsheet_reader.specs.Parts.{UnitPart, system_of, together}
+use Rattle.unit_equations.specs.declared.version.Version.{Version}
+use Rattle.unit_equations.specs.Kinds.{flows}
+use Rattle.unit_equations.specs.Parts.{UnitPart, system_of, together}
 
 -- The names of its components, of its streams and of its units, and the system of equations that the units make over
 -- the flows and their own unknowns.

@@ -6,15 +6,15 @@ use Rattle.refusals.specs.declared.Why.{Why}
 use Rattle.refusals.specs.declared.Why.TheVariants.{BadKind, TooMany, Undeclared, UnknownKey}
 use Rattle.mixed_model.specs.Names.{has_name}
 use Rattle.toml.specs.Data.{Data, Members, get_member}
-use Rattle.flowsheet_reader.specs.declared.kind.UnitKind.{UnitKind}
-use Rattle.flowsheet_reader.specs.declared.kind.UnitKind.TheVariants.{Mixer, Separator, Reactor, Tee, Specification, Balance, Relation}
-use Rattle.flowsheet_reader.specs.declared.version.Version.{Version}
-use Rattle.flowsheet_reader.specs.declared.version.Version.TheVariants.{One, Two}
-use Rattle.flowsheet_reader.specs.Chains.{◌>>=◌, keeping, some_or}
-use Rattle.flowsheet_reader.specs.Kinds.{balance, keys_of, kind_beside, kinds, mixer, reactor, relation, separator, specification, tee}
-use Rattle.flowsheet_reader.specs.Parts.{UnitPart}
+use Rattle.unit_equations.specs.declared.kind.UnitKind.{UnitKind}
+use Rattle.unit_equations.specs.declared.kind.UnitKind.TheVariants.{Mixer, Separator, Reactor, Tee, Specification, Balance, Relation}
+use Rattle.unit_equations.specs.declared.version.Version.{Version}
+use Rattle.unit_equations.specs.declared.version.Version.TheVariants.{One, Two}
+use Rattle.document_values.specs.Chains.{◌>>=◌, keeping, some_or}
+use Rattle.unit_equations.specs.Kinds.{balance, keys_of, kind_beside, kinds, mixer, reactor, relation, separator, specification, tee}
+use Rattle.unit_equations.specs.Parts.{UnitPart}
 use Rattle.flowsheet_reader.specs.Sheets.{Scope, Sheet, has_room, scope_of, with_unit}
-use Rattle.flowsheet_reader.specs.Values.{declared_name, declared_names, due, has_only, list_of_length, list_with, members_in, new_name, number_in, numbers_in, table_of, text_of}
+use Rattle.document_values.specs.Values.{declared_name, declared_names, due, has_only, list_of_length, list_with, members_in, new_name, number_in, numbers_in, table_of, text_of}
 
 -- the stream at a key, none of those named before in the unit
 abbrev pub stream_at : Scope → List (List ℕ) → List ℕ → Members → Result (List ℕ) Why

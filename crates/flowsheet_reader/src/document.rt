@@ -4,19 +4,17 @@ ghost use Rattle.std.specs.Prelude.{◌≡◌, ◌+◌, ◌∷◌, ◌++◌, [],
 ghost use Rattle.mixed_model.specs.Names.{has_name};
 ghost use Rattle.toml.specs.Data.{get_member};
 ghost use Rattle.toml.specs.View.{table_view, view};
-ghost use Rattle.flowsheet_reader.specs.Values.{has_only};
-ghost use Rattle.flowsheet_reader.specs.Answers.{AddsName, Gives, Reads};
-ghost use Rattle.flowsheet_reader.specs.Chains.{keeping};
+ghost use Rattle.document_values.specs.Values.{has_only};
+ghost use Rattle.document_values.specs.Answers.{AddsName, Gives, Reads};
+ghost use Rattle.document_values.specs.Chains.{keeping};
 ghost use Rattle.flowsheet_reader.specs.Models.{component_in, components_in, components_of, document_keys, list_at_key, new_stream, stream_in, streams_in, streams_of, version_of};
 
-use crate::names::NameSet;
-use crate::refusing::at;
-use crate::values::{find, has_only, list, new_name};
-use crate::version::Version;
+use document_values::{NameSet, at, find, has_only, list, new_name};
 use limits::EQUATION_LIMIT;
 use refusals::{Place, ReadModel, Why};
 use std::alloc::Global;
 use toml::{Table, Value};
+use unit_equations::Version;
 
 /// The version that a document tells: 1 where it tells none.
 pub(crate) fn version(document: &Table) -> Result<Version, Why>

@@ -6,29 +6,25 @@ ghost use Rattle.limits.specs.Limits.{equation_limit};
 ghost use Rattle.refusals.specs.Faults.{OnBroken};
 ghost use Rattle.term_model.specs.Systems.{IsModelOf, System};
 ghost use Rattle.toml.specs.View.{view};
-ghost use Rattle.flowsheet_reader.specs.Adding.{ArePlaced, IsNewPart};
-ghost use Rattle.flowsheet_reader.specs.Answers.{OnRefused};
-ghost use Rattle.flowsheet_reader.specs.Kinds.{flow, flows};
+ghost use Rattle.unit_equations.specs.Adding.{ArePlaced, IsNewPart};
+ghost use Rattle.document_values.specs.Answers.{OnRefused};
+ghost use Rattle.unit_equations.specs.Kinds.{flow, flows};
 ghost use Rattle.flowsheet_reader.specs.Models.{unit_at, units_in};
-ghost use Rattle.flowsheet_reader.specs.Parts.{system_of, together};
+ghost use Rattle.unit_equations.specs.Parts.{system_of, together};
 ghost use Rattle.flowsheet_reader.specs.Reached.{AreListed, Grows, IsKept, IsRefusedBy, Keeps};
 ghost use Rattle.flowsheet_reader.specs.Sheets.{sheet_without_units};
 ghost use Rattle.flowsheet_reader.specs.Units.{add_unit};
 
-use crate::adding::add_part;
-use crate::names::NameSet;
-use crate::naming::flow;
-use crate::part::UnitPart;
-use crate::refusing::at_or_memory;
 use crate::sheet::Sheet;
 use crate::unit::read_unit;
-use crate::version::Version;
+use document_values::{NameSet, at_or_memory};
 use mixed_model::Mixed;
 use out_of_memory::NoMemory;
 use refusals::{Fault, Place, ReadModel};
 use residue_field::Field;
 use std::alloc::Global;
 use toml::Value;
+use unit_equations::{UnitPart, Version, add_part, flow};
 
 impl<F: Field> Sheet<F> {
     /// A flowsheet without units: each component in each stream is an unknown of it.

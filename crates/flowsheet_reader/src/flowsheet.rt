@@ -3,14 +3,14 @@
 ghost use Rattle.std.specs.Prelude.{◌≡◌, ◌++◌, ℕ, List, [], Ok, Err, IfOk, IfErr};
 ghost use Rattle.term_model.specs.Systems.{IsModelOf};
 ghost use Rattle.toml.specs.View.{table_view};
-ghost use Rattle.flowsheet_reader.specs.Answers.{OnRefused};
+ghost use Rattle.document_values.specs.Answers.{OnRefused};
 ghost use Rattle.flowsheet_reader.specs.Feeding.{IsFed};
 ghost use Rattle.flowsheet_reader.specs.Models.{GivesModel, IsRefusal, sheet_in, start_of};
 ghost use Rattle.flowsheet_reader.specs.Reached.{Keeps};
 ghost use Rattle.flowsheet_reader.specs.Sheets.{Sheet as Flowsheet};
 
 use crate::document::{keys, list_at, read_components, read_streams, version};
-use crate::refusing::at;
+use document_values::at;
 use crate::sheet::Sheet;
 use mixed_model::Mixed;
 use out_of_memory::NoMemory;

@@ -1,10 +1,10 @@
 //! A flowsheet, as far as it was read.
 
-use crate::names::NameSet;
-use crate::version::Version;
+use document_values::NameSet;
 use mixed_model::Mixed;
 use residue_field::Field;
 use std::marker::Model;
+use unit_equations::Version;
 
 /// The names of a flowsheet's components, of its streams and of its units, and the model of its equations.
 #[derive(Drop)]

@@ -2,22 +2,22 @@
 
 ghost use Rattle.std.specs.String.{string_bytes};
 ghost use Rattle.toml.specs.View.{table_view, view};
-ghost use Rattle.flowsheet_reader.specs.Answers.{Answers, Gives};
+ghost use Rattle.document_values.specs.Answers.{Answers, Gives};
 ghost use Rattle.flowsheet_reader.specs.Keeping.{scope_of_kept};
 ghost use Rattle.flowsheet_reader.specs.Units.{kind_in, part_in, unit_in};
 
-use crate::equations::{balance, mixer, reactor, relation, separator, specification, tee};
-use crate::kind::UnitKind;
-use crate::names::NameSet;
-use crate::part::UnitPart;
 use crate::sheet::Sheet;
 use crate::unit_keys::{are_coefficients, coefficients, fractions, outlets, stream_at, streams_at};
-use crate::values;
-use crate::values::{declared_name, declared_names, due, has_only, list_with, new_name, text};
+use document_values::{
+    NameSet, declared_name, declared_names, due, has_only, list_with, new_name, table as table_in, text,
+};
 use refusals::{Fault, Why};
 use residue_field::Field;
 use std::alloc::Global;
 use toml::{Table, Value};
+use unit_equations::{
+    UnitKind, UnitPart, balance, mixer, reactor, relation, separator, specification, tee,
+};
 
 /// The name of a unit, and what it adds to a flowsheet.
 pub(crate) fn read_unit<F: Field>(
@@ -28,7 +28,7 @@ pub(crate) fn read_unit<F: Field>(
     ensures { Answers (λ unit. (string_bytes unit.0, unit.1)) result
         (unit_in F.modulus (scope_of_kept sheet.now) (view value.now)) }
 {
-    let table = values::table(value)?;
+    let table = table_in(value)?;
     let name = new_name(&sheet.units, due(table, "name")?)?;
     let kind = kind_of(table)?;
     if !has_only(table, &["name", "kind"], kind.keys(sheet.version)) {
@@ -122,7 +122,7 @@ fn read_reactor<F: Field>(
     let inlet = stream_at(sheet, &NameSet::new(alloc), "inlet", table)?;
     let named = NameSet::of_one(alloc, inlet)?;
     let outlet = stream_at(sheet, &named, "outlet", table)?;
-    let stoich = values::table(due(table, "stoich")?)?;
+    let stoich = table_in(due(table, "stoich")?)?;
     are_coefficients::<F>(&sheet.components, stoich)?;
     let coefficients = coefficients(alloc, &sheet.components, stoich)?;
     let part = reactor(alloc, &sheet.components, unit, inlet, outlet, &coefficients)?;

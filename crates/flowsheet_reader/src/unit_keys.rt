@@ -4,22 +4,21 @@ ghost use Rattle.std.specs.Prelude.{◌≡◌, ◌++◌, [], map, IfOk};
 ghost use Rattle.std.specs.String.{string_bytes};
 ghost use Rattle.toml.specs.Data.{get_member};
 ghost use Rattle.toml.specs.View.{table_view};
-ghost use Rattle.flowsheet_reader.specs.Answers.{Answers, Gives};
+ghost use Rattle.document_values.specs.Answers.{Answers, Gives};
 ghost use Rattle.flowsheet_reader.specs.Keeping.{scope_of_kept};
 ghost use Rattle.flowsheet_reader.specs.Units.{are_coefficients, coefficient_of, fractions_in, outlets_in, stream_at, streams_at};
-ghost use Rattle.flowsheet_reader.specs.Values.{members_in};
+ghost use Rattle.document_values.specs.Values.{members_in};
 
-use crate::names::NameSet;
 use crate::sheet::Sheet;
-use crate::values::{
-    declared_name, declared_names, due, list_of_length, list_with, number, numbers,
+use document_values::{
+    NameSet, declared_name, declared_names, due, list_of_length, list_with, number, numbers,
 };
-use crate::version::Version;
 use out_of_memory::NoMemory;
 use refusals::{Fault, Why};
 use residue_field::Field;
 use std::alloc::Global;
 use toml::Table;
+use unit_equations::Version;
 
 /// The stream at a key, none of those named before in the unit.
 pub(crate) fn stream_at<'t, F: Field>(

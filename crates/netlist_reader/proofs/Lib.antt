@@ -9,7 +9,6 @@ pub mod ModelLaws
 pub mod NameLists
 pub mod NamesDiffer
 pub mod NodeSteps
-pub mod Numbers
 pub mod Owned
 pub mod Placed
 pub mod ReadSteps

@@ -4,7 +4,7 @@ use Rattle.clap.specs.Kinds.{Kinds}
 use Rattle.clap.specs.Faults.{fault_of}
 use Rattle.clap.specs.declared.error.kind.ErrorKind.{ErrorKind}
 use Rattle.clap.proofs.OnLiterals.{clap_on_literals}
-use Rattle.cert_text.specs.declared.kind.Kind.TheVariants.{Matrix, Netlist}
+use Rattle.cert_text.specs.declared.kind.Kind.TheVariants.{Flowsheet, Matrix, Netlist}
 use Rattle.report_cli.specs.CommandLine.{command_line}
 use Rattle.report_cli.specs.Words.{AsksFor, AsksForNothing}
 use Rattle.report_cli.specs.declared.command.Command.TheVariants.{Analyse, Layer}
@@ -29,6 +29,7 @@ pub unknown_kind : AsksForNothing (codes "mixed" ∷ codes "analyse" ∷ codes "
 unfolding clap_on_literals
 unknown_kind (Analyse Matrix) (taken, (word, there, names)) = let other : 109 ≡ 112 = unknown word _ there names.1 in absurd (omega (arith, other))
 unknown_kind (Analyse Netlist) (taken, (word, there, names)) = let other : 110 ≡ 112 = unknown word _ there names.1 in absurd (omega (arith, other))
+unknown_kind (Analyse Flowsheet) (taken, (word, there, names)) = let other : 102 ≡ 112 = unknown word _ there names.1 in absurd (omega (arith, other))
 unknown_kind (Layer kind) (taken, (word, there, names)) = let other : 97 ≡ 108 = ap (λ t. get_or t 0 0) names.0 in absurd (omega (arith, other))
 
 pub no_word : AsksForNothing (codes "mixed" ∷ [])

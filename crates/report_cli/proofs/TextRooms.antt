@@ -19,6 +19,7 @@ use Rattle.report_cli.specs.RightFor.{IsRightFor}
 use Rattle.report_cli.specs.Reports.{IsReportFor, report_text}
 use Rattle.report_cli.specs.Rooms.{columns_within, text_room}
 use Rattle.report_cli.specs.WholeLayers.{AreWholeLayers}
+use Rattle.report_cli.specs.Words.{kind_of}
 use Rattle.report_cli.specs.declared.command.Command.{Command}
 use Rattle.report_cli.specs.declared.command.Command.TheVariants.{Analyse, Layer}
 use Rattle.report_cli.specs.declared.report.Report.{Report}
@@ -31,12 +32,12 @@ pub members-few : (A : ℕ → Bool) (n : ℕ) (at : ℕ → ℕ) (m : ℕ) → 
 members-few A n at m are = omega (arith, are.count, size-everything n, size_on-within everything A n (λ j jl h. refl))
 
 -- the layered matrix of a model that a text gives has no more rows and columns than the text has room for
-pub record IsNarrow (n : ℕ) (L : LayeredMatrix) : Type 0 where
-  pub q_rows : L.q_rows ≤ columns_within n
-  pub t_rows : L.t_rows ≤ columns_within n
-  pub columns : L.columns ≤ columns_within n
+pub record IsNarrow (kind : Kind) (n : ℕ) (L : LayeredMatrix) : Type 0 where
+  pub q_rows : L.q_rows ≤ columns_within kind n
+  pub t_rows : L.t_rows ≤ columns_within kind n
+  pub columns : L.columns ≤ columns_within kind n
 
-narrow : (kind : Kind) (text : List ℕ) (model : MixedModel) (L : LayeredMatrix) (O : Origins) → Gives kind text model → IsLayeredMatrixOf (mixed_matrix_of model) L O → IsNarrow (length text) L
+narrow : (kind : Kind) (text : List ℕ) (model : MixedModel) (L : LayeredMatrix) (O : Origins) → Gives kind text model → IsLayeredMatrixOf (mixed_matrix_of model) L O → IsNarrow kind (length text) L
 narrow kind text model L O gives are =
     let few = few-names kind text model gives in
     let is : IsModel res_modulus model = is-model kind text model gives in
@@ -52,14 +53,14 @@ narrow kind text model L O gives are =
       columns = omega (arith, few.0, few.1, e, u, s, n);
     }
 
-few_columns : (n : ℕ) → columns_within n ≤ 8192
-few_columns n = omega arith
+few_columns : (kind : Kind) (n : ℕ) → columns_within kind n ≤ 8192
+few_columns kind n = omega arith
 
-certificate-fits : (kind : Kind) (input : List ℕ) (c : Certificate) → IsRightFor kind input c → length input ≤ input_limit → length (report_text (Certified c)) ≤ text_room (length input)
+certificate-fits : (kind : Kind) (input : List ℕ) (c : Certificate) → IsRightFor kind input c → length input ≤ input_limit → length (report_text (Certified c)) ≤ text_room kind (length input)
 certificate-fits kind input c right short =
     let low = narrow kind input right.model right.layered right.origins right.gives right.layers in
     let shape = (right.right).shape in
-    let within : IsShapeWithin (columns_within (length input)) c.ccf.shape = record {
+    let within : IsShapeWithin (columns_within kind (length input)) c.ccf.shape = record {
       q_rows = omega (arith, shape.q_rows, low.q_rows);
       t_rows = omega (arith, shape.t_rows, low.t_rows);
       columns = omega (arith, shape.columns, low.columns);
@@ -67,18 +68,18 @@ certificate-fits kind input c right short =
     let echo : length c.echo ≡ length input = ap length right.echo in
     omega (
       arith,
-      certificate-short res_modulus (omega arith) (mixed_matrix_of right.model) right.layered right.origins c (length input) (columns_within (length input))
-          (omega (arith, echo)) short (few_columns (length input)) right.form right.right within,
+      certificate-short res_modulus (omega arith) (mixed_matrix_of right.model) right.layered right.origins c (length input) (columns_within kind (length input))
+          (omega (arith, echo)) short (few_columns kind (length input)) right.form right.right within,
     )
 
 layers-fit : (kind : Kind) (input : List ℕ) (model : MixedModel) (layers : Layers) → Gives kind input model → AreLayersOf model layers → AreWholeLayers layers →
-    length (report_text (Layering model layers)) ≤ text_room (length input)
+    length (report_text (Layering model layers)) ≤ text_room kind (length input)
 layers-fit kind input model layers gives are whole =
     let low = narrow kind input model (layered_matrix_of layers) (origins_of layers are.split) gives are.layered in
-    omega (arith, layer-text-short model (is-model kind input model gives) layers are whole (columns_within (length input)) (few_columns (length input)) low.q_rows low.t_rows low.columns)
+    omega (arith, layer-text-short model (is-model kind input model gives) layers are whole (columns_within kind (length input)) (few_columns kind (length input)) low.q_rows low.t_rows low.columns)
 
 pub report_fits : (command : Command) (input : List ℕ) (report : Report) → IsReportFor command input report → length input ≤ input_limit →
-    length (report_text report) ≤ text_room (length input)
+    length (report_text report) ≤ text_room (kind_of command) (length input)
 report_fits (Analyse kind) input (Certified c) right short = certificate-fits kind input c right short
 report_fits (Analyse kind) input (Layering model layers) right short = absurd right
 report_fits (Layer kind) input (Certified c) right short = absurd right

@@ -89,6 +89,7 @@ fn kind_named(word: &str) -> Option<Kind>
     match word {
         "matrix" => Some(Kind::Matrix),
         "netlist" => Some(Kind::Netlist),
+        "flowsheet" => Some(Kind::Flowsheet),
         _ => None,
     }
 }

@@ -39,7 +39,7 @@ fn with_kind<'a>(alloc: Global, name: &'a str, about: &'a str) -> Result<Command
     ensures shape { IfOk result (λ command. shape_of command ≡ with_kind name.now) }
 {
     let kind = Arg::new(alloc, "KIND").required(true).help(
-        "What the input is: `matrix`, a list of equations, or `netlist`, a circuit",
+        "What the input is: `matrix`, a list of equations, `netlist`, a circuit, or `flowsheet`, a plant",
     );
     Command::new(alloc, name).about(about).arg(kind)
 }

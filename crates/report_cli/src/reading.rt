@@ -9,6 +9,7 @@ ghost use Rattle.report_cli.specs.Reading.{IsUnread, ReadsWhole, TellsOfSource};
 
 use crate::status::Status;
 use cert_text::Kind;
+use flowsheet_reader::FlowsheetReader;
 use limits::INPUT_LIMIT;
 use matrix_reader::MatrixReader;
 use mixed_model::Mixed;
@@ -85,6 +86,29 @@ impl ModelReader for NetlistReader<Res> {
     }
 
     fn take(self, piece: &[u8]) -> Result<NetlistReader<Res>, NoMemory> {
+        self.feed(piece)
+    }
+
+    fn model(self) -> Result<Mixed<Res>, ReadModel> {
+        self.finish()
+    }
+}
+
+impl ModelReader for FlowsheetReader {
+    ghost use Rattle.cert_text.specs.declared.kind.Kind.TheVariants.{Flowsheet};
+    ghost use Rattle.flowsheet_reader.specs.Feeding.{IsFed};
+
+    ghost KIND = { Flowsheet };
+
+    ghost is_fed = { IsFed };
+
+    const KIND: Kind = Kind::Flowsheet;
+
+    fn start(alloc: Global) -> Result<FlowsheetReader, NoMemory> {
+        Ok(FlowsheetReader::new(alloc))
+    }
+
+    fn take(self, piece: &[u8]) -> Result<FlowsheetReader, NoMemory> {
         self.feed(piece)
     }
 

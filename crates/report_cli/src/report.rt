@@ -20,6 +20,7 @@ use crate::reading::{ModelReader, read_model, read_text, read_whole};
 use crate::status::Status;
 use ccf_builder::build;
 use cert_text::{Ccf, Certificate, Items, Kind};
+use flowsheet_reader::FlowsheetReader;
 use matrix_reader::MatrixReader;
 use mixed_layering::layer;
 use mixed_model::{Layered, Mixed};
@@ -57,6 +58,7 @@ impl Report {
         match command.kind() {
             Kind::Matrix => Report::read_by::<S, MatrixReader<Res>>(alloc, command, source),
             Kind::Netlist => Report::read_by::<S, NetlistReader<Res>>(alloc, command, source),
+            Kind::Flowsheet => Report::read_by::<S, FlowsheetReader>(alloc, command, source),
         }
     }
 

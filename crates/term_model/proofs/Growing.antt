@@ -29,7 +29,7 @@ and_false true = refl
 and_false false = refl
 
 -- terms with their equations among some leave another equation free, and so it is with unknowns
-equation-free : (names : List (List ℕ)) (terms : List Term) (equation unknown : List ℕ) → has_name names equation ≡ false → AllByRecursion (λ (term : Term). has_name names term.equation ≡ true) terms → IsFree terms equation unknown
+pub equation-free : (names : List (List ℕ)) (terms : List Term) (equation unknown : List ℕ) → has_name names equation ≡ false → AllByRecursion (λ (term : Term). has_name names term.equation ≡ true) terms → IsFree terms equation unknown
 equation-free names [] equation unknown new all = refl
 equation-free names (term ∷ terms) equation unknown new all =
     let here : stands_at equation unknown term ≡ false = ap (λ b. b && bytes_eq unknown term.unknown) (new_other names equation term.equation new all.0) in

@@ -9,13 +9,13 @@ use Rattle.mixed_model.specs.Names.{is_label}
 use Rattle.term_model.specs.Terms.{dotted}
 
 -- no space and no tab
-abbrev is_solid : ℕ → Bool
+abbrev pub is_solid : ℕ → Bool
 is_solid byte = not (nat_eq byte 32 || nat_eq byte 9)
 
 solid_continue : (byte : ℕ) → continues_name byte ≡ true → is_solid byte ≡ true
 solid_continue byte h = grind (arith, nat_tests)
 
-all_solid : (bytes : List ℕ) → list_all continues_name bytes ≡ true → list_all is_solid bytes ≡ true
+pub all_solid : (bytes : List ℕ) → list_all continues_name bytes ≡ true → list_all is_solid bytes ≡ true
 all_solid [] h = refl
 all_solid (byte ∷ bytes) h = by (continues_name byte) refl h (λ rest. all_solid bytes rest)
   where
@@ -36,7 +36,7 @@ node-part node h = record {
   short = grind (arith, nat_tests);
 }
 
-begins-continues : (byte : ℕ) → begins_name byte ≡ true → continues_name byte ≡ true
+pub begins-continues : (byte : ℕ) → begins_name byte ≡ true → continues_name byte ≡ true
 begins-continues byte h = rw h refl
 
 pub name-part : (name : List ℕ) → is_name name ≡ true → IsPart name

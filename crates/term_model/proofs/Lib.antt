@@ -6,6 +6,7 @@ pub mod Growing
 pub mod Labels
 pub mod Lists
 pub mod NamesAmong
+pub mod Negatives
 pub mod OwnNames
 pub mod Placing
 pub mod Pushing

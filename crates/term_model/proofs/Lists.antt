@@ -70,7 +70,7 @@ differ-append (x ∷ xs) ys first second apart =
     (list_any-append (bytes_eq x) xs ys ∙ rw (first.0, apart.0) refl, differ-append xs ys first.1 second apart.1)
 
 -- a name that is put last and is new
-differ-last : (seen : List (List ℕ)) (name : List ℕ) → Differ seen → has_name seen name ≡ false → Differ (seen ++ name ∷ [])
+pub differ-last : (seen : List (List ℕ)) (name : List ℕ) → Differ seen → has_name seen name ≡ false → Differ (seen ++ name ∷ [])
 differ-last seen name differ new = differ-append seen (name ∷ []) differ (refl, tt) (others seen (differs-all name seen new))
   where
     others : (seen : List (List ℕ)) → AllByRecursion (λ other. bytes_eq name other ≡ false) seen → AllByRecursion (λ x. has_name (name ∷ []) x ≡ false) seen

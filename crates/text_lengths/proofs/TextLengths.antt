@@ -15,7 +15,7 @@ use Rattle.cert_text.specs.Ranges.{IsCcf, IsPart, AreRising}
 use Rattle.cert_text.specs.Right.{IsRightCcf}
 use Rattle.cert_text.specs.Texts.{spaced, pairs_text, matrix_text, pattern_text, tail_line, blocks_text, kind_text, echo_text, shape_text, pair_text, matrices_text, parts_text, contents_text, certificate_text}
 use Rattle.cert_text.specs.declared.kind.Kind.{Kind}
-use Rattle.cert_text.specs.declared.kind.Kind.TheVariants.{Matrix, Netlist}
+use Rattle.cert_text.specs.declared.kind.Kind.TheVariants.{Flowsheet, Matrix, Netlist}
 use Rattle.text_lengths.specs.Rooms.{IsShapeWithin, contents_room, certificate_room}
 use Rattle.text_lengths.proofs.Lengths.{marked-short}
 use Rattle.text_lengths.proofs.LineLengths.{pairs-within, matrix-short, pattern-short, tail-short, blocks-short}
@@ -150,6 +150,7 @@ module _ (p : ℕ) (short : p ≤ 100000) (k : ℕ) (few : k ≤ 8192) (c : Cont
 kind-short : (kind : Kind) → length (kind_text kind) ≤ 9
 kind-short Matrix = omega arith
 kind-short Netlist = omega arith
+kind-short Flowsheet = omega arith
 
 echo-short : (kind : Kind) (echo : List ℕ) → length echo ≤ 8388608 → length (echo_text kind echo) ≤ length echo + 51
 echo-short kind echo few =

@@ -1,7 +1,7 @@
 use Rattle.std.proofs.Common.{◌≡◌, length, map, drop}
 use Rattle.toml.specs.View.{view}
 use Rattle.flowsheet_reader.specs.Models.{component_in, components_in}
-use Rattle.flowsheet_reader.specs.Values.{each}
+use Rattle.document_values.specs.Values.{each}
 use Rattle.flowsheet_reader.proofs.document.components.Given as goal
 
 abbrev pub invariant-loop-place : goal.invariant-loop-place

@@ -1,7 +1,7 @@
 use Rattle.std.proofs.Common.{◌+◌, map, drop, sym, ap, ◌∙◌, arith}
 use Rattle.toml.specs.View.{view}
 use Rattle.flowsheet_reader.specs.Models.{stream_in, streams_in}
-use Rattle.flowsheet_reader.proofs.NamesRead.{items-left, read-more, reads-fail, refused-here}
+use Rattle.document_values.proofs.NamesRead.{items-left, read-more, reads-fail, refused-here}
 use Rattle.flowsheet_reader.proofs.document.streams.Goals as goal
 
 pub returns-in_err-add_stream : goal.returns-in_err-add_stream

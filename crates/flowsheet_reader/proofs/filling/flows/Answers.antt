@@ -4,7 +4,7 @@ use Rattle.std.specs.String.{string_bytes}
 use Rattle.std.proofs.lemmas.List.{take_all}
 use Rattle.std.proofs.lemmas.List.Folds.{flat_map-map}
 use Rattle.term_model.proofs.Pushing.{texts_more}
-use Rattle.flowsheet_reader.specs.Kinds.{flow}
+use Rattle.unit_equations.specs.Kinds.{flow}
 use Rattle.flowsheet_reader.proofs.filling.flows.Goals as goal
 
 pub loop-stream-preserved : goal.loop-stream-preserved

@@ -1,7 +1,7 @@
 use Rattle.std.proofs.Common.{◌≡◌, ◌++◌, [], Global, String, map, take}
 use Rattle.std.specs.List.{flat_map}
 use Rattle.std.specs.String.{string_bytes}
-use Rattle.flowsheet_reader.specs.Kinds.{flow}
+use Rattle.unit_equations.specs.Kinds.{flow}
 use Rattle.flowsheet_reader.proofs.filling.flows.Given as goal
 
 abbrev pub invariant-loop-stream : goal.invariant-loop-stream

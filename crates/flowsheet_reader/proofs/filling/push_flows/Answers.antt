@@ -3,7 +3,7 @@ use Rattle.std.specs.String.{string_bytes}
 use Rattle.std.proofs.lemmas.List.{take_all}
 use Rattle.std.proofs.lemmas.Simd.{map-map}
 use Rattle.term_model.proofs.Pushing.{one_text_more}
-use Rattle.flowsheet_reader.specs.Kinds.{flow}
+use Rattle.unit_equations.specs.Kinds.{flow}
 use Rattle.flowsheet_reader.proofs.filling.push_flows.Goals as goal
 
 pub loop-component-preserved : goal.loop-component-preserved

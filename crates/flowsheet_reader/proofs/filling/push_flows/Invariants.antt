@@ -1,6 +1,6 @@
 use Rattle.std.proofs.Common.{◌≡◌, ◌++◌, Global, String, map, take}
 use Rattle.std.specs.String.{string_bytes}
-use Rattle.flowsheet_reader.specs.Kinds.{flow}
+use Rattle.unit_equations.specs.Kinds.{flow}
 use Rattle.flowsheet_reader.proofs.filling.push_flows.Given as goal
 
 abbrev pub invariant-loop-component : goal.invariant-loop-component

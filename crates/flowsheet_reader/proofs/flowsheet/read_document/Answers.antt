@@ -4,13 +4,13 @@ use Rattle.refusals.specs.declared.Refused.{Refused as Refusal}
 use Rattle.term_model.specs.Systems.{IsModelOf}
 use Rattle.toml.specs.Data.{get_member}
 use Rattle.toml.specs.View.{table_view, view}
-use Rattle.flowsheet_reader.specs.Answers.{OnRefused}
-use Rattle.flowsheet_reader.specs.Chains.{at}
+use Rattle.document_values.specs.Answers.{OnRefused}
+use Rattle.document_values.specs.Chains.{at}
 use Rattle.flowsheet_reader.specs.Keeping.{KeptSheet}
 use Rattle.flowsheet_reader.specs.Models.{list_at_key, sheet_in, start_of, units_in, with_units_of}
 use Rattle.flowsheet_reader.specs.Reached.{IsRefusedBy}
-use Rattle.flowsheet_reader.proofs.Failing.{on_refused, same-error}
-use Rattle.flowsheet_reader.proofs.Inversion.{broken, then}
+use Rattle.document_values.proofs.Failing.{on_refused, same-error}
+use Rattle.document_values.proofs.Inversion.{broken, then}
 use Rattle.flowsheet_reader.proofs.Starting.{listed-Err, listed-Ok}
 use Rattle.flowsheet_reader.proofs.flowsheet.read_document.Goals as goal
 

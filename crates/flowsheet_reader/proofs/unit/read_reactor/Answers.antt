@@ -2,10 +2,10 @@ use Rattle.std.proofs.Common.{◌≡◌, ℕ, List, codes, map, Ok, ap, sym, ◌
 use Rattle.std.specs.List.{zip}
 use Rattle.toml.specs.View.{table_view, view}
 use Rattle.flowsheet_reader.specs.Keeping.{KeptSheet, scope_of_kept}
-use Rattle.flowsheet_reader.specs.Kinds.{reactor}
-use Rattle.flowsheet_reader.specs.Parts.{UnitPart}
+use Rattle.unit_equations.specs.Kinds.{reactor}
+use Rattle.unit_equations.specs.Parts.{UnitPart}
 use Rattle.flowsheet_reader.specs.Units.{are_coefficients, coefficients, stream_at}
-use Rattle.flowsheet_reader.specs.Values.{members_in}
+use Rattle.document_values.specs.Values.{members_in}
 use Rattle.flowsheet_reader.proofs.UnitSteps.{reactor-kept}
 use Rattle.flowsheet_reader.proofs.unit.read_reactor.Goals as goal
 

@@ -1,7 +1,7 @@
 use Rattle.std.proofs.Common.{◌≡◌}
 use Rattle.toml.specs.View.{members_view}
 use Rattle.flowsheet_reader.specs.Units.{are_coefficients}
-use Rattle.flowsheet_reader.specs.Values.{members_in}
+use Rattle.document_values.specs.Values.{members_in}
 use Rattle.flowsheet_reader.proofs.unit_keys.are_coefficients.Given as goal
 
 abbrev pub invariant-loop-component : goal.invariant-loop-component

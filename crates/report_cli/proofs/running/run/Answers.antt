@@ -24,3 +24,6 @@ returns-in-Err-clause-answered g c =
     let written = g.K.Sink.written c.args.out.now in
     subst (λ status. Tells status (Answered (IsAnswer words) left left written written status)) (sym c.status.ensures)
     (unasked_answered words c.in-Err.why left written c.in-Err.ensures)
+
+pub returns-in-Ok-clause-calm_out : goal.returns-in-Ok-clause-calm_out
+returns-in-Ok-clause-calm_out g c = λ input is room. c.work-status.ensures.calm_out input is (room c.in-Ok.command c.in-Ok.ensures)

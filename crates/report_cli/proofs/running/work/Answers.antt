@@ -2,6 +2,7 @@ use Rattle.std.proofs.Common.{◌≡◌, ◌≤◌, ◌+◌, ◌-◌, ℕ, subst
 use Rattle.limits.specs.Limits.{input_limit}
 use Rattle.report_cli.specs.Reports.{IsReportFor, report_text}
 use Rattle.report_cli.specs.Rooms.{text_room}
+use Rattle.report_cli.specs.Words.{kind_of}
 use Rattle.report_cli.proofs.Reported.{writable}
 use Rattle.report_cli.proofs.Runs.{read_is}
 use Rattle.report_cli.proofs.TextRooms.{report_fits}
@@ -21,7 +22,7 @@ returns-in-Ok-clause-calm_out g c = λ input is takes.
     read_is (g.S.Source.left c.args.source.now) (g.S.Source.left c.read.new.source) input whole.input is whole.took whole.ended in
     let short : length input ≤ input_limit = subst (λ r. length r ≤ input_limit) same whole.short in
     let right : IsReportFor command input report = subst (λ r. IsReportFor command r report) same whole.holds in
-    let fits : length (report_text report) ≤ text_room (length input) = report_fits command input report right short in
-    let more : ℕ = text_room (length input) - length (report_text report) in
-    let room : text_room (length input) ≡ length (report_text report) + more = omega (arith, fits) in
+    let fits : length (report_text report) ≤ text_room (kind_of command) (length input) = report_fits command input report right short in
+    let more : ℕ = text_room (kind_of command) (length input) - length (report_text report) in
+    let room : text_room (kind_of command) (length input) ≡ length (report_text report) + more = omega (arith, fits) in
     (c.deliver.ensures.calm more (subst (g.K.Sink.takes c.args.out.now) room takes)).0

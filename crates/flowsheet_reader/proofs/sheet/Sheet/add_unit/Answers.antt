@@ -6,11 +6,11 @@ use Rattle.refusals.specs.Faults.{OnBroken}
 use Rattle.mixed_model.specs.Names.{has_name}
 use Rattle.toml.specs.View.{view}
 use Rattle.flowsheet_reader.specs.Keeping.{KeptSheet, scope_of_kept}
-use Rattle.flowsheet_reader.specs.Parts.{UnitPart}
+use Rattle.unit_equations.specs.Parts.{UnitPart}
 use Rattle.flowsheet_reader.specs.Reached.{IsRefusedBy, Keeps}
 use Rattle.flowsheet_reader.specs.Sheets.{with_unit}
 use Rattle.flowsheet_reader.specs.Units.{add_unit, unit_in}
-use Rattle.flowsheet_reader.proofs.Failing.{on_broken, same-fault}
+use Rattle.document_values.proofs.Failing.{on_broken, same-fault}
 use Rattle.flowsheet_reader.proofs.Reaching.{keeps-more, part-new, reached-sound, unit-added, unit-full, unit-new}
 use Rattle.flowsheet_reader.proofs.Sound.{IsSound}
 use Rattle.flowsheet_reader.proofs.sheet.Sheet.add_unit.Goals as goal

@@ -2,7 +2,7 @@ use Rattle.std.proofs.Common.{◌+◌, length, ap, sym, ◌∙◌}
 use Rattle.refusals.specs.declared.Place.{Place}
 use Rattle.refusals.specs.declared.Place.TheVariants.{Unit as UnitPlace}
 use Rattle.toml.specs.View.{view}
-use Rattle.flowsheet_reader.specs.Chains.{at}
+use Rattle.document_values.specs.Chains.{at}
 use Rattle.flowsheet_reader.specs.Models.{unit_at}
 use Rattle.flowsheet_reader.specs.Units.{add_unit}
 use Rattle.flowsheet_reader.proofs.Starting.{grows-at}

@@ -2,12 +2,12 @@ use Rattle.std.proofs.Common.{◌+◌, length, map, drop, refl, ap, ◌∙◌}
 use Rattle.std.proofs.lemmas.List.{drop_all}
 use Rattle.toml.specs.View.{view}
 use Rattle.refusals.specs.declared.Refused.{Refused as Refusal}
-use Rattle.flowsheet_reader.specs.Answers.{OnRefused}
+use Rattle.document_values.specs.Answers.{OnRefused}
 use Rattle.flowsheet_reader.specs.Models.{unit_at, units_in}
 use Rattle.flowsheet_reader.specs.Reached.{IsRefusedBy}
-use Rattle.flowsheet_reader.proofs.Failing.{on_refused, same-error}
-use Rattle.flowsheet_reader.proofs.Inversion.{broken, then}
-use Rattle.flowsheet_reader.proofs.NamesRead.{items-left}
+use Rattle.document_values.proofs.Failing.{on_refused, same-error}
+use Rattle.document_values.proofs.Inversion.{broken, then}
+use Rattle.document_values.proofs.NamesRead.{items-left}
 use Rattle.flowsheet_reader.proofs.sheet.Sheet.add_units.Goals as goal
 
 pub loop-place-init : goal.loop-place-init

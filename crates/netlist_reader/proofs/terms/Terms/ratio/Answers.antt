@@ -5,7 +5,7 @@ use Rattle.term_model.proofs.Pushing.{put_four}
 use Rattle.netlist_reader.specs.Devices.{Device}
 use Rattle.netlist_reader.specs.Putting.{put_constant}
 use Rattle.netlist_reader.specs.Terms.{own}
-use Rattle.netlist_reader.proofs.Numbers.{negative_is}
+use Rattle.term_model.proofs.Negatives.{negative_is}
 use Rattle.netlist_reader.proofs.terms.Terms.ratio.Goals as goal
 
 pub returns : goal.returns

@@ -1,6 +1,0 @@
-use Rattle.std.proofs.Common.{take}
-use Rattle.flowsheet_reader.specs.Growing.{GrowsBy, equations_alone}
-use Rattle.flowsheet_reader.proofs.adding.add_equations.Given as goal
-
-abbrev pub invariant-loop-equation : goal.invariant-loop-equation
-invariant-loop-equation g l = GrowsBy g.F.Field.modulus l.fn.model l.model (equations_alone (take l.equation-index l.equations))

@@ -1,7 +1,0 @@
-use Rattle.std.proofs.Common.{map, take}
-use Rattle.std.specs.String.{string_bytes}
-use Rattle.flowsheet_reader.specs.Growing.{GrowsBy, unknowns_alone}
-use Rattle.flowsheet_reader.proofs.adding.add_unknowns.Given as goal
-
-abbrev pub invariant-loop-name : goal.invariant-loop-name
-invariant-loop-name g l = GrowsBy g.F.Field.modulus l.fn.model l.model (unknowns_alone (take l.name-index (map string_bytes l.names)))

@@ -1,0 +1,14 @@
+pub mod Dots
+pub mod EquationNames
+pub mod Free
+pub mod Growing
+pub mod Keyed
+pub mod NumberedPairs
+pub mod Numbers
+pub mod Pairing
+pub mod SaidBy
+pub mod Spelled
+pub mod SplitNames
+pub mod SummandLaws
+pub mod SummandTerms
+pub mod UnitParts

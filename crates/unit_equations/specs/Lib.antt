@@ -1,0 +1,4 @@
+pub mod Adding
+pub mod Growing
+pub mod Kinds
+pub mod Parts
