@@ -10,8 +10,8 @@ ghost use Rattle.flowsheet_reader.specs.Reached.{Keeps};
 ghost use Rattle.flowsheet_reader.specs.Sheets.{Sheet as Flowsheet};
 
 use crate::document::{keys, list_at, read_components, read_streams, version};
-use document_values::at;
 use crate::sheet::Sheet;
+use document_values::at;
 use mixed_model::Mixed;
 use out_of_memory::NoMemory;
 use refusals::{Place, ReadModel, Refused, Why};

@@ -9,7 +9,8 @@ ghost use Rattle.flowsheet_reader.specs.Units.{kind_in, part_in, unit_in};
 use crate::sheet::Sheet;
 use crate::unit_keys::{are_coefficients, coefficients, fractions, outlets, stream_at, streams_at};
 use document_values::{
-    NameSet, declared_name, declared_names, due, has_only, list_with, new_name, table as table_in, text,
+    NameSet, declared_name, declared_names, due, has_only, list_with, new_name, table as table_in,
+    text,
 };
 use refusals::{Fault, Why};
 use residue_field::Field;

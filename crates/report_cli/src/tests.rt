@@ -347,12 +347,9 @@ fn circuits(rt: HostRuntime) -> Result<(), Fail> {
     Ok(())
 }
 
-// The same case, of `layer netlist`.
-fn of_netlist(case: Case<'_>) -> Case<'_> {
-    Case {
-        words: &["mixed", "layer", "netlist"],
-        ..case
-    }
+// The same case, with these words.
+fn asked<'a>(words: &'a [&'a str], case: Case<'a>) -> Case<'a> {
+    Case { words, ..case }
 }
 
 #[test]
@@ -380,7 +377,67 @@ fn layers_of_netlists(rt: HostRuntime) -> Result<(), Fail> {
         ),
     ];
     for case in cases {
-        expect_case(&rt, rt.alloc(), &of_netlist(case))?;
+        let words = &["mixed", "layer", "netlist"];
+        expect_case(&rt, rt.alloc(), &asked(words, case))?;
+    }
+    Ok(())
+}
+
+/// A feed that a separator splits.
+const SEPARATOR: &[u8] = b"components = [\"A\"]\nstreams = [\"s1\", \"s2\", \"s3\"]\n[[unit]]\nname = \"F\"\nkind = \"spec\"\nstream = \"s1\"\ncomponent = \"A\"\n[[unit]]\nname = \"S\"\nkind = \"separator\"\ninlet = \"s1\"\ntop = \"s2\"\nbottom = \"s3\"\n";
+
+/// A tee with three outlets, in version 2, up to its fractions.
+const TEE: &str = "version = 2\ncomponents = [\"A\"]\nstreams = [\"s1\", \"s2\", \"s3\", \"s4\"]\n[[unit]]\nname = \"T\"\nkind = \"tee\"\ninlet = \"s1\"\noutlets = [\"s2\", \"s3\", \"s4\"]\n";
+
+#[test]
+fn layers_of_flowsheets(rt: HostRuntime) -> Result<(), Fail> {
+    let separator =
+        b"columns 3\nc1 f.s1.A\nc2 f.s2.A\nc3 f.s3.A\nq1 spec.F 1=1\nq2 bal.S.A 1=1 2=65520 3=65520\nt1 split.S.A 1 2\n";
+    let tee =
+        b"columns 4\nc1 f.s1.A\nc2 f.s2.A\nc3 f.s3.A\nc4 f.s4.A\nq1 bal.T.A 1=1 2=65520 3=65520 4=65520\nq2 tee.T.A.1 1=32760 2=1\nq3 tee.T.A.2 1=21840 3=1\n";
+    let two = format!(in rt.alloc(); "{TEE}fractions = [\"1/2\", \"1/3\"]\n")?;
+    let one = format!(in rt.alloc(); "{TEE}fractions = [\"1/2\"]\n")?;
+    let cases = [
+        calm(SEPARATOR, 0, separator, separator, b""),
+        calm(two.as_bytes(), 0, tee, tee, b""),
+        calm(b"version = 1\n", 0, b"columns 0\n", b"columns 0\n", b""),
+        refused(one.as_bytes(), b"mixed: unit 1: bad value\n"),
+        refused(b"version = 3", b"mixed: document: bad version\n"),
+        refused(b"= 3", b"mixed: document: not TOML\n"),
+        refused(b"a = 1", b"mixed: document: unknown key\n"),
+        refused(
+            b"streams = [\"s1\", \"s1\"]",
+            b"mixed: stream 2: twice\n",
+        ),
+        refused(
+            b"[[unit]]\nname = \"P\"\nkind = \"pump\"\n",
+            b"mixed: unit 1: bad kind\n",
+        ),
+    ];
+    for case in cases {
+        let words = &["mixed", "layer", "flowsheet"];
+        expect_case(&rt, rt.alloc(), &asked(words, case))?;
+    }
+    Ok(())
+}
+
+#[test]
+fn flowsheets(rt: HostRuntime) -> Result<(), Fail> {
+    let empty =
+        b"mixed-certificate 1\nkind flowsheet\nlength 0\n\nshape 0 0 0 0 0\nrank 0\nbase\nmatch\nfirst |\nlast |\nend\n";
+    let separator = b"\nend\n";
+    let begins = b"mixed-certificate 1\nkind flowsheet\nlength 189\ncomponents = ";
+    let cases = [
+        calm(b"", 0, empty, empty, b""),
+        Case {
+            holds: b"\nshape 3 3 2 1 3\nrank 3\n",
+            ..calm(SEPARATOR, 0, begins, separator, b"")
+        },
+        refused(b"version = 3", b"mixed: document: bad version\n"),
+    ];
+    for case in cases {
+        let words = &["mixed", "analyse", "flowsheet"];
+        expect_case(&rt, rt.alloc(), &asked(words, case))?;
     }
     Ok(())
 }

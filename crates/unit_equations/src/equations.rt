@@ -6,10 +6,10 @@ ghost use Rattle.std.specs.String.{string_bytes};
 ghost use Rattle.unit_equations.specs.Kinds.{balance, mixer, reactor, relation, separator, specification, tee};
 
 use crate::equation_list::EquationList;
-use document_values::NameSet;
 use crate::part::UnitPart;
 use crate::summands::Summands;
 use crate::version::Version;
+use document_values::NameSet;
 use out_of_memory::NoMemory;
 use residue_field::Field;
 use std::alloc::Global;
