@@ -2,7 +2,7 @@
 use Rattle.std.specs.Prelude.{◌≡◌, ◌⊎◌, ℕ, ◌+◌, ◌-◌, ◌^◌, ◌≤◌, ◌<◌, List, [], ◌++◌, length}
 use Rattle.port_io.specs.Memory.{MemorySink, MemorySource}
 use Rattle.report_cli.specs.Answer.{IsAnswer, ReadsAll}
-use Rattle.report_cli.specs.Rooms.{HasRoom}
+use Rattle.report_cli.specs.Rooms.{HasTextRoom}
 use Rattle.report_cli.specs.declared.status.Status.{Status}
 use Rattle.report_cli.specs.declared.status.Status.TheVariants.{Memory}
 
@@ -13,7 +13,7 @@ pub record IsCalm (words : List (List ℕ)) (source : MemorySource) (out : Memor
   pub out_fails : out.fails ≡ []
   pub source_count : source.faults < 2 ^ 64 - 1
   pub out_count : out.faults < 2 ^ 64 - 1
-  pub room : HasRoom (λ size. length out.written + size ≤ out.room) words (length source.left)
+  pub room : HasTextRoom (λ size. length out.written + size ≤ out.room) words (length source.left)
 
 -- a run took the bytes `read` from the source, all of them where it tells of the whole input, and this status and the
 -- appended text answer them

@@ -3,7 +3,7 @@
 ghost use Rattle.std.specs.Prelude.{◌≡◌, ◌≤◌, length, map, Some, IfOk};
 ghost use Rattle.std.specs.String.{string_bytes};
 ghost use Rattle.report_cli.specs.Answer.{IsComplete, OnlyAnswer};
-ghost use Rattle.report_cli.specs.Rooms.{HasRoom};
+ghost use Rattle.report_cli.specs.Rooms.{HasTextRoom};
 ghost use Rattle.answer_laws.specs.InMemory.{Answers, IsAnsweredBy, IsCalm};
 
 use port_io::{MemSink, MemSource, Sink};
@@ -37,7 +37,7 @@ pub fn answer(
     input: &[u8],
     room: usize,
 ) -> Result<(Status, MemSink), AllocError>
-    requires { HasRoom (λ size. size ≤ room) (map string_bytes words.now) (length input.now) }
+    requires { HasTextRoom (λ size. size ≤ room) (map string_bytes words.now) (length input.now) }
     ensures answered { IfOk result (λ answer.
         IsAnsweredBy (map string_bytes words.now) input.now answer.0 answer.1.written) }
     ensures only_answer { IfOk result (λ answer. OnlyAnswer (map string_bytes words.now) (Some input.now) answer.0) }

@@ -1,5 +1,5 @@
 -- A text gives at most one model, or has one refusal; and an empty one gives an empty model.
-use Rattle.std.proofs.Common.{◌≡◌, ℕ, List, [], Option, Some, None, Result, Ok, Err, sym, ap, subst, refl, ◌∙◌, inl, inr}
+use Rattle.std.proofs.Common.{◌≡◌, ℕ, List, [], Some, None, Ok, Err, sym, ap, subst, refl, ◌∙◌, inl, inr}
 use Rattle.refusals.specs.declared.Refused.{Refused}
 use Rattle.mixed_model.specs.Models.{MixedModel}
 use Rattle.term_model.specs.Systems.{IsModelOf}

@@ -1,15 +1,13 @@
 -- Flowsheets that the items of a document make: they are sound, and grow by a unit.
-use Rattle.std.proofs.Common.{◌≡◌, ℕ, ◌+◌, ◌<◌, ◌≤◌, ◌^◌, Bool, true, false, ◌&&◌, List, [], ◌∷◌, ◌++◌, length, map, Result, Ok, Err, refl, sym, ap, subst, ◌∙◌, arith, length-append, leb, leb-true, ◌⊎◌, inl, inr}
+use Rattle.std.proofs.Common.{◌≡◌, ℕ, ◌+◌, ◌<◌, ◌≤◌, ◌^◌, Bool, true, false, ◌&&◌, List, [], ◌∷◌, ◌++◌, length, Result, Ok, Err, refl, sym, ap, subst, ◌∙◌, arith, length-append, leb, leb-true, ◌⊎◌, inl, inr}
 use Rattle.std.specs.List.{AllByRecursion}
 use Rattle.std.proofs.lemmas.Bool.{le-leb, lt-leb}
-use Rattle.std.proofs.lemmas.List.{append-nil, length-map}
-use Rattle.limits.specs.Limits.{equation_limit}
+use Rattle.std.proofs.lemmas.List.{length-map}
 use Rattle.refusals.specs.declared.Place.{Place}
 use Rattle.refusals.specs.declared.Place.TheVariants.{Unit as UnitPlace}
 use Rattle.refusals.specs.declared.Refused.{Refused as Refusal}
 use Rattle.refusals.specs.declared.Why.{Why}
 use Rattle.refusals.specs.declared.Why.TheVariants.{TooMany}
-use Rattle.mixed_model.specs.Models.{MixedModel}
 use Rattle.mixed_model.specs.Names.{has_name}
 use Rattle.term_model.specs.Systems.{IsModelOf}
 use Rattle.term_model.proofs.Lists.{all-append, Differ, differ-last}
@@ -22,7 +20,7 @@ use Rattle.unit_equations.specs.Kinds.{flows}
 use Rattle.flowsheet_reader.specs.Models.{component_in, new_stream, stream_in, unit_at, units_in}
 use Rattle.unit_equations.specs.Parts.{UnitPart, system_of, together}
 use Rattle.flowsheet_reader.specs.Reached.{AreListed, IsReached, Keeps}
-use Rattle.flowsheet_reader.specs.Sheets.{Scope, Sheet, has_room, scope_of, sheet_without_units, with_unit}
+use Rattle.flowsheet_reader.specs.Sheets.{Sheet, has_room, scope_of, sheet_without_units, with_unit}
 use Rattle.flowsheet_reader.specs.Units.{add_unit, extended, unit_in}
 use Rattle.document_values.specs.Values.{each, new_name}
 use Rattle.unit_equations.proofs.EquationNames.{names_of}

@@ -1,20 +1,17 @@
 -- A flowsheet whose names differ and tell their units stays so by a unit more.
-use Rattle.std.proofs.Common.{◌≡◌, ℕ, All, IsTrue, Bool, true, false, ◌||◌, List, [], ◌∷◌, ◌++◌, map, codes, refl, sym, ap, subst, ◌∙◌, append_assoc}
+use Rattle.std.proofs.Common.{◌≡◌, ℕ, All, IsTrue, Bool, true, false, List, [], ◌∷◌, ◌++◌, map, codes, refl, sym, ap, subst, ◌∙◌, append_assoc}
 use Rattle.std.specs.List.{AllByRecursion, flat_map}
 use Rattle.std.specs.Str.{bytes_eq}
 use Rattle.std.proofs.lemmas.List.{append-nil}
-use Rattle.std.proofs.lemmas.List.Folds.{list_any-append}
 use Rattle.std.proofs.lemmas.Slice.Eq.{bytes_eq-Decides}
 use Rattle.mixed_model.specs.Names.{has_name, is_label}
-use Rattle.term_model.specs.Systems.{System}
-use Rattle.term_model.specs.Terms.{Term}
 use Rattle.term_model.proofs.Lists.{Differ, all-append, all-flat_map, all-map, all_at, at_all, differ-append, differ-distinct}
 use Rattle.term_model.proofs.NamesAmong.{has-left, has-right}
 use Rattle.unit_equations.specs.declared.version.Version.{Version}
 use Rattle.unit_equations.specs.Adding.{ArePlaced, AreSummands, IsNewPart}
 use Rattle.term_model.specs.Putting.{IsPlaced}
 use Rattle.unit_equations.specs.Kinds.{flow, flows}
-use Rattle.unit_equations.specs.Parts.{Summand, UnitEquation, UnitPart, system_of, terms_of, together}
+use Rattle.unit_equations.specs.Parts.{UnitEquation, UnitPart, terms_of}
 use Rattle.flowsheet_reader.specs.Sheets.{Sheet, sheet_without_units, with_unit}
 use Rattle.unit_equations.proofs.Dots.{unit_of, word_of}
 use Rattle.unit_equations.proofs.EquationNames.{names_of}

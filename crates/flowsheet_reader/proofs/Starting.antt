@@ -1,5 +1,5 @@
 -- A flowsheet without units, and units that are added to it.
-use Rattle.std.proofs.Common.{Bor, ◌≡◌, ℕ, ◌+◌, ◌<◌, ◌≤◌, All, IsTrue, List, [], ◌∷◌, ◌++◌, length, map, codes, Result, Ok, Err, OnOk, refl, sym, ap, subst, ◌∙◌, arith}
+use Rattle.std.proofs.Common.{Bor, ◌≡◌, ℕ, IsTrue, List, [], length, map, codes, Result, Ok, Err, OnOk, refl, sym, ap, subst, ◌∙◌, arith}
 use Rattle.std.specs.List.{AllByRecursion}
 use Rattle.refusals.specs.declared.Place.{Place}
 use Rattle.refusals.specs.declared.ReadModel.{ReadModel}
@@ -19,16 +19,15 @@ use Rattle.toml.specs.declared.value.Value.{Value}
 use Rattle.unit_equations.specs.declared.version.Version.{Version}
 use Rattle.unit_equations.specs.Adding.{ArePlaced, AreSummands, IsNewPart}
 use Rattle.document_values.specs.Answers.{Gives, OnRefused, fault_at, refused_at}
-use Rattle.document_values.specs.Chains.{◌>>=◌, at}
+use Rattle.document_values.specs.Chains.{at}
 use Rattle.flowsheet_reader.specs.Keeping.{KeptSheet}
 use Rattle.unit_equations.specs.Kinds.{flow, flows}
 use Rattle.flowsheet_reader.specs.Models.{components_in, components_of, list_at_key, streams_in, streams_of}
-use Rattle.unit_equations.specs.Parts.{UnitEquation, UnitPart, system_of, terms_of, together}
+use Rattle.unit_equations.specs.Parts.{UnitEquation, system_of, together}
 use Rattle.flowsheet_reader.specs.Reached.{AreListed, Grows, Keeps}
 use Rattle.flowsheet_reader.specs.Sheets.{Sheet, sheet_without_units}
 use Rattle.unit_equations.proofs.EquationNames.{IsWord, own_for-spelled}
 use Rattle.document_values.proofs.Inversion.{chain-Ok}
-use Rattle.unit_equations.proofs.Keyed.{all-own, all-weaker}
 use Rattle.flowsheet_reader.proofs.Reaching.{listed-sound}
 use Rattle.unit_equations.proofs.Spelled.{IsShort, spelled-label, spelled-more}
 

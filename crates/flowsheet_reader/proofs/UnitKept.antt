@@ -1,19 +1,18 @@
 -- What a unit that keeps the rules adds.
-use Rattle.std.proofs.Common.{◌≡◌, ℕ, zero, suc, ◌+◌, ◌-◌, ◌<◌, ◌≤◌, ◌^◌, Bool, true, false, ◌||◌, List, [], ◌∷◌, ◌++◌, length, map, take, codes, nat_eq, Result, Ok, refl, sym, ap, subst, ◌∙◌, arith, length-append}
-use Rattle.std.specs.List.{AllByRecursion, enumerate_from, flat_map, zip}
-use Rattle.std.specs.Str.{bytes_eq}
+use Rattle.std.proofs.Common.{◌≡◌, ℕ, ◌+◌, ◌-◌, ◌<◌, ◌≤◌, ◌^◌, true, false, List, [], ◌∷◌, ◌++◌, length, map, take, codes, nat_eq, Result, Ok, refl, sym, ap, subst, ◌∙◌, arith, length-append}
+use Rattle.std.specs.List.{AllByRecursion, flat_map, zip}
 use Rattle.std.proofs.lemmas.Bool.{eqb-true}
 use Rattle.std.proofs.lemmas.List.{append-nil, length-map, length-take-le}
 use Rattle.std.proofs.lemmas.List.Concat.{flat_map-cons}
 use Rattle.std.proofs.lemmas.List.FromFn.{length-enumerate_from}
 use Rattle.refusals.specs.declared.Why.{Why}
-use Rattle.refusals.specs.declared.Why.TheVariants.{BadKind, BadValue, UnknownKey}
+use Rattle.refusals.specs.declared.Why.TheVariants.{BadValue, UnknownKey}
 use Rattle.line_lexer.specs.Names.{is_short_name}
 use Rattle.mixed_model.specs.Names.{has_name}
 use Rattle.term_model.specs.Terms.{dotted}
 use Rattle.term_model.proofs.Lists.{Differ, differ-last}
 use Rattle.toml.specs.Data.{Data, Members, get_member}
-use Rattle.term_model.proofs.NamesAmong.{has-left, has-right}
+use Rattle.term_model.proofs.NamesAmong.{has-right}
 use Rattle.unit_equations.specs.declared.kind.UnitKind.{UnitKind}
 use Rattle.unit_equations.specs.declared.kind.UnitKind.TheVariants.{Mixer, Separator, Reactor, Tee, Specification, Balance, Relation}
 use Rattle.unit_equations.specs.declared.version.Version.{Version}
@@ -25,7 +24,7 @@ use Rattle.flowsheet_reader.specs.Sheets.{Scope, Sheet, scope_of}
 use Rattle.flowsheet_reader.specs.Units.{are_coefficients, coefficient_of, coefficients, fractions_in, kind_in, outlets_in, part_in, stream_at, streams_at, unit_in}
 use Rattle.document_values.specs.Values.{declared_name, declared_names, due, each, has_only, list_of, list_of_length, list_with, members_in, new_name, number_in, numbers_in, table_of}
 use Rattle.document_values.proofs.Inversion.{chain-Ok, declared_name-Ok, declared_names-Ok, keeping-Ok, new_name-Ok}
-use Rattle.unit_equations.proofs.Keyed.{all-own, all-weaker, has-self}
+use Rattle.unit_equations.proofs.Keyed.{all-own, has-self}
 use Rattle.flowsheet_reader.proofs.Sound.{IsSound}
 use Rattle.unit_equations.proofs.Spelled.{IsShort, short-name}
 use Rattle.unit_equations.proofs.SplitNames.{Fits}

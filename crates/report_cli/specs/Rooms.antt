@@ -28,5 +28,5 @@ abbrev pub text_room : Kind → ℕ → ℕ
 text_room kind n = certificate_room n (columns_within kind n) + layer_room (columns_within kind n)
 
 -- there is room for each text that may be written for an input of n bytes, by the kind that the words ask for
-abbrev pub HasRoom : (ℕ → Type 0) → List (List ℕ) → ℕ → Type 0
-HasRoom takes words n = (command : Command) → AsksFor words command → takes (text_room (kind_of command) n)
+abbrev pub HasTextRoom : (ℕ → Type 0) → List (List ℕ) → ℕ → Type 0
+HasTextRoom takes words n = (command : Command) → AsksFor words command → takes (text_room (kind_of command) n)

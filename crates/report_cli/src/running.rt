@@ -8,7 +8,7 @@ ghost use Rattle.port_io.specs.Bytes.{Appended};
 ghost use Rattle.report_cli.specs.Answer.{Answered, CutShort, IsAnswer, IsAnswerOf, IsComplete, OnlyAnswer, TakesBy, Tells, WritesNothing, IsDelivered};
 ghost use Rattle.limits.specs.Limits.{input_limit};
 ghost use Rattle.report_cli.specs.Reports.{IsWritable, report_text};
-ghost use Rattle.report_cli.specs.Rooms.{HasRoom, text_room};
+ghost use Rattle.report_cli.specs.Rooms.{HasTextRoom, text_room};
 ghost use Rattle.report_cli.specs.Words.{kind_of};
 ghost use Rattle.report_cli.specs.Notes.{IsToldOf};
 ghost use Rattle.text_writer.specs.Giving.{AppendedPart};
@@ -69,7 +69,7 @@ pub fn run<S: Source, K: Sink, N: Sink>(
     ensures counts_notes { N.faults notes.old ≤ N.faults notes.new }
     ensures calm_source { S.never_fails source.old → S.faults source.new ≡ S.faults source.old }
     ensures calm_out { (input : List ℕ) → S.left source.old ≡ Some input →
-        HasRoom (K.takes out.old) (map string_bytes words.now) (length input) → K.faults out.new ≡ K.faults out.old }
+        HasTextRoom (K.takes out.old) (map string_bytes words.now) (length input) → K.faults out.new ≡ K.faults out.old }
 {
     match Command::of(alloc, words) {
         Ok(command) => {

@@ -384,10 +384,12 @@ fn layers_of_netlists(rt: HostRuntime) -> Result<(), Fail> {
 }
 
 /// A feed that a separator splits.
-const SEPARATOR: &[u8] = b"components = [\"A\"]\nstreams = [\"s1\", \"s2\", \"s3\"]\n[[unit]]\nname = \"F\"\nkind = \"spec\"\nstream = \"s1\"\ncomponent = \"A\"\n[[unit]]\nname = \"S\"\nkind = \"separator\"\ninlet = \"s1\"\ntop = \"s2\"\nbottom = \"s3\"\n";
+const SEPARATOR: &[u8] =
+    b"components = [\"A\"]\nstreams = [\"s1\", \"s2\", \"s3\"]\n[[unit]]\nname = \"F\"\nkind = \"spec\"\nstream = \"s1\"\ncomponent = \"A\"\n[[unit]]\nname = \"S\"\nkind = \"separator\"\ninlet = \"s1\"\ntop = \"s2\"\nbottom = \"s3\"\n";
 
 /// A tee with three outlets, in version 2, up to its fractions.
-const TEE: &str = "version = 2\ncomponents = [\"A\"]\nstreams = [\"s1\", \"s2\", \"s3\", \"s4\"]\n[[unit]]\nname = \"T\"\nkind = \"tee\"\ninlet = \"s1\"\noutlets = [\"s2\", \"s3\", \"s4\"]\n";
+const TEE: &str =
+    "version = 2\ncomponents = [\"A\"]\nstreams = [\"s1\", \"s2\", \"s3\", \"s4\"]\n[[unit]]\nname = \"T\"\nkind = \"tee\"\ninlet = \"s1\"\noutlets = [\"s2\", \"s3\", \"s4\"]\n";
 
 #[test]
 fn layers_of_flowsheets(rt: HostRuntime) -> Result<(), Fail> {
@@ -405,10 +407,7 @@ fn layers_of_flowsheets(rt: HostRuntime) -> Result<(), Fail> {
         refused(b"version = 3", b"mixed: document: bad version\n"),
         refused(b"= 3", b"mixed: document: not TOML\n"),
         refused(b"a = 1", b"mixed: document: unknown key\n"),
-        refused(
-            b"streams = [\"s1\", \"s1\"]",
-            b"mixed: stream 2: twice\n",
-        ),
+        refused(b"streams = [\"s1\", \"s1\"]", b"mixed: stream 2: twice\n"),
         refused(
             b"[[unit]]\nname = \"P\"\nkind = \"pump\"\n",
             b"mixed: unit 1: bad kind\n",

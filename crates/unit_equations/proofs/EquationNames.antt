@@ -1,22 +1,21 @@
 -- The names of a unit's equations: they differ, tell the unit, and may stand in a model.
-use Rattle.std.proofs.Common.{◌≡◌, ℕ, suc, ◌+◌, ◌<◌, ◌≤◌, ◌^◌, Bool, true, false, List, [], ◌∷◌, ◌++◌, length, map, codes, refl, sym, ap, subst, ◌∙◌, arith}
+use Rattle.std.proofs.Common.{◌≡◌, ℕ, ◌+◌, ◌<◌, ◌≤◌, ◌^◌, Bool, true, false, List, [], ◌∷◌, length, map, refl, sym, ap, subst, ◌∙◌, arith}
 use Rattle.std.specs.Fmt.{decimal}
-use Rattle.std.specs.List.{AllByRecursion, after_first, enumerate_from, flat_map, zip}
+use Rattle.std.specs.List.{AllByRecursion, after_first, enumerate_from, zip}
 use Rattle.std.specs.Str.{bytes_eq}
 use Rattle.std.proofs.lemmas.Fmt.{decimal_injective}
-use Rattle.std.proofs.lemmas.List.Concat.{flat_map-cons}
 use Rattle.std.proofs.lemmas.Simd.{map-map}
 use Rattle.std.proofs.lemmas.Slice.Eq.{bytes_eq-Decides}
 use Rattle.line_lexer.specs.Numbers.{is_point}
 use Rattle.mixed_model.specs.Names.{has_name}
 use Rattle.term_model.specs.Terms.{dotted}
-use Rattle.term_model.proofs.Lists.{Differ, all-append, all-map}
+use Rattle.term_model.proofs.Lists.{Differ, all-map}
 use Rattle.unit_equations.specs.declared.version.Version.{Version}
 use Rattle.unit_equations.specs.declared.version.Version.TheVariants.{One, Two}
 use Rattle.unit_equations.specs.Kinds.{numbered, own_for}
 use Rattle.unit_equations.specs.Parts.{UnitEquation}
-use Rattle.unit_equations.proofs.Dots.{behind-longer, behind_unit, before-dotless, before-dotted, after-dotted, component_of, dotted-assoc, is_dotless, unit_of, unit_of-longer, unit_of-own, word_of}
-use Rattle.unit_equations.proofs.Keyed.{GivesKeyed, all-both, all-weaker, keyed-differ, map-differ, none-keyed}
+use Rattle.unit_equations.proofs.Dots.{behind-longer, behind_unit, before-dotless, before-dotted, after-dotted, component_of, dotted-assoc, is_dotless, unit_of, unit_of-longer, word_of}
+use Rattle.unit_equations.proofs.Keyed.{all-weaker, map-differ}
 use Rattle.unit_equations.proofs.Spelled.{IsShort, IsSpelled, decimal-spelled, spelled-dotted, spelled-more}
 
 abbrev pub names_of : List UnitEquation → List (List ℕ)

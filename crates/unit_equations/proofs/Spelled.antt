@@ -1,5 +1,5 @@
 -- Texts of letters, digits and points, which may be names in a model.
-use Rattle.std.proofs.Common.{◌≡◌, ℕ, ◌+◌, ◌<◌, ◌≤◌, ◌^◌, Bool, true, false, not, ◌&&◌, ◌||◌, IsTrue, List, [], ◌∷◌, ◌++◌, length, codes, nat_eq, refl, ap, ◌∙◌, arith, length-append, leb}
+use Rattle.std.proofs.Common.{◌≡◌, ℕ, ◌+◌, ◌<◌, ◌≤◌, ◌^◌, true, ◌&&◌, IsTrue, List, [], ◌∷◌, ◌++◌, length, codes, refl, ap, ◌∙◌, arith, length-append, leb}
 use Rattle.std.specs.Char.{digit_value}
 use Rattle.std.specs.Fmt.{decimal}
 use Rattle.std.specs.List.{list_all}
@@ -8,7 +8,7 @@ use Rattle.std.proofs.lemmas.Bool.{le-leb}
 use Rattle.std.proofs.lemmas.Bool.Decides.{nat_tests}
 use Rattle.std.proofs.lemmas.Fmt.{decimal_is_IsNumeral, length-decimal-le}
 use Rattle.std.proofs.lemmas.List.Folds.{list_all-append}
-use Rattle.line_lexer.specs.Names.{begins_name, continues_name, is_name, is_short_name}
+use Rattle.line_lexer.specs.Names.{begins_name, continues_name, is_short_name}
 use Rattle.mixed_model.specs.Names.{is_label}
 use Rattle.term_model.specs.Terms.{dotted}
 use Rattle.term_model.proofs.Labels.{all_solid, begins-continues}

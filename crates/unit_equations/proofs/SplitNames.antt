@@ -1,5 +1,5 @@
 -- The names of the equations of a unit with several outlets: a balance and its splits, for each component.
-use Rattle.std.proofs.Common.{◌≡◌, ℕ, ◌+◌, ◌<◌, ◌≤◌, ◌^◌, Bool, true, false, List, [], ◌∷◌, ◌++◌, length, map, codes, refl, sym, ap, subst, ◌∙◌, arith}
+use Rattle.std.proofs.Common.{◌≡◌, ℕ, ◌<◌, ◌≤◌, ◌^◌, true, false, List, [], ◌∷◌, ◌++◌, length, map, refl, sym, ap, subst, ◌∙◌, arith}
 use Rattle.std.specs.Fmt.{decimal}
 use Rattle.std.specs.List.{AllByRecursion, after_first, flat_map}
 use Rattle.std.specs.Str.{bytes_eq}
@@ -15,7 +15,7 @@ use Rattle.unit_equations.specs.Kinds.{numbered, own_for}
 use Rattle.unit_equations.specs.Parts.{UnitEquation}
 use Rattle.unit_equations.proofs.Dots.{behind_unit, component_of, unit_of, word_of}
 use Rattle.unit_equations.proofs.EquationNames.{AreNames, AreNumbers, IsWord, names_of, numbered-component, numbered-number, numbered-spelled, numbered-unit, numbered-word, own_for-component, own_for-spelled, own_for-unit, own_for-word}
-use Rattle.unit_equations.proofs.Keyed.{GivesKeyed, all-both, all-weaker, has-self, keyed-differ, map-differ, none-keyed}
+use Rattle.unit_equations.proofs.Keyed.{GivesKeyed, all-weaker, has-self, keyed-differ, map-differ, none-keyed}
 use Rattle.unit_equations.proofs.Spelled.{IsShort, IsSpelled, spelled-more}
 
 -- version 1 has one split at most

@@ -1,6 +1,6 @@
 -- What stands in a unit's equations: at unknowns that are there and differ.
-use Rattle.std.proofs.Common.{◌≡◌, ◌≢◌, ℕ, ◌+◌, ◌-◌, ◌%◌, ◌<◌, ◌≤◌, Bool, true, false, ◌||◌, List, [], ◌∷◌, ◌++◌, map, codes, nat_eq, if◌then◌else◌, refl, sym, ap, subst, ◌∙◌, arith}
-use Rattle.std.specs.List.{AllByRecursion, flat_map}
+use Rattle.std.proofs.Common.{◌≡◌, ℕ, ◌-◌, ◌%◌, ◌<◌, Bool, true, false, ◌||◌, List, [], ◌∷◌, ◌++◌, map, codes, nat_eq, if◌then◌else◌, refl, sym, ap, subst, ◌∙◌, arith}
+use Rattle.std.specs.List.{AllByRecursion}
 use Rattle.std.specs.Str.{bytes_eq}
 use Rattle.std.proofs.Math.Nat.{mod-lt}
 use Rattle.std.proofs.lemmas.Bool.{eqb-false}
@@ -10,13 +10,13 @@ use Rattle.std.proofs.lemmas.Simd.{map-map}
 use Rattle.std.proofs.lemmas.Slice.Eq.{bytes_eq-Decides}
 use Rattle.mixed_model.specs.Names.{has_name}
 use Rattle.term_model.specs.Terms.{dotted}
-use Rattle.term_model.proofs.Lists.{Differ, all-append, all-flat_map, all-map, all_at, differ-append, differ-distinct}
+use Rattle.term_model.proofs.Lists.{Differ, all-map, all_at, differ-distinct}
 use Rattle.term_model.proofs.NamesAmong.{has-left, has-right}
 use Rattle.unit_equations.specs.Adding.{AreSummands, IsFilledSummand}
 use Rattle.unit_equations.specs.Kinds.{each_times, flow, flows}
 use Rattle.unit_equations.specs.Parts.{Summand, less, open_at, times}
 use Rattle.unit_equations.proofs.Dots.{behind-longer, before-dotless, before-dotted, component_of, is_dotless, unit_of, unit_of-longer, word_of}
-use Rattle.unit_equations.proofs.Keyed.{GivesKeyed, all-both, all-own, all-weaker, has-self, keyed-differ, map-differ, none-keyed}
+use Rattle.unit_equations.proofs.Keyed.{GivesKeyed, all-weaker, has-self, keyed-differ, map-differ}
 use Rattle.unit_equations.proofs.Spelled.{IsShort}
 
 abbrev pub unknowns_of : List Summand → List (List ℕ)

@@ -15,7 +15,7 @@ use Rattle.unit_equations.specs.Kinds.{balance, but_last, conserved, each_times,
 use Rattle.unit_equations.specs.Parts.{UnitEquation, UnitPart, less, open_at, times}
 use Rattle.unit_equations.proofs.Dots.{is_dotless, unit_of, unit_of-own, word_of, before-dotted}
 use Rattle.unit_equations.proofs.EquationNames.{AreNames, AreNumbers, IsWord, enumerated-numbers, one-each, zipped-numbers}
-use Rattle.unit_equations.proofs.Keyed.{all-both, all-own, all-weaker, has-self, none-keyed}
+use Rattle.unit_equations.proofs.Keyed.{all-own, all-weaker, has-self, none-keyed}
 use Rattle.unit_equations.proofs.Spelled.{IsShort, IsSpelled, spelled-dotted, spelled-more}
 use Rattle.unit_equations.proofs.SplitNames.{AreOf, Fits, balance-and-splits, flat-each}
 use Rattle.unit_equations.proofs.SummandLaws.{Stand, flow-word, has-flow, flows-differ, less-differ, less-filled, less-new, less-there, minus-filled, one-filled, open-filled, open-stands, share-stands, sum-stands, unknowns_of}

@@ -1,4 +1,4 @@
-use Rattle.std.proofs.Common.{sym, ◌∙◌, arith}
+use Rattle.std.proofs.Common.{arith}
 use Rattle.toml.specs.View.{view}
 use Rattle.flowsheet_reader.proofs.Rooms.{full-stream, roomy-stream}
 use Rattle.flowsheet_reader.proofs.document.new_stream.Goals as goal

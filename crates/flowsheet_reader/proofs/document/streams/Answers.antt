@@ -1,4 +1,4 @@
-use Rattle.std.proofs.Common.{◌+◌, map, drop, sym, ap, ◌∙◌, arith}
+use Rattle.std.proofs.Common.{◌+◌, map, drop, arith}
 use Rattle.toml.specs.View.{view}
 use Rattle.flowsheet_reader.specs.Models.{stream_in, streams_in}
 use Rattle.document_values.proofs.NamesRead.{items-left, read-more, reads-fail, refused-here}

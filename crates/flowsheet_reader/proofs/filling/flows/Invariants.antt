@@ -1,4 +1,4 @@
-use Rattle.std.proofs.Common.{◌≡◌, ◌++◌, [], Global, String, map, take}
+use Rattle.std.proofs.Common.{◌≡◌, Global, String, map, take}
 use Rattle.std.specs.List.{flat_map}
 use Rattle.std.specs.String.{string_bytes}
 use Rattle.unit_equations.specs.Kinds.{flow}

@@ -1,4 +1,4 @@
-use Rattle.std.proofs.Common.{◌≡◌, Err, List, codes, map, ap, sym, subst, ◌∙◌}
+use Rattle.std.proofs.Common.{◌≡◌, Err, codes, map, sym, subst, ◌∙◌}
 use Rattle.refusals.specs.declared.Place.{Place}
 use Rattle.refusals.specs.declared.Refused.{Refused as Refusal}
 use Rattle.term_model.specs.Systems.{IsModelOf}

@@ -12,7 +12,6 @@ use Rattle.flowsheet_reader.specs.Sheets.{with_unit}
 use Rattle.flowsheet_reader.specs.Units.{add_unit, unit_in}
 use Rattle.document_values.proofs.Failing.{on_broken, same-fault}
 use Rattle.flowsheet_reader.proofs.Reaching.{keeps-more, part-new, reached-sound, unit-added, unit-full, unit-new}
-use Rattle.flowsheet_reader.proofs.Sound.{IsSound}
 use Rattle.flowsheet_reader.proofs.sheet.Sheet.add_unit.Goals as goal
 
 pub add_part-requires : goal.add_part-requires

@@ -1,5 +1,4 @@
 use Rattle.std.proofs.Common.{◌+◌, length, ap, sym, ◌∙◌}
-use Rattle.refusals.specs.declared.Place.{Place}
 use Rattle.refusals.specs.declared.Place.TheVariants.{Unit as UnitPlace}
 use Rattle.toml.specs.View.{view}
 use Rattle.document_values.specs.Chains.{at}
