@@ -15,7 +15,8 @@ pub record Sheet : Type 0 where
   pub units : List (List ℕ)
   pub system : System
 
--- What the parts of a unit may name: streams, components and unknowns that are there; and the names of the units before.
+-- What the parts of a unit may name: streams, components and unknowns that are there; and the names of the units
+-- before.
 pub record Scope : Type 0 where
   pub version : Version
   pub components : List (List ℕ)

@@ -71,7 +71,8 @@ impl<F: Field> Sheet<F> {
     fn add_unit_at(&mut self, alloc: Global, number: usize, value: &Value) -> Result<(), ReadModel>
         requires kept { IsKept F.modulus self.old }
         requires number { number ≡ length self.old.units + 1 }
-        ensures added { OnOk result (Grows F.modulus self.old self.new (λ sheet. unit_at F.modulus sheet (view value.now))) }
+        ensures added { OnOk result (Grows F.modulus self.old self.new
+            (λ sheet. unit_at F.modulus sheet (view value.now))) }
         ensures counted { OnOk result (length self.new.units ≡ number) }
         ensures refused { IfErr result (λ why. OnRefused why (IsRefusedBy F.modulus self.old
             (λ sheet. unit_at F.modulus sheet (view value.now)))) }
@@ -125,7 +126,8 @@ fn push_flows(
 // Adds flows to an empty model, which has room for them.
 fn add_flows<F: Field>(model: &mut Mixed<F>, part: &UnitPart<F>) -> Result<(), NoMemory>
     requires new { IsNewPart F.modulus model.old.equations model.old.unknowns part.now }
-    requires equations { length (model.old.equations ++ map (λ equation. equation.name) part.now.equations) ≤ equation_limit }
+    requires equations { length (model.old.equations ++ map (λ equation. equation.name) part.now.equations)
+        ≤ equation_limit }
     requires unknowns { length (model.old.unknowns ++ part.now.unknowns) ≤ equation_limit }
     ensures { OnOk result ((system : System) → ArePlaced system → IsModelOf F.modulus system model.old
         → IsModelOf F.modulus (together system (system_of part.now)) model.new) }
