@@ -13,7 +13,7 @@ use Rattle.mixed_layering.specs.Layers.{AreLayersOf, origins_of}
 use Rattle.certificate_laws.proofs.OneMatrix.{AreOneMatrix, are-one}
 use Rattle.certificate_laws.proofs.RisingLists.{same-lists}
 use Rattle.report_cli.specs.WholeLayers.{AreWholeLayers}
-use Rattle.report_cli.proofs.LayerFacts.{row_long}
+use Rattle.mixed_layering.proofs.EntryLaws.{row_long}
 use Rattle.report_cli.proofs.LayerPieces.{got_or}
 
 module _ (model : MixedModel) (layers others : Layers) (are : AreLayersOf model layers) (whole : AreWholeLayers layers) (them : AreLayersOf model others) (complete : AreWholeLayers others) where

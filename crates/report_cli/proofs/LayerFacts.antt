@@ -2,8 +2,7 @@
 use Rattle.std.proofs.Common.{◌≡◌, ℕ, ◌+◌, ◌-◌, ◌<◌, List, [], length, slice_index, Some, sym, subst, ◌∙◌, arith, ⊎_elim}
 use Rattle.std.specs.List.{slice_get}
 use Rattle.std.proofs.lemmas.Bool.{cases_lt}
-use Rattle.std.proofs.lemmas.List.Elements.{All-get_or}
-use Rattle.dense_q.specs.Tables.{Table, IsMatrix, height, row_at}
+use Rattle.dense_q.specs.Tables.{height}
 use Rattle.mixed_layering.specs.Layers.{AreLayersOf}
 use Rattle.mixed_model.specs.Models.{MixedModel}
 use Rattle.mixed_model.specs.Layers.{Layers}
@@ -35,7 +34,3 @@ column_origin_within model layers column origin are within got = ⊎_elim
   where
     at : (other : Origin) → slice_get layers.column_origins column ≡ Some other → IsOriginIn model other → IsOriginIn model origin
     at other stands is = subst (IsOriginIn model) (sym (got_or layers.column_origins column other other stands) ∙ got_or layers.column_origins column other origin got) is
-
--- a row has an entry for each column
-pub row_long : (m : Table) (i : ℕ) → i < height m → IsMatrix m → length (row_at m i) ≡ m.width
-row_long m i within matrix = All-get_or (λ row. length row ≡ m.width) m.rows i [] within matrix.full

@@ -22,7 +22,7 @@ use Rattle.text_lengths.proofs.TextLengths.{at_most}
 use Rattle.report_cli.specs.LayerTexts.{name_at, line_head, column_name, column_line, column_lines, entry_text, row_entries_text, q_line, t_line, row_lines, columns_text, layer_text}
 use Rattle.report_cli.specs.Rooms.{layer_room}
 use Rattle.report_cli.specs.WholeLayers.{AreWholeLayers}
-use Rattle.report_cli.proofs.LayerFacts.{row_long}
+use Rattle.mixed_layering.proofs.EntryLaws.{row_long}
 
 -- a name has at most 96 bytes
 label-short : (name : List ℕ) → is_label name ≡ true → length name ≤ 96

@@ -10,8 +10,6 @@ mod report;
 mod running;
 mod status;
 mod telling;
-#[cfg(test)]
-mod tests;
 
 pub use examples::words_at_examples;
 pub use running::run;

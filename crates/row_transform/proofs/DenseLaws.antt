@@ -4,12 +4,12 @@ use Rattle.std.proofs.Math.Nat.{mod-mod}
 use Rattle.std.proofs.lemmas.List.{length-replicate}
 use Rattle.std.proofs.lemmas.Bool.Decides.{nat_tests}
 use Rattle.residue_theory.specs.Residues.{IsPrime}
-use Rattle.linear_algebra.specs.Bases.{IsBase}
+use Rattle.linear_algebra.specs.Bases.{IsBase, IsBaseTaken}
 use Rattle.linear_algebra.specs.Columns.{IsCombination}
 use Rattle.linear_algebra.specs.Products.{identity, IsInverse}
 use Rattle.linear_algebra.specs.RowOperations.{IsPivoted}
 use Rattle.dense_q.specs.Tables.{Table, height, entry, HasSameSize, IsTableOf}
-use Rattle.row_transform.specs.Bases.{BaseLists, is_base, row_of, IsBaseTaken, IsBaseDropped}
+use Rattle.row_transform.specs.Bases.{BaseLists, is_base, row_of, IsBaseDropped}
 use Rattle.row_transform.specs.Dense.{Dense, IsDense, state_of, led_back}
 use Rattle.row_transform.specs.Tableaus.{State, IsTableau, IsBare, IsPivot, IsOpened}
 use Rattle.row_transform.specs.Transforms.{IsSized, LeadsFrom, LeadsFromTheSame}

@@ -10,14 +10,14 @@ use Rattle.residue_theory.specs.Sets.{everything, with_one}
 use Rattle.residue_theory.specs.Sums.{sum_below}
 use Rattle.residue_theory.proofs.SumLaws.{nat_cases}
 use Rattle.residue_theory.proofs.ResidueLaws.{agree-mul, agree-sum}
-use Rattle.linear_algebra.specs.Bases.{IsBase, HasNoBase}
+use Rattle.linear_algebra.specs.Bases.{IsBase, IsBaseTaken, HasNoBase}
 use Rattle.linear_algebra.specs.Columns.{IsCombination}
 use Rattle.linear_algebra.specs.Products.{product, identity, IsInverse}
 use Rattle.linear_algebra.specs.RowOperations.{IsPivoted}
 use Rattle.linear_algebra_laws.proofs.Bases.{base-within, base-combines, combines_of-base}
 use Rattle.linear_algebra_laws.proofs.Pivots.{row_set, row_set-same, row_set-other, base-pivot}
 use Rattle.linear_algebra_laws.proofs.Products.{product-assoc, sum-identity, inverse-swap, combines-product, combines_of-product}
-use Rattle.row_transform.specs.Bases.{IsBaseTaken, IsBaseDropped}
+use Rattle.row_transform.specs.Bases.{IsBaseDropped}
 use Rattle.row_transform.specs.Dense.{led_back}
 use Rattle.row_transform.specs.Transforms.{LeadsFrom, LeadsFromTheSame}
 

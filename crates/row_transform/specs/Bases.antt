@@ -31,15 +31,8 @@ unlinked b r y = record { columns = slice_set b.columns r None; rows = slice_set
 abbrev pub linked : BaseLists → ℕ → ℕ → BaseLists
 linked b r y = record { columns = slice_set b.columns r (Some y); rows = slice_set b.rows y (Some r) }
 
--- column v is now the base column of row r; the column that was it before is none now, and all others stay.
--- There are n columns; B and row are the base before, C and now the base after
-pub record IsBaseTaken (n : ℕ) (B : ℕ → Bool) (row : ℕ → ℕ) (C : ℕ → Bool) (now : ℕ → ℕ) (r v : ℕ) : Type 0 where
-  pub member : C v ≡ true
-  pub at_row : now v ≡ r
-  pub only : (y : ℕ) → y < n → y ≢ v → C y ≡ true → (B y ≡ true) × (row y ≢ r) × (now y ≡ row y)
-  pub kept : (y : ℕ) → y < n → y ≢ v → B y ≡ true → row y ≢ r → C y ≡ true
-
--- row r has no base column now; all base columns of other rows stay
+-- row r has no base column now; all base columns of other rows stay. There are n columns; B and row are the base
+-- before, C and now the base after
 pub record IsRowCleared (n : ℕ) (B : ℕ → Bool) (row : ℕ → ℕ) (C : ℕ → Bool) (now : ℕ → ℕ) (r : ℕ) : Type 0 where
   pub only : (y : ℕ) → y < n → C y ≡ true → (B y ≡ true) × (row y ≢ r) × (now y ≡ row y)
   pub kept : (y : ℕ) → y < n → B y ≡ true → row y ≢ r → C y ≡ true

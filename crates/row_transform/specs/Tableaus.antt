@@ -1,9 +1,9 @@
 -- A tableau of a matrix Q: P = S * Q for an invertible S, with some columns of P as a base of unit columns.
 use Rattle.std.specs.Prelude.{ℕ, ◌%◌, ◌<◌, ◌≡◌, Bool, true, false, eqb, not}
-use Rattle.linear_algebra.specs.Bases.{IsBase, HasNoBase}
+use Rattle.linear_algebra.specs.Bases.{IsBase, IsBaseTaken, HasNoBase}
 use Rattle.linear_algebra.specs.Products.{product, identity, Agree, IsInverse}
 use Rattle.linear_algebra.specs.RowOperations.{IsPivoted}
-use Rattle.row_transform.specs.Bases.{IsBaseTaken, IsBaseDropped}
+use Rattle.row_transform.specs.Bases.{IsBaseDropped}
 use Rattle.dense_q.specs.Tables.{Table, height, entry}
 
 -- how many rows and columns there are; the matrices q, s, u and p; which columns are base columns, and the row of each

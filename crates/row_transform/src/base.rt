@@ -1,7 +1,8 @@
 //! The base of a tableau.
 
 ghost use Rattle.std.specs.Prelude.{◌≡◌, ◌≢◌, ℕ, ◌<◌, ◌≤◌, Bool, true, false, length, replicate, slice_index_or, IfOk, IfSome, IfNone};
-ghost use Rattle.row_transform.specs.Bases.{BaseLists, is_base, row_of, unlinked, linked, IsBaseTaken, IsBaseDropped, IsRowCleared};
+ghost use Rattle.linear_algebra.specs.Bases.{IsBaseTaken};
+ghost use Rattle.row_transform.specs.Bases.{BaseLists, is_base, row_of, unlinked, linked, IsBaseDropped, IsRowCleared};
 
 use std::alloc::{AllocError, Global};
 use std::marker::Model;

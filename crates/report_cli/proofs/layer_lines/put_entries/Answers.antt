@@ -2,7 +2,7 @@ use Rattle.std.proofs.Common.{◌<◌, ◌+◌, ◌++◌, ap, sym, ◌∙◌, dr
 use Rattle.text_writer.proofs.Putting.{loop_goes_on, loop_begins, loop_ends}
 use Rattle.dense_q.specs.Tables.{row_at}
 use Rattle.report_cli.specs.LayerTexts.{row_entries_text, entry_text}
-use Rattle.report_cli.proofs.LayerFacts.{row_long}
+use Rattle.mixed_layering.proofs.EntryLaws.{row_long}
 use Rattle.report_cli.proofs.LayerPieces.{entries_left, entries_end}
 use Rattle.report_cli.proofs.layer_lines.put_entries.Goals as goal
 

@@ -1,7 +1,7 @@
 //! Runs over memory. Expected texts are those of the formats, never the program's own.
 
-use crate::{Status, run};
 use port_io::{MemSink, MemSource, read_all};
+use report_cli::{Status, run};
 use std::alloc::Global;
 use std::process::Abort;
 use std::test::Fail;
