@@ -23,5 +23,6 @@ pub fn refusals_at_examples()
     ensures unknown_key { (p : ℕ) → IsRefusedFor p (codes "a = 1") Place.Document Why.UnknownKey }
     ensures version { (p : ℕ) → IsRefusedFor p (codes "version = 3") Place.Document Why.BadVersion }
     ensures stream { (p : ℕ) → IsRefusedFor p (codes "streams = [\"s1\", \"s1\"]") (Place.Stream 2) Why.Twice }
-    ensures kind { (p : ℕ) → IsRefusedFor p (codes "[[unit]]\nname = \"P\"\nkind = \"pump\"") (Place.Unit 1) Why.BadKind }
+    ensures kind { (p : ℕ) →
+        IsRefusedFor p (codes "[[unit]]\nname = \"P\"\nkind = \"pump\"") (Place.Unit 1) Why.BadKind }
 {}
