@@ -8,6 +8,7 @@ HasLines {A} Fits lines count text =
     (a : A) × Fits a × (count ≤ length (lines a)) × (rest : List ℕ) × (text ≡ concat (take count (lines a)) ++ rest)
 
 -- So many, and not one more.
-pub record HasJust {A : Type 0} (Fits : A → Type 0) (lines : A → List (List ℕ)) (count : ℕ) (text : List ℕ) : Type 0 where
+pub record HasJust {A : Type 0} (Fits : A → Type 0) (lines : A → List (List ℕ)) (count : ℕ)
+    (text : List ℕ) : Type 0 where
   pub these : HasLines Fits lines count text
   pub no_more : HasLines Fits lines (count + 1) text → ⊥

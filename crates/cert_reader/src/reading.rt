@@ -2,7 +2,8 @@
 
 ghost use Rattle.std.specs.Prelude.{◌≡◌, ◌<◌, ◌≤◌, ◌+◌, ◌*◌, ◌^◌, ℕ, codes, length, IfOk, IfErr, Ok};
 ghost use Rattle.limits.specs.Limits.{equation_limit};
-ghost use Rattle.cert_text.specs.Contents.{Certificate, Contents, contents_of, numbered_rows};
+ghost use Rattle.cert_text.specs.Contents as contents;
+ghost use Rattle.cert_text.specs.Contents.{contents_of, numbered_rows};
 ghost use Rattle.cert_text.specs.Ranges.{IsShape, IsCcf};
 ghost use Rattle.cert_text.specs.Texts.{certificate_text};
 ghost use Rattle.cert_reader.specs.Fronts.{Gives};
@@ -203,7 +204,7 @@ fn certificate_at<F: Field>(
 pub fn read<F: Field>(alloc: Global, bytes: &[u8]) -> Result<Certificate<F>, ReadCert>
     requires { length bytes.now ≤ certificate_limit }
     ensures found { IfOk result (λ c. IsCertificate F.modulus c × (bytes.now ≡ certificate_text c)) }
-    ensures only { (c : Certificate) → IsCertificate F.modulus c → bytes.now ≡ certificate_text c →
+    ensures only { (c : contents.Certificate) → IsCertificate F.modulus c → bytes.now ≡ certificate_text c →
         Gives (λ x. x) result (Ok c) }
     ensures refused { IfErr result (λ e. IsCause F.modulus e bytes.now) }
 {
