@@ -1,0 +1,15 @@
+pub mod Texts
+pub mod Numbers
+pub mod Spells
+pub mod Items
+pub mod Lines
+pub mod Rising
+pub mod Empty
+pub mod ItemKinds
+pub mod LineKinds
+pub mod Rows
+pub mod Blocks
+pub mod Whole
+pub mod Looping
+pub mod Short
+pub mod Theorem
