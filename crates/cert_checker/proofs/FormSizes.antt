@@ -1,0 +1,33 @@
+-- What a form keeps of its lines, at the sizes of a layered matrix.
+use Rattle.std.proofs.Common.{◌≡◌, ℕ, ◌+◌, ◌<◌, List, length, map, ap, sym, subst, ◌∙◌, arith}
+use Rattle.std.specs.List.{All}
+use Rattle.mixed_matrices.specs.LayeredMatrices.{LayeredMatrix}
+use Rattle.mixed_matrices.specs.Models.{MixedMatrix}
+use Rattle.cert_text.specs.Contents.{Contents, numbered_rows}
+use Rattle.cert_text.specs.Ranges.{ArePairs, IsCcf, IsMatrix}
+use Rattle.cert_text.specs.Right.{HasShape}
+use Rattle.cert_checker.specs.Checking.{HasSizes}
+use Rattle.cert_checker.proofs.NumberedRows.{row_count}
+
+pub shape-sizes : (M : MixedMatrix) (L : LayeredMatrix) (c : Contents) → HasShape M L c → HasSizes L c
+shape-sizes M L c shape = record { q_rows = shape.q_rows; t_rows = shape.t_rows; columns = shape.columns }
+
+module _ {T : Type 0} (number : T → ℕ) where
+  -- the rows of a slice are those of a printed matrix
+  pub printed-rows : (rows slice : List (List (ℕ × T))) (printed : List (List (ℕ × ℕ))) → slice ≡ rows → numbered_rows number rows ≡ printed → numbered_rows number slice ≡ printed
+  printed-rows rows slice printed same is = ap (numbered_rows number) same ∙ is
+
+  pub printed-count : (p m n : ℕ) (slice : List (List (ℕ × T))) (printed : List (List (ℕ × ℕ))) → numbered_rows number slice ≡ printed → IsMatrix p m n printed → length slice ≡ m
+  printed-count p m n slice printed is matrix = sym (row_count number slice) ∙ ap length is ∙ matrix.count
+
+  pub printed-matrix : (p m n x y : ℕ) (slice : List (List (ℕ × T))) (printed : List (List (ℕ × ℕ))) → numbered_rows number slice ≡ printed → IsMatrix p m n printed → m ≡ x → n ≡ y →
+      IsMatrix p x y (numbered_rows number slice)
+  printed-matrix p m n x y slice printed is matrix rows columns =
+      subst (IsMatrix p x y) (sym is) (subst (λ i. IsMatrix p i y printed) rows (subst (λ j. IsMatrix p m j printed) columns matrix))
+
+pub pairs-as : (m n x y : ℕ) (pairs items : List (ℕ × ℕ)) → items ≡ pairs → ArePairs m n pairs → m ≡ x → n ≡ y → ArePairs x y items
+pairs-as m n x y pairs items same are rows columns =
+    subst (ArePairs x y) (sym same) (subst (λ i. ArePairs i y pairs) rows (subst (λ j. ArePairs m j pairs) columns are))
+
+pub pair-columns : (m n : ℕ) (pairs : List (ℕ × ℕ)) → ArePairs m n pairs → All (λ pair. pair.1 < n) pairs
+pair-columns m n pairs are = λ k d kl. (are.within k d kl).1
