@@ -39,6 +39,21 @@ pub entry-once : (entry : ℕ × ℕ) (entries : List (ℕ × ℕ)) → AreKeysR
 entry-once entry [] rising = refl
 entry-once entry (next ∷ entries) rising = entry-before entry.0 next entries (rising 0 (omega arith)) (rising-tail entry (next ∷ entries) rising)
 
+pub entry-here : (entry : ℕ × ℕ) (entries : List (ℕ × ℕ)) (j : ℕ) → entry.0 ≡ j → entry_at (entry ∷ entries) j ≡ entry.1
+entry-here entry entries j same = ap (λ b. cond b entry.1 (entry_at entries j)) (eqb_from entry.0 j same)
+
+pub entry-other : (entry : ℕ × ℕ) (entries : List (ℕ × ℕ)) (j : ℕ) → entry.0 ≢ j → entry_at (entry ∷ entries) j ≡ entry_at entries j
+entry-other entry entries j other = ap (λ b. cond b entry.1 (entry_at entries j)) (not_true (eqb entry.0 j) (λ h. other (eqb_true entry.0 j h)))
+
+drop-all : {X : Type 0} → (xs : List X) (k : ℕ) → length xs ≤ k → drop k xs ≡ []
+drop-all [] zero low = refl
+drop-all [] (suc k) low = refl
+drop-all (x ∷ xs) zero low = absurd (omega arith)
+drop-all (x ∷ xs) (suc k) low = drop-all xs k (omega arith)
+
+pub entry-none : (entries : List (ℕ × ℕ)) (k j : ℕ) → length entries ≤ k → entry_at (drop k entries) j ≡ 0
+entry-none entries k j low = ap (λ es. entry_at es j) (drop-all entries k low)
+
 -- what is in a row of n numbers, with what is still to be added, is what is wanted
 abbrev pub IsLeft : ℕ → ℕ → ℕ → List ℕ → List (ℕ × ℕ) → (ℕ → ℕ) → Type 0
 IsLeft p n factor now entries want = (j : ℕ) → j < n → (slice_index now j + factor * entry_at entries j) % p ≡ want j % p
@@ -73,12 +88,6 @@ left-step p n f now entry entries want v w long low rising product sum left j jl
         ap (λ z. (z + f * entry_at entries j) % p) (get_or-set_other now entry.0 j w 0 other)
         ∙ ap (λ b. (slice_index now j + f * cond b entry.1 (entry_at entries j)) % p) (sym (not_true (eqb entry.0 j) (λ h. other (sym (eqb_true entry.0 j h)))))
         ∙ left j jl
-
-drop-all : {X : Type 0} → (xs : List X) (k : ℕ) → length xs ≤ k → drop k xs ≡ []
-drop-all [] zero low = refl
-drop-all [] (suc k) low = refl
-drop-all (x ∷ xs) zero low = absurd (omega arith)
-drop-all (x ∷ xs) (suc k) low = drop-all xs k (omega arith)
 
 pub left-end : (p n f : ℕ) (now : List ℕ) (entries : List (ℕ × ℕ)) (k : ℕ) (want : ℕ → ℕ) → length entries ≤ k → IsLeft p n f now (drop k entries) want → (j : ℕ) → j < n → slice_index now j % p ≡ want j % p
 left-end p n f now entries k want low left j jl =

@@ -1,12 +1,13 @@
 -- What a form keeps of its lines, at the sizes of a layered matrix.
-use Rattle.std.proofs.Common.{◌≡◌, ℕ, ◌+◌, ◌<◌, List, length, map, ap, sym, subst, ◌∙◌, arith}
+use Rattle.std.proofs.Common.{◌≡◌, ℕ, ◌+◌, ◌<◌, ◌↔◌, List, length, map, ap, sym, subst, ◌∙◌, arith}
 use Rattle.std.specs.List.{All}
 use Rattle.mixed_matrices.specs.LayeredMatrices.{LayeredMatrix}
 use Rattle.mixed_matrices.specs.Models.{MixedMatrix}
 use Rattle.cert_text.specs.Contents.{Contents, numbered_rows}
-use Rattle.cert_text.specs.Ranges.{ArePairs, IsCcf, IsMatrix}
+use Rattle.cert_text.specs.Ranges.{ArePairs, IsMatrix, IsPattern}
 use Rattle.cert_text.specs.Right.{HasShape}
 use Rattle.cert_checker.specs.Checking.{HasSizes}
+use Rattle.cert_checker.specs.Units.{AreUnits}
 use Rattle.cert_checker.proofs.NumberedRows.{row_count}
 
 pub shape-sizes : (M : MixedMatrix) (L : LayeredMatrix) (c : Contents) → HasShape M L c → HasSizes L c
@@ -31,3 +32,12 @@ pairs-as m n x y pairs items same are rows columns =
 
 pub pair-columns : (m n : ℕ) (pairs : List (ℕ × ℕ)) → ArePairs m n pairs → All (λ pair. pair.1 < n) pairs
 pair-columns m n pairs are = λ k d kl. (are.within k d kl).1
+
+pub pattern-as : (m n x y : ℕ) (rows slice : List (List ℕ)) → slice ≡ rows → IsPattern m n rows → m ≡ x → n ≡ y → IsPattern x y slice
+pattern-as m n x y rows slice same are height width =
+    subst (IsPattern x y) (sym same) (subst (λ i. IsPattern i y rows) height (subst (λ j. IsPattern m j rows) width are))
+
+pub units_as : (p m n : ℕ) (rows slice : List (List (ℕ × ℕ))) (base items : List (ℕ × ℕ)) → m ≡ n → slice ≡ rows → items ≡ base → AreUnits p m slice items ↔ AreUnits p n rows base
+units_as p m n rows slice base items size same listed =
+    subst (λ k. AreUnits p m slice items ↔ AreUnits p k rows base) size
+    (subst (λ list. AreUnits p m slice items ↔ AreUnits p m list base) same (subst (λ list. AreUnits p m slice items ↔ AreUnits p m slice list) listed (λ h. h, λ h. h)))

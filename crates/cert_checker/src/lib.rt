@@ -14,3 +14,6 @@ mod units;
 
 pub use checking::{CheckError, check_to_nine};
 pub use out_of_memory::NoMemory;
+
+#[cfg(test)]
+mod tests;
