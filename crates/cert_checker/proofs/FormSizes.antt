@@ -6,9 +6,12 @@ use Rattle.mixed_matrices.specs.Models.{MixedMatrix}
 use Rattle.cert_text.specs.Contents.{Contents, numbered_rows}
 use Rattle.cert_text.specs.Ranges.{ArePairs, IsMatrix, IsPattern}
 use Rattle.cert_text.specs.Right.{HasShape}
+use Rattle.sparse_t.specs.Incidences.{Incidence, row_count, touches}
+use Rattle.cert_text.specs.Readings.{pattern_of}
 use Rattle.cert_checker.specs.Checking.{HasSizes}
+use Rattle.cert_checker.specs.Matching.{HasSymbolsOf}
 use Rattle.cert_checker.specs.Units.{AreUnits}
-use Rattle.cert_checker.proofs.NumberedRows.{row_count}
+use Rattle.cert_checker.proofs.NumberedRows.{rows_count}
 
 pub shape-sizes : (M : MixedMatrix) (L : LayeredMatrix) (c : Contents) → HasShape M L c → HasSizes L c
 shape-sizes M L c shape = record { q_rows = shape.q_rows; t_rows = shape.t_rows; columns = shape.columns }
@@ -19,7 +22,7 @@ module _ {T : Type 0} (number : T → ℕ) where
   printed-rows rows slice printed same is = ap (numbered_rows number) same ∙ is
 
   pub printed-count : (p m n : ℕ) (slice : List (List (ℕ × T))) (printed : List (List (ℕ × ℕ))) → numbered_rows number slice ≡ printed → IsMatrix p m n printed → length slice ≡ m
-  printed-count p m n slice printed is matrix = sym (row_count number slice) ∙ ap length is ∙ matrix.count
+  printed-count p m n slice printed is matrix = sym (rows_count number slice) ∙ ap length is ∙ matrix.count
 
   pub printed-matrix : (p m n x y : ℕ) (slice : List (List (ℕ × T))) (printed : List (List (ℕ × ℕ))) → numbered_rows number slice ≡ printed → IsMatrix p m n printed → m ≡ x → n ≡ y →
       IsMatrix p x y (numbered_rows number slice)
@@ -41,3 +44,14 @@ pub units_as : (p m n : ℕ) (rows slice : List (List (ℕ × ℕ))) (base items
 units_as p m n rows slice base items size same listed =
     subst (λ k. AreUnits p m slice items ↔ AreUnits p k rows base) size
     (subst (λ list. AreUnits p m slice items ↔ AreUnits p m list base) same (subst (λ list. AreUnits p m slice items ↔ AreUnits p m slice list) listed (λ h. h, λ h. h)))
+
+-- the rows have the symbols of t in n columns
+abbrev Symbols : Incidence → ℕ → List (List ℕ) → Type 0
+Symbols t n rows = (i j : ℕ) → i < row_count t → j < n → pattern_of rows i j ≡ touches t i j
+
+pub symbols_as : (t inside : Incidence) (n : ℕ) (rows slice : List (List ℕ)) → slice ≡ rows → inside ≡ t → t.width ≡ n →
+    HasSymbolsOf inside slice ↔ ((i j : ℕ) → i < row_count t → j < n → pattern_of rows i j ≡ touches t i j)
+symbols_as t inside n rows slice same view width =
+    subst (λ x. HasSymbolsOf inside slice ↔ Symbols x n rows) view
+    (subst (λ k. HasSymbolsOf inside slice ↔ Symbols inside k rows) (ap (λ x. x.width) view ∙ width)
+    (subst (λ list. HasSymbolsOf inside slice ↔ Symbols inside inside.width list) same (λ h. h, λ h. h)))

@@ -1,3 +1,4 @@
+pub mod WrittenBack
 pub mod NumberedRows
 pub mod EntrySteps
 pub mod RisingLists
@@ -9,3 +10,4 @@ pub mod SymbolLaws
 pub mod PlacedRows
 pub mod FormSizes
 pub mod FirstBroken
+pub mod PlacedForm

@@ -10,6 +10,9 @@ use Rattle.cert_text.specs.Readings.{entry_at, matrix_of}
 use Rattle.cert_checker.specs.Gathering.{IsAdded, IsGathered, IsZeroRow, IsCombination}
 
 -- ---- a sum less what it should be
+none-before : (a : ℕ) → 0 + a ≡ a
+none-before a = omega arith
+
 -- f is -1, so that x and f * x cancel
 cancel : (p f x : ℕ) → (1 + f) % p ≡ 0 → (x + f * x) % p ≡ 0
 cancel p f x minus =
@@ -24,7 +27,7 @@ cancel p f x minus =
 zero-same : (p f e s : ℕ) → (1 + f) % p ≡ 0 → (s + f * e) % p ≡ 0 → e % p ≡ s % p
 zero-same p f e s minus zero_is =
     ap (λ z. z % p) (plain e) ∙ ap (λ z. (e + z) % p) (sym zero_is) ∙ add-mod-mod e (s + f * e) p ∙ ap (λ z. z % p) (moved e s (f * e))
-    ∙ sym (mod-add-mod (e + f * e) p s) ∙ ap (λ z. (z + s) % p) (cancel p f e minus)
+    ∙ sym (mod-add-mod (e + f * e) p s) ∙ ap (λ z. (z + s) % p) (cancel p f e minus) ∙ ap (λ z. z % p) (none-before s)
   where
     plain : (a : ℕ) → a ≡ a + 0
     plain a = omega arith
@@ -46,7 +49,7 @@ module _ (p k n f : ℕ) (minus : (1 + f) % p ≡ 0) (coefficients : List (ℕ �
   unfolding wanted
   rest j jl =
       added j jl ∙ sym (mod-add-mod (slice_index sum j) p (f * entry_at entries j))
-      ∙ ap (λ z. (z + f * entry_at entries j) % p) (gathered j jl ∙ sym (mod-add-mod (slice_index old j) p (wanted j)) ∙ ap (λ z. (z + wanted j) % p) (zero_is j jl))
+      ∙ ap (λ z. (z + f * entry_at entries j) % p) (gathered j jl ∙ sym (mod-add-mod (slice_index old j) p (wanted j)) ∙ ap (λ z. (z + wanted j) % p) (zero_is j jl) ∙ ap (λ z. z % p) (none-before (wanted j)))
       ∙ mod-add-mod (wanted j) p (f * entry_at entries j)
 
   pub nothing-left : IsZeroRow p n less → IsCombination p k n coefficients matrix entries
@@ -93,3 +96,11 @@ product_as p c d a b u v m x n y k z rows columns middle third first second =
     (subst (λ r. IsProductOf p m n k c a u ↔ IsProductOf p m n k r b v) third
     (subst (λ r. IsProductOf p m n k c a u ↔ IsProductOf p m n k c r v) first
     (subst (λ r. IsProductOf p m n k c a u ↔ IsProductOf p m n k c a r) second (λ h. h, λ h. h))))))
+
+-- and a second matrix that prints Q
+pub transformed-iff : (p : ℕ) (c d a b u v : List (List (ℕ × ℕ))) (m x n y k z : ℕ) → m ≡ x → n ≡ y → k ≡ z → c ≡ d → a ≡ b → u ≡ v → (Q : ℕ → ℕ → ℕ) →
+    ((t j : ℕ) → t < z → j < y → matrix_of v t j ≡ Q t j) → Agree p m n (matrix_of c) (product k (matrix_of a) (matrix_of u)) ↔ Agree p x y (matrix_of d) (product z (matrix_of b) Q)
+transformed-iff p c d a b u v m x n y k z rows columns middle third first second Q same =
+    let words = product_as p c d a b u v m x n y k z rows columns middle third first second in
+    let entries = product-iff p x y z (matrix_of d) (matrix_of b) (matrix_of v) Q same in
+    (λ h. entries.0 (words.0 h), λ h. words.1 (entries.1 h))

@@ -4,7 +4,6 @@ use Rattle.std.specs.List.{All}
 use Rattle.std.specs.List.Sorted.{IsStrictlyIncreasing}
 use Rattle.std.proofs.lemmas.List.Elements.{All-append, All-from_get_or, All-map}
 use Rattle.std.proofs.lemmas.List.{get_or_append_left, get_or_push, length_push, length-map, get_or-map}
-use Rattle.std.proofs.Math.Seq.{take-append_seam}
 use Rattle.residue_theory.proofs.SetLaws.{differ, eqb_true, eqb_from, not_true, zero_cases, either-second, lt_cases}
 use Rattle.residue_theory.proofs.SumLaws.{nat_cases}
 use Rattle.residue_theory.specs.Sets.{has}
@@ -150,10 +149,6 @@ list-count member c = length-map (part_list c) (list_in member) ∙ part-count c
 pub list-at : (member : Member) (c : Contents) (k : ℕ) (part : CcfPart) (list : List ℕ) → k < length c.blocks + 2 → list ≡ list_in member part → ((d : CcfPart) → part ≡ slice_index_or (part_list c) k d) →
     list ≡ slice_index_or (lists_in member c) k []
 list-at member c k part list low is at = is ∙ ap (list_in member) (at part) ∙ sym (get_or-map (list_in member) (part_list c) k part [] (omega (arith, low, part-count c)))
-
--- what a vector holds after all of it was written
-pub written-back : (m : ℕ) (now rest : List ℕ) → m ≡ length now → take m (now ++ rest) ≡ now
-written-back m now rest same = subst (λ i. take i (now ++ rest) ≡ now) (sym same) (take-append_seam now rest)
 
 tail-map : (f : CcfPart → List ℕ) (blocks : List CcfBlock) (last : CcfPart) →
     map f (map (λ (block : CcfBlock). block.part) blocks ++ last ∷ []) ≡ map (λ (block : CcfBlock). f block.part) blocks ++ f last ∷ []

@@ -1,15 +1,22 @@
 -- Which rule is the first that a printed form breaks, and what that says of it.
 use Rattle.std.specs.Prelude.{ℕ, zero, suc, ◌+◌, ◌<◌, ◌≤◌, ◌≡◌, ⊤, length}
 use Rattle.residue_theory.specs.Residues.{IsPrime}
-use Rattle.linear_algebra.specs.Products.{IsInverse}
+use Rattle.linear_algebra.specs.Products.{Agree, IsInverse, product}
 use Rattle.mixed_matrices.specs.LayeredMatrices.{LayeredMatrix}
 use Rattle.mixed_matrices.specs.Layerings.{IsLayeredMatrixOf, Origins}
 use Rattle.mixed_matrices.specs.Models.{MixedMatrix}
 use Rattle.cert_text.specs.Contents.{Contents}
 use Rattle.cert_text.specs.Ranges.{IsCcf}
-use Rattle.cert_text.specs.Readings.{matrix_of, column_lists, StandsOnce}
+use Rattle.cert_text.specs.Readings.{matrix_of, pattern_of, column_lists, StandsOnce}
 use Rattle.cert_text.specs.Right.{HasShape, HasProduct, HasUnitColumns, IsRightCcf}
 use Rattle.cert_text.specs.Rules.{HasMatching, HasPlacedRows, LeadsDown, HasReasons, HasLowerLists}
+
+-- the two halves of rule 4
+abbrev pub IsTransformed : ℕ → LayeredMatrix → Contents → Type 0
+IsTransformed p L c = Agree p L.q_rows L.columns (matrix_of c.p) (product L.q_rows (matrix_of c.s) L.q)
+
+abbrev pub PrintsSymbols : LayeredMatrix → Contents → Type 0
+PrintsSymbols L c = (i j : ℕ) → i < L.t_rows → j < L.columns → pattern_of c.t i j ≡ L.t i j
 
 -- rule 7: the printed rank with the number of columns is the number of unknowns with that of items
 abbrev pub IsCounted : MixedMatrix → LayeredMatrix → Contents → Type 0

@@ -1,6 +1,8 @@
 //! Products of matrices whose rows are lists of entries.
 
 ghost use Rattle.std.specs.Prelude.{◌≡◌, ℕ, ◌<◌, ◌≤◌, ◌+◌, ◌%◌, ◌↔◌, length, map, replicate, IfOk, IsTrue};
+ghost use Rattle.std.specs.List.{All};
+ghost use Rattle.std.specs.List.Sorted.{IsStrictlyIncreasing};
 ghost use Rattle.linear_algebra.specs.Products.{Agree, product};
 ghost use Rattle.cert_text.specs.Contents.{numbered, numbered_rows};
 ghost use Rattle.cert_text.specs.Ranges.{AreEntries, IsMatrix};
@@ -14,7 +16,8 @@ use std::alloc::Global;
 
 // Adds `factor` times the entries to a row.
 fn add_entries<F: Field>(row: &mut [F], entries: &[(usize, F)], factor: F)
-    requires { AreEntries F.modulus (length row.old) (numbered F.number entries.now) }
+    requires rising { IsStrictlyIncreasing (map (λ entry. entry.0) entries.now) }
+    requires columns { All (λ entry. entry.0 < length row.old) entries.now }
     ensures { IsAdded F.modulus (length row.old) (F.number factor) (numbered F.number entries.now)
         (map F.number row.old) (map F.number row.new) }
 {
@@ -26,7 +29,8 @@ fn add_entries<F: Field>(row: &mut [F], entries: &[(usize, F)], factor: F)
 
 // Adds the rows of a matrix, each times its coefficient, to a row.
 fn gather<F: Field>(row: &mut [F], coefficients: &[(usize, F)], matrix: &[Items<(usize, F)>])
-    requires coefficients { AreEntries F.modulus (length matrix.now) (numbered F.number coefficients.now) }
+    requires rising { IsStrictlyIncreasing (map (λ entry. entry.0) coefficients.now) }
+    requires rows { All (λ entry. entry.0 < length matrix.now) coefficients.now }
     requires matrix { IsMatrix F.modulus (length matrix.now) (length row.old) (numbered_rows F.number matrix.now) }
     ensures { IsGathered F.modulus (length matrix.now) (length row.old) (numbered F.number coefficients.now)
         (numbered_rows F.number matrix.now) (map F.number row.old) (map F.number row.new) }

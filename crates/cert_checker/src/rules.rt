@@ -7,7 +7,7 @@ ghost use Rattle.mixed_model.specs.Models.{mixed_matrix_of};
 ghost use Rattle.cert_text.specs.Readings.{matrix_of, ColumnsDiffer, StandsOnce, column_lists};
 ghost use Rattle.cert_text.specs.Right.{HasShape, HasProduct, HasUnitColumns};
 ghost use Rattle.cert_text.specs.Rules.{HasMatching, HasPlacedRows};
-ghost use Rattle.cert_checker.specs.Checking.{HasSizes, IsCounted};
+ghost use Rattle.cert_checker.specs.Checking.{HasSizes, IsCounted, IsTransformed, PrintsSymbols};
 ghost use Rattle.cert_checker.specs.Standing.{Not, TellsPlaces};
 
 use crate::matching::{are_symbols, columns_differ};
@@ -58,6 +58,35 @@ pub fn has_inverse<F: Field>(
     )
 }
 
+// Whether P is S times the constants.
+fn is_transformed<F: Field>(
+    alloc: Global,
+    layered: &Layered<F>,
+    form: &Ccf<F>,
+) -> Result<bool, NoMemory>
+    requires { HasSizes (layered_matrix_of layered.now) form.now }
+    ensures { IfOk result (λ answer. IsTrue answer ↔ IsTransformed F.modulus (layered_matrix_of layered.now) form.now) }
+{
+    let rows = rows_of(alloc, &layered.q)?;
+    is_product(
+        alloc,
+        form.s().as_slice(),
+        rows.as_slice(),
+        layered.q.cols(),
+        form.p().as_slice(),
+    )
+}
+
+// Whether the T lines are the rows of symbols.
+fn prints_symbols<F: Field>(layered: &Layered<F>, form: &Ccf<F>) -> bool
+    requires { HasSizes (layered_matrix_of layered.now) form.now }
+    ensures { IsTrue result ↔ PrintsSymbols (layered_matrix_of layered.now) form.now }
+{
+    // the rows of symbols have as many columns as those of constants
+    layered.are_layers();
+    has_symbols(form.t().as_slice(), &layered.t)
+}
+
 /// Rule 4: P is S times the constants, and the T lines are the rows of symbols.
 pub fn has_product<F: Field>(
     alloc: Global,
@@ -68,19 +97,10 @@ pub fn has_product<F: Field>(
     ensures { IfOk result (λ answer.
         IsTrue answer ↔ HasProduct F.modulus (layered_matrix_of layered.now) form.now) }
 {
-    // the rows of symbols have as many columns as those of constants
-    layered.are_layers();
-    let rows = rows_of(alloc, &layered.q)?;
-    if !is_product(
-        alloc,
-        form.s().as_slice(),
-        rows.as_slice(),
-        layered.q.cols(),
-        form.p().as_slice(),
-    )? {
+    if !is_transformed(alloc, layered, form)? {
         return Ok(false);
     }
-    Ok(has_symbols(form.t().as_slice(), &layered.t))
+    Ok(prints_symbols(layered, form))
 }
 
 /// Rule 5: for each item of the base, its column of P is 1 at its row and 0 elsewhere.

@@ -1,8 +1,9 @@
 //! Whether columns of a matrix are unit columns.
 
 ghost use Rattle.std.specs.Prelude.{◌≡◌, ◌<◌, ◌≤◌, ◌↔◌, ℕ, IfOk, IsTrue, length};
+ghost use Rattle.std.specs.List.{All};
 ghost use Rattle.cert_text.specs.Contents.{numbered, numbered_rows};
-ghost use Rattle.cert_text.specs.Ranges.{AreEntries, ArePairs, IsMatrix};
+ghost use Rattle.cert_text.specs.Ranges.{ArePairs, IsMatrix};
 ghost use Rattle.cert_text.specs.Readings.{entry_at};
 ghost use Rattle.cert_checker.specs.Units.{AreMarks, AreOnes, AreUnits, IsClear, AreClear};
 
@@ -55,7 +56,7 @@ fn are_ones<F: Field>(p: &[Items<(usize, F)>], base: &[(usize, usize)], columns:
 
 // Whether the entries of row i stand at columns with no mark, or with its own.
 fn is_clear<F: Field>(row: &[(usize, F)], i: usize, marks: &[usize], rows: usize) -> bool
-    requires { AreEntries F.modulus (length marks.now) (numbered F.number row.now) }
+    requires { All (λ entry. entry.0 < length marks.now) row.now }
     ensures { IsTrue result ↔ IsClear rows marks.now i (numbered F.number row.now) (length row.now) }
 {
     for entry in row {

@@ -16,3 +16,11 @@ loop-row-preserved g c =
     subst (λ list. PrintsMatrix p (row + 1) n identity (numbered_rows number list)) (sym c.in_ok-push-2.ensures.items)
     (rows-push number p row n identity c.loop-row.rows.items c.from_vec.result c.loop-row.invariant
     (subst (λ es. PrintsRow p n (identity row) (numbered number es)) (sym entries) (unit-entry number p n row c.one.result (omega (arith, g.met.F.Field.odd)) c.loop-row-test.true c.one.ensures)))
+
+pub returns : goal.returns
+returns g c =
+    let p = g.F.Field.modulus in
+    let n = c.args.n in
+    let end : c.loop-row.row ≡ n = omega (arith, c.loop-row-test.false, c.loop-row.auto.row-end) in
+    subst (λ rows. PrintsMatrix p n n identity (numbered_rows g.F.Field.number rows)) (sym c.from_vec-2.ensures)
+    (subst (λ m. PrintsMatrix p m n identity (numbered_rows g.F.Field.number c.loop-row.rows.items)) end c.loop-row.invariant)

@@ -3,16 +3,11 @@ use Rattle.std.proofs.lemmas.List.{get_or-map, length-map, map-set}
 use Rattle.cert_text.specs.Contents.{numbered}
 use Rattle.cert_text.specs.Readings.{entry_at}
 use Rattle.cert_checker.proofs.EntrySteps.{IsLeft, AreKeysRising, rising-drop, left-step, left-end}
-use Rattle.cert_checker.proofs.NumberedRows.{entry_count, entry_within, named, next_entry}
+use Rattle.cert_checker.proofs.NumberedRows.{entry_count, named, next_entry, rising_entry}
 use Rattle.cert_checker.proofs.products.add_entries.Goals as goal
 
 pub loop-entry-init : goal.loop-entry-init
 loop-entry-init g c j low = refl
-
-pub bounds-row-column : goal.bounds-row-column
-bounds-row-column g c =
-    let at = entry_within g.F.Field.number g.F.Field.modulus (length c.args.row.now) c.args.entries.now c.loop-entry.entry-index c.entry-item.result c.requires c.loop-entry-test.true c.entry-item.is in
-    omega (arith, at.0, c.loop-entry.auto.row)
 
 pub loop-entry-preserved : goal.loop-entry-preserved
 loop-entry-preserved g c =
@@ -26,13 +21,13 @@ loop-entry-preserved g c =
     let factor = number c.args.factor in
     let want : ℕ → ℕ = λ j. slice_index (map number c.args.row.now) j + factor * entry_at printed j in
     let cut : drop k printed ≡ named number entry ∷ drop (k + 1) printed = next_entry number c.args.entries.now k entry c.loop-entry-test.true c.entry-item.is in
-    let at = entry_within number p n c.args.entries.now k entry c.requires c.loop-entry-test.true c.entry-item.is in
+    let low : entry.0 < n = subst (λ (e : ℕ × g.row.F.Denot). e.0 < n) (sym c.entry-item.is) (c.requires.columns k entry c.loop-entry-test.true) in
     let old : number c.index-row-column.result ≡ slice_index (map number row) entry.0 =
-    ap number c.index-row-column.is ∙ sym (get_or-map number row entry.0 c.index-row-column.result 0 (omega (arith, c.loop-entry.auto.row, at.0))) in
+    ap number c.index-row-column.is ∙ sym (get_or-map number row entry.0 c.index-row-column.result 0 (omega (arith, c.loop-entry.auto.row, low))) in
     subst (λ xs. IsLeft p n factor xs (drop (k + 1) printed) want) (sym (map-set number row entry.0 c.add.result))
     (left-step p n factor (map number row) (named number entry) (drop (k + 1) printed) want (number c.mul.result) (number c.add.result)
-    (omega (arith, length-map row number, c.loop-entry.auto.row)) at.0
-    (subst AreKeysRising cut (rising-drop k printed c.requires.rising)) c.mul.ensures
+    (omega (arith, length-map row number, c.loop-entry.auto.row)) low
+    (subst AreKeysRising cut (rising-drop k printed (rising_entry number c.args.entries.now c.requires.rising))) c.mul.ensures
     (c.add.ensures ∙ ap (λ z. (z + number c.mul.result) % p) old)
     (subst (λ es. IsLeft p n factor (map number row) es want) cut c.loop-entry.invariant))
 

@@ -2,12 +2,24 @@ use Rattle.std.proofs.Common.{◌≡◌, ◌+◌, ◌%◌, length, map, sym, sub
 use Rattle.cert_text.specs.Contents.{numbered, numbered_rows}
 use Rattle.cert_text.specs.Ranges.{AreEntries}
 use Rattle.cert_checker.specs.Gathering.{IsAdded, IsZeroRow}
+use Rattle.cert_checker.proofs.NumberedRows.{entry_columns, entry_rising}
 use Rattle.cert_checker.proofs.ProductLaws.{nothing-left, left-nothing}
 use Rattle.cert_checker.proofs.products.is_combination.Goals as goal
 
-pub add_entries-requires : goal.add_entries-requires
-add_entries-requires g c =
-    subst (λ n. AreEntries g.F.Field.modulus n (numbered g.F.Field.number c.args.entries.now)) (sym c.gather.auto.row) c.requires.entries
+pub gather-requires-clause-rising : goal.gather-requires-clause-rising
+gather-requires-clause-rising g c = entry_rising g.F.Field.number g.F.Field.modulus (length c.args.matrix.now) c.args.coefficients.now c.requires.coefficients
+
+pub gather-requires-clause-rows : goal.gather-requires-clause-rows
+gather-requires-clause-rows g c = entry_columns g.F.Field.number g.F.Field.modulus (length c.args.matrix.now) c.args.coefficients.now c.requires.coefficients
+
+pub add_entries-requires-clause-rising : goal.add_entries-requires-clause-rising
+add_entries-requires-clause-rising g c = entry_rising g.F.Field.number g.F.Field.modulus (length c.args.row.now) c.args.entries.now c.requires.entries
+
+pub add_entries-requires-clause-columns : goal.add_entries-requires-clause-columns
+add_entries-requires-clause-columns g c =
+    let number = g.F.Field.number in
+    let p = g.F.Field.modulus in
+    entry_columns number p (length c.gather.new.row) c.args.entries.now (subst (λ n. AreEntries p n (numbered number c.args.entries.now)) (sym c.gather.auto.row) c.requires.entries)
 
 pub returns-clause-answer : goal.returns-clause-answer
 returns-clause-answer g c =

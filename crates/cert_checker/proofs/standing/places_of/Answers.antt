@@ -3,7 +3,8 @@ use Rattle.std.specs.List.{All}
 use Rattle.residue_theory.proofs.SetLaws.{differ}
 use Rattle.cert_text.specs.Ranges.{AreRising}
 use Rattle.cert_checker.specs.Standing.{AreSet, lists_in}
-use Rattle.cert_checker.proofs.StandingLaws.{AreStanding, lists-rising, list-at, list-count, standing-put, once-unplaced, places-told, once-set, written-back}
+use Rattle.cert_checker.proofs.StandingLaws.{AreStanding, lists-rising, list-at, list-count, standing-put, once-unplaced, places-told, once-set}
+use Rattle.cert_checker.proofs.WrittenBack.{written-back}
 use Rattle.cert_checker.proofs.standing.places_of.Goals as goal
 
 pub put-requires : goal.put-requires

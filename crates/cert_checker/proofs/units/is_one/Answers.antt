@@ -16,17 +16,17 @@ loop-entry-preserved g c =
     let entry = c.entry-item.result in
     c.loop-entry.invariant
     ∙ ap (λ es. entry_at es c.args.column) (next_entry number c.args.row.now k entry c.loop-entry-test.true c.entry-item.is)
-    ∙ entry-other (named number entry) (drop (k + 1) (numbered number c.args.row.now)) c.args.column c.if-entry-eq-column.false
+    ∙ entry-other (named number entry) (drop (k + 1) (numbered number c.args.row.now)) c.args.column c.if-entry-column.false
 
-pub returns-then-entry-eq-column : goal.returns-then-entry-eq-column
-returns-then-entry-eq-column g c =
+pub returns-then-entry-column : goal.returns-then-entry-column
+returns-then-entry-column g c =
     let number = g.F.Field.number in
     let k = c.loop-entry.entry-index in
     let entry = c.entry-item.result in
     let at : entry_at (numbered number c.args.row.now) c.args.column ≡ number entry.1 =
     c.loop-entry.invariant
     ∙ ap (λ es. entry_at es c.args.column) (next_entry number c.args.row.now k entry c.loop-entry-test.true c.entry-item.is)
-    ∙ entry-here (named number entry) (drop (k + 1) (numbered number c.args.row.now)) c.args.column c.if-entry-eq-column.true in (
+    ∙ entry-here (named number entry) (drop (k + 1) (numbered number c.args.row.now)) c.args.column c.if-entry-column.true in (
       λ h. at ∙ sym c.value.ensures.number ∙ eqb_true c.value.result 1 h,
       λ one. eqb_from c.value.result 1 (c.value.ensures.number ∙ sym at ∙ one),
     )
