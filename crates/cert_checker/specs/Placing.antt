@@ -10,7 +10,8 @@ pub record ArePlaced (rows : ℕ) (pairs : List (ℕ × ℕ)) (columns : List �
   pub other : (i : ℕ) → i < rows → ((k : ℕ) → k < n → (pair_at pairs k).0 ≡ i → ⊥) → slice_index places i ≡ last
 
 -- the same of all items, with no word of the table
-pub record StandWithColumns (rows : ℕ) (pairs : List (ℕ × ℕ)) (columns : List ℕ) (last : ℕ) (places : List ℕ) : Type 0 where
+pub record StandWithColumns (rows : ℕ) (pairs : List (ℕ × ℕ)) (columns : List ℕ) (last : ℕ)
+    (places : List ℕ) : Type 0 where
   pub item : (k : ℕ) → k < length pairs →
       slice_index places (pair_at pairs k).0 ≡ slice_index columns (pair_at pairs k).1
   pub other : (i : ℕ) → i < rows → ((k : ℕ) → k < length pairs → (pair_at pairs k).0 ≡ i → ⊥) →

@@ -1,6 +1,5 @@
 //! The first rule that a form breaks.
 
-ghost use Rattle.std.specs.Prelude.{ℕ, ◌≡◌, OnOk, OnErr, true, false};
 ghost use Rattle.mixed_model.specs.Layers.{layered_matrix_of};
 ghost use Rattle.mixed_model.specs.Models.{mixed_matrix_of};
 ghost use Rattle.cert_checker.specs.Answers.{TellsToNine};
@@ -25,6 +24,11 @@ pub enum CheckError {
 }
 
 impl From<NoMemory> for CheckError {
+    ghost use Rattle.std.specs.Prelude.{◌≡◌};
+    ghost use Rattle.cert_checker.specs.declared.checking.CheckError.TheVariants.{NoMemory};
+
+    ghost from_gives = { λ _ error. error ≡ NoMemory };
+
     fn from(_error: NoMemory) -> CheckError {
         CheckError::NoMemory
     }
