@@ -1,16 +1,15 @@
 -- Rows that stand in the parts of their columns, item by item.
-use Rattle.std.proofs.Common.{◌≡◌, ◌≢◌, ℕ, ◌+◌, ◌<◌, ◌≤◌, ◌↔◌, ◌⊎◌, Bool, true, false, ◌&&◌, eqb, List, length, replicate, slice_index, slice_index_or, slice_set, inl, inr, refl, ap, sym, ◌∙◌, subst, arith}
+use Rattle.std.proofs.Common.{◌≡◌, ℕ, ◌+◌, ◌<◌, ◌↔◌, Bool, true, false, ◌&&◌, eqb, List, length, replicate, slice_index, slice_set, inl, inr, refl, ap, sym, ◌∙◌, subst, arith}
 use Rattle.std.proofs.lemmas.Grind.{same_number_lists}
 use Rattle.std.proofs.lemmas.List.{get_or-replicate, get_or-set_other, get_or-set_same, length-replicate, length-set}
 use Rattle.residue_theory.specs.Sets.{some_below}
 use Rattle.residue_theory.proofs.SetLaws.{both_true, both-first, both-second, differ, eqb_true, eqb_from, not_true, search_below, some_below-found, some_below-holds}
 use Rattle.residue_theory.proofs.SumLaws.{nat_cases}
 use Rattle.mixed_matrices.specs.Arcs.{has_base, has_match}
-use Rattle.mixed_matrices.specs.CheckerRules.{HasRows}
 use Rattle.mixed_matrices.specs.LayeredMatrices.{LayeredMatrix}
 use Rattle.cert_text.specs.Contents.{Contents}
 use Rattle.cert_text.specs.Ranges.{ArePairs}
-use Rattle.cert_text.specs.Readings.{pair_at, has_column, row_with, place_of, column_lists, q_row_lists, t_row_lists, parts_of, tableau_of, ColumnsDiffer, StandsOnce}
+use Rattle.cert_text.specs.Readings.{pair_at, has_column, row_with, place_of, column_lists, q_row_lists, t_row_lists, ColumnsDiffer, StandsOnce}
 use Rattle.cert_text.specs.Rules.{HasPlacedRows}
 use Rattle.cert_text.proofs.PairLists.{found, has-found, rows_differ}
 use Rattle.cert_text.proofs.PrintedRules.{place-is}

@@ -1,11 +1,11 @@
 -- Rows of a matrix, printed one after the other.
-use Rattle.std.proofs.Common.{◌≡◌, ◌≢◌, ℕ, ◌+◌, ◌<◌, Bool, true, cond, eqb, List, [], ◌∷◌, ◌++◌, length, map, get_or, inl, inr, suc, refl, ap, sym, ◌∙◌, subst, arith}
+use Rattle.std.proofs.Common.{◌≡◌, ◌≢◌, ℕ, ◌+◌, ◌<◌, cond, eqb, List, [], ◌∷◌, ◌++◌, length, map, get_or, inl, inr, suc, refl, ap, sym, ◌∙◌, subst, arith}
 use Rattle.std.specs.List.{All}
 use Rattle.std.specs.List.Sorted.{IsStrictlyIncreasing}
 use Rattle.std.proofs.lemmas.List.{get_or_append_left, get_or_push, get_or-map, length-map, length_push, map-append}
 use Rattle.std.proofs.lemmas.List.Elements.{All-append, All-from_get_or}
 use Rattle.residue_theory.proofs.SumLaws.{nat_cases}
-use Rattle.residue_theory.proofs.SetLaws.{differ, eqb_from, eqb_true, not_true}
+use Rattle.residue_theory.proofs.SetLaws.{eqb_from, eqb_true, not_true}
 use Rattle.linear_algebra.specs.Products.{identity}
 use Rattle.cert_text.specs.Contents.{numbered, numbered_rows}
 use Rattle.cert_text.specs.Ranges.{AreEntries, AreRising}

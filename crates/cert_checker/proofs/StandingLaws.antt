@@ -1,10 +1,10 @@
 -- Numbers that stand in lists.
-use Rattle.std.proofs.Common.{◌≡◌, ℕ, zero, suc, ◌+◌, ◌<◌, ◌≤◌, ◌≢◌, ◌⊎◌, Bool, true, false, ◌||◌, cond, eqb, List, [], ◌∷◌, ◌++◌, length, map, take, get_or, slice_index, slice_index_or, inl, inr, refl, ap, sym, subst, ◌∙◌, arith}
+use Rattle.std.proofs.Common.{◌≡◌, ℕ, zero, suc, ◌+◌, ◌<◌, ◌≢◌, ◌⊎◌, Bool, true, false, ◌||◌, cond, eqb, List, [], ◌∷◌, ◌++◌, length, map, take, get_or, slice_index, slice_index_or, inl, inr, refl, ap, sym, subst, ◌∙◌, arith}
 use Rattle.std.specs.List.{All}
 use Rattle.std.specs.List.Sorted.{IsStrictlyIncreasing}
 use Rattle.std.proofs.lemmas.List.Elements.{All-append, All-from_get_or, All-map}
-use Rattle.std.proofs.lemmas.List.{get_or_append_left, get_or_push, length_push, length-map, get_or-map}
-use Rattle.residue_theory.proofs.SetLaws.{differ, eqb_true, eqb_from, not_true, zero_cases, either-second, lt_cases}
+use Rattle.std.proofs.lemmas.List.{length_push, length-map, get_or-map}
+use Rattle.residue_theory.proofs.SetLaws.{differ, eqb_true, eqb_from, not_true, zero_cases, either-second}
 use Rattle.residue_theory.proofs.SumLaws.{nat_cases}
 use Rattle.residue_theory.specs.Sets.{has}
 use Rattle.cert_text.specs.Readings.{place_of, column_lists, q_row_lists, t_row_lists, StandsOnce}

@@ -1,5 +1,5 @@
 -- Rising lists with the same members are the same.
-use Rattle.std.proofs.Common.{◌≡◌, ℕ, zero, suc, ◌+◌, ◌<◌, ◌≤◌, ◌⊎◌, ◌↔◌, Bool, true, false, ◌||◌, eqb, List, [], ◌∷◌, length, slice_index, slice_index_or, inl, inr, refl, ap, sym, subst, ◌∙◌, arith}
+use Rattle.std.proofs.Common.{◌≡◌, ℕ, ◌<◌, ◌≤◌, Bool, true, false, ◌||◌, eqb, List, [], ◌∷◌, length, slice_index_or, inl, inr, refl, ap, sym, subst, ◌∙◌, arith}
 use Rattle.std.specs.List.Sorted.{IsStrictlyIncreasing}
 use Rattle.residue_theory.proofs.SetLaws.{differ, eqb_true, eqb_from, not_true, lt_cases}
 use Rattle.sparse_t.specs.Incidences.{Incidence, IsIncidence, row_count, columns_at, touches}

@@ -1,10 +1,10 @@
 -- Unit columns are told by marks.
-use Rattle.std.proofs.Common.{◌≡◌, ℕ, zero, suc, ◌+◌, ◌%◌, ◌<◌, ◌≢◌, ◌⊎◌, Bool, true, false, cond, eqb, List, [], ◌∷◌, length, slice_index, slice_index_or, inl, inr, refl, ap, sym, subst, ◌∙◌, arith}
+use Rattle.std.proofs.Common.{◌≡◌, ℕ, zero, suc, ◌%◌, ◌<◌, ◌≢◌, ◌⊎◌, Bool, true, false, cond, eqb, List, [], ◌∷◌, length, slice_index, slice_index_or, inl, inr, refl, ap, sym, subst, ◌∙◌, arith}
 use Rattle.std.proofs.Math.Nat.{mod-eq_of_lt, zero-mod}
 use Rattle.residue_theory.proofs.SetLaws.{differ, eqb_true, eqb_from, zero_cases}
 use Rattle.residue_theory.proofs.SumLaws.{nat_cases}
 use Rattle.cert_text.specs.Ranges.{AreEntries, ArePairs, IsMatrix}
-use Rattle.cert_text.specs.Readings.{entry_at, matrix_of, pair_at, IsUnitColumn}
+use Rattle.cert_text.specs.Readings.{entry_at, matrix_of, pair_at}
 use Rattle.cert_checker.specs.Units.{AreUnits, AreMarks, AreOnes, AreClear}
 
 found-step : (b : Bool) (entry : ℕ × ℕ) (entries : List (ℕ × ℕ)) (j : ℕ) → eqb entry.0 j ≡ b → cond b entry.1 (entry_at entries j) ≢ 0 →

@@ -1,4 +1,4 @@
-use Rattle.std.proofs.Common.{◌≡◌, ℕ, ◌+◌, ◌≤◌, None, Some, Option, MatchOption, refl, sym, subst, ◌∙◌, arith}
+use Rattle.std.proofs.Common.{MatchOption, refl, sym, subst, arith}
 use Rattle.residue_theory.proofs.SetLaws.{differ}
 use Rattle.mixed_model.specs.Layers.{layered_matrix_of}
 use Rattle.mixed_model.specs.Models.{mixed_matrix_of}

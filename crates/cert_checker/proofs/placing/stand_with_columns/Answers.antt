@@ -1,4 +1,4 @@
-use Rattle.std.proofs.Common.{◌≡◌, length, refl, sym, ◌∙◌}
+use Rattle.std.proofs.Common.{length, refl, sym, ◌∙◌}
 use Rattle.cert_checker.proofs.PlacedRows.{wanted-stand}
 use Rattle.cert_checker.proofs.placing.stand_with_columns.Goals as goal
 

@@ -1,4 +1,4 @@
-use Rattle.std.proofs.Common.{◌≡◌, ℕ, ◌∷◌, ◌+◌, ◌*◌, ◌%◌, ◌<◌, refl, ap, sym, subst, ◌∙◌, drop, length, map, slice_index, slice_set, arith}
+use Rattle.std.proofs.Common.{◌≡◌, ℕ, ◌∷◌, ◌+◌, ◌*◌, ◌%◌, ◌<◌, refl, ap, sym, subst, ◌∙◌, drop, length, map, slice_index, arith}
 use Rattle.std.proofs.lemmas.List.{get_or-map, length-map, map-set}
 use Rattle.cert_text.specs.Contents.{numbered}
 use Rattle.cert_text.specs.Readings.{entry_at}

@@ -1,4 +1,4 @@
-use Rattle.std.proofs.Common.{◌≡◌, ℕ, ◌∷◌, [], ◌+◌, ◌*◌, ◌<◌, ap, sym, subst, refl, ◌∙◌, drop, length, map, slice_index, slice_index_or, arith}
+use Rattle.std.proofs.Common.{◌≡◌, ℕ, ◌∷◌, [], ◌+◌, ◌*◌, ◌<◌, ap, sym, subst, refl, drop, length, map, slice_index, slice_index_or, arith}
 use Rattle.residue_theory.specs.Sums.{sum_below}
 use Rattle.cert_text.specs.Contents.{numbered, numbered_rows}
 use Rattle.cert_text.specs.Ranges.{IsMatrix}

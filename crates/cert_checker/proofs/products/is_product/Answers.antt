@@ -1,4 +1,4 @@
-use Rattle.std.proofs.Common.{◌≡◌, ◌≢◌, ℕ, [], ◌<◌, inl, inr, refl, ap, sym, subst, ◌∙◌, length, map, slice_index_or, arith}
+use Rattle.std.proofs.Common.{◌≡◌, [], ◌<◌, inl, inr, refl, ap, sym, subst, ◌∙◌, length, map, slice_index_or, arith}
 use Rattle.residue_theory.proofs.SumLaws.{nat_cases}
 use Rattle.cert_text.specs.Contents.{numbered, numbered_rows}
 use Rattle.cert_text.specs.Ranges.{AreEntries}

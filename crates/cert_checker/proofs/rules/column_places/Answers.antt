@@ -1,4 +1,4 @@
-use Rattle.std.proofs.Common.{◌≡◌, ℕ, List, IfOk, MatchOption, ap, sym, subst, ◌∙◌}
+use Rattle.std.proofs.Common.{◌≡◌, IfOk, MatchOption, ap, sym, subst, ◌∙◌}
 use Rattle.mixed_model.specs.Layers.{Layers}
 use Rattle.cert_text.specs.Readings.{StandsOnce}
 use Rattle.cert_checker.specs.Standing.{Not, TellsPlaces, lists_in}

@@ -1,7 +1,6 @@
-use Rattle.std.proofs.Common.{◌≡◌, length, ap, subst, sym, ◌∙◌}
+use Rattle.std.proofs.Common.{length, ap, sym, ◌∙◌}
 use Rattle.std.proofs.lemmas.Result.{IfOk-weaker}
 use Rattle.mixed_model.specs.Layers.{Layers}
-use Rattle.cert_checker.specs.Units.{AreUnits}
 use Rattle.cert_checker.proofs.FormSizes.{pairs-as, printed-count, printed-matrix, printed-rows, units_as}
 use Rattle.cert_checker.proofs.rules.has_unit_columns.Goals as goal
 

@@ -1,9 +1,8 @@
-use Rattle.std.proofs.Common.{◌≡◌, ℕ, ◌<◌, length, refl, ap, subst, sym, ◌∙◌}
+use Rattle.std.proofs.Common.{length, refl, ap, subst, sym, ◌∙◌}
 use Rattle.std.proofs.lemmas.Result.{IfOk-weaker}
 use Rattle.mixed_model.specs.Layers.{Layers}
 use Rattle.dense_q.specs.Tables.{Table, entry, height}
 use Rattle.cert_text.specs.Contents.{numbered_rows}
-use Rattle.cert_text.specs.Readings.{matrix_of}
 use Rattle.cert_checker.specs.Matrices.{PrintsMatrix}
 use Rattle.cert_checker.proofs.FormSizes.{printed-count, printed-matrix, printed-rows}
 use Rattle.cert_checker.proofs.ProductLaws.{transformed-iff}

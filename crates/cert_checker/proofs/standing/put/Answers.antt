@@ -1,5 +1,4 @@
-use Rattle.std.proofs.Common.{◌≡◌, ℕ, ◌<◌, false, length, sym, subst, refl, ◌∙◌, slice_index_or, arith}
-use Rattle.std.proofs.lemmas.List.{get_or_default}
+use Rattle.std.proofs.Common.{false, refl, slice_index_or}
 use Rattle.cert_checker.proofs.StandingLaws.{put-refused}
 use Rattle.cert_checker.proofs.standing.put.Goals as goal
 

@@ -1,4 +1,4 @@
-use Rattle.std.proofs.Common.{◌≡◌, ◌≢◌, ℕ, List, [], ◌+◌, ◌<◌, inl, inr, refl, sym, subst, length, slice_index_or, arith}
+use Rattle.std.proofs.Common.{◌≡◌, ℕ, List, [], inl, inr, refl, sym, subst, length, slice_index_or, arith}
 use Rattle.residue_theory.proofs.SumLaws.{nat_cases}
 use Rattle.cert_text.specs.Contents.{numbered, numbered_rows}
 use Rattle.cert_checker.specs.Units.{IsClear}

@@ -1,4 +1,4 @@
-use Rattle.std.proofs.Common.{◌≡◌, ℕ, ◌<◌, true, length, sym, subst, ◌∙◌, arith}
+use Rattle.std.proofs.Common.{◌<◌, length, sym, subst, ◌∙◌, arith}
 use Rattle.residue_theory.proofs.SetLaws.{differ}
 use Rattle.cert_text.specs.Contents.{numbered_rows}
 use Rattle.cert_checker.specs.Units.{AreClear}

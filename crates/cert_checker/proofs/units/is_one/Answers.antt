@@ -1,4 +1,4 @@
-use Rattle.std.proofs.Common.{◌≡◌, ◌+◌, ◌∷◌, drop, refl, ap, sym, ◌∙◌, arith}
+use Rattle.std.proofs.Common.{◌≡◌, ◌+◌, drop, refl, ap, sym, ◌∙◌, arith}
 use Rattle.cert_text.specs.Contents.{numbered}
 use Rattle.cert_text.specs.Readings.{entry_at}
 use Rattle.residue_theory.proofs.SetLaws.{eqb_from, eqb_true}
