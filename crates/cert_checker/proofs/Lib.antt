@@ -1,0 +1,13 @@
+pub mod WrittenBack
+pub mod NumberedRows
+pub mod EntrySteps
+pub mod RisingLists
+pub mod PrintedRows
+pub mod ProductLaws
+pub mod UnitLaws
+pub mod StandingLaws
+pub mod SymbolLaws
+pub mod PlacedRows
+pub mod FormSizes
+pub mod FirstBroken
+pub mod PlacedForm

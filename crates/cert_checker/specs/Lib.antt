@@ -1,0 +1,8 @@
+pub mod Gathering
+pub mod Matrices
+pub mod Units
+pub mod Standing
+pub mod Placing
+pub mod Matching
+pub mod Checking
+pub mod Answers

@@ -1,0 +1,19 @@
+//! The rules by which a printed canonical form is tried.
+#![tactic(auto)]
+
+mod checking;
+pub mod laws;
+mod matching;
+mod matrices;
+mod placing;
+mod products;
+mod rules;
+mod standing;
+mod symbols;
+mod units;
+
+pub use checking::{CheckError, check_to_nine};
+pub use out_of_memory::NoMemory;
+
+#[cfg(test)]
+mod tests;
