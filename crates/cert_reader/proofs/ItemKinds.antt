@@ -14,10 +14,10 @@ use Rattle.cert_reader.proofs.Items.{AreItems}
 use Rattle.cert_reader.proofs.Rising.{Above}
 use Rattle.cert_reader.proofs.Texts.{and_both, begins-again}
 
-ltb-true : (a b : ℕ) → a < b → nat_lt a b ≡ true
+pub ltb-true : (a b : ℕ) → a < b → nat_lt a b ≡ true
 ltb-true a b less = grind (arith, nat_tests)
 
-from-ltb : (a b : ℕ) → nat_lt a b ≡ true → a < b
+pub from-ltb : (a b : ℕ) → nat_lt a b ≡ true → a < b
 from-ltb a b e = grind (arith, nat_tests)
 
 pub Spells-index : (n low : ℕ) → n < 10 ^ 10 → Spells EndsNumber (Above (λ i. i) (λ i. i < n) low) (λ i. decimal (i + 1)) (index_at n low)

@@ -18,7 +18,7 @@ use Rattle.cert_reader.proofs.Numbers.{EndsNumber}
 use Rattle.cert_reader.proofs.Spells.{Spells, Any, Spells-then, Spells-where, Spells-behind, Spells-before, Spells-number, Spells-text}
 use Rattle.cert_reader.proofs.Items.{RiseFrom, EndsItems, Spells-items}
 use Rattle.cert_reader.proofs.Rising.{Above, rising-from, rising-to}
-use Rattle.cert_reader.proofs.ItemKinds.{are-numbers, are-letters, are-pairs, are-entries}
+use Rattle.cert_reader.proofs.ItemKinds.{ltb-true, from-ltb, are-numbers, are-letters, are-pairs, are-entries}
 
 -- the same values
 pub Spells-same : {A : Type 0} {E : List ℕ → Type 0} {F G : A → Type 0} {t : A → List ℕ} (p : ℕ → List ℕ → Result (A × List ℕ) ℕ) → Spells E F t p → ((a : A) → F a → G a) → ((a : A) → G a → F a) → Spells E G t p
@@ -224,15 +224,9 @@ Spells-block shape k is small = Spells-retold (Spells-where {G = IsBlock shape k
     (Spells-both (before_at (part_at shape) (codes " |")) (numbers_at k)
     (Spells-before (codes " |") (part_at shape) (Spells-part shape is) (λ rest. record { no_q = refl; no_t = refl; ended = refl }))
     (Spells-numbers k small) (λ x rest fits ends. tt)) list-ends)
-    (λ x fits test. (record { part = fits.0; some = from-test (length x.0.columns) test; lower = fits.1 }, refl))
-    (λ block fits. ((fits.part, fits.lower), to-test (length block.part.columns) fits.some, refl)))
+    (λ x fits test. (record { part = fits.0; some = from-ltb 0 (length x.0.columns) test; lower = fits.1 }, refl))
+    (λ block fits. ((fits.part, fits.lower), ltb-true 0 (length block.part.columns) fits.some, refl)))
     (λ block. five (head_text (codes "block") (k + 1)) (part_text block.part) (codes " |") (numbers_text block.lower) (codes "\n"))
-  where
-    from-test : (n : ℕ) → nat_lt 0 n ≡ true → 0 < n
-    from-test n e = grind (arith, nat_tests)
-
-    to-test : (n : ℕ) → 0 < n → nat_lt 0 n ≡ true
-    to-test n e = grind (arith, nat_tests)
 
 -- two readers of the same texts read alike
 readers_agree : {A : Type 0} {F : A → Type 0} {t : A → List ℕ} (p q : ℕ → List ℕ → Result (A × List ℕ) ℕ) → Spells Any F t p → Spells Any F t q → (line : ℕ) (bytes : List ℕ) → p line bytes ≡ q line bytes
