@@ -1,0 +1,5 @@
+pub mod Listed
+pub mod Parts
+pub mod Rules
+pub mod Tests
+pub mod Laws
