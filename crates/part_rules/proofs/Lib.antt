@@ -1,3 +1,4 @@
 pub mod Numbering
 pub mod Chains
 pub mod Withins
+pub mod Lists

@@ -1,5 +1,5 @@
 -- Parts by their numbers: where a place stands, and where arcs lead.
-use Rattle.std.proofs.Common.{◌≡◌, ℕ, ◌+◌, ◌<◌, ◌≤◌, ◌⊎◌, Bool, true, false, inl, inr, refl, sym, subst, arith}
+use Rattle.std.proofs.Common.{◌≡◌, ℕ, ◌+◌, ◌<◌, ◌⊎◌, Bool, true, inl, inr, sym, subst, arith}
 use Rattle.residue_theory.proofs.SetLaws.{differ, not_true, le_cases}
 use Rattle.closed_sets.specs.Rules.{InBlock}
 use Rattle.closed_sets.specs.Walks.{ReachesOn}

@@ -1,7 +1,6 @@
 -- Walks within the parts: what two searches tell of the reasons.
 use Rattle.std.proofs.Common.{◌≡◌, ℕ, zero, suc, ◌+◌, ◌<◌, ◌≤◌, ◌⊎◌, ◌↔◌, Bool, true, inl, inr, refl, sym, subst, ◌∙◌, arith}
 use Rattle.residue_theory.proofs.SetLaws.{le_cases}
-use Rattle.residue_theory.proofs.SumLaws.{nat_cases}
 use Rattle.closed_sets.specs.Walks.{Walk, Reaches, FromSome, ToSome, Mutual}
 use Rattle.closed_sets.specs.Rules.{InBlock}
 use Rattle.closed_sets.proofs.WalkLaws.{reaches-join}
@@ -62,8 +61,7 @@ module _ (arc : ℕ → ℕ → Bool) (n : ℕ) (starts ends F L : ℕ → Bool)
           let ih : InBlock n F L (head k) = at-block n b F L block part N (head k) k hl kb at in
           let px : block x + 2 ≡ part x = number-is n b F L block part N x ix in
           let ph : block (head k) + 2 ≡ part (head k) = number-is n b F L block part N (head k) ih in
-          let both : Mutual arc n (head k) x = G.block_mutual (head k) x ih ix (omega (arith, px, ph, equal)) in
-          (
+          let both : Mutual arc n (head k) x = G.block_mutual (head k) x ih ix (omega (arith, px, ph, equal)) in (
             (R x ix.below).1 (head k, hl, (S (head k) hl).1 (inr (k, kb, refl)), inner-reaches (head k) x hl ix.below equal both.0),
             (T x ix.below).1 (head k, hl, (E (head k) hl).1 (inr (k, kb, refl)), inner-reaches x (head k) ix.below hl (sym equal) both.1),
           )
