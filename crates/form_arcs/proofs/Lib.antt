@@ -1,0 +1,4 @@
+pub mod ArcLists
+pub mod MarkLaws
+pub mod FormLaws
+pub mod Gathered

@@ -1,0 +1,4 @@
+pub mod Marking
+pub mod Leading
+pub mod FormArcs
+pub mod Forms

@@ -1,0 +1,1 @@
+//! The arcs of a form.
