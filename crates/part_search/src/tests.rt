@@ -1,0 +1,4 @@
+//! Tests of searches within parts.
+
+use super::*;
+use std::test::Fail;
