@@ -27,15 +27,15 @@ module _ (arcs : List (ℕ × ℕ)) (part : ℕ → ℕ) (told : ℕ → ℕ →
   parts-at x y h = ap (λ z. eqb (part z) (part to)) (eqb_true from x (both-first (eqb from x) (eqb to y) h))
       ∙ ap (λ z. eqb (part x) (part z)) (eqb_true to y (both-second (eqb from x) (eqb to y) h))
 
-  pub sum-taken : (now : ℕ → ℕ → Bool) → ((x y : ℕ) → now x y ≡ told x y || (eqb from x && eqb to y)) → eqb (part from) (part to) ≡ true →
+  pub sum-taken : (now : ℕ → ℕ → Bool) → ((x y : ℕ) → now x y ≡ told x y || (eqb from x && eqb to y)) → part from ≡ part to →
       (x y : ℕ) → now x y || inner (arc_in (drop (k + 1) arcs)) part x y ≡ inner (arc_in arcs) part x y
   sum-taken now more same x y = ap (λ b. b || inner (arc_in (drop (k + 1) arcs)) part x y) (more x y)
-      ∙ (taken (told x y) (eqb from x && eqb to y) (arc_in (drop (k + 1) arcs) x y) (eqb (part x) (part y)) (λ h. sym (parts-at x y h) ∙ same) ∙ ahead x y)
+      ∙ (taken (told x y) (eqb from x && eqb to y) (arc_in (drop (k + 1) arcs) x y) (eqb (part x) (part y)) (λ h. sym (parts-at x y h) ∙ eqb_from (part from) (part to) same) ∙ ahead x y)
 
-  pub sum-passed : eqb (part from) (part to) ≡ false →
+  pub sum-passed : (part from ≡ part to → ⊥) →
       (x y : ℕ) → told x y || inner (arc_in (drop (k + 1) arcs)) part x y ≡ inner (arc_in arcs) part x y
   sum-passed apart x y =
-      passed (told x y) (eqb from x && eqb to y) (arc_in (drop (k + 1) arcs) x y) (eqb (part x) (part y)) (λ h. sym (parts-at x y h) ∙ apart) ∙ ahead x y
+      passed (told x y) (eqb from x && eqb to y) (arc_in (drop (k + 1) arcs) x y) (eqb (part x) (part y)) (λ h. sym (parts-at x y h) ∙ not_true (eqb (part from) (part to)) (λ t. apart (eqb_true (part from) (part to) t))) ∙ ahead x y
 
 -- at first nothing is there
 pub sum-first : (arcs : List (ℕ × ℕ)) (part : ℕ → ℕ) (told : ℕ → ℕ → Bool) → ((x y : ℕ) → told x y ≡ false) →
@@ -62,3 +62,10 @@ arc-below n (arc ∷ arcs) all x y h = elim (either_cases (eqb arc.0 x && eqb ar
 
 pub inner-below : (n : ℕ) (arcs : List (ℕ × ℕ)) (part : ℕ → ℕ) → AreArcs n arcs → (x y : ℕ) → inner (arc_in arcs) part x y ≡ true → (x < n) × (y < n)
 inner-below n arcs part all x y h = arc-below n arcs all x y (both-first (arc_in arcs x y) (eqb (part x) (part y)) h)
+
+-- turned, one pair more
+pub told-turned : (a b c : Bool) (d : Bool) → d ≡ a || (b && c) → d ≡ a || (c && b)
+told-turned a true true d h = h
+told-turned a true false d h = h
+told-turned a false true d h = h
+told-turned a false false d h = h
