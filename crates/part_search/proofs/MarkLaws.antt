@@ -1,6 +1,7 @@
 -- Marks and the queue of what is marked.
 use Rattle.std.proofs.Common.{◌≡◌, ◌≢◌, ℕ, zero, suc, ◌+◌, ◌<◌, ◌≤◌, Bool, true, false, ◌||◌, eqb, List, [], ◌∷◌, ◌++◌, length, get_or, slice_set, take, refl, sym, ◌∙◌, ap, subst, ◌⊎◌, inl, inr, arith, length-append}
 use Rattle.std.proofs.lemmas.Bool.Decides.{nat_tests}
+use Rattle.std.proofs.lemmas.Grind.{common_steps}
 use Rattle.std.proofs.lemmas.List.{get_or-set_same, get_or-set_other, length-set, take_more, take_all}
 use Rattle.std.proofs.Math.ListN.{get_or-append}
 use Rattle.std.proofs.Math.Seq.{get_or-append_seam}
@@ -12,6 +13,12 @@ use Rattle.residue_theory.proofs.SetLaws.{differ, lt_cases, either_cases, either
 use Rattle.part_rules.specs.Listed.{marked}
 use Rattle.part_search.specs.Markings.{IsQueue, IsGrown}
 use Rattle.part_search.proofs.ListLaws.{has-last}
+
+pub mark-read : (marks : List Bool) (y : ℕ) (v : Bool) → y < length marks → v ≡ get_or marks y v → marked marks y ≡ v
+mark-read marks y v l e = grind (arith, common_steps)
+
+pub item-read : (xs : List ℕ) (i v : ℕ) → i < length xs → v ≡ get_or xs i v → get_or xs i 0 ≡ v
+item-read xs i v l e = grind (arith, common_steps)
 
 pub queue-empty : (marks : List Bool) → ((y : ℕ) → marked marks y ≡ false) → IsQueue marks []
 queue-empty marks none = record {
@@ -33,7 +40,7 @@ grown-same X marks queue Q known = record {
   where
     told : (a b : Bool) → (b ≡ true → a ≡ true) → a ≡ a || b
     told true b h = refl
-    told false true h = absurd (differ (h refl) refl)
+    told false true h = absurd (differ refl (h refl))
     told false false h = refl
 
 -- a place is marked, and put at the end of the queue
