@@ -13,10 +13,10 @@ use Rattle.part_search.specs.Markings.{IsQueue, IsGrown, IsSearch}
 pub queue-within : (marks : List Bool) (queue : List ℕ) → IsQueue marks queue → length queue ≤ length marks
 queue-within marks queue Q = omega (arith, Q.size, size_on-within everything (marked marks) (length marks) (λ j _ _. refl), size-everything (length marks))
 
-pub search-first : (arc : ℕ → ℕ → Bool) (marks : List Bool) (queue : List ℕ) → IsQueue marks queue → IsSearch arc (length marks) (marked marks) marks queue 0
-search-first arc marks queue Q = record {
+pub search-first : (arc : ℕ → ℕ → Bool) (n : ℕ) (marks : List Bool) (queue : List ℕ) → length marks ≡ n → IsQueue marks queue → IsSearch arc n (marked marks) marks queue 0
+search-first arc n marks queue count Q = record {
   queued = Q;
-  count = refl;
+  count = count;
   within = omega arith;
   sound = λ y l h. (y, l, h, (0, refl));
   from = λ y l h. h;
