@@ -1,0 +1,5 @@
+pub mod WalkTurns
+pub mod ListLaws
+pub mod EntryLaws
+pub mod MarkLaws
+pub mod SearchLaws
