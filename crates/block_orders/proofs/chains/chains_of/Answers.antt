@@ -1,5 +1,5 @@
-use Rattle.std.proofs.Common.{◌≡◌, refl, arith}
-use Rattle.bit_table.specs.Bits.{bit_in}
+use Rattle.std.proofs.Common.{◌≡◌, refl, sym, subst, ◌∙◌, arith}
+use Rattle.bit_table.specs.Bits.{bit_in, IsBitSet}
 use Rattle.block_orders.proofs.ItemLaws.{left, right}
 use Rattle.block_orders.proofs.ChainLaws.{join_item, all_joined}
 use Rattle.block_orders.proofs.chains.chains_of.Goals as goal
@@ -11,7 +11,8 @@ loop-i-preserved c =
       rows = omega (arith, I.rows, c.join.ensures.rows, c.set.ensures.rows);
       size = omega (arith, I.size, c.join.ensures.size, c.set.ensures.size);
       joined = join_item c.args.blocks c.args.lower.now (bit_in c.loop-i.table) (bit_in c.join.new.self) (bit_in c.set.new.self) c.loop-i.table.size c.loop-i.i (left c.args.lower.now c.loop-i.i) (right c.args.lower.now c.loop-i.i)
-          c.requires c.loop-i-test.true I.size refl refl c.join.ensures.joined ? I.joined;
+          c.requires c.loop-i-test.true I.size refl refl c.join.ensures.joined
+          (subst (λ n. IsBitSet (bit_in c.join.new.self) (bit_in c.set.new.self) n (left c.args.lower.now c.loop-i.i) (right c.args.lower.now c.loop-i.i)) c.join.ensures.size c.set.ensures.set) I.joined;
     }
 
 pub returns-clause-chains : goal.returns-clause-chains
