@@ -65,7 +65,8 @@ leads_by b lower i m k all chain =
 pub all_joined : (b : ℕ) (lower : List (ℕ × ℕ)) (bit : ℕ → ℕ → Bool) (i : ℕ) → i ≡ length lower → AreJoined b lower bit i → TellsChains (arc_in lower) b bit
 all_joined b lower bit i e J l k ll kl = (
   (λ h. leads_on b lower i l k (omega arith) ll (J.sound l k ll kl h)),
-  (λ chain. J.complete l k ll kl (leads_by b lower i l k (λ j jl _. omega arith) chain)))
+  (λ chain. J.complete l k ll kl (leads_by b lower i l k (λ j jl _. omega arith) chain)),
+)
 
 more : (b : ℕ) (lower : List (ℕ × ℕ)) (i l k : ℕ) → LeadsBy b lower i l k → LeadsBy b lower (i + 1) l k
 more b lower i l k (j, jl, e, f) = (j, omega arith, e, f)
@@ -122,10 +123,10 @@ module _ (b : ℕ) (lower : List (ℕ × ℕ)) (t u v : ℕ → ℕ → Bool) (n
       own g (inr nm) = own_row k kl nm ∙ elim (less b lower i r k g) [
         | inl old ↦ either-first (t r k) (t m k) (before.complete r k rb kl old)
         | inr new ↦ elim new.1 [
-            | inl e ↦ absurd (nm (sym e ∙ me))
-            | inr chain ↦ either-second (t r k) (t m k) (before.complete m k (let x : m < r = mr in let y : r < b = rb in omega arith) kl
-                (leads_by b lower i m k all_before (subst (λ x. ReachesOn (arc_in lower) b x k) me chain)))
-          ]
+          | inl e ↦ absurd (nm (sym e ∙ me))
+          | inr chain ↦ either-second (t r k) (t m k) (before.complete m k (let x : m < r = mr in let y : r < b = rb in omega arith) kl
+              (leads_by b lower i m k all_before (subst (λ x. ReachesOn (arc_in lower) b x k) me chain)))
+        ]
       ]
 
   pub join_item : AreJoined b lower v (i + 1)

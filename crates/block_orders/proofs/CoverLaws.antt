@@ -79,16 +79,16 @@ deep_more lower b below t u n i r m ne re me J before = record {
   sound = λ l k ll kl h. elim (nat_cases l r) [
     | inr nr ↦ earlier l k (before.sound l k ll kl (sym (J.others l k (omega arith) nr) ∙ h))
     | inl q ↦ elim (either_cases (t l k) (below m k) (sym (own l k kl q) ∙ h)) [
-        | inl old ↦ earlier l k (before.sound l k ll kl old)
-        | inr new ↦ (i, omega arith, re ∙ sym q, subst (λ v. below v k ≡ true) (sym me) new)
-      ]
+      | inl old ↦ earlier l k (before.sound l k ll kl old)
+      | inr new ↦ (i, omega arith, re ∙ sym q, subst (λ v. below v k ≡ true) (sym me) new)
+    ]
   ];
   complete = λ l k ll kl w. elim (nat_cases l r) [
     | inr nr ↦ J.others l k (omega arith) nr ∙ elim (now l k ll kl w) [ inl old ↦ old | inr new ↦ absurd (nr (sym new.0 ∙ re)) ]
     | inl q ↦ own l k kl q ∙ elim (now l k ll kl w) [
-        | inl old ↦ either-first (t l k) (below m k) old
-        | inr new ↦ either-second (t l k) (below m k) (subst (λ v. below v k ≡ true) me new.1)
-      ]
+      | inl old ↦ either-first (t l k) (below m k) old
+      | inr new ↦ either-second (t l k) (below m k) (subst (λ v. below v k ≡ true) me new.1)
+    ]
   ];
 }
   where
@@ -120,9 +120,10 @@ all_deep lower b below bit i e D l k ll kl = ((λ h. found (D.sound l k ll kl h)
 pub items_are_blocks : (lower : List (ℕ × ℕ)) (direct deep : ℕ → ℕ → Bool) →
     ((j : ℕ) → j < length lower → (direct (left lower j) (right lower j) ≡ true) × (deep (left lower j) (right lower j) ≡ false)) → AreOnlyDirect (arc_in lower) direct deep
 items_are_blocks lower direct deep each l k h =
-    let p : (j : ℕ) × (j < length lower) × (left lower j ≡ l) × (right lower j ≡ k) = arc_in-place lower l k h in
-    (subst (λ v. direct v k ≡ true) p.2 (subst (λ v. direct (left lower p.0) v ≡ true) p.3 (each p.0 p.1).0),
-    subst (λ v. deep v k ≡ false) p.2 (subst (λ v. deep (left lower p.0) v ≡ false) p.3 (each p.0 p.1).1))
+    let p : (j : ℕ) × (j < length lower) × (left lower j ≡ l) × (right lower j ≡ k) = arc_in-place lower l k h in (
+      subst (λ v. direct v k ≡ true) p.2 (subst (λ v. direct (left lower p.0) v ≡ true) p.3 (each p.0 p.1).0),
+      subst (λ v. deep v k ≡ false) p.2 (subst (λ v. deep (left lower p.0) v ≡ false) p.3 (each p.0 p.1).1),
+    )
 
 pub blocks_are_items : (lower : List (ℕ × ℕ)) (direct deep : ℕ → ℕ → Bool) (j : ℕ) → j < length lower → AreOnlyDirect (arc_in lower) direct deep →
     (direct (left lower j) (right lower j) ≡ true) × (deep (left lower j) (right lower j) ≡ false)
@@ -150,9 +151,10 @@ only_direct_are_covers arc n part b lower below direct deep L C A D = (there, ba
 
     back : AreCovers arc n part b (arc_in lower) → AreOnlyDirect (arc_in lower) direct deep
     back covers l k h =
-        let ends : (l < b) × (k < b) = item_ends b lower l k L h in
-        ((A l k ends.0 ends.1).1 (covers.direct k l ends.0 h),
-        not_true (deep l k) (λ d. no_third l k h ends ((D l k ends.0 ends.1).0 d)))
+        let ends : (l < b) × (k < b) = item_ends b lower l k L h in (
+          (A l k ends.0 ends.1).1 (covers.direct k l ends.0 h),
+          not_true (deep l k) (λ d. no_third l k h ends ((D l k ends.0 ends.1).0 d)),
+        )
       where
         no_third : (l k : ℕ) → arc_in lower l k ≡ true → (l < b) × (k < b) → ((m : ℕ) × (arc_in lower l m ≡ true) × (below m k ≡ true)) → ⊥
         no_third l k h ends (m, hm, bm) = covers.none_between k m l ends.0 h hm ((C m k (item_ends b lower l m L hm).1 ends.1).0 bm)

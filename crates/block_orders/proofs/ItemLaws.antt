@@ -40,7 +40,7 @@ pub stands-before : (b : ℕ) (lower : List (ℕ × ℕ)) (i j : ℕ) → AreLow
 stands-before b lower i j L jl less = elim (lt_cases j i) [
   | inl l ↦ l
   | inr ge ↦ elim (le_cases i j ge) [
-      | inl e ↦ absurd (let q : left lower i ≡ left lower j = ap (left lower) e in omega arith)
-      | inr l ↦ absurd (let r : left lower i ≤ left lower j = L.rising i j l jl in omega arith)
-    ]
+    | inl e ↦ absurd (let q : left lower i ≡ left lower j = ap (left lower) e in omega arith)
+    | inr l ↦ absurd (let r : left lower i ≤ left lower j = L.rising i j l jl in omega arith)
+  ]
 ]

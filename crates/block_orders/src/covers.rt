@@ -83,7 +83,12 @@ fn deep_chains(
 }
 
 // Whether each item is told by the first table and not by the second one.
-fn are_only_direct(lower: &[(usize, usize)], blocks: usize, direct: &BitTable, deep: &BitTable) -> bool
+fn are_only_direct(
+    lower: &[(usize, usize)],
+    blocks: usize,
+    direct: &BitTable,
+    deep: &BitTable,
+) -> bool
     requires lower { AreLowerItems blocks lower.now }
     requires direct_rows { direct.now.rows ≡ blocks }
     requires direct_size { direct.now.size ≡ blocks }
@@ -116,12 +121,12 @@ pub fn are_covers(
     below: &BitTable,
 ) -> Result<bool, NoMemory>
     requires arcs { AreArcs (length parts.now) arcs.now }
-    requires lower { AreLowerItems below.now.rows lower.now }
+    requires lower { AreLowerItems blocks lower.now }
     requires rows { below.now.rows ≡ blocks }
-    requires size { below.now.size ≡ below.now.rows }
-    requires chains { TellsChains (arc_in lower.now) below.now.rows (bit_in below.now) }
+    requires size { below.now.size ≡ blocks }
+    requires chains { TellsChains (arc_in lower.now) blocks (bit_in below.now) }
     ensures { IfOk result (λ answer. IsTrue answer ↔ AreCovers (arc_in arcs.now) (length parts.now)
-        (slice_index parts.now) below.now.rows (arc_in lower.now)) }
+        (slice_index parts.now) blocks (arc_in lower.now)) }
 {
     let direct = direct_arcs(alloc, arcs, parts, blocks)?;
     let deep = deep_chains(alloc, lower, blocks, below)?;

@@ -32,7 +32,11 @@ pub fn first_places(alloc: Global, parts: &[usize], blocks: usize) -> Result<Vec
 }
 
 // For each block the least number behind all blocks of its list.
-fn ready_from(alloc: Global, lower: &[(usize, usize)], blocks: usize) -> Result<Vec<usize>, NoMemory>
+fn ready_from(
+    alloc: Global,
+    lower: &[(usize, usize)],
+    blocks: usize,
+) -> Result<Vec<usize>, NoMemory>
     requires { AreLowerItems blocks lower.now }
     ensures count { IfOk result (λ ready. vec_len ready ≡ blocks) }
     ensures ready { IfOk result (λ ready. AreReadyFrom blocks (arc_in lower.now) (slice_index ready.items)) }
@@ -66,7 +70,11 @@ fn is_first_from(heads: &[usize], from: usize, block: usize) -> bool
 /// # Errors
 ///
 /// `NoMemory` where there is too little for a number for each block.
-pub fn is_least_first(alloc: Global, lower: &[(usize, usize)], heads: &[usize]) -> Result<bool, NoMemory>
+pub fn is_least_first(
+    alloc: Global,
+    lower: &[(usize, usize)],
+    heads: &[usize],
+) -> Result<bool, NoMemory>
     requires { AreLowerItems (length heads.now) lower.now }
     ensures { IfOk result (λ answer. IsTrue answer ↔ IsLeastFirst (length heads.now) (arc_in lower.now)
         (slice_index heads.now)) }
