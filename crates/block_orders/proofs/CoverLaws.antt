@@ -1,8 +1,7 @@
 -- The tables of arcs between blocks and of what stands below the blocks of a list, and what they tell of the lists.
-use Rattle.std.proofs.Common.{◌≡◌, ℕ, ◌+◌, ◌<◌, ◌≤◌, ◌≢◌, ◌↔◌, Bool, true, false, ◌||◌, ◌⊎◌, inl, inr, List, length, refl, ap, sym, subst, ◌∙◌, arith}
+use Rattle.std.proofs.Common.{◌≡◌, ℕ, ◌+◌, ◌<◌, ◌↔◌, Bool, true, false, ◌||◌, ◌⊎◌, inl, inr, List, length, refl, ap, sym, subst, ◌∙◌, arith}
 use Rattle.residue_theory.proofs.SumLaws.{nat_cases}
 use Rattle.residue_theory.proofs.SetLaws.{differ, not_true, either_cases, either-first, either-second}
-use Rattle.closed_sets.specs.Walks.{ReachesOn}
 use Rattle.bit_table.specs.Bits.{IsJoined}
 use Rattle.part_rules.specs.Listed.{arc_in, AreArcs}
 use Rattle.part_rules.specs.Tests.{TellsChains, AreCovers}

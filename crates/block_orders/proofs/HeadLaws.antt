@@ -1,11 +1,11 @@
 -- First places, found from the last place back, and the numbers behind all blocks of a list.
-use Rattle.std.proofs.Common.{◌≡◌, ℕ, suc, ◌+◌, ◌<◌, ◌≤◌, ◌≢◌, ◌↔◌, Bool, true, false, ◌⊎◌, inl, inr, List, length, slice_index, set, refl, ap, sym, subst, ◌∙◌, arith}
+use Rattle.std.proofs.Common.{◌≡◌, ℕ, ◌+◌, ◌<◌, ◌≤◌, ◌≢◌, true, ◌⊎◌, inl, inr, List, length, slice_index, set, refl, ap, sym, subst, ◌∙◌, arith}
 use Rattle.std.proofs.lemmas.List.{get_or-set_same, get_or-set_other}
 use Rattle.residue_theory.proofs.SumLaws.{nat_cases}
-use Rattle.residue_theory.proofs.SetLaws.{lt_cases, le_cases}
+use Rattle.residue_theory.proofs.SetLaws.{le_cases}
 use Rattle.part_rules.specs.Listed.{arc_in}
 use Rattle.part_rules.specs.Tests.{AreFirstPlaces, IsLeastFirst}
-use Rattle.block_orders.specs.Orders.{AreLowerItems, AreReadyFrom}
+use Rattle.block_orders.specs.Orders.{AreReadyFrom}
 use Rattle.block_orders.proofs.ItemLaws.{left, right, arc_in-place, arc_in-is}
 
 -- ---- first places

@@ -1,5 +1,5 @@
 -- Items of a list, by their place in it.
-use Rattle.std.proofs.Common.{◌≡◌, ℕ, zero, suc, ◌+◌, ◌<◌, ◌≤◌, ◌≢◌, Bool, true, false, eqb, ◌&&◌, ◌||◌, ◌⊎◌, inl, inr, List, [], ◌∷◌, length, slice_index_or, refl, ap, sym, subst, ◌∙◌, arith}
+use Rattle.std.proofs.Common.{◌≡◌, ℕ, zero, suc, ◌<◌, ◌≤◌, true, eqb, ◌&&◌, inl, inr, List, [], ◌∷◌, length, slice_index_or, refl, ap, subst, arith}
 use Rattle.residue_theory.proofs.SetLaws.{differ, both_true, both-first, both-second, either_cases, either-first, either-second, eqb_true, eqb_from, lt_cases, le_cases}
 use Rattle.part_rules.specs.Listed.{arc_in}
 use Rattle.block_orders.specs.Orders.{AreLowerItems}

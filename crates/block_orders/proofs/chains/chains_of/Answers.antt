@@ -1,4 +1,4 @@
-use Rattle.std.proofs.Common.{◌≡◌, refl, sym, subst, ◌∙◌, arith}
+use Rattle.std.proofs.Common.{refl, subst, arith}
 use Rattle.bit_table.specs.Bits.{bit_in, IsBitSet}
 use Rattle.block_orders.proofs.ItemLaws.{left, right}
 use Rattle.block_orders.proofs.ChainLaws.{join_item, all_joined}

@@ -1,4 +1,4 @@
-use Rattle.std.proofs.Common.{◌≡◌, length, refl, arith}
+use Rattle.std.proofs.Common.{refl, arith}
 use Rattle.bit_table.specs.Bits.{bit_in}
 use Rattle.block_orders.proofs.ItemLaws.{left, right}
 use Rattle.block_orders.proofs.CoverLaws.{deep_more, all_deep}

@@ -1,6 +1,5 @@
-use Rattle.std.proofs.Common.{◌≡◌, length, slice_index, refl, arith}
+use Rattle.std.proofs.Common.{length, slice_index, refl, arith}
 use Rattle.bit_table.specs.Bits.{bit_in}
-use Rattle.block_orders.proofs.ItemLaws.{left, right}
 use Rattle.block_orders.proofs.CoverLaws.{put_more, all_put}
 use Rattle.block_orders.proofs.covers.direct_arcs.Goals as goal
 

@@ -1,5 +1,4 @@
-use Rattle.std.proofs.Common.{◌≡◌, true, inl, inr, arith}
-use Rattle.bit_table.specs.Bits.{bit_in}
+use Rattle.std.proofs.Common.{inl, inr}
 use Rattle.block_orders.proofs.covers.put_arc.Goals as goal
 
 pub returns-in_default-block_of-clause-put : goal.returns-in_default-block_of-clause-put

@@ -1,4 +1,4 @@
-use Rattle.std.proofs.Common.{◌≡◌, length, slice_index, arith}
+use Rattle.std.proofs.Common.{length, slice_index, arith}
 use Rattle.block_orders.proofs.HeadLaws.{first_places_are}
 use Rattle.block_orders.proofs.heads.first_places.Goals as goal
 

@@ -1,4 +1,4 @@
-use Rattle.std.proofs.Common.{◌≡◌, ◌<◌, length, slice_index, refl, sym, arith}
+use Rattle.std.proofs.Common.{◌≡◌, ◌<◌, length, slice_index, refl, arith}
 use Rattle.std.proofs.lemmas.List.{get_or_read}
 use Rattle.residue_theory.proofs.SetLaws.{differ}
 use Rattle.block_orders.proofs.HeadLaws.{least_first, each_first}

@@ -1,4 +1,4 @@
-use Rattle.std.proofs.Common.{◌≡◌, length, slice_index, arith}
+use Rattle.std.proofs.Common.{slice_index, arith}
 use Rattle.block_orders.proofs.HeadLaws.{all_ready}
 use Rattle.block_orders.proofs.heads.ready_from.Goals as goal
 
