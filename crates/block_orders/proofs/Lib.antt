@@ -1,0 +1,4 @@
+pub mod ItemLaws
+pub mod ChainLaws
+pub mod CoverLaws
+pub mod HeadLaws
