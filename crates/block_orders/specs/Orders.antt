@@ -8,7 +8,7 @@ pub record AreLowerItems (b : ℕ) (lower : List (ℕ × ℕ)) : Type 0 where
   pub rising : (i j : ℕ) → i < j → j < length lower →
       (slice_index_or lower i (0, 0)).0 ≤ (slice_index_or lower j (0, 0)).0
 
--- direct tells from which block of b an arc leads to which other one; the places of block k are those of part k + 2
+-- direct tells from which block of b an arc leads to which one; the places of block k are those of part k + 2
 abbrev pub TellsArcs : (ℕ → ℕ → Bool) → ℕ → (ℕ → ℕ) → ℕ → (ℕ → ℕ → Bool) → Type 0
 TellsArcs arc n part b direct = (l k : ℕ) → l < b → k < b → (direct l k ≡ true) ↔
     ((x y : ℕ) × (x < n) × (y < n) × (part x ≡ l + 2) × (part y ≡ k + 2) × (arc x y ≡ true))

@@ -11,11 +11,7 @@ use out_of_memory::NoMemory;
 use std::alloc::Global;
 
 /// For each block the blocks to which chains of the lists lead from it. An item (l, k) says that block k is in the list
-/// of block l.
-///
-/// # Errors
-///
-/// `NoMemory` where there is too little for so many bits as the square of the number of blocks.
+/// of block l. `NoMemory` where there is too little for a bit for each two blocks.
 pub fn chains_of(
     alloc: Global,
     lower: &[(usize, usize)],

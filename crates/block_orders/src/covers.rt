@@ -107,11 +107,8 @@ fn are_only_direct(
 
 /// Whether an arc leads from each block to each one of its list, and a chain leads from no other one of the list to it.
 /// A place of block k stands in part k + 2; an item (l, k) says that block k is in the list of block l; and `below` has
-/// for each block the blocks to which chains of the lists lead.
-///
-/// # Errors
-///
-/// `NoMemory` where there is too little for two further tables of that size.
+/// for each block the blocks to which chains of the lists lead from it. `NoMemory` where there is too little for two
+/// more tables of that size.
 pub fn are_covers(
     alloc: Global,
     arcs: &[(usize, usize)],

@@ -8,11 +8,8 @@ ghost use Rattle.block_orders.specs.Orders.{AreLowerItems, AreReadyFrom};
 use out_of_memory::NoMemory;
 use std::alloc::Global;
 
-/// The first place of each block. A place of block k stands in part k + 2.
-///
-/// # Errors
-///
-/// `NoMemory` where there is too little for a number for each block.
+/// The first place of each block. A place of block k stands in part k + 2. `NoMemory` where there is too little for a
+/// number for each block.
 pub fn first_places(alloc: Global, parts: &[usize], blocks: usize) -> Result<Vec<usize>, NoMemory>
     requires { (k : ℕ) → k < blocks → (x : ℕ) × (x < length parts.now) × (slice_index parts.now x ≡ k + 2) }
     ensures count { IfOk result (λ heads. vec_len heads ≡ blocks) }
@@ -65,11 +62,8 @@ fn is_first_from(heads: &[usize], from: usize, block: usize) -> bool
 }
 
 /// Whether each block that stands before another one, and behind all of that one's list, has the lesser first place. An
-/// item (l, k) says that block k is in the list of block l.
-///
-/// # Errors
-///
-/// `NoMemory` where there is too little for a number for each block.
+/// item (l, k) says that block k is in the list of block l. `NoMemory` where there is too little for a number for each
+/// block.
 pub fn is_least_first(
     alloc: Global,
     lower: &[(usize, usize)],
