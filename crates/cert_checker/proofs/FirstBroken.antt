@@ -53,13 +53,10 @@ module _ (p : ℕ) (M : MixedMatrix) (L : LayeredMatrix) (c : Contents) where
   ]
 
   -- the next rule is broken
-  pub next-broken : (n rule : ℕ) → rule ≡ n + 2 → rule ≤ 9 → KeepsFirst p M L c n → (KeepsRule p M L c n → ⊥) → (rule ≤ 9) × IsFirstBroken p M L c rule
-  next-broken n rule is few before broken = (
-    few,
-    record {
-      from = omega (arith, is);
-      to = omega (arith, few);
-      kept = λ k low. before k (omega (arith, low, is));
-      broken = λ k same here. let equal : k ≡ n = omega (arith, same, is) in broken (subst (KeepsRule p M L c) equal here);
-    },
-  )
+  pub next-broken : (n rule : ℕ) → rule ≡ n + 2 → rule ≤ 12 → KeepsFirst p M L c n → (KeepsRule p M L c n → ⊥) → IsFirstBroken p M L c rule
+  next-broken n rule is few before broken = record {
+    from = omega (arith, is);
+    to = few;
+    kept = λ k low. before k (omega (arith, low, is));
+    broken = λ k same here. let equal : k ≡ n = omega (arith, same, is) in broken (subst (KeepsRule p M L c) equal here);
+  }

@@ -61,14 +61,14 @@ fn the_first_broken_rule_is_told(rt: HostRuntime) -> Result<(), Fail> {
     let layered = layer(alloc, &model)?;
     for (equations, rank, want) in [
         (0, 0, Ok(())),
-        (1, 0, Err(CheckError::Broken(2))),
-        (0, 1, Err(CheckError::Broken(7))),
-        (1, 1, Err(CheckError::Broken(2))),
+        (1, 0, Err(CheckError::Reject { rule: 2 })),
+        (0, 1, Err(CheckError::Reject { rule: 7 })),
+        (1, 1, Err(CheckError::Reject { rule: 2 })),
     ] {
         assert!(rt; equations <= 1 && rank <= 1);
         let form = form_of(alloc, equations, rank);
         assert_eq!(rt;
-            check_to_nine(alloc, &model, &layered, &form),
+            check_layered(alloc, &model, &layered, &form),
             want,
             "{equations} {rank}"
         );

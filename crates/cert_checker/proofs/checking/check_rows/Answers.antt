@@ -7,7 +7,7 @@ use Rattle.cert_checker.specs.Checking.{KeepsFirst}
 use Rattle.cert_checker.specs.Standing.{Not, TellsPlaces}
 use Rattle.cert_checker.proofs.FirstBroken.{more-kept, next-broken, none-kept}
 use Rattle.cert_checker.proofs.FormSizes.{shape-sizes}
-use Rattle.cert_checker.proofs.checking.check_to_nine.Goals as goal
+use Rattle.cert_checker.proofs.checking.check_rows.Goals as goal
 
 pub has_inverse-requires : goal.has_inverse-requires
 has_inverse-requires g c = shape-sizes (mixed_matrix_of c.args.model.now) (layered_matrix_of c.args.layered.now) c.args.form.now (c.if-not-has_shape.ensures.0 refl)
@@ -158,4 +158,4 @@ returns g c =
     let told : TellsPlaces L.columns (column_lists form) c.in-Some.columns.items = subst (λ found. MatchOption found (Not (StandsOnce L.columns (column_lists form))) (λ places. TellsPlaces L.columns (column_lists form) places.items)) c.in-Some.is c.in_ok-columns.ensures in
     let kept-7 : KeepsFirst p M L form 7 = more-kept p M L form 6 7 refl kept-6 (told.once) in
     let kept-8 : KeepsFirst p M L form 8 = more-kept p M L form 7 8 refl kept-7 (c.in_ok-has_placed_rows.ensures.0 c.if-not-branch-5.false) in
-    kept-8
+    (kept-8, told)
