@@ -61,7 +61,7 @@ impl Neighbours {
     {
         let mut neighbours = Neighbours::open(alloc, parts.len())?;
         for (from, to) in arcs {
-            if parts[*from] == parts[*to] {
+            if parts[*to] == parts[*from] {
                 neighbours.enter(*to, *from)?;
             }
         }

@@ -56,7 +56,7 @@ fn search(
     Ok((places_of(alloc, &forth)?, places_of(alloc, &back)?))
 }
 
-// Each row has the arcs, the part of each place, where the search begins, what is reached from there, and what reaches it.
+// Each row has the arcs, the part of each place, some places, what is reached from them, and what reaches them.
 #[test]
 fn stays_within_parts(rt: HostRuntime) -> Result<(), Fail> {
     let rows: [(&[(usize, usize)], &[usize], &[usize], &[usize], &[usize]); 7] = [
