@@ -1,5 +1,5 @@
 -- The steps of a search.
-use Rattle.std.proofs.Common.{◌≡◌, ℕ, ◌+◌, ◌<◌, ◌≤◌, Bool, true, false, ◌||◌, List, length, get_or, refl, sym, ◌∙◌, subst, ◌⊎◌, inl, inr, arith}
+use Rattle.std.proofs.Common.{◌≡◌, ℕ, ◌+◌, ◌<◌, ◌≤◌, Bool, true, List, length, get_or, refl, sym, ◌∙◌, subst, inl, inr, arith}
 use Rattle.residue_theory.specs.Sets.{everything}
 use Rattle.residue_theory.proofs.SumLaws.{nat_cases, size_on-within}
 use Rattle.residue_theory.proofs.CountLaws.{size-everything}

@@ -1,9 +1,9 @@
 -- A walk along turned arcs is a walk back.
-use Rattle.std.proofs.Common.{◌≡◌, ◌↔◌, ℕ, zero, suc, ◌<◌, Bool, true, List, length, sym, subst, ◌∙◌}
+use Rattle.std.proofs.Common.{◌≡◌, ℕ, zero, suc, ◌<◌, Bool, List, sym, subst, ◌∙◌}
 use Rattle.std.proofs.Math.Path.{fun_ext}
 use Rattle.closed_sets.specs.Walks.{Walk, Reaches, FromSome, ToSome}
 use Rattle.closed_sets.proofs.WalkLaws.{reaches-self, reaches-arc, reaches-join}
-use Rattle.part_rules.specs.Listed.{AreReached, AreReaching, marked}
+use Rattle.part_rules.specs.Listed.{AreReached, AreReaching}
 
 walk-turned : (arc : ℕ → ℕ → Bool) (n s y k : ℕ) → y < n → Walk (λ x z. arc z x) n s y k → Reaches arc n y s
 walk-turned arc n s y zero l e = (0, sym e)

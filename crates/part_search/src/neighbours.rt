@@ -35,7 +35,11 @@ impl Neighbours {
     }
 
     /// For each place, where its arcs lead to within its part.
-    pub fn forth(alloc: Global, arcs: &[(usize, usize)], parts: &[usize]) -> Result<Self, AllocError>
+    pub fn forth(
+        alloc: Global,
+        arcs: &[(usize, usize)],
+        parts: &[usize],
+    ) -> Result<Self, AllocError>
         requires { AreArcs (length parts.now) arcs.now }
         ensures { IfOk result (λ s. AreLists (inner (arc_in arcs.now) (slice_index parts.now)) (length parts.now)
             s.lists.items) }
@@ -57,7 +61,7 @@ impl Neighbours {
     {
         let mut neighbours = Neighbours::open(alloc, parts.len())?;
         for (from, to) in arcs {
-            if parts[*from] == parts[*to] {
+            if parts[*to] == parts[*from] {
                 neighbours.enter(*to, *from)?;
             }
         }

@@ -56,17 +56,41 @@ fn search(
     Ok((places_of(alloc, &forth)?, places_of(alloc, &back)?))
 }
 
-// Each row has the arcs, the part of each place, where the search begins, what is reached from there, and what reaches it.
+// Each row has the arcs, the part of each place, some places, what is reached from them, and what reaches them.
 #[test]
 fn stays_within_parts(rt: HostRuntime) -> Result<(), Fail> {
     let rows: [(&[(usize, usize)], &[usize], &[usize], &[usize], &[usize]); 7] = [
         (&[], &[], &[], &[], &[]),
         (&[], &[1, 1], &[1], &[1], &[1]),
         (&[(0, 1)], &[1, 1], &[], &[], &[]),
-        (&[(3, 2), (2, 1), (1, 0)], &[0, 0, 0, 0], &[2], &[0, 1, 2], &[2, 3]),
-        (&[(0, 1), (1, 2), (2, 3)], &[1, 2, 1, 1], &[0, 3], &[0, 3], &[0, 2, 3]),
-        (&[(0, 1), (0, 1), (1, 1), (1, 2), (2, 0), (2, 3), (3, 0)], &[5, 5, 5, 7], &[1], &[0, 1, 2], &[0, 1, 2]),
-        (&[(0, 1), (0, 2), (1, 3), (2, 3), (3, 4)], &[1, 1, 2, 1, 1], &[0, 2], &[0, 1, 2, 3, 4], &[0, 2]),
+        (
+            &[(3, 2), (2, 1), (1, 0)],
+            &[0, 0, 0, 0],
+            &[2],
+            &[0, 1, 2],
+            &[2, 3],
+        ),
+        (
+            &[(0, 1), (1, 2), (2, 3)],
+            &[1, 2, 1, 1],
+            &[0, 3],
+            &[0, 3],
+            &[0, 2, 3],
+        ),
+        (
+            &[(0, 1), (0, 1), (1, 1), (1, 2), (2, 0), (2, 3), (3, 0)],
+            &[5, 5, 5, 7],
+            &[1],
+            &[0, 1, 2],
+            &[0, 1, 2],
+        ),
+        (
+            &[(0, 1), (0, 2), (1, 3), (2, 3), (3, 4)],
+            &[1, 1, 2, 1, 1],
+            &[0, 2],
+            &[0, 1, 2, 3, 4],
+            &[0, 2],
+        ),
     ];
     for (arcs, parts, listed, reached, reaching) in rows {
         assert!(rt; are_arcs(arcs, parts.len()), "arcs {arcs:?}");

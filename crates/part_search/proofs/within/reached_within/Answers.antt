@@ -1,4 +1,4 @@
-use Rattle.std.proofs.Common.{◌<◌, vec_len, length, get_or, arith}
+use Rattle.std.proofs.Common.{vec_len, length, get_or, arith}
 use Rattle.part_rules.specs.Listed.{arc_in, inner, marked}
 use Rattle.part_search.specs.Neighbours.{listed}
 use Rattle.part_search.proofs.WalkTurns.{reached-same}

@@ -1,4 +1,4 @@
-use Rattle.std.proofs.Common.{◌≡◌, ◌<◌, ◌∙◌, ℕ, List, length, vec_len, get_or, sym, ap, subst, true, arith}
+use Rattle.std.proofs.Common.{◌<◌, ◌∙◌, ℕ, List, length, vec_len, sym, ap, subst, arith}
 use Rattle.residue_theory.specs.Sets.{has}
 use Rattle.part_rules.specs.Listed.{marked}
 use Rattle.part_search.specs.Neighbours.{listed}

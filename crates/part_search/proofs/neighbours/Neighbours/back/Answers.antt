@@ -1,15 +1,13 @@
-use Rattle.std.proofs.Common.{◌≡◌, ◌∙◌, ◌<◌, ℕ, refl, sym, ap, get_or, length, arith, eqb}
-use Rattle.part_rules.specs.Listed.{arc_in, inner}
+use Rattle.std.proofs.Common.{◌∙◌, refl, sym, get_or, length, arith, eqb}
 use Rattle.part_search.specs.Neighbours.{listed}
-use Rattle.part_search.specs.declared.neighbours.Neighbours.{Neighbours}
 use Rattle.part_search.proofs.EntryLaws.{sum-first, sum-taken, sum-passed, sum-last, inner-below, told-turned}
 use Rattle.part_search.proofs.neighbours.Neighbours.back.Goals as goal
-use Rattle.part_search.proofs.neighbours.Neighbours.back.Goals.{then-parts-from+in_ok-enter, else-parts-from}
+use Rattle.part_search.proofs.neighbours.Neighbours.back.Goals.{then-parts-to+in_ok-enter, else-parts-to}
 
 pub loop-from-init : goal.loop-from-init
 loop-from-init c = record {
   count = c.in_ok-neighbours.ensures.count;
-  sum = λ x y. (sum-first c.args.arcs.now (λ x. get_or c.args.parts.now x 0) (λ x y. listed c.in_ok-neighbours.neighbours.lists.items y x) (λ x y. c.in_ok-neighbours.ensures.none y x) y x);
+  sum = λ x y. sum-first c.args.arcs.now (λ x. get_or c.args.parts.now x 0) (λ x y. listed c.in_ok-neighbours.neighbours.lists.items y x) (λ x y. c.in_ok-neighbours.ensures.none y x) y x;
 }
 
 pub loop-from-preserved : goal.loop-from-preserved
@@ -20,14 +18,14 @@ loop-from-preserved c =
     let from = (get_or arcs k (0, 0)).0 in
     let to = (get_or arcs k (0, 0)).1 in
     let lists = c.loop-from.neighbours.lists.items in
-    elim c.if-parts-from.branch [
-      | then-parts-from+in_ok-enter w ↦ rw w.neighbours-is (record {
+    elim c.if-parts-to.branch [
+      | then-parts-to+in_ok-enter w ↦ rw w.neighbours-is (record {
         count = omega (arith, w.in_ok-enter.ensures.count, I.count);
-        sum = λ x y. (sum-taken arcs (λ x. get_or c.args.parts.now x 0) (λ x y. listed c.loop-from.neighbours.lists.items y x) k from to (omega arith) refl (λ x y. I.sum y x) (λ x y. listed w.enter.new.self.lists.items y x) (λ x y. told-turned (listed lists y x) (eqb to y) (eqb from x) (listed w.enter.new.self.lists.items y x) (w.in_ok-enter.ensures.holds y x)) w.if-parts-from.true y x);
+        sum = λ x y. sum-taken arcs (λ x. get_or c.args.parts.now x 0) (λ x y. listed c.loop-from.neighbours.lists.items y x) k from to (omega arith) refl (λ x y. I.sum y x) (λ x y. listed w.enter.new.self.lists.items y x) (λ x y. told-turned (listed lists y x) (eqb to y) (eqb from x) (listed w.enter.new.self.lists.items y x) (w.in_ok-enter.ensures.holds y x)) (sym w.if-parts-to.true) y x;
       })
-      | else-parts-from w ↦ rw w.neighbours-is (record {
+      | else-parts-to w ↦ rw w.neighbours-is (record {
         count = I.count;
-        sum = λ x y. (sum-passed arcs (λ x. get_or c.args.parts.now x 0) (λ x y. listed c.loop-from.neighbours.lists.items y x) k from to (omega arith) refl (λ x y. I.sum y x) w.if-parts-from.false y x);
+        sum = λ x y. sum-passed arcs (λ x. get_or c.args.parts.now x 0) (λ x y. listed c.loop-from.neighbours.lists.items y x) k from to (omega arith) refl (λ x y. I.sum y x) (λ q. w.if-parts-to.false (sym q)) y x;
       })
     ]
 

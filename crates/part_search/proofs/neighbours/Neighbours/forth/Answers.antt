@@ -1,7 +1,5 @@
-use Rattle.std.proofs.Common.{◌≡◌, ◌∙◌, ◌<◌, ℕ, refl, sym, ap, get_or, length, arith}
-use Rattle.part_rules.specs.Listed.{arc_in, inner}
+use Rattle.std.proofs.Common.{◌∙◌, refl, sym, get_or, length, arith}
 use Rattle.part_search.specs.Neighbours.{listed}
-use Rattle.part_search.specs.declared.neighbours.Neighbours.{Neighbours}
 use Rattle.part_search.proofs.EntryLaws.{sum-first, sum-taken, sum-passed, sum-last, inner-below}
 use Rattle.part_search.proofs.neighbours.Neighbours.forth.Goals as goal
 use Rattle.part_search.proofs.neighbours.Neighbours.forth.Goals.{then-parts-from+in_ok-enter, else-parts-from}
