@@ -6,7 +6,7 @@ ghost use Rattle.mixed_matrices.specs.LayeredMatrices.{LayeredMatrix};
 ghost use Rattle.mixed_model.specs.Layers.{layered_matrix_of};
 ghost use Rattle.mixed_model.specs.Models.{mixed_matrix_of};
 ghost use Rattle.part_checker.specs.Told.{IsPrintedBy, TellsParts};
-ghost use Rattle.cert_checker.specs.Answers.{IsWhyBroken, TellsOfParts};
+ghost use Rattle.cert_checker.specs.Answers.{IsRightFor, IsWhyBroken, IsWhyNot, TellsOfParts};
 ghost use Rattle.cert_checker.specs.Checking.{KeepsFirst};
 ghost use Rattle.cert_checker.specs.Standing.{TellsPlaces};
 
@@ -15,6 +15,7 @@ use crate::rules::{
     has_unit_columns, is_counted,
 };
 use cert_text::Ccf;
+use mixed_layering::layer;
 use mixed_model::{Layered, Mixed};
 use out_of_memory::NoMemory;
 use part_checker::{has_lower_lists, has_reasons, leads_down, told_of};
@@ -100,9 +101,8 @@ fn check_parts<F: Field>(alloc: Global, form: &Ccf<F>, parts: &[usize]) -> Resul
     Ok(())
 }
 
-/// Tries the rules 2 to 12 on a form of a model and its layered matrix. Where it breaks one of them, the first of these
-/// is told.
-pub fn check_layered<F: Field>(
+// Tries the rules 2 to 12 on a form of a model and its layered matrix.
+fn check_layered<F: Field>(
     alloc: Global,
     model: &Mixed<F>,
     layered: &Layered<F>,
@@ -115,4 +115,16 @@ pub fn check_layered<F: Field>(
 {
     let parts = check_rows(alloc, model, layered, form)?;
     check_parts(alloc, form, &parts)
+}
+
+/// Checks a printed form, whoever made it: it is right for the model, or `Reject` tells which of the rules 2 to 12 is the
+/// first that it breaks. (Murota, chapters 2 and 4.)
+pub fn check<F: Field>(alloc: Global, model: &Mixed<F>, form: &Ccf<F>) -> Result<(), CheckError>
+    ensures right { IfOk result (λ right. IsRightFor F.modulus (mixed_matrix_of model.now) form.now) }
+    ensures rejected { IfErr result (IsWhyNot F.modulus (mixed_matrix_of model.now) form.now) }
+{
+    let layered = layer(alloc, model)?;
+    // it tells the ranges of the lines
+    let _shape = form.shape();
+    check_layered(alloc, model, &layered, form)
 }

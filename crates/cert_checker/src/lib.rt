@@ -12,7 +12,7 @@ mod standing;
 mod symbols;
 mod units;
 
-pub use checking::{CheckError, check_layered};
+pub use checking::{CheckError, check};
 pub use out_of_memory::NoMemory;
 
 #[cfg(test)]

@@ -5,7 +5,6 @@ ghost use Rattle.limits.specs.Limits.{column_limit, equation_limit};
 
 use super::*;
 use cert_text::{Ccf, CcfPart, Items, Shape};
-use mixed_layering::layer;
 use mixed_model::Mixed;
 use residue_field::Res;
 use std::alloc::Global;
@@ -58,7 +57,6 @@ fn form_of(alloc: Global, equations: usize, rank: usize) -> Ccf<Res>
 fn the_first_broken_rule_is_told(rt: HostRuntime) -> Result<(), Fail> {
     let alloc = rt.alloc();
     let model = Mixed::<Res>::new(alloc)?;
-    let layered = layer(alloc, &model)?;
     for (equations, rank, want) in [
         (0, 0, Ok(())),
         (1, 0, Err(CheckError::Reject { rule: 2 })),
@@ -68,7 +66,7 @@ fn the_first_broken_rule_is_told(rt: HostRuntime) -> Result<(), Fail> {
         assert!(rt; equations <= 1 && rank <= 1);
         let form = form_of(alloc, equations, rank);
         assert_eq!(rt;
-            check_layered(alloc, &model, &layered, &form),
+            check(alloc, &model, &form),
             want,
             "{equations} {rank}"
         );
