@@ -11,3 +11,5 @@ pub mod PlacedRows
 pub mod FormSizes
 pub mod FirstBroken
 pub mod PlacedForm
+pub mod MovedWalks
+pub mod MovedRules
