@@ -12,4 +12,6 @@ pub mod FormSizes
 pub mod FirstBroken
 pub mod PlacedForm
 pub mod JoinedRules
+pub mod MovedWalks
+pub mod MovedRules
 pub mod OneVerdict

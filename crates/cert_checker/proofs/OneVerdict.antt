@@ -2,8 +2,9 @@
 use Rattle.std.proofs.Common.{◌≡◌, ℕ, zero, suc, ◌+◌, ◌<◌, ◌≤◌, inl, inr, arith}
 use Rattle.residue_theory.specs.Residues.{IsPrime}
 use Rattle.residue_theory.proofs.SetLaws.{lt_cases}
-use Rattle.mixed_matrices.specs.LayeredMatrices.{LayeredMatrix}
-use Rattle.mixed_matrices.specs.Layerings.{IsLayeredMatrixOf, Origins}
+use Rattle.certificate_laws.proofs.OneMatrix.{one-matrix}
+use Rattle.mixed_matrices.specs.LayeredMatrices.{AreSameLayers, LayeredMatrix}
+use Rattle.mixed_matrices.specs.Layerings.{IsLayeredMatrixOf, Origins, gives_q, has_symbol}
 use Rattle.mixed_matrices.specs.Models.{MixedMatrix}
 use Rattle.cert_text.specs.Contents.{Contents}
 use Rattle.cert_text.specs.Ranges.{IsCcf}
@@ -14,9 +15,12 @@ use Rattle.cert_text.proofs.RuleFacts.{right-rules}
 use Rattle.cert_checker.specs.Answers.{IsRejected, IsRightFor}
 use Rattle.cert_checker.specs.Checking.{IsFirstBroken, KeepsFirst}
 use Rattle.cert_checker.proofs.FirstBroken.{all-kept, broken-kept, each-kept}
-use Rattle.cert_checker.proofs.MovedRules.{broken-from, first-from}
+use Rattle.cert_checker.proofs.MovedRules.{broken-moved, first-moved}
 
 module _ (p : ℕ) (prime : IsPrime p) (big : 2 < p) (M : MixedMatrix) (c : Contents) (is : IsCcf p c) where
+  same-of : (L K : LayeredMatrix) (O N : Origins) → IsLayeredMatrixOf M L O → IsLayeredMatrixOf M K N → AreSameLayers p L K
+  same-of L K O N lay other = one-matrix M (gives_q M) (has_symbol M) L K O N lay other p
+
   kept-right : (L : LayeredMatrix) (O : Origins) → IsLayeredMatrixOf M L O → KeepsFirst p M L c 11 → IsRightCcf p M L O c
   kept-right L O lay each = rules-right p prime big M L O lay c is (rules-printed p M L c is (all-kept p M L c each))
 
@@ -29,7 +33,7 @@ module _ (p : ℕ) (prime : IsPrime p) (big : 2 < p) (M : MixedMatrix) (c : Cont
     layered = L;
     origins = O;
     layers = lay;
-    each = λ K N other. kept-right K N other (first-from p M L K O N lay other c is each);
+    each = λ K N other. kept-right K N other (first-moved p M c is L K (same-of L K O N lay other) 11 each);
   }
 
   pub right-for : (L : LayeredMatrix) (O : Origins) → IsLayeredMatrixOf M L O → IsRightCcf p M L O c → IsRightFor p M c
@@ -40,7 +44,7 @@ module _ (p : ℕ) (prime : IsPrime p) (big : 2 < p) (M : MixedMatrix) (c : Cont
     layered = L;
     origins = O;
     layers = lay;
-    each = λ K N other. broken-from p M L K O N lay other c is rule first;
+    each = λ K N other. broken-moved p M c is L K (same-of L K O N lay other) (same-of K L N O other lay) rule first;
   }
 
   pub not-both : IsRightFor p M c → (rule : ℕ) → IsRejected p M c rule → ⊥

@@ -56,6 +56,15 @@ RightWhereNoneIsBroken =
     (KeepsFirst p M L c 11 → IsRightCcf p M L O c)
     × ((rule : ℕ) → IsFirstBroken p M L c rule → IsRightCcf p M L O c → ⊥)
 
+-- all layered matrices of a model give one answer: a form that keeps each rule for one does so for each, and the first
+-- that it breaks for one is the first that it breaks for each
+abbrev pub LayeredMatricesGiveOneAnswer : Type 0
+LayeredMatricesGiveOneAnswer =
+    (p : ℕ) (M : MixedMatrix) (L K : LayeredMatrix) (O N : Origins) →
+    IsLayeredMatrixOf M L O → IsLayeredMatrixOf M K N → (c : Contents) → IsCcf p c →
+    (KeepsFirst p M L c 11 → KeepsFirst p M K c 11)
+    × ((rule : ℕ) → IsFirstBroken p M L c rule → IsFirstBroken p M K c rule)
+
 -- the rows and columns that a form prints are as many as those of the layered matrix
 pub record HasSizes (L : LayeredMatrix) (c : Contents) : Type 0 where
   pub q_rows : c.shape.q_rows ≡ L.q_rows
