@@ -1,5 +1,5 @@
 -- The rules of the rows and those of the parts, taken together.
-use Rattle.std.proofs.Common.{◌≡◌, ℕ, ◌<◌, ◌≤◌, ◌⊎◌, List, inl, inr, refl, sym, subst, ◌∙◌, arith}
+use Rattle.std.proofs.Common.{◌≡◌, ℕ, ◌<◌, ◌⊎◌, List, IfErr, IfOk, Result, Ok, Err, inl, inr, refl, sym, subst, ◌∙◌, arith}
 use Rattle.mixed_matrices.specs.LayeredMatrices.{LayeredMatrix}
 use Rattle.mixed_matrices.specs.Models.{MixedMatrix}
 use Rattle.cert_text.specs.Contents.{Contents}
@@ -7,6 +7,9 @@ use Rattle.cert_text.specs.Readings.{ColumnsDiffer, StandsOnce, column_lists}
 use Rattle.cert_text.specs.Right.{HasProduct, HasShape}
 use Rattle.cert_text.specs.Rules.{HasLowerLists, HasMatching, HasReasons, LeadsDown}
 use Rattle.part_checker.specs.Told.{IsPrintedBy, TellsParts}
+use Rattle.cert_checker.specs.Answers.{IsWhyBroken, TellsOfParts}
+use Rattle.cert_checker.specs.declared.checking.CheckError.{CheckError}
+use Rattle.cert_checker.specs.declared.checking.CheckError.TheVariants.{NoMemory, Reject}
 use Rattle.cert_checker.specs.Checking.{IsFirstBroken, KeepsFirst}
 use Rattle.cert_checker.specs.Standing.{Not, TellsPlaces}
 use Rattle.cert_checker.proofs.FirstBroken.{more-kept, next-broken}
@@ -49,3 +52,13 @@ module _ (p : ℕ) (M : MixedMatrix) (L : LayeredMatrix) (c : Contents) (kept : 
   later-broken rule (inr (inl (is, down, broken))) = next-broken p M L c 9 rule is (omega (arith, is)) (more-kept p M L c 8 9 refl kept down) broken
   later-broken rule (inr (inr (is, down, reasons, broken))) =
       next-broken p M L c 10 rule is (omega (arith, is)) (more-kept p M L c 9 10 refl (more-kept p M L c 8 9 refl kept down) reasons) broken
+
+  -- what the rules of the parts tell, told of all rules
+  pub tells-kept : (result : Result (Unit {0}) CheckError) → TellsOfParts p L c result → IfOk result (λ done. KeepsFirst p M L c 11)
+  tells-kept (Ok done) told = all-kept told.0 told.1 told.2
+  tells-kept (Err why) told = tt
+
+  pub tells-broken : (result : Result (Unit {0}) CheckError) → TellsOfParts p L c result → IfErr result (IsWhyBroken p M L c)
+  tells-broken (Ok done) told = tt
+  tells-broken (Err (Reject rule)) told = later-broken rule told
+  tells-broken (Err NoMemory) told = tt

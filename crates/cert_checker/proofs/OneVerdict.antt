@@ -1,5 +1,5 @@
 -- One verdict on a form, whichever layered matrix of the model is looked at.
-use Rattle.std.proofs.Common.{◌≡◌, ℕ, zero, suc, ◌+◌, ◌<◌, ◌≤◌, inl, inr, arith}
+use Rattle.std.proofs.Common.{◌≡◌, ℕ, zero, suc, ◌<◌, inl, inr, arith}
 use Rattle.residue_theory.specs.Residues.{IsPrime}
 use Rattle.residue_theory.proofs.SetLaws.{lt_cases}
 use Rattle.certificate_laws.proofs.OneMatrix.{one-matrix}
@@ -12,7 +12,9 @@ use Rattle.cert_text.specs.Right.{IsRightCcf}
 use Rattle.cert_text.proofs.PrintedRules.{printed-rules, rules-printed}
 use Rattle.cert_text.proofs.RightFacts.{rules-right}
 use Rattle.cert_text.proofs.RuleFacts.{right-rules}
-use Rattle.cert_checker.specs.Answers.{IsRejected, IsRightFor}
+use Rattle.cert_checker.specs.Answers.{IsRejected, IsRightFor, IsWhyBroken, IsWhyNot}
+use Rattle.cert_checker.specs.declared.checking.CheckError.{CheckError}
+use Rattle.cert_checker.specs.declared.checking.CheckError.TheVariants.{NoMemory, Reject}
 use Rattle.cert_checker.specs.Checking.{IsFirstBroken, KeepsFirst}
 use Rattle.cert_checker.proofs.FirstBroken.{all-kept, broken-kept, each-kept}
 use Rattle.cert_checker.proofs.MovedRules.{broken-moved, first-moved}
@@ -70,3 +72,7 @@ module _ (p : ℕ) (prime : IsPrime p) (big : 2 < p) (M : MixedMatrix) (c : Cont
           | inr other ↦ omega (arith, rest, other)
         ]
       ]
+
+  pub why-not : (L : LayeredMatrix) (O : Origins) → IsLayeredMatrixOf M L O → (why : CheckError) → IsWhyBroken p M L c why → IsWhyNot p M c why
+  why-not L O lay (Reject rule) first = rejected-for L O lay rule first
+  why-not L O lay NoMemory told = tt

@@ -65,11 +65,7 @@ fn the_first_broken_rule_is_told(rt: HostRuntime) -> Result<(), Fail> {
     ] {
         assert!(rt; equations <= 1 && rank <= 1);
         let form = form_of(alloc, equations, rank);
-        assert_eq!(rt;
-            check(alloc, &model, &form),
-            want,
-            "{equations} {rank}"
-        );
+        assert_eq!(rt; check(alloc, &model, &form), want, "{equations} {rank}");
     }
     Ok(())
 }

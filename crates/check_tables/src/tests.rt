@@ -11,16 +11,20 @@ use std::process::Abort;
 use std::test::Fail;
 
 /// A right certificate: one constant.
-const CONSTANT: &str = "mixed-certificate 1\nkind matrix\nlength 9\neq a x=1\n\nshape 1 1 1 0 1\nrank 1\nbase 1=1\nmatch\nS 1: 1=1\nU 1: 1=1\nP 1: 1=1\nfirst |\nblock 1: 1 | q1 |\nlast |\nend\n";
+const CONSTANT: &str =
+    "mixed-certificate 1\nkind matrix\nlength 9\neq a x=1\n\nshape 1 1 1 0 1\nrank 1\nbase 1=1\nmatch\nS 1: 1=1\nU 1: 1=1\nP 1: 1=1\nfirst |\nblock 1: 1 | q1 |\nlast |\nend\n";
 
 /// A right certificate: two symbols that have nothing to do with each other.
-const LOOSE: &str = "mixed-certificate 1\nkind matrix\nlength 18\neq a x=?\neq b y=?\n\nshape 2 2 0 2 2\nrank 2\nbase\nmatch 1=1 2=2\nT 1: 1\nT 2: 2\nfirst |\nblock 1: 1 | t1 |\nblock 2: 2 | t2 |\nlast |\nend\n";
+const LOOSE: &str =
+    "mixed-certificate 1\nkind matrix\nlength 18\neq a x=?\neq b y=?\n\nshape 2 2 0 2 2\nrank 2\nbase\nmatch 1=1 2=2\nT 1: 1\nT 2: 2\nfirst |\nblock 1: 1 | t1 |\nblock 2: 2 | t2 |\nlast |\nend\n";
 
 /// A right certificate: three symbols in a triangle.
-const TRIANGLE: &str = "mixed-certificate 1\nkind matrix\nlength 22\neq a x=? y=?\neq b x=?\n\nshape 2 2 0 2 2\nrank 2\nbase\nmatch 1=2 2=1\nT 1: 1 2\nT 2: 1\nfirst |\nblock 1: 2 | t1 |\nblock 2: 1 | t2 | 1\nlast |\nend\n";
+const TRIANGLE: &str =
+    "mixed-certificate 1\nkind matrix\nlength 22\neq a x=? y=?\neq b x=?\n\nshape 2 2 0 2 2\nrank 2\nbase\nmatch 1=2 2=1\nT 1: 1 2\nT 2: 1\nfirst |\nblock 1: 2 | t1 |\nblock 2: 1 | t2 | 1\nlast |\nend\n";
 
 /// A right certificate: two equations, of which the second has a number and a symbol.
-const MIXED: &str = "mixed-certificate 1\nkind matrix\nlength 26\neq a x=1 y=1\neq b x=1 y=?\n\nshape 2 2 2 1 3\nrank 2\nbase 1=1 2=2\nmatch 1=3\nS 1: 2=1\nS 2: 1=1 2=65520\nU 1: 1=1 2=1\nU 2: 1=1\nP 1: 1=1 3=1\nP 2: 2=1 3=65520\nT 1: 2 3\nfirst |\nblock 1: 1 | q1 |\nblock 2: 2 3 | q2 t1 | 1\nlast |\nend\n";
+const MIXED: &str =
+    "mixed-certificate 1\nkind matrix\nlength 26\neq a x=1 y=1\neq b x=1 y=?\n\nshape 2 2 2 1 3\nrank 2\nbase 1=1 2=2\nmatch 1=3\nS 1: 2=1\nS 2: 1=1 2=65520\nU 1: 1=1 2=1\nU 2: 1=1\nP 1: 1=1 3=1\nP 2: 2=1 3=65520\nT 1: 2 3\nfirst |\nblock 1: 1 | q1 |\nblock 2: 2 3 | q2 t1 | 1\nlast |\nend\n";
 
 // The model of a list.
 fn model_of(alloc: Global, list: &[u8]) -> Result<Mixed<Res>, Fail> {
@@ -40,11 +44,7 @@ fn certificate_of(rt: &impl Abort, alloc: Global, text: &str) -> Result<Certific
 }
 
 // What the checker says of the certificate of a text.
-fn checked(
-    rt: &impl Abort,
-    alloc: Global,
-    text: &str,
-) -> Result<Result<(), CheckError>, Fail> {
+fn checked(rt: &impl Abort, alloc: Global, text: &str) -> Result<Result<(), CheckError>, Fail> {
     let certificate = certificate_of(rt, alloc, text)?;
     let model = model_of(alloc, certificate.echo.as_slice())?;
     Ok(check(alloc, &model, &certificate.ccf))
@@ -69,7 +69,11 @@ fn expect_broken(
     lines: &[(&str, &str)],
 ) -> Result<(), Fail> {
     let now = altered(alloc, text, lines)?;
-    assert_eq!(rt; checked(rt, alloc, &now)?, Err(CheckError::Reject { rule }), "{lines:?}");
+    assert_eq!(rt;
+        checked(rt, alloc, &now)?,
+        Err(CheckError::Reject { rule }),
+        "{lines:?}"
+    );
     Ok(())
 }
 
@@ -102,21 +106,43 @@ fn a_right_certificate_of_another_program_is_taken(rt: HostRuntime) -> Result<()
 #[test]
 fn rules_of_sizes_and_matrices_are_broken_first(rt: HostRuntime) -> Result<(), Fail> {
     let alloc = rt.alloc();
-    expect_broken(&rt, alloc, MIXED, 2, &[("shape 2 2 2 1 3", "shape 2 2 2 1 4")])?;
+    expect_broken(
+        &rt,
+        alloc,
+        MIXED,
+        2,
+        &[("shape 2 2 2 1 3", "shape 2 2 2 1 4")],
+    )?;
     expect_broken(&rt, alloc, LOOSE, 2, &[("y=?", "y=1")])?;
     expect_broken(&rt, alloc, MIXED, 3, &[("U 2: 1=1", "U 2: 1=2")])?;
-    expect_broken(&rt, alloc, MIXED, 3, &[("U 2: 1=1", "U 2: 1=2"), ("rank 2", "rank 1")])?;
+    expect_broken(
+        &rt,
+        alloc,
+        MIXED,
+        3,
+        &[("U 2: 1=1", "U 2: 1=2"), ("rank 2", "rank 1")],
+    )?;
     expect_broken(&rt, alloc, CONSTANT, 3, &[("S 1: 1=1", "S 1: 1=2")])?;
     expect_broken(&rt, alloc, MIXED, 4, &[("P 1: 1=1 3=1", "P 1: 1=1 3=2")])?;
     expect_broken(&rt, alloc, MIXED, 4, &[("T 1: 2 3", "T 1: 2")])?;
-    expect_broken(&rt, alloc, CONSTANT, 4, &[("S 1: 1=1", "S 1: 1=2"), ("U 1: 1=1", "U 1: 1=32761")])?;
+    expect_broken(
+        &rt,
+        alloc,
+        CONSTANT,
+        4,
+        &[("S 1: 1=1", "S 1: 1=2"), ("U 1: 1=1", "U 1: 1=32761")],
+    )?;
     expect_broken(&rt, alloc, MIXED, 5, &[("base 1=1 2=2", "base 1=2 2=1")])?;
     expect_broken(
         &rt,
         alloc,
         CONSTANT,
         5,
-        &[("S 1: 1=1", "S 1: 1=2"), ("U 1: 1=1", "U 1: 1=32761"), ("P 1: 1=1", "P 1: 1=2")],
+        &[
+            ("S 1: 1=1", "S 1: 1=2"),
+            ("U 1: 1=1", "U 1: 1=32761"),
+            ("P 1: 1=1", "P 1: 1=2"),
+        ],
     )
 }
 
@@ -147,28 +173,49 @@ fn rules_of_parts_are_broken_first(rt: HostRuntime) -> Result<(), Fail> {
         ("last |", "last 1 2 | t1 t2"),
     ];
     expect_broken(&rt, alloc, MIXED, 10, &[("q2 t1 | 1", "q2 t1 |")])?;
-    expect_broken(&rt, alloc, TRIANGLE, 10, &[("block 2: 1 | t2 | 1", "block 2: 1 | t2 |")])?;
+    expect_broken(
+        &rt,
+        alloc,
+        TRIANGLE,
+        10,
+        &[("block 2: 1 | t2 | 1", "block 2: 1 | t2 |")],
+    )?;
     expect_broken(
         &rt,
         alloc,
         MIXED,
         11,
-        &[("block 1: 1 | q1 |\n", ""), ("block 2: 2 3 | q2 t1 | 1", "block 1: 1 2 3 | q1 q2 t1 |")],
+        &[
+            ("block 1: 1 | q1 |\n", ""),
+            ("block 2: 2 3 | q2 t1 | 1", "block 1: 1 2 3 | q1 q2 t1 |"),
+        ],
     )?;
     expect_broken(
         &rt,
         alloc,
         LOOSE,
         11,
-        &[("block 1: 1 | t1 |\n", ""), ("block 2: 2 | t2 |", "block 1: 1 2 | t1 t2 |")],
+        &[
+            ("block 1: 1 | t1 |\n", ""),
+            ("block 2: 2 | t2 |", "block 1: 1 2 | t1 t2 |"),
+        ],
     )?;
     expect_broken(&rt, alloc, LOOSE, 11, all_last)?;
-    expect_broken(&rt, alloc, LOOSE, 12, &[("block 2: 2 | t2 |", "block 2: 2 | t2 | 1")])?;
     expect_broken(
         &rt,
         alloc,
         LOOSE,
         12,
-        &[("1: 1 | t1 |", "1: 2 | t2 |"), ("2: 2 | t2 |", "2: 1 | t1 |")],
+        &[("block 2: 2 | t2 |", "block 2: 2 | t2 | 1")],
+    )?;
+    expect_broken(
+        &rt,
+        alloc,
+        LOOSE,
+        12,
+        &[
+            ("1: 1 | t1 |", "1: 2 | t2 |"),
+            ("2: 2 | t2 |", "2: 1 | t1 |"),
+        ],
     )
 }

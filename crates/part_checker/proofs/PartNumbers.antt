@@ -1,5 +1,5 @@
 -- The parts of a form by their numbers.
-use Rattle.std.proofs.Common.{◌≡◌, ℕ, suc, ◌+◌, ◌-◌, ◌<◌, ◌≤◌, ◌↔◌, Bool, true, eqb, List, [], ◌∷◌, ◌++◌, length, map, get_or, slice_index, slice_index_or, refl, ap, sym, subst, ◌∙◌, arith}
+use Rattle.std.proofs.Common.{◌≡◌, ℕ, suc, ◌+◌, ◌-◌, ◌<◌, ◌≤◌, ◌↔◌, true, eqb, List, [], ◌∷◌, ◌++◌, length, map, get_or, slice_index, slice_index_or, refl, sym, subst, ◌∙◌, arith}
 use Rattle.std.proofs.lemmas.List.{get_or-map, get_or_append_left, length-append, length-map}
 use Rattle.residue_theory.proofs.SetLaws.{either-first, eqb_true, eqb_from}
 use Rattle.residue_theory.specs.Sets.{has}
@@ -7,7 +7,7 @@ use Rattle.mixed_matrices.specs.CheckerRules.{block_of, in_first, in_last}
 use Rattle.cert_text.specs.Contents.{Contents}
 use Rattle.cert_text.specs.declared.part.CcfBlock.{CcfBlock}
 use Rattle.cert_text.specs.Ranges.{IsCcf}
-use Rattle.cert_text.specs.Readings.{column_lists, parts_of, place_of, StandsOnce}
+use Rattle.cert_text.specs.Readings.{column_lists, parts_of, place_of}
 use Rattle.cert_text.proofs.PrintedRules.{place-is}
 use Rattle.part_rules.specs.Parts.{AreNumbered}
 use Rattle.part_checker.specs.Told.{TellsParts}

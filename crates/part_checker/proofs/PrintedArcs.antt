@@ -1,5 +1,5 @@
 -- Arcs by the printed rows, and by a layered matrix that has these.
-use Rattle.std.proofs.Common.{◌≡◌, ℕ, zero, suc, ◌+◌, ◌<◌, ◌%◌, ◌↔◌, Bool, true, false, ◌&&◌, ◌||◌, not, eqb, length, refl, ap, sym, subst, ◌∙◌, arith}
+use Rattle.std.proofs.Common.{◌≡◌, ℕ, zero, suc, ◌<◌, ◌%◌, Bool, true, false, ◌&&◌, ◌||◌, not, eqb, length, refl, ap, sym, subst, ◌∙◌, arith}
 use Rattle.residue_theory.specs.Sets.{some_below}
 use Rattle.mixed_matrices.specs.Arcs.{has_base, has_match, is_end, leads_to}
 use Rattle.mixed_matrices.specs.LayeredMatrices.{LayeredMatrix}

@@ -1,9 +1,9 @@
 -- The rules of the parts, by what is told of a form.
-use Rattle.std.proofs.Common.{◌≡◌, ℕ, zero, suc, ◌+◌, ◌<◌, ◌≤◌, ◌⊎◌, ◌↔◌, Bool, true, ◌&&◌, eqb, IsTrue, List, length, slice_index, inl, inr, refl, ap, sym, subst, ◌∙◌, arith}
+use Rattle.std.proofs.Common.{◌≡◌, ℕ, ◌+◌, ◌<◌, ◌↔◌, Bool, true, eqb, IsTrue, List, length, slice_index, inl, inr, sym, subst, ◌∙◌}
 use Rattle.std.proofs.Math.Path.{fun_ext}
 use Rattle.residue_theory.proofs.SetLaws.{both_true, both-first, both-second, eqb_true, eqb_from}
 use Rattle.bit_table.specs.Bits.{bit_in}
-use Rattle.closed_sets.specs.Walks.{FromSome, ReachesOn, ToSome}
+use Rattle.closed_sets.specs.Walks.{FromSome, ToSome}
 use Rattle.mixed_matrices.specs.Arcs.{is_end, is_free, leads_to}
 use Rattle.mixed_matrices.specs.CheckerRules.{block_of, in_first, in_last}
 use Rattle.mixed_matrices.specs.LayeredMatrices.{LayeredMatrix}
@@ -12,12 +12,11 @@ use Rattle.cert_text.specs.Ranges.{IsCcf}
 use Rattle.cert_text.specs.Readings.{lower_of, parts_of, tableau_of}
 use Rattle.cert_text.specs.Rules.{HasLowerLists, HasReasons, LeadsDown}
 use Rattle.cert_text.proofs.PrintedRules.{lower-before}
-use Rattle.form_arcs.specs.FormArcs.{AreArcsOf, printed_rows}
 use Rattle.part_rules.specs.Listed.{arc_in, inner, marked}
 use Rattle.part_rules.specs.Laws.{AreFalling}
 use Rattle.part_rules.specs.Parts.{AreNumbered}
 use Rattle.part_rules.specs.Rules as plain
-use Rattle.part_rules.specs.Tests.{ArcsAreDown, AreCovers, AreFirstPlaces, AreHeads, AreMet, AreSeeds, IsLeastFirst, TellsChains}
+use Rattle.part_rules.specs.Tests.{ArcsAreDown, AreCovers, AreFirstPlaces, AreMet, AreSeeds, IsLeastFirst, TellsChains}
 use Rattle.part_rules.proofs.Numbering.{down-numbers, numbers-down}
 use Rattle.part_rules.proofs.Withins.{met-reasons, reasons-met}
 use Rattle.part_rules.proofs.Lists.{covers-lists, lists-covers, lists-least}

@@ -1,5 +1,5 @@
 -- What is tested of slices, said of the lists that they show.
-use Rattle.std.proofs.Common.{◌≡◌, ℕ, ◌↔◌, Bool, List, length, slice_index, ap, sym, subst, ◌∙◌}
+use Rattle.std.proofs.Common.{◌≡◌, ℕ, ◌↔◌, Bool, List, length, slice_index, subst}
 use Rattle.part_rules.specs.Listed.{arc_in, inner, marked}
 use Rattle.part_rules.specs.Tests.{ArcsAreDown, AreCovers, IsLeastFirst}
 use Rattle.part_tests.specs.Searched.{IsSearched}

@@ -1,5 +1,5 @@
 -- The lower lists of blocks as one list of items.
-use Rattle.std.specs.Prelude.{ℕ, ◌<◌, ◌≡◌, ◌↔◌, ◌++◌, Bool, true, List, [], map, slice_index_or, take}
+use Rattle.std.specs.Prelude.{ℕ, ◌<◌, ◌≡◌, ◌↔◌, Bool, true, List, [], map, slice_index_or}
 use Rattle.residue_theory.specs.Sets.{has}
 use Rattle.cert_text.specs.declared.part.CcfBlock.{CcfBlock}
 use Rattle.block_orders.specs.Orders.{AreLowerItems}

@@ -1,5 +1,5 @@
 -- What the rules of the parts of a form are tried on.
-use Rattle.std.specs.Prelude.{ℕ, ◌+◌, ◌<◌, ◌≡◌, Bool, List, length, slice_index, vec_len}
+use Rattle.std.specs.Prelude.{ℕ, ◌+◌, ◌<◌, ◌≡◌, List, length, slice_index, vec_len}
 use Rattle.bit_table.specs.Bits.{bit_in}
 use Rattle.block_orders.specs.Orders.{AreLowerItems}
 use Rattle.cert_text.specs.Contents.{Contents}

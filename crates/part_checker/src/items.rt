@@ -10,11 +10,7 @@ use out_of_memory::NoMemory;
 use std::alloc::Global;
 
 // Puts the items of the list of a block at the end.
-fn put_list(
-    items: &mut Vec<(usize, usize)>,
-    block: usize,
-    list: &[usize],
-) -> Result<(), NoMemory>
+fn put_list(items: &mut Vec<(usize, usize)>, block: usize, list: &[usize]) -> Result<(), NoMemory>
     ensures { OnOk result (items.new.items ≡ items.old.items ++ items_of block list.now) }
 {
     for lower in list {

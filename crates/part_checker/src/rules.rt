@@ -39,7 +39,15 @@ pub fn has_reasons<F: Field>(
 {
     let last = form.blocks().as_slice().len() + 2;
     let arcs = &told.arcs;
-    are_met(alloc, &arcs.arcs, &arcs.free, &arcs.ends, parts, last, &told.heads)
+    are_met(
+        alloc,
+        &arcs.arcs,
+        &arcs.free,
+        &arcs.ends,
+        parts,
+        last,
+        &told.heads,
+    )
 }
 
 /// Whether each lower list holds exactly the blocks right below, and the blocks are listed with the least column first,
@@ -59,5 +67,12 @@ pub fn has_lower_lists<F: Field>(
     if !is_least_first(alloc, &told.lower, &told.heads)? {
         return Ok(false);
     }
-    are_covers(alloc, &told.arcs.arcs, parts, blocks, &told.lower, &told.below)
+    are_covers(
+        alloc,
+        &told.arcs.arcs,
+        parts,
+        blocks,
+        &told.lower,
+        &told.below,
+    )
 }

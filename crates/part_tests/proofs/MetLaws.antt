@@ -1,7 +1,7 @@
 -- Two searches, and what is met by them.
-use Rattle.std.proofs.Common.{◌≡◌, ℕ, ◌+◌, ◌<◌, ◌⊎◌, ◌↔◌, Bool, true, IsTrue, List, length, slice_index, inl, inr, refl, sym, subst, ◌∙◌}
+use Rattle.std.proofs.Common.{◌≡◌, ℕ, ◌+◌, ◌↔◌, Bool, IsTrue, List, length, slice_index, inl, inr, sym, subst, ◌∙◌}
 use Rattle.part_rules.specs.Listed.{AreReached, AreReaching, marked}
-use Rattle.part_rules.specs.Tests.{AreMet, AreSeeds}
+use Rattle.part_rules.specs.Tests.{AreSeeds}
 use Rattle.part_tests.specs.Searched.{IsSearched}
 use Rattle.part_tests.specs.Steps.{AreMarkedBut}
 

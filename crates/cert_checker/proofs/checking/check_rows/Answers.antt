@@ -47,7 +47,7 @@ returns-then-not-has_shape g c =
     let L = layered_matrix_of c.args.layered.now in
     let form = c.args.form.now in
     let kept-0 : KeepsFirst p M L form 0 = none-kept p M L form in
-    next-broken p M L form 0 2 refl (omega arith) kept-0 (λ h. absurd (differ refl (c.if-not-has_shape.ensures.1 h)))
+    record { kept = tt; broken = next-broken p M L form 0 2 refl (omega arith) kept-0 (λ h. absurd (differ refl (c.if-not-has_shape.ensures.1 h))) }
 
 pub returns-then-not-branch : goal.returns-then-not-branch
 returns-then-not-branch g c =
@@ -57,7 +57,7 @@ returns-then-not-branch g c =
     let form = c.args.form.now in
     let kept-0 : KeepsFirst p M L form 0 = none-kept p M L form in
     let kept-1 : KeepsFirst p M L form 1 = more-kept p M L form 0 1 refl kept-0 (c.if-not-has_shape.ensures.0 refl) in
-    next-broken p M L form 1 3 refl (omega arith) kept-1 (λ h. absurd (differ c.if-not-branch.true (c.in_ok-has_inverse.ensures.1 h)))
+    record { kept = tt; broken = next-broken p M L form 1 3 refl (omega arith) kept-1 (λ h. absurd (differ c.if-not-branch.true (c.in_ok-has_inverse.ensures.1 h))) }
 
 pub returns-then-not-branch-2 : goal.returns-then-not-branch-2
 returns-then-not-branch-2 g c =
@@ -68,7 +68,7 @@ returns-then-not-branch-2 g c =
     let kept-0 : KeepsFirst p M L form 0 = none-kept p M L form in
     let kept-1 : KeepsFirst p M L form 1 = more-kept p M L form 0 1 refl kept-0 (c.if-not-has_shape.ensures.0 refl) in
     let kept-2 : KeepsFirst p M L form 2 = more-kept p M L form 1 2 refl kept-1 (c.in_ok-has_inverse.ensures.0 c.if-not-branch.false) in
-    next-broken p M L form 2 4 refl (omega arith) kept-2 (λ h. absurd (differ c.if-not-branch-2.true (c.in_ok-has_product.ensures.1 h)))
+    record { kept = tt; broken = next-broken p M L form 2 4 refl (omega arith) kept-2 (λ h. absurd (differ c.if-not-branch-2.true (c.in_ok-has_product.ensures.1 h))) }
 
 pub returns-then-not-branch-3 : goal.returns-then-not-branch-3
 returns-then-not-branch-3 g c =
@@ -80,7 +80,7 @@ returns-then-not-branch-3 g c =
     let kept-1 : KeepsFirst p M L form 1 = more-kept p M L form 0 1 refl kept-0 (c.if-not-has_shape.ensures.0 refl) in
     let kept-2 : KeepsFirst p M L form 2 = more-kept p M L form 1 2 refl kept-1 (c.in_ok-has_inverse.ensures.0 c.if-not-branch.false) in
     let kept-3 : KeepsFirst p M L form 3 = more-kept p M L form 2 3 refl kept-2 (c.in_ok-has_product.ensures.0 c.if-not-branch-2.false) in
-    next-broken p M L form 3 5 refl (omega arith) kept-3 (λ h. absurd (differ c.if-not-branch-3.true (c.in_ok-has_unit_columns.ensures.1 h)))
+    record { kept = tt; broken = next-broken p M L form 3 5 refl (omega arith) kept-3 (λ h. absurd (differ c.if-not-branch-3.true (c.in_ok-has_unit_columns.ensures.1 h))) }
 
 pub returns-then-not-branch-4 : goal.returns-then-not-branch-4
 returns-then-not-branch-4 g c =
@@ -93,7 +93,7 @@ returns-then-not-branch-4 g c =
     let kept-2 : KeepsFirst p M L form 2 = more-kept p M L form 1 2 refl kept-1 (c.in_ok-has_inverse.ensures.0 c.if-not-branch.false) in
     let kept-3 : KeepsFirst p M L form 3 = more-kept p M L form 2 3 refl kept-2 (c.in_ok-has_product.ensures.0 c.if-not-branch-2.false) in
     let kept-4 : KeepsFirst p M L form 4 = more-kept p M L form 3 4 refl kept-3 (c.in_ok-has_unit_columns.ensures.0 c.if-not-branch-3.false) in
-    next-broken p M L form 4 6 refl (omega arith) kept-4 (λ h. absurd (differ c.if-not-branch-4.true (c.in_ok-has_matching.ensures.1 h)))
+    record { kept = tt; broken = next-broken p M L form 4 6 refl (omega arith) kept-4 (λ h. absurd (differ c.if-not-branch-4.true (c.in_ok-has_matching.ensures.1 h))) }
 
 pub returns-then-not-is_counted : goal.returns-then-not-is_counted
 returns-then-not-is_counted g c =
@@ -107,7 +107,7 @@ returns-then-not-is_counted g c =
     let kept-3 : KeepsFirst p M L form 3 = more-kept p M L form 2 3 refl kept-2 (c.in_ok-has_product.ensures.0 c.if-not-branch-2.false) in
     let kept-4 : KeepsFirst p M L form 4 = more-kept p M L form 3 4 refl kept-3 (c.in_ok-has_unit_columns.ensures.0 c.if-not-branch-3.false) in
     let kept-5 : KeepsFirst p M L form 5 = more-kept p M L form 4 5 refl kept-4 (c.in_ok-has_matching.ensures.0 c.if-not-branch-4.false) in
-    next-broken p M L form 5 7 refl (omega arith) kept-5 (λ h. absurd (differ refl (c.if-not-is_counted.ensures.1 h)))
+    record { kept = tt; broken = next-broken p M L form 5 7 refl (omega arith) kept-5 (λ h. absurd (differ refl (c.if-not-is_counted.ensures.1 h))) }
 
 pub returns-in_default : goal.returns-in_default
 returns-in_default g c =
@@ -123,7 +123,7 @@ returns-in_default g c =
     let kept-5 : KeepsFirst p M L form 5 = more-kept p M L form 4 5 refl kept-4 (c.in_ok-has_matching.ensures.0 c.if-not-branch-4.false) in
     let kept-6 : KeepsFirst p M L form 6 = more-kept p M L form 5 6 refl kept-5 (c.if-not-is_counted.ensures.0 refl) in
     let never : Not (StandsOnce L.columns (column_lists form)) = subst (λ found. MatchOption found (Not (StandsOnce L.columns (column_lists form))) (λ places. TellsPlaces L.columns (column_lists form) places.items)) c.in_default.is c.in_ok-columns.ensures in
-    next-broken p M L form 6 8 refl (omega arith) kept-6 never
+    record { kept = tt; broken = next-broken p M L form 6 8 refl (omega arith) kept-6 never }
 
 pub returns-then-not-branch-5 : goal.returns-then-not-branch-5
 returns-then-not-branch-5 g c =
@@ -140,7 +140,7 @@ returns-then-not-branch-5 g c =
     let kept-6 : KeepsFirst p M L form 6 = more-kept p M L form 5 6 refl kept-5 (c.if-not-is_counted.ensures.0 refl) in
     let told : TellsPlaces L.columns (column_lists form) c.in-Some.columns.items = subst (λ found. MatchOption found (Not (StandsOnce L.columns (column_lists form))) (λ places. TellsPlaces L.columns (column_lists form) places.items)) c.in-Some.is c.in_ok-columns.ensures in
     let kept-7 : KeepsFirst p M L form 7 = more-kept p M L form 6 7 refl kept-6 (told.once) in
-    next-broken p M L form 7 9 refl (omega arith) kept-7 (λ h. absurd (differ c.if-not-branch-5.true (c.in_ok-has_placed_rows.ensures.1 h)))
+    record { kept = tt; broken = next-broken p M L form 7 9 refl (omega arith) kept-7 (λ h. absurd (differ c.if-not-branch-5.true (c.in_ok-has_placed_rows.ensures.1 h))) }
 
 pub returns : goal.returns
 returns g c =
@@ -158,4 +158,4 @@ returns g c =
     let told : TellsPlaces L.columns (column_lists form) c.in-Some.columns.items = subst (λ found. MatchOption found (Not (StandsOnce L.columns (column_lists form))) (λ places. TellsPlaces L.columns (column_lists form) places.items)) c.in-Some.is c.in_ok-columns.ensures in
     let kept-7 : KeepsFirst p M L form 7 = more-kept p M L form 6 7 refl kept-6 (told.once) in
     let kept-8 : KeepsFirst p M L form 8 = more-kept p M L form 7 8 refl kept-7 (c.in_ok-has_placed_rows.ensures.0 c.if-not-branch-5.false) in
-    (kept-8, told)
+    record { kept = (kept-8, told); broken = tt }

@@ -1,4 +1,4 @@
-use Rattle.std.proofs.Common.{◌≡◌, ◌∙◌, ap, length, refl, slice_index}
+use Rattle.std.proofs.Common.{◌∙◌, ap, length, slice_index}
 use Rattle.std.proofs.lemmas.Result.{IfOk-weaker}
 use Rattle.residue_theory.proofs.SetLaws.{differ}
 use Rattle.part_checker.proofs.RuleLaws.{listed-lists, lists-first, lists-listed}

@@ -1,4 +1,4 @@
-use Rattle.std.proofs.Common.{◌≡◌, ◌∙◌, length, slice_index}
+use Rattle.std.proofs.Common.{◌∙◌, length, slice_index}
 use Rattle.std.proofs.lemmas.Result.{IfOk-weaker}
 use Rattle.part_checker.proofs.RuleLaws.{reasons-told}
 use Rattle.part_checker.proofs.Views.{searched-as}

@@ -1,6 +1,5 @@
-use Rattle.std.proofs.Common.{◌<◌, ap, length, slice_index, sym, subst, ◌∙◌}
+use Rattle.std.proofs.Common.{◌<◌, ap, length, slice_index, subst, ◌∙◌}
 use Rattle.bit_table.specs.Bits.{bit_in}
-use Rattle.block_orders.specs.Orders.{AreLowerItems}
 use Rattle.part_rules.specs.Listed.{arc_in}
 use Rattle.part_rules.specs.Tests.{AreFirstPlaces, TellsChains}
 use Rattle.part_checker.specs.Items.{AreItems}

@@ -1,4 +1,4 @@
-use Rattle.part_tests.specs.Steps.{AreMarkedBut, AreMarkedWith, HavePart, MayAllLead}
+use Rattle.part_tests.specs.Steps.{HavePart}
 use Rattle.part_tests.proofs.leading.have_part.Given as goal
 
 abbrev pub invariant-loop-x : goal.invariant-loop-x

@@ -1,7 +1,7 @@
 use Rattle.std.proofs.Common.{ℕ, Bool}
 use Rattle.bit_table.specs.Bits.{bit_in}
 use Rattle.part_rules.specs.Tests.{TellsChains}
-use Rattle.part_tests.specs.Steps.{AreMarkedBut, AreMarkedWith, HavePart, MayAllLead}
+use Rattle.part_tests.specs.Steps.{MayAllLead}
 use Rattle.part_tests.proofs.leading.may_all_lead.Given as goal
 
 abbrev pub invariant-loop-arc : goal.invariant-loop-arc

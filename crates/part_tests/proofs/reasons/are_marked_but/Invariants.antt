@@ -1,4 +1,4 @@
-use Rattle.part_tests.specs.Steps.{AreMarkedBut, AreMarkedWith, HavePart, MayAllLead}
+use Rattle.part_tests.specs.Steps.{AreMarkedBut}
 use Rattle.part_tests.proofs.reasons.are_marked_but.Given as goal
 
 abbrev pub invariant-loop-x : goal.invariant-loop-x

@@ -22,8 +22,7 @@ returns c =
     searched within parts c.args.heads.now c.args.starts.now c.args.ends.now c.in_ok-low.low.items c.in_ok-high.high.items c.in_ok-from.from.items c.in_ok-to.to.items c.args.last c.are_marked_but-2.result c.requires.starts c.requires.ends c.requires.last
     c.in_ok-low.ensures.seeds c.in_ok-high.ensures.seeds
     (subst (λ marks. AreReached within (length parts) (marked marks) c.in_ok-from.from.items) c.deref.ensures.value c.in_ok-from.ensures)
-    (subst (λ marks. AreReaching within (length parts) (marked marks) c.in_ok-to.to.items) c.deref-2.ensures.value c.in_ok-to.ensures)
-    (
+    (subst (λ marks. AreReaching within (length parts) (marked marks) c.in_ok-to.to.items) c.deref-2.ensures.value c.in_ok-to.ensures) (
       (λ t. (
         subst (λ marks. AreMarkedBut marks parts c.args.last (length parts)) c.deref-3.ensures.value (c.if-not-are_marked_but.ensures.0 refl),
         subst (λ marks. AreMarkedBut marks parts 1 (length parts)) c.deref-4.ensures.value (c.are_marked_but-2.ensures.0 t),

@@ -1,4 +1,4 @@
-use Rattle.part_tests.specs.Steps.{AreMarkedBut, AreMarkedWith, HavePart, MayAllLead}
+use Rattle.part_tests.specs.Steps.{AreMarkedWith}
 use Rattle.part_tests.proofs.reasons.mark_heads.Given as goal
 
 abbrev pub invariant-loop-head : goal.invariant-loop-head
