@@ -28,7 +28,8 @@ pub record AreMarked (taken : List Bool) (rows : List (List ℕ)) (n : ℕ) (old
   pub new : (i k : ℕ) → i < n → marked taken i ≡ false → k < length (row_of rows i) →
       marked now (slice_index (row_of rows i) k) ≡ true
   pub only : (x : ℕ) → marked now x ≡ true → (marked old x ≡ true)
-      ⊎ ((i k : ℕ) × (i < n) × (marked taken i ≡ false) × (k < length (row_of rows i)) × (slice_index (row_of rows i) k ≡ x))
+      ⊎ ((i k : ℕ) × (i < n) × (marked taken i ≡ false) × (k < length (row_of rows i))
+      × (slice_index (row_of rows i) k ≡ x))
 
 -- the first n marks are those that are not set
 pub record AreOthers (marks : List Bool) (n : ℕ) (others : List Bool) : Type 0 where

@@ -3,8 +3,8 @@ use Rattle.std.specs.Prelude.{ℕ, ◌<◌, ◌≡◌, ◌↔◌, Bool, true, Is
 use Rattle.closed_sets.specs.Walks.{FromSome, ToSome}
 use Rattle.part_rules.specs.Tests.{AreMet, AreSeeds}
 
--- one search goes forth from the starts and a head of each block, the other back from the ends and the heads: the answer
--- is whether each place is met as it should be
+-- one search goes forth from the starts and a head of each block, the other back from the ends and the heads: the
+-- answer is whether each place is met as it should be
 pub record IsSearched (within : ℕ → ℕ → Bool) (n : ℕ) (starts ends : ℕ → Bool) (part : ℕ → ℕ) (b : ℕ) (head : ℕ → ℕ)
     (answer : Bool) : Type 0 where
   pub low : ℕ → Bool

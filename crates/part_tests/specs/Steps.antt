@@ -10,7 +10,8 @@ HavePart marks parts part n = (x : ℕ) → x < n → marked marks x ≡ true �
 -- the first n arcs lead where they may
 abbrev pub MayAllLead : List (ℕ × ℕ) → List ℕ → ℕ → (ℕ → ℕ → Bool) → ℕ → Type 0
 MayAllLead arcs parts b lower n = (k : ℕ) → k < n →
-    MayLead b lower (slice_index parts (slice_index_or arcs k (0, 0)).0) (slice_index parts (slice_index_or arcs k (0, 0)).1)
+    MayLead b lower (slice_index parts (slice_index_or arcs k (0, 0)).0)
+    (slice_index parts (slice_index_or arcs k (0, 0)).1)
 
 -- each of the first n places has this part, or is marked
 abbrev pub AreMarkedBut : List Bool → List ℕ → ℕ → ℕ → Type 0
