@@ -1,5 +1,8 @@
 //! Certificates with altered lines, and the rule that each breaks first.
 
+ghost use Rattle.std.specs.Prelude.{◌≤◌, IfOk, length};
+ghost use Rattle.limits.specs.Limits.{input_limit};
+
 use cert_checker::{CheckError, check};
 use cert_reader::{CERTIFICATE_LIMIT, read};
 use cert_text::Certificate;
@@ -27,7 +30,9 @@ const MIXED: &str =
     "mixed-certificate 1\nkind matrix\nlength 26\neq a x=1 y=1\neq b x=1 y=?\n\nshape 2 2 2 1 3\nrank 2\nbase 1=1 2=2\nmatch 1=3\nS 1: 2=1\nS 2: 1=1 2=65520\nU 1: 1=1 2=1\nU 2: 1=1\nP 1: 1=1 3=1\nP 2: 2=1 3=65520\nT 1: 2 3\nfirst |\nblock 1: 1 | q1 |\nblock 2: 2 3 | q2 t1 | 1\nlast |\nend\n";
 
 // The model of a list.
-fn model_of(alloc: Global, list: &[u8]) -> Result<Mixed<Res>, Fail> {
+fn model_of(alloc: Global, list: &[u8]) -> Result<Mixed<Res>, Fail>
+    requires { length list.now ≤ input_limit }
+{
     match read_list(alloc, list) {
         Ok(model) => Ok(model),
         Err(_) => Err(Fail::from("the echo is a list")),
@@ -35,7 +40,9 @@ fn model_of(alloc: Global, list: &[u8]) -> Result<Mixed<Res>, Fail> {
 }
 
 // The certificate of a text.
-fn certificate_of(rt: &impl Abort, alloc: Global, text: &str) -> Result<Certificate<Res>, Fail> {
+fn certificate_of(rt: &impl Abort, alloc: Global, text: &str) -> Result<Certificate<Res>, Fail>
+    ensures { IfOk result (λ certificate. length certificate.echo ≤ input_limit) }
+{
     assert!(rt; text.len() <= CERTIFICATE_LIMIT);
     match read(alloc, text.as_bytes()) {
         Ok(certificate) => Ok(certificate),
