@@ -1,10 +1,6 @@
 #!/usr/bin/env bash
-# Times the whole analysis, `mixed analyse matrix`, on equation lists of a family with as many equations as unknowns:
-#   dense      each place has a constant from 1 to 9,999, so that a list of 1,000 is below the most bytes of an input
-#   symbols    three places an equation, drawn at random, each with a symbol
-#   constants  the same places, each with a constant from 1 to 65,520
-#   mixed      the same places, each with a constant or a symbol at equal odds, and one in 64 with both
-# Without dense, and but for the places with both, these are the matrices of bench_engine.
+# Times the whole analysis, `mixed analyse matrix`, on equation lists of the families of lists.sh. Without dense, and but for
+# the places with both, these are the matrices of bench_engine.
 # Usage: bench/analyse.sh [FAMILY [EQUATIONS ..]]; without words all, the dense ones at 250, 500 and 1000, the others at
 # 500, 1000, 2000 and 4000.
 # The rows are those of a table: family; equations; bytes in and out; seconds of the clock from before the program is started
@@ -25,45 +21,7 @@ test -x "$program" || { echo "no $program: see the head of this file" >&2; exit 
 work=$(mktemp -d)
 trap 'rm -rf "$work"' EXIT
 
-# The equation list of a family with so many equations and unknowns, always the same.
-equations() {
-    awk -v family="$1" -v size="$2" '
-        function draw() { return last = last * 48271 % 2147483647 }
-
-        # Two letters, so that the dense lists stay short.
-        function short(number) {
-            return substr(letters, 1 + int(number / 52), 1) substr(letters, 1 + number % 52, 1)
-        }
-
-        function value(drawn,   constant) {
-            constant = int(drawn / 4) % 65520 + 1
-            if (family == "symbols" || family == "mixed" && drawn % 4 >= 2 && drawn % 64 != 3) return "?"
-            return family == "mixed" && drawn % 64 == 3 ? constant "+?" : constant
-        }
-
-        function dense(   line, u) {
-            for (u = 0; u < size; u++) line = line " " short(u) "=" 1 + draw() % 9999
-            return line
-        }
-
-        # Up to three places, since a column may be drawn twice.
-        function sparse(   line, place, column, drawn, had) {
-            for (place = 1; place <= 3; place++) {
-                column = draw() % size
-                drawn = draw()
-                if (!(column in had)) line = line " x" column + 1 "=" value(drawn)
-                had[column]
-            }
-            return line
-        }
-
-        BEGIN {
-            letters = "abcdefghijklmnopqrstuvwxyzABCDEFGHIJKLMNOPQRSTUVWXYZ"
-            last = size
-            if (family != "dense") for (u = 1; u <= size; u++) print "unknown x" u
-            for (e = 1; e <= size; e++) print "eq e" e (family == "dense" ? dense() : sparse())
-        }'
-}
+. "$(dirname "$0")/lists.sh"
 
 # Runs a command on the list and leaves the bytes that it wrote in `bytes`, the seconds of the clock until the first of
 # them in `first`, all seconds of the clock, the processor's and the KiB in `wall`, `user` and `memory`.
