@@ -7,6 +7,3 @@ mod marking;
 
 pub use forms::{FormArcs, arcs_of};
 pub use out_of_memory::NoMemory;
-
-#[cfg(test)]
-mod tests;

@@ -7,6 +7,3 @@ mod reasons;
 pub use leading::arcs_are_down;
 pub use out_of_memory::NoMemory;
 pub use reasons::are_met;
-
-#[cfg(test)]
-mod tests;

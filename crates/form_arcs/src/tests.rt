@@ -1,1 +1,0 @@
-//! The arcs of a form.
