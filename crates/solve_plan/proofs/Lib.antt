@@ -1,0 +1,2 @@
+pub mod MarkSets
+pub mod MemberLists
