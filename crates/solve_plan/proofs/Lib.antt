@@ -1,2 +1,3 @@
 pub mod MarkSets
 pub mod MemberLists
+pub mod PartPlaces
