@@ -31,11 +31,8 @@ fn used_last<F: Field>(alloc: Global, form: &Ccf<F>) -> Result<Vec<bool>, NoMemo
     ensures { IfOk result (λ marks. AreMarksOf form.now.shape.q_rows (IsUsedLast form.now) marks.items) }
 {
     let mut marks = vec![in alloc; false; form.shape().q_rows]?;
-    mark_rows(
-        &mut marks,
-        form.s().as_slice(),
-        form.last().q_rows.as_slice(),
-    );
+    let tail = form.last().q_rows.as_slice();
+    mark_rows(&mut marks, form.s().as_slice(), tail);
     Ok(marks)
 }
 
@@ -69,6 +66,8 @@ pub fn report<F: Field>(
     requires { IsRightFormOf F.modulus layered.now form.now }
     ensures { IfOk result (λ told. ReportsEach F.modulus layered.now form.now told) }
 {
+    // each row has its origin
+    layered.are_layers();
     let shape = form.shape();
     let surplus = surplus(alloc, layered, form)?;
     let undetermined = undetermined(alloc, form)?;
