@@ -1,11 +1,11 @@
 -- What stands in the tails, by lists and by parts.
-use Rattle.std.proofs.Common.{◌≡◌, ◌≢◌, ℕ, suc, ◌+◌, ◌<◌, ◌%◌, ◌↔◌, Bool, true, not, eqb, List, [], ◌∷◌, ◌++◌, length, map, slice_index, slice_index_or, refl, ap, sym, subst, ◌∙◌, arith}
+use Rattle.std.proofs.Common.{◌≡◌, ◌≢◌, ℕ, suc, ◌+◌, ◌<◌, ◌%◌, ◌↔◌, true, eqb, List, [], ◌∷◌, ◌++◌, length, map, slice_index, slice_index_or, refl, ap, sym, subst, ◌∙◌, arith}
 use Rattle.std.proofs.lemmas.List.{get_or_push, get_or-map, length_push, length-map}
 use Rattle.residue_theory.proofs.SetLaws.{not_true, eqb_true, eqb_false}
 use Rattle.residue_theory.specs.Sets.{has}
 use Rattle.closed_sets.proofs.SetLaws.{not-true, not-make}
 use Rattle.cert_text.specs.Contents.{Contents}
-use Rattle.cert_text.specs.Ranges.{IsCcf, AreEntries}
+use Rattle.cert_text.specs.Ranges.{IsCcf}
 use Rattle.cert_text.specs.Readings.{StandsOnce, column_lists, matrix_of, parts_of, place_of, q_row_lists, t_row_lists}
 use Rattle.cert_text.specs.declared.part.CcfBlock.{CcfBlock}
 use Rattle.cert_text.proofs.PrintedRules.{place-is}

@@ -1,6 +1,5 @@
 -- What is marked and listed of a form, and the report that it makes.
-use Rattle.std.proofs.Common.{◌≡◌, ℕ, ◌+◌, ◌<◌, ◌≤◌, ◌⊎◌, ◌↔◌, Bool, true, false, List, length, map, replicate, slice_index, inl, inr, refl, sym, subst, ◌∙◌, arith}
-use Rattle.std.specs.List.{All}
+use Rattle.std.proofs.Common.{◌≡◌, ℕ, ◌<◌, ◌≤◌, ◌↔◌, Bool, true, false, List, length, replicate, slice_index, inl, inr, refl, sym, subst, ◌∙◌, arith}
 use Rattle.std.proofs.lemmas.List.Elements.{All-from_get_or}
 use Rattle.residue_theory.proofs.SetLaws.{differ, not_true}
 use Rattle.residue_theory.specs.Residues.{IsPrime}
@@ -10,12 +9,11 @@ use Rattle.mixed_matrices.specs.Layerings.{Origins}
 use Rattle.mixed_matrices.specs.Models.{MixedMatrix}
 use Rattle.mixed_matrices.specs.Removals.{IsSurplus, IsUndetermined}
 use Rattle.mixed_matrices.specs.StructuralRanks.{IsStructuralRank}
-use Rattle.mixed_layering.specs.Layers.{AreLayersOf, origins_of}
+use Rattle.mixed_layering.specs.Layers.{origins_of}
 use Rattle.mixed_model.specs.Layers.{Layers, AreLayers, layered_matrix_of}
-use Rattle.mixed_model.specs.Models.{MixedModel, IsModel, mixed_matrix_of}
+use Rattle.mixed_model.specs.Models.{mixed_matrix_of}
 use Rattle.cert_text.specs.Contents.{Contents}
 use Rattle.cert_text.specs.Ranges.{IsCcf}
-use Rattle.form_arcs.specs.Marking.{row_of}
 use Rattle.form_arcs.proofs.FormLaws.{has-some, some-has}
 use Rattle.part_rules.specs.Listed.{marked}
 use Rattle.solve_plan.specs.Marks.{AreMarksOf, AreMembersOf, IsItem, Marks, OfSome}

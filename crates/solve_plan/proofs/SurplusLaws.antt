@@ -1,11 +1,8 @@
 -- What the tails of a right form tell of the equations and unknowns of a model.
-use Rattle.std.proofs.Common.{◌≡◌, ◌≢◌, ℕ, ◌+◌, ◌<◌, ◌≤◌, ◌%◌, ◌⊎◌, ◌↔◌, true, false, length, slice_index, inl, inr, refl, sym, subst, ◌∙◌, arith}
-use Rattle.std.specs.List.{All}
-use Rattle.std.proofs.lemmas.List.Elements.{All-from_get_or}
-use Rattle.residue_theory.proofs.SetLaws.{differ, not_true}
+use Rattle.std.proofs.Common.{◌≡◌, ◌≢◌, ℕ, ◌+◌, ◌<◌, ◌%◌, ◌↔◌, true, false, length, slice_index, inl, inr, refl, sym, subst, ◌∙◌, arith}
+use Rattle.residue_theory.proofs.SetLaws.{differ}
 use Rattle.residue_theory.specs.Residues.{IsPrime}
 use Rattle.residue_theory.specs.Sets.{has}
-use Rattle.dense_q.specs.Tables.{height}
 use Rattle.mixed_matrices.specs.CheckerRules.{KeepsPartRules}
 use Rattle.mixed_matrices.specs.LayeredMatrices.{LayeredMatrix}
 use Rattle.mixed_matrices.specs.Layerings.{IsLayeredMatrixOf, Origins, gives_q, has_symbol}
@@ -15,7 +12,6 @@ use Rattle.mixed_matrices.specs.Tableaus.{IsTableau}
 use Rattle.mixed_report.proofs.Removals.{equation_rows}
 use Rattle.mixed_report.proofs.Tails.{last-untouched, untouched-last, stays-used, used-stays}
 use Rattle.mixed_report.proofs.Tests.{held-undetermined, undetermined-held, rho-surplus, surplus-rho, surplus-untouched, untouched-surplus}
-use Rattle.mixed_layering.specs.Layers.{origins_of}
 use Rattle.mixed_model.specs.Layers.{Layers, AreLayers, layered_matrix_of}
 use Rattle.cert_text.specs.Contents.{Contents}
 use Rattle.cert_text.specs.Ranges.{IsCcf}
@@ -26,7 +22,7 @@ use Rattle.cert_text.proofs.RightFacts.{printed-tableau}
 use Rattle.cert_text.proofs.RuleFacts.{right-rules}
 use Rattle.form_arcs.proofs.FormLaws.{has-some, some-has}
 use Rattle.solve_plan.specs.Marks.{IsItem}
-use Rattle.solve_plan.specs.Surplus.{IsOfLast, IsMadeWith, IsToldSurplus, IsUsedLast}
+use Rattle.solve_plan.specs.Surplus.{IsToldSurplus, IsUsedLast}
 use Rattle.solve_plan.proofs.PartPlaces.{first-column, last-t, used-told}
 
 -- ---- a layered matrix

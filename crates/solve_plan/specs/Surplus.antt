@@ -1,5 +1,5 @@
 -- What the last tail of a form tells of the equations of a model.
-use Rattle.std.specs.Prelude.{ℕ, ◌<◌, ◌≤◌, ◌≡◌, ◌⊎◌, length, map, slice_index}
+use Rattle.std.specs.Prelude.{ℕ, ◌<◌, ◌≡◌, ◌⊎◌, length, map, slice_index}
 use Rattle.std.specs.List.{All}
 use Rattle.dense_q.specs.Tables.{height}
 use Rattle.mixed_model.specs.Layers.{Layers}

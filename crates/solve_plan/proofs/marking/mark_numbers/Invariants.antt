@@ -1,4 +1,4 @@
-use Rattle.std.proofs.Common.{◌≡◌, ℕ, slice_index}
+use Rattle.std.proofs.Common.{◌≡◌, slice_index}
 use Rattle.solve_plan.specs.Marks.{Marks, OfSome}
 use Rattle.solve_plan.proofs.marking.mark_numbers.Given as goal
 

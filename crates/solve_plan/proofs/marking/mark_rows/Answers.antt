@@ -1,4 +1,4 @@
-use Rattle.std.proofs.Common.{◌≡◌, List, ℕ, map, slice_index, subst, ◌∙◌}
+use Rattle.std.proofs.Common.{◌≡◌, map, slice_index, subst, ◌∙◌}
 use Rattle.form_arcs.specs.Marking.{keys_of, row_of}
 use Rattle.form_arcs.proofs.MarkLaws.{keys-row}
 use Rattle.solve_plan.specs.Marks.{IsItem, Marks}

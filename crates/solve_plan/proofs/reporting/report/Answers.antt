@@ -1,4 +1,4 @@
-use Rattle.std.proofs.Common.{◌≡◌, refl, ap}
+use Rattle.std.proofs.Common.{ap}
 use Rattle.solve_plan.specs.declared.told.Report.{Report}
 use Rattle.solve_plan.proofs.ReportLaws.{report-made, right-columns, right-fits}
 use Rattle.solve_plan.proofs.reporting.report.Goals as goal
