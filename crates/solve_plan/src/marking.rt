@@ -1,0 +1,57 @@
+//! Marks of what stands in lists, and the list of what is marked.
+
+ghost use Rattle.std.specs.Prelude.{◌≡◌, ◌<◌, ◌≤◌, ℕ, IfOk, length, map, slice_index, true};
+ghost use Rattle.std.specs.List.{All};
+ghost use Rattle.form_arcs.specs.Marking.{keys_of, row_of};
+ghost use Rattle.part_rules.specs.Listed.{marked};
+ghost use Rattle.solve_plan.specs.Marks.{AreMembersOf, IsItem, Marks, OfSome};
+
+use cert_text::Items;
+use out_of_memory::NoMemory;
+use std::alloc::Global;
+
+/// Marks each number of a list.
+pub fn mark_numbers(marks: &mut [bool], list: &[usize])
+    requires { All (λ number. number < length marks.old) list.now }
+    ensures { Marks (IsItem list.now) marks.old marks.new }
+{
+    for number in list {
+        marks[*number] = true;
+    }
+}
+
+// Marks the first number of each item.
+fn mark_keys<T>(marks: &mut [bool], items: &[(usize, T)])
+    requires { All (λ item. item.0 < length marks.old) items.now }
+    ensures { Marks (IsItem (keys_of items.now)) marks.old marks.new }
+{
+    for item in items {
+        marks[item.0] = true;
+    }
+}
+
+/// Marks the columns of the entries of each of these rows.
+pub fn mark_rows<T: Drop>(marks: &mut [bool], rows: &[Items<(usize, T)>], list: &[usize])
+    requires list { All (λ i. i < length rows.now) list.now }
+    requires rows { All (All (λ item. item.0 < length marks.old)) rows.now }
+    ensures { Marks (OfSome (length list.now) (λ k. IsItem (row_of (map keys_of rows.now) (slice_index list.now k))))
+        marks.old marks.new }
+{
+    for row in list {
+        mark_keys(marks, rows[*row].as_slice());
+    }
+}
+
+/// The numbers below n that are marked, rising.
+pub fn listed(alloc: Global, marks: &[bool], n: usize) -> Result<Vec<usize>, NoMemory>
+    requires { n ≤ length marks.now }
+    ensures { IfOk result (λ list. AreMembersOf n (λ i. marked marks.now i ≡ true) list.items) }
+{
+    let mut list = Vec::new(alloc);
+    for i in 0..n {
+        if marks[i] {
+            list.push(i)?;
+        }
+    }
+    Ok(list)
+}
