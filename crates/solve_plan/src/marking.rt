@@ -20,25 +20,29 @@ pub fn mark_numbers(marks: &mut [bool], list: &[usize])
     }
 }
 
-// Marks the first number of each item.
-fn mark_keys<T>(marks: &mut [bool], items: &[(usize, T)])
-    requires { All (λ item. item.0 < length marks.old) items.now }
-    ensures { Marks (IsItem (keys_of items.now)) marks.old marks.new }
+// Marks the columns of the entries of a row of a square matrix.
+fn mark_row<T: Drop>(marks: &mut [bool], rows: &[Items<(usize, T)>], row: usize)
+    requires row { row < length rows.now }
+    requires square { length rows.now ≡ length marks.old }
+    requires rows { All (All (λ item. item.0 < length marks.old)) rows.now }
+    ensures { Marks (IsItem (row_of (map keys_of rows.now) row)) marks.old marks.new }
 {
+    let items = rows[row].as_slice();
     for item in items {
         marks[item.0] = true;
     }
 }
 
-/// Marks the columns of the entries of each of these rows.
+/// Marks the columns of the entries of these rows of a square matrix.
 pub fn mark_rows<T: Drop>(marks: &mut [bool], rows: &[Items<(usize, T)>], list: &[usize])
     requires list { All (λ i. i < length rows.now) list.now }
+    requires square { length rows.now ≡ length marks.old }
     requires rows { All (All (λ item. item.0 < length marks.old)) rows.now }
     ensures { Marks (OfSome (length list.now) (λ k. IsItem (row_of (map keys_of rows.now) (slice_index list.now k))))
         marks.old marks.new }
 {
     for row in list {
-        mark_keys(marks, rows[*row].as_slice());
+        mark_row(marks, rows, *row);
     }
 }
 
