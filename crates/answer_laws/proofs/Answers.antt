@@ -1,5 +1,5 @@
 -- What any two answers to one input share.
-use Rattle.std.proofs.Common.{◌≡◌, ℕ, ◌≤◌, List, length, ap, sym, subst, ◌∙◌, lit<}
+use Rattle.std.proofs.Common.{◌≡◌, ℕ, ◌≤◌, List, length, ap, inl, inr, sym, subst, ◌∙◌, lit<}
 use Rattle.residue_field.specs.Modulus.{res_modulus}
 use Rattle.residue_theory.proofs.Primes.{prime_65521}
 use Rattle.mixed_model.specs.Models.{MixedModel, mixed_matrix_of}
@@ -11,29 +11,33 @@ use Rattle.cert_text.specs.Texts.{certificate_text}
 use Rattle.cert_text.specs.Contents.{Certificate}
 use Rattle.cert_text.specs.declared.kind.Kind.{Kind}
 use Rattle.certificate_laws.proofs.AgreedForms.{agreed}
-use Rattle.limits.specs.Limits.{input_limit}
-use Rattle.report_cli.specs.Answer.{IsAnswer, IsReported}
-use Rattle.report_cli.specs.LayerTexts.{layer_text}
-use Rattle.report_cli.specs.Reports.{IsReportFor, report_text}
+use Rattle.report_cli.specs.Formats.{limit_of}
+use Rattle.report_cli.specs.Answer.{HasText, IsAnswer, IsAnswerOf, IsOutputText}
+use Rattle.answer_texts.specs.LayerTexts.{layer_text}
+use Rattle.report_cli.specs.Outputs.{IsOutputFor, output_text}
 use Rattle.report_cli.specs.RightFor.{IsRightFor}
 use Rattle.report_cli.specs.Rooms.{text_room}
-use Rattle.report_cli.specs.WholeLayers.{AreWholeLayers}
+use Rattle.answer_texts.specs.WholeLayers.{AreWholeLayers}
 use Rattle.report_cli.specs.Kinds.{Gives}
-use Rattle.report_cli.specs.Words.{AsksFor, kind_of}
+use Rattle.report_cli.specs.Words.{AsksFor, format_of}
 use Rattle.report_cli.specs.declared.command.Command.{Command}
-use Rattle.report_cli.specs.declared.command.Command.TheVariants.{Analyse, Layer}
-use Rattle.report_cli.specs.declared.report.Report.{Report}
-use Rattle.report_cli.specs.declared.report.Report.TheVariants.{Certificate as Certified, Layers as Layering}
+use Rattle.report_cli.specs.declared.command.Command.TheVariants.{OfModel}
+use Rattle.report_cli.specs.declared.command.Task.{Task}
+use Rattle.report_cli.specs.declared.command.Task.TheVariants.{Analyse, Layer}
+use Rattle.report_cli.specs.declared.output.Output.{Output}
+use Rattle.report_cli.specs.declared.output.Output.TheVariants.{Accepted, Certificate as Certified, Layers as Layering, Plan as Planning, Report as Reporting}
+use Rattle.report_cli.specs.declared.status.Status.{Status}
 use Rattle.report_cli.specs.declared.status.Status.TheVariants.{Done}
 use Rattle.report_cli.proofs.Asking.{asks-one}
-use Rattle.report_cli.proofs.ByKind.{gives-one}
-use Rattle.report_cli.proofs.TextRooms.{report_fits}
+use Rattle.report_cli.proofs.RunWords.{of_command}
+use Rattle.input_kinds.proofs.ByKind.{gives-one}
+use Rattle.report_cli.proofs.TextRooms.{output_fits}
 use Rattle.answer_laws.specs.Agreement.{AreAgreed}
 use Rattle.answer_laws.proofs.OneLayerText.{one-layers}
 
 -- what a command reports in an answer
-reported_by : (words : List (List ℕ)) (command : Command) (input text : List ℕ) → AsksFor words command → IsAnswer words input Done text → IsReported command input text
-reported_by words command input text asks answer = subst (λ c. IsReported c input text) (asks-one words answer.0 command answer.1 asks) answer.2.1
+reported_by : (words : List (List ℕ)) (command : Command) (input text : List ℕ) → AsksFor words command → IsAnswer words input Done text → IsOutputText command input Done text
+reported_by words command input text asks answer = subst (λ c. IsOutputText c input Done text) (asks-one words answer.0 command answer.1 asks) answer.2.1
 
 -- an answer of `analyse` is the text of a certificate that is right
 pub record IsCertified (kind : Kind) (input text : List ℕ) : Type 0 where
@@ -41,14 +45,25 @@ pub record IsCertified (kind : Kind) (input text : List ℕ) : Type 0 where
   pub text_is : text ≡ certificate_text certificate
   pub right : IsRightFor kind input certificate
 
-certified : (kind : Kind) (input text : List ℕ) (report : Report) → IsReportFor (Analyse kind) input report → text ≡ report_text report → IsCertified kind input text
-certified kind input text (Certified certificate) right text_is = record { certificate = certificate; text_is = text_is; right = right }
-certified kind input text (Layering model layers) right text_is = absurd right
+-- one kind has one command
+same-kind : (task : Task) (kind other : Kind) → OfModel task kind ≡ OfModel task other → other ≡ kind
+same-kind task kind other is = cc
 
-pub analysed : (words : List (List ℕ)) (kind : Kind) (input text : List ℕ) → AsksFor words (Analyse kind) → IsAnswer words input Done text → IsCertified kind input text
+certified : (kind : Kind) (input text : List ℕ) (output : Output) → IsOutputFor (OfModel Analyse kind) input output → text ≡ output_text output → IsCertified kind input text
+certified kind input text (Certified certificate) (other, is, right) text_is = record {
+  certificate = certificate;
+  text_is = text_is;
+  right = subst (λ k. IsRightFor k input certificate) (same-kind Analyse kind other is) right;
+}
+certified kind input text (Layering model layers) (other, is, gives, are, whole) text_is = absurd cc
+certified kind input text (Reporting model told) (other, is, gives, reports) text_is = absurd cc
+certified kind input text (Planning model layers plan) (other, is, right) text_is = absurd cc
+certified kind input text Accepted (is, right) text_is = absurd cc
+
+pub analysed : (words : List (List ℕ)) (kind : Kind) (input text : List ℕ) → AsksFor words (OfModel Analyse kind) → IsAnswer words input Done text → IsCertified kind input text
 analysed words kind input text asks answer =
-    let reported = reported_by words (Analyse kind) input text asks answer in
-    certified kind input text reported.report reported.right reported.text_is
+    let reported = reported_by words (OfModel Analyse kind) input text asks answer in
+    certified kind input text reported.output reported.right reported.text_is
 
 -- an answer of `layer` is the text of whole layers
 pub record IsLayered (kind : Kind) (input text : List ℕ) : Type 0 where
@@ -59,22 +74,32 @@ pub record IsLayered (kind : Kind) (input text : List ℕ) : Type 0 where
   pub are : AreLayersOf model layers
   pub whole : AreWholeLayers layers
 
-layering : (kind : Kind) (input text : List ℕ) (report : Report) → IsReportFor (Layer kind) input report → text ≡ report_text report → IsLayered kind input text
-layering kind input text (Certified certificate) right text_is = absurd right
-layering kind input text (Layering model layers) right text_is = record { model = model; layers = layers; text_is = text_is; gives = right.0; are = right.1; whole = right.2 }
+layering : (kind : Kind) (input text : List ℕ) (output : Output) → IsOutputFor (OfModel Layer kind) input output → text ≡ output_text output → IsLayered kind input text
+layering kind input text (Certified certificate) (other, is, right) text_is = absurd cc
+layering kind input text (Layering model layers) (other, is, gives, are, whole) text_is = record {
+  model = model;
+  layers = layers;
+  text_is = text_is;
+  gives = subst (λ k. Gives k input model) (same-kind Layer kind other is) gives;
+  are = are;
+  whole = whole;
+}
+layering kind input text (Reporting model told) (other, is, gives, reports) text_is = absurd cc
+layering kind input text (Planning model layers plan) (other, is, right) text_is = absurd cc
+layering kind input text Accepted (is, right) text_is = absurd cc
 
-pub layered : (words : List (List ℕ)) (kind : Kind) (input text : List ℕ) → AsksFor words (Layer kind) → IsAnswer words input Done text → IsLayered kind input text
+pub layered : (words : List (List ℕ)) (kind : Kind) (input text : List ℕ) → AsksFor words (OfModel Layer kind) → IsAnswer words input Done text → IsLayered kind input text
 layered words kind input text asks answer =
-    let reported = reported_by words (Layer kind) input text asks answer in
-    layering kind input text reported.report reported.right reported.text_is
+    let reported = reported_by words (OfModel Layer kind) input text asks answer in
+    layering kind input text reported.output reported.right reported.text_is
 
-pub agreeing : (words : List (List ℕ)) (kind : Kind) (input text other : List ℕ) → AsksFor words (Analyse kind) → IsAnswer words input Done text → IsAnswer words input Done other → AreAgreed kind input text other
+pub agreeing : (words : List (List ℕ)) (kind : Kind) (input text other : List ℕ) → AsksFor words (OfModel Analyse kind) → IsAnswer words input Done text → IsAnswer words input Done other → AreAgreed kind input text other
 agreeing words kind input text other asks first second =
     let one = analysed words kind input text asks first in
     let two = analysed words kind input other asks second in
     let a = one.right in
     let b = two.right in
-    let same : b.model ≡ a.model = gives-one kind input b.model a.model b.gives a.gives in
+    let same : b.model ≡ a.model = gives-one res_modulus kind input b.model a.model b.gives a.gives in
     let layers : IsLayeredMatrixOf (mixed_matrix_of a.model) b.layered b.origins = subst (λ m. IsLayeredMatrixOf (mixed_matrix_of m) b.layered b.origins) same b.layers in
     let right : IsRightCcf res_modulus (mixed_matrix_of a.model) b.layered b.origins (two.certificate).ccf =
     subst (λ m. IsRightCcf res_modulus (mixed_matrix_of m) b.layered b.origins (two.certificate).ccf) same b.right in
@@ -93,16 +118,27 @@ pub one-layer-text : (model : MixedModel) (layers others : Layers) → AreLayers
     layer_text model layers ≡ layer_text model others
 one-layer-text model layers others are whole them complete = ap (layer_text model) (one-layers model layers others are whole them complete)
 
-pub one-answer : (words : List (List ℕ)) (kind : Kind) (input text other : List ℕ) → AsksFor words (Layer kind) → IsAnswer words input Done text → IsAnswer words input Done other → text ≡ other
+pub one-answer : (words : List (List ℕ)) (kind : Kind) (input text other : List ℕ) → AsksFor words (OfModel Layer kind) → IsAnswer words input Done text → IsAnswer words input Done other → text ≡ other
 one-answer words kind input text other asks first second =
     let one = layered words kind input text asks first in
     let two = layered words kind input other asks second in
-    let same : two.model ≡ one.model = gives-one kind input two.model one.model two.gives one.gives in
+    let same : two.model ≡ one.model = gives-one res_modulus kind input two.model one.model two.gives one.gives in
     one.text_is ∙ one-layer-text one.model one.layers two.layers one.are one.whole (subst (λ m. AreLayersOf m two.layers) same two.are) two.whole
     ∙ sym (two.text_is ∙ ap (λ m. layer_text m two.layers) same)
 
-pub fitting : (words : List (List ℕ)) (command : Command) (input text : List ℕ) → AsksFor words command → IsAnswer words input Done text → length text ≤ text_room (kind_of command) (length input)
-fitting words command input text asks answer =
-    let reported : IsReported command input text = reported_by words command input text asks answer in
-    let short : length input ≤ input_limit = answer.2.0 in
-    subst (λ t. length t ≤ text_room (kind_of command) (length input)) (sym reported.text_is) (report_fits command input reported.report reported.right short)
+-- a text that is written is that of an output for an input that is not too long
+is-written : (command : Command) (input : List ℕ) (status : Status) (text : List ℕ) → HasText status → IsAnswerOf command input status text →
+    (length input ≤ limit_of (format_of command)) × IsOutputText command input status text
+is-written command input status text (inl done) answer =
+    subst (λ s. (length input ≤ limit_of (format_of command)) × IsOutputText command input s text) (sym done)
+    (subst (λ s. IsAnswerOf command input s text) done answer)
+is-written command input status text (inr other) answer =
+    subst (λ s. (length input ≤ limit_of (format_of command)) × IsOutputText command input s text) (sym other)
+    (subst (λ s. IsAnswerOf command input s text) other answer)
+
+pub fitting : (words : List (List ℕ)) (command : Command) (input : List ℕ) (status : Status) (text : List ℕ) → AsksFor words command → HasText status →
+    IsAnswer words input status text → length text ≤ text_room command (length input)
+fitting words command input status text asks has answer =
+    let written = is-written command input status text has (of_command words command input status text asks answer) in
+    subst (λ t. length t ≤ text_room command (length input)) (sym (written.1).text_is)
+    (output_fits command input (written.1).output (written.1).right written.0)

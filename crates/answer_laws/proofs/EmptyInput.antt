@@ -14,7 +14,8 @@ use Rattle.cert_text.specs.declared.shape.Shape.{Shape}
 use Rattle.report_cli.specs.Answer.{IsAnswer}
 use Rattle.report_cli.specs.RightFor.{IsRightFor}
 use Rattle.report_cli.specs.Words.{AsksFor}
-use Rattle.report_cli.specs.declared.command.Command.TheVariants.{Analyse}
+use Rattle.report_cli.specs.declared.command.Command.TheVariants.{OfModel}
+use Rattle.report_cli.specs.declared.command.Task.TheVariants.{Analyse}
 use Rattle.report_cli.specs.declared.status.Status.TheVariants.{Done}
 use Rattle.report_cli.proofs.ByKind.{no-names}
 use Rattle.report_cli.proofs.TextRooms.{members-few}
@@ -126,5 +127,5 @@ empty-certificate kind c right =
     ∙ ap (λ x. text_with kind [] S 0 [] [] [] x) (empty-parts c.ccf is (shape.q_rows ∙ q) (shape.t_rows ∙ t) (shape.columns ∙ n))
     ∙ nothing-text kind
 
-pub empty-answer : (words : List (List ℕ)) (kind : Kind) (text : List ℕ) → AsksFor words (Analyse kind) → IsAnswer words [] Done text → text ≡ empty_text kind
+pub empty-answer : (words : List (List ℕ)) (kind : Kind) (text : List ℕ) → AsksFor words (OfModel Analyse kind) → IsAnswer words [] Done text → text ≡ empty_text kind
 empty-answer words kind text asks answer = let one = analysed words kind [] text asks answer in one.text_is ∙ empty-certificate kind one.certificate one.right

@@ -20,10 +20,10 @@ use Rattle.cert_text.specs.Texts.{certificate_text, matrices_text, parts_text}
 use Rattle.cert_text.specs.Contents.{Certificate}
 use Rattle.cert_text.specs.declared.kind.Kind.TheVariants.{Matrix}
 use Rattle.cert_text.specs.declared.shape.Shape.{Shape}
-use Rattle.report_cli.specs.LayerTexts.{column_lines, layer_text, q_line, row_lines, t_line}
+use Rattle.answer_texts.specs.LayerTexts.{column_lines, layer_text, q_line, row_lines, t_line}
 use Rattle.report_cli.specs.RightFor.{IsRightFor}
-use Rattle.report_cli.specs.WholeLayers.{AreWholeLayers}
-use Rattle.report_cli.proofs.LayerPieces.{got_or}
+use Rattle.answer_texts.specs.WholeLayers.{AreWholeLayers}
+use Rattle.answer_texts.proofs.LayerPieces.{got_or}
 use Rattle.answer_laws.specs.NoAnswers.{NoListLeavesItsRange, NoColumnLineIsMadeUp, one_equation, out_of_range}
 use Rattle.answer_laws.proofs.Answers.{analysed, layered}
 use Rattle.answer_laws.proofs.EmptyInput.{empty-pairs, one-shape, text-with, text_with}

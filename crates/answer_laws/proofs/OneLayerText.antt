@@ -12,9 +12,9 @@ use Rattle.mixed_model.specs.declared.origin.Origin.TheVariants.{Unknown, Split}
 use Rattle.mixed_layering.specs.Layers.{AreLayersOf, origins_of}
 use Rattle.certificate_laws.proofs.OneMatrix.{AreOneMatrix, are-one}
 use Rattle.certificate_laws.proofs.RisingLists.{same-lists}
-use Rattle.report_cli.specs.WholeLayers.{AreWholeLayers}
+use Rattle.answer_texts.specs.WholeLayers.{AreWholeLayers}
 use Rattle.mixed_layering.proofs.EntryLaws.{row_long}
-use Rattle.report_cli.proofs.LayerPieces.{got_or}
+use Rattle.answer_texts.proofs.LayerPieces.{got_or}
 
 module _ (model : MixedModel) (layers others : Layers) (are : AreLayersOf model layers) (whole : AreWholeLayers layers) (them : AreLayersOf model others) (complete : AreWholeLayers others) where
   same : AreOneMatrix (layered_matrix_of layers) (layered_matrix_of others) (origins_of layers are.split) (origins_of others them.split)

@@ -7,7 +7,8 @@ use Rattle.certificate_laws.specs.Agreement.{Agree}
 use Rattle.report_cli.specs.Answer.{IsAnswer}
 use Rattle.report_cli.specs.RightFor.{IsRightFor}
 use Rattle.report_cli.specs.Words.{AsksFor}
-use Rattle.report_cli.specs.declared.command.Command.TheVariants.{Analyse, Layer}
+use Rattle.report_cli.specs.declared.command.Command.TheVariants.{OfModel}
+use Rattle.report_cli.specs.declared.command.Task.TheVariants.{Analyse, Layer}
 use Rattle.report_cli.specs.declared.status.Status.TheVariants.{Done}
 
 -- the texts are those of two certificates, both right for the input of this kind, that agree
@@ -22,10 +23,10 @@ pub record AreAgreed (kind : Kind) (input text other : List ℕ) : Type 0 where
 
 abbrev pub AnswersOfAnalyseAgree : Type 0
 AnswersOfAnalyseAgree =
-    (words : List (List ℕ)) (kind : Kind) (input text other : List ℕ) → AsksFor words (Analyse kind) →
+    (words : List (List ℕ)) (kind : Kind) (input text other : List ℕ) → AsksFor words (OfModel Analyse kind) →
     IsAnswer words input Done text → IsAnswer words input Done other → AreAgreed kind input text other
 
 abbrev pub AnswersOfLayerAreOne : Type 0
 AnswersOfLayerAreOne =
-    (words : List (List ℕ)) (kind : Kind) (input text other : List ℕ) → AsksFor words (Layer kind) →
+    (words : List (List ℕ)) (kind : Kind) (input text other : List ℕ) → AsksFor words (OfModel Layer kind) →
     IsAnswer words input Done text → IsAnswer words input Done other → text ≡ other

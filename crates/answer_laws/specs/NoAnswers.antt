@@ -6,7 +6,8 @@ use Rattle.cert_text.specs.declared.kind.Kind.TheVariants.{Matrix}
 use Rattle.report_cli.specs.Answer.{IsAnswer}
 use Rattle.report_cli.specs.Words.{AsksFor}
 use Rattle.report_cli.specs.declared.command.Command.{Command}
-use Rattle.report_cli.specs.declared.command.Command.TheVariants.{Analyse, Layer}
+use Rattle.report_cli.specs.declared.command.Command.TheVariants.{OfModel}
+use Rattle.report_cli.specs.declared.command.Task.TheVariants.{Analyse, Layer}
 use Rattle.report_cli.specs.declared.status.Status.TheVariants.{Done}
 
 -- the command never answers this input by this text
@@ -26,18 +27,19 @@ empty_text kind = empty_certificate kind (codes "first |\nlast |\n")
 -- the empty input has that certificate alone
 abbrev pub TheEmptyInputHasOneAnswer : Type 0
 TheEmptyInputHasOneAnswer =
-    (words : List (List ℕ)) (kind : Kind) (text : List ℕ) → AsksFor words (Analyse kind) → IsAnswer words [] Done text →
-    text ≡ empty_text kind
+    (words : List (List ℕ)) (kind : Kind) (text : List ℕ) → AsksFor words (OfModel Analyse kind) →
+    IsAnswer words [] Done text → text ≡ empty_text kind
 
 -- a first tail with a column that is not there
 abbrev pub NoColumnIsMadeUp : Type 0
 NoColumnIsMadeUp =
-    (kind : Kind) → NeverAnswers (Analyse kind) [] (empty_certificate kind (codes "first 6 |\nlast |\n"))
+    (kind : Kind) → NeverAnswers (OfModel Analyse kind) [] (empty_certificate kind (codes "first 6 |\nlast |\n"))
 
 -- a block of nothing
 abbrev pub NoBlockIsEmpty : Type 0
 NoBlockIsEmpty =
-    (kind : Kind) → NeverAnswers (Analyse kind) [] (empty_certificate kind (codes "first |\nblock 1: | |\nlast |\n"))
+    (kind : Kind) →
+    NeverAnswers (OfModel Analyse kind) [] (empty_certificate kind (codes "first |\nblock 1: | |\nlast |\n"))
 
 -- one equation in one unknown, as an equation list
 abbrev pub one_equation : List ℕ
@@ -50,8 +52,8 @@ out_of_range =
     ++ codes "S 1: 1=1 1=5\nU 1: 1=1\nP 1: 1=1 8=1\nfirst 9 9 |\nblock 1: 1 | q1 |\nlast |\nend\n"
 
 abbrev pub NoListLeavesItsRange : Type 0
-NoListLeavesItsRange = NeverAnswers (Analyse Matrix) one_equation out_of_range
+NoListLeavesItsRange = NeverAnswers (OfModel Analyse Matrix) one_equation out_of_range
 
 -- a line for a column that is not there
 abbrev pub NoColumnLineIsMadeUp : Type 0
-NoColumnLineIsMadeUp = NeverAnswers (Layer Matrix) one_equation (codes "columns 1\nc1 x\nc2 x\nq1 a 1=1\n")
+NoColumnLineIsMadeUp = NeverAnswers (OfModel Layer Matrix) one_equation (codes "columns 1\nc1 x\nc2 x\nq1 a 1=1\n")

@@ -3,8 +3,8 @@ use Rattle.std.specs.Prelude.{◌≡◌}
 use Rattle.mixed_layering.specs.Layers.{AreLayersOf}
 use Rattle.mixed_model.specs.Layers.{Layers}
 use Rattle.mixed_model.specs.Models.{MixedModel}
-use Rattle.report_cli.specs.LayerTexts.{layer_text}
-use Rattle.report_cli.specs.WholeLayers.{AreWholeLayers}
+use Rattle.answer_texts.specs.LayerTexts.{layer_text}
+use Rattle.answer_texts.specs.WholeLayers.{AreWholeLayers}
 
 abbrev pub ModelsHaveOneLayerText : Type 0
 ModelsHaveOneLayerText =

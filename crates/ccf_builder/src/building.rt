@@ -4,6 +4,7 @@ ghost use Rattle.std.specs.Prelude.{◌≡◌, ◌≤◌, ◌+◌, ◌-◌, leng
 ghost use Rattle.limits.specs.Limits.{column_limit};
 ghost use Rattle.exchange_graph.specs.Results.{reached_of};
 ghost use Rattle.mixed_model.specs.Layers.{layered_matrix_of, split_of};
+ghost use Rattle.cert_checker.specs.Answers.{IsRightFor};
 ghost use Rattle.cert_text.specs.Contents.{numbered_rows};
 ghost use Rattle.cert_text.specs.Right.{HasShape, HasTransform, HasPairAndRank, HasForm, HasIdeals, HasCanonicalListing, IsRightCcf};
 ghost use Rattle.minimiser_lattice.specs.Views.{parts_in};
@@ -24,8 +25,8 @@ use residue_field::Field;
 use row_transform::Tableau;
 use std::alloc::Global;
 
-/// The canonical form of the layered matrix of a model: it is right for each model of which this is the layered matrix.
-/// Any tableau does, as `build::<F, DenseTableau<F>>`. (Murota, chapters 2 and 4.)
+/// The canonical form of the layered matrix of a model: it is right for each model of which this is the layered matrix, and
+/// `cert_checker::check` accepts it. Any tableau does, as `build::<F, DenseTableau<F>>`. (Murota, chapters 2 and 4.)
 pub fn build<F: Field, T: Tableau<F>>(alloc: Global, l: &Layered<F>) -> Result<Ccf<F>, NoMemory>
     requires { IsOfModel F.modulus l.now }
     ensures shape { IfOk result (λ c.
@@ -36,8 +37,12 @@ pub fn build<F: Field, T: Tableau<F>>(alloc: Global, l: &Layered<F>) -> Result<C
     ensures block_triangular_form { IfOk result (HasForm F.modulus (layered_matrix_of l.now)) }
     ensures ideals { IfOk result (HasIdeals F.modulus (layered_matrix_of l.now)) }
     ensures canonical_listing { IfOk result (HasCanonicalListing F.modulus (layered_matrix_of l.now)) }
+    ensures accepted { IfOk result (λ c. OfEachModel F.modulus l.now (λ M O. IsRightFor F.modulus M c)) }
 {
-    built::<F, T>(alloc, l)
+    let form = built::<F, T>(alloc, l)?;
+    // it tells the ranges of the lines
+    let _shape = form.shape();
+    Ok(form)
 }
 
 // The same, with all that makes it right in one.

@@ -2,9 +2,7 @@
 use Rattle.std.proofs.Common.{◌≡◌, ℕ, ◌+◌, ◌*◌, ◌%◌, ◌<◌, ◌↔◌, List, slice_index, ap, sym, subst, ◌∙◌, arith}
 use Rattle.std.proofs.Math.Nat.{add-mod-mod, mod-add-mod, zero-mod}
 use Rattle.std.proofs.lemmas.Nat.{mul-mod_first}
-use Rattle.residue_theory.specs.Sets.{everything}
 use Rattle.residue_theory.specs.Sums.{sum_below}
-use Rattle.residue_theory.proofs.SumLaws.{sum_on-ext}
 use Rattle.linear_algebra.specs.Products.{Agree, IsInverse, identity, product}
 use Rattle.cert_text.specs.Readings.{entry_at, matrix_of}
 use Rattle.cert_checker.specs.Gathering.{IsAdded, IsGathered, IsZeroRow, IsCombination}
@@ -65,21 +63,11 @@ combination_as p k rows n m a b c d size first second is =
     subst (λ i. IsCombination p k i b rows d) size (subst (λ x. IsCombination p k n x rows d) first (subst (λ x. IsCombination p k n a rows x) second is))
 
 -- ---- products of matrices that have the same entries
-product-same : (k : ℕ) (S a b : ℕ → ℕ → ℕ) (i j : ℕ) → ((t : ℕ) → t < k → a t j ≡ b t j) → product k S a i j ≡ product k S b i j
-product-same k S a b i j same = sum_on-ext everything k (λ t. S i t * a t j) (λ t. S i t * b t j) (λ t tl h. ap (λ x. S i t * x) (same t tl))
-
 -- a third matrix that prints the unit matrix
 pub inverse-iff : (p m : ℕ) (S U I : ℕ → ℕ → ℕ) → ((i j : ℕ) → i < m → j < m → I i j ≡ identity i j) → Agree p m m I (product m S U) ↔ IsInverse p m S U
 inverse-iff p m S U I same = (
   λ h i j il jl. sym (h i j il jl) ∙ ap (λ x. x % p) (same i j il jl),
   λ h i j il jl. ap (λ x. x % p) (same i j il jl) ∙ sym (h i j il jl),
-)
-
--- a second matrix that prints the one of the product
-pub product-iff : (p m n k : ℕ) (P S a b : ℕ → ℕ → ℕ) → ((t j : ℕ) → t < k → j < n → a t j ≡ b t j) → Agree p m n P (product k S a) ↔ Agree p m n P (product k S b)
-product-iff p m n k P S a b same = (
-  λ h i j il jl. h i j il jl ∙ ap (λ x. x % p) (product-same k S a b i j (λ t tl. same t j tl jl)),
-  λ h i j il jl. h i j il jl ∙ ap (λ x. x % p) (sym (product-same k S a b i j (λ t tl. same t j tl jl))),
 )
 
 -- c is the product of a and b, where a has k columns
@@ -96,11 +84,3 @@ product_as p c d a b u v m x n y k z rows columns middle third first second =
     (subst (λ r. IsProductOf p m n k c a u ↔ IsProductOf p m n k r b v) third
     (subst (λ r. IsProductOf p m n k c a u ↔ IsProductOf p m n k c r v) first
     (subst (λ r. IsProductOf p m n k c a u ↔ IsProductOf p m n k c a r) second (λ h. h, λ h. h))))))
-
--- and a second matrix that prints Q
-pub transformed-iff : (p : ℕ) (c d a b u v : List (List (ℕ × ℕ))) (m x n y k z : ℕ) → m ≡ x → n ≡ y → k ≡ z → c ≡ d → a ≡ b → u ≡ v → (Q : ℕ → ℕ → ℕ) →
-    ((t j : ℕ) → t < z → j < y → matrix_of v t j ≡ Q t j) → Agree p m n (matrix_of c) (product k (matrix_of a) (matrix_of u)) ↔ Agree p x y (matrix_of d) (product z (matrix_of b) Q)
-transformed-iff p c d a b u v m x n y k z rows columns middle third first second Q same =
-    let words = product_as p c d a b u v m x n y k z rows columns middle third first second in
-    let entries = product-iff p x y z (matrix_of d) (matrix_of b) (matrix_of v) Q same in
-    (λ h. entries.0 (words.0 h), λ h. words.1 (entries.1 h))

@@ -1,39 +1,8 @@
 -- Rising lists of numbers.
-use Rattle.std.proofs.Common.{◌≡◌, ℕ, zero, suc, ◌+◌, ◌<◌, ◌≤◌, List, [], ◌∷◌, ◌++◌, length, map, get_or, slice_index, inl, inr, sym, subst, arith}
+use Rattle.std.proofs.Common.{◌≡◌, ℕ, zero, suc, ◌+◌, ◌<◌, ◌≤◌, List, length, map, slice_index, sym, subst, arith}
 use Rattle.std.specs.List.Sorted.{IsStrictlyIncreasing}
-use Rattle.std.proofs.lemmas.List.{get_or_append_left, get_or_push, get_or-map, length_push, length-map}
-use Rattle.std.proofs.lemmas.List.Elements.{All-from_get_or}
-use Rattle.residue_theory.proofs.SetLaws.{lt_cases}
-use Rattle.cert_text.specs.Ranges.{ArePairs, AreRising}
-
--- one more number, at the end
-pub rising-push : (n m x : ℕ) (xs : List ℕ) → AreRising n xs → n ≤ x → x < m → AreRising m (xs ++ x ∷ [])
-rising-push n m x xs are from low = record {
-  rising = λ k kl.
-      let long : length (xs ++ x ∷ []) ≡ length xs + 1 = length_push xs x in
-      let here : k < length xs = omega (arith, kl, long) in
-      let at_k : get_or (xs ++ x ∷ []) k 0 ≡ get_or xs k 0 = get_or_append_left xs (x ∷ []) 0 k here in
-      elim (lt_cases (k + 1) (length xs)) [
-        | inl less ↦
-            let at_next : get_or (xs ++ x ∷ []) (k + 1) 0 ≡ get_or xs (k + 1) 0 = get_or_append_left xs (x ∷ []) 0 (k + 1) less in
-            omega (arith, at_k, at_next, are.rising k less)
-        | inr more ↦
-            let last : length xs ≡ k + 1 = omega (arith, more, here) in
-            let at_next : get_or (xs ++ x ∷ []) (k + 1) 0 ≡ x = get_or_push xs x 0 (k + 1) last in
-            omega (arith, at_k, at_next, are.below k 0 here, from)
-      ];
-  below = All-from_get_or (λ y. y < m) (xs ++ x ∷ []) 0 (λ k kl.
-      let long : length (xs ++ x ∷ []) ≡ length xs + 1 = length_push xs x in
-      elim (lt_cases k (length xs)) [
-        | inl less ↦
-            let at_k : get_or (xs ++ x ∷ []) k 0 ≡ get_or xs k 0 = get_or_append_left xs (x ∷ []) 0 k less in
-            omega (arith, at_k, are.below k 0 less, from, low)
-        | inr more ↦
-            let last : length xs ≡ k = omega (arith, more, kl, long) in
-            let at_k : get_or (xs ++ x ∷ []) k 0 ≡ x = get_or_push xs x 0 k last in
-            omega (arith, at_k, low)
-      ]);
-}
+use Rattle.std.proofs.lemmas.List.{get_or-map, length-map}
+use Rattle.cert_text.specs.Ranges.{ArePairs}
 
 -- each number of a rising list is at least its place
 at_least : (xs : List ℕ) → IsStrictlyIncreasing xs → (k : ℕ) → k < length xs → k ≤ slice_index xs k

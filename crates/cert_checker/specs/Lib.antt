@@ -1,5 +1,4 @@
 pub mod Gathering
-pub mod Matrices
 pub mod Units
 pub mod Standing
 pub mod Placing

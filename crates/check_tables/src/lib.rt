@@ -1,6 +1,11 @@
-//! What the checker says of certificates that are right, and of such that are altered. The tests stand in a crate of their
-//! own, so that a row more does not prove the checker again.
+//! What a run of `mixed check` says of certificates that are right, and of such that are altered.
 #![tactic(auto)]
 
+#[cfg(test)]
+mod examples;
+#[cfg(test)]
+mod inputs;
+#[cfg(test)]
+mod running;
 #[cfg(test)]
 mod tests;

@@ -1,17 +1,13 @@
-//! Certificates with altered lines, and the rule that each breaks first.
+//! Certificates with altered lines, and what a run of `mixed check` says of each.
 
-ghost use Rattle.std.specs.Prelude.{◌≤◌, IfOk, length};
-ghost use Rattle.limits.specs.Limits.{input_limit};
-
-use cert_checker::{CheckError, check};
-use cert_reader::{CERTIFICATE_LIMIT, read};
-use cert_text::Certificate;
-use matrix_reader::read as read_list;
-use mixed_model::Mixed;
-use residue_field::Res;
+use crate::running::{expect_accepted, expect_refused};
 use std::alloc::Global;
 use std::process::Abort;
 use std::test::Fail;
+
+/// A right certificate: nothing.
+const EMPTY: &str =
+    "mixed-certificate 1\nkind matrix\nlength 0\n\nshape 0 0 0 0 0\nrank 0\nbase\nmatch\nfirst |\nlast |\nend\n";
 
 /// A right certificate: one constant.
 const CONSTANT: &str =
@@ -28,34 +24,6 @@ const TRIANGLE: &str =
 /// A right certificate: two equations, of which the second has a number and a symbol.
 const MIXED: &str =
     "mixed-certificate 1\nkind matrix\nlength 26\neq a x=1 y=1\neq b x=1 y=?\n\nshape 2 2 2 1 3\nrank 2\nbase 1=1 2=2\nmatch 1=3\nS 1: 2=1\nS 2: 1=1 2=65520\nU 1: 1=1 2=1\nU 2: 1=1\nP 1: 1=1 3=1\nP 2: 2=1 3=65520\nT 1: 2 3\nfirst |\nblock 1: 1 | q1 |\nblock 2: 2 3 | q2 t1 | 1\nlast |\nend\n";
-
-// The model of a list.
-fn model_of(alloc: Global, list: &[u8]) -> Result<Mixed<Res>, Fail>
-    requires { length list.now ≤ input_limit }
-{
-    match read_list(alloc, list) {
-        Ok(model) => Ok(model),
-        Err(_) => Err(Fail::from("the echo is a list")),
-    }
-}
-
-// The certificate of a text.
-fn certificate_of(rt: &impl Abort, alloc: Global, text: &str) -> Result<Certificate<Res>, Fail>
-    ensures { IfOk result (λ certificate. length certificate.echo ≤ input_limit) }
-{
-    assert!(rt; text.len() <= CERTIFICATE_LIMIT);
-    match read(alloc, text.as_bytes()) {
-        Ok(certificate) => Ok(certificate),
-        Err(_) => Err(Fail::from("it is a certificate")),
-    }
-}
-
-// What the checker says of the certificate of a text.
-fn checked(rt: &impl Abort, alloc: Global, text: &str) -> Result<Result<(), CheckError>, Fail> {
-    let certificate = certificate_of(rt, alloc, text)?;
-    let model = model_of(alloc, certificate.echo.as_slice())?;
-    Ok(check(alloc, &model, &certificate.ccf))
-}
 
 // The text with other lines in the place of some.
 fn altered(alloc: Global, text: &str, lines: &[(&str, &str)]) -> Result<String, Fail> {
@@ -76,18 +44,27 @@ fn expect_broken(
     lines: &[(&str, &str)],
 ) -> Result<(), Fail> {
     let now = altered(alloc, text, lines)?;
-    assert_eq!(rt;
-        checked(rt, alloc, &now)?,
-        Err(CheckError::Reject { rule }),
-        "{lines:?}"
-    );
-    Ok(())
+    let notes = format!(in alloc; "mixed: rejected by rule {rule}\n")?;
+    expect_refused(rt, alloc, now.as_bytes(), 7, notes.as_bytes())
+}
+
+// That no certificate has the text with these lines, and that this line is the first that is refused.
+fn expect_unread(
+    rt: &impl Abort,
+    alloc: Global,
+    text: &str,
+    line: u32,
+    lines: &[(&str, &str)],
+) -> Result<(), Fail> {
+    let now = altered(alloc, text, lines)?;
+    let notes = format!(in alloc; "mixed: line {line}: not a certificate line\n")?;
+    expect_refused(rt, alloc, now.as_bytes(), 3, notes.as_bytes())
 }
 
 #[test]
 fn right_certificates_are_taken(rt: HostRuntime) -> Result<(), Fail> {
-    for text in [CONSTANT, LOOSE, TRIANGLE, MIXED] {
-        assert_eq!(rt; checked(&rt, rt.alloc(), text)?, Ok(()));
+    for text in [EMPTY, CONSTANT, LOOSE, TRIANGLE, MIXED] {
+        expect_accepted(&rt, rt.alloc(), text.as_bytes())?;
     }
     Ok(())
 }
@@ -106,13 +83,13 @@ fn a_right_certificate_of_another_program_is_taken(rt: HostRuntime) -> Result<()
         ("P 2: 2=1 3=65520", "P 2: 2=65520 3=1"),
     ];
     let text = altered(rt.alloc(), MIXED, lines)?;
-    assert_eq!(rt; checked(&rt, rt.alloc(), &text)?, Ok(()));
-    Ok(())
+    expect_accepted(&rt, rt.alloc(), text.as_bytes())
 }
 
 #[test]
 fn rules_of_sizes_and_matrices_are_broken_first(rt: HostRuntime) -> Result<(), Fail> {
     let alloc = rt.alloc();
+    expect_broken(&rt, alloc, LOOSE, 1, &[("eq b", "eq a")])?;
     expect_broken(
         &rt,
         alloc,
@@ -225,4 +202,42 @@ fn rules_of_parts_are_broken_first(rt: HostRuntime) -> Result<(), Fail> {
             ("2: 2 | t2 |", "2: 1 | t1 |"),
         ],
     )
+}
+
+#[test]
+fn lines_that_are_refused(rt: HostRuntime) -> Result<(), Fail> {
+    let alloc = rt.alloc();
+    expect_unread(&rt, alloc, LOOSE, 5, &[("length 18", "length 17")])?;
+    expect_unread(&rt, alloc, LOOSE, 15, &[("\nend\n", "\n")])?;
+    expect_unread(
+        &rt,
+        alloc,
+        EMPTY,
+        9,
+        &[("shape 0 0 0 0 0", "shape 4096 4096 4096 4096 8192")],
+    )?;
+    expect_unread(&rt, alloc, CONSTANT, 4, &[("length 9", "length 8388608")])?;
+    // a certificate of its own behind the first, and nothing at all
+    expect_unread(&rt, alloc, CONSTANT, 16, &[("end\n", "end\nend\n")])?;
+    expect_refused(
+        &rt,
+        alloc,
+        b"",
+        3,
+        b"mixed: line 1: not a certificate line\n",
+    )
+}
+
+#[test]
+fn kinds_of_certificates(rt: HostRuntime) -> Result<(), Fail> {
+    let alloc = rt.alloc();
+    let netlist: &[(&str, &str)] = &[("kind matrix", "kind netlist")];
+    let flowsheet: &[(&str, &str)] = &[("kind matrix", "kind flowsheet")];
+    // an empty input is one of each kind, and an equation list is no netlist and no flowsheet
+    for kind in [netlist, flowsheet] {
+        let empty = altered(alloc, EMPTY, kind)?;
+        expect_accepted(&rt, alloc, empty.as_bytes())?;
+        expect_broken(&rt, alloc, CONSTANT, 1, kind)?;
+    }
+    expect_unread(&rt, alloc, CONSTANT, 2, &[("kind matrix", "kind matrix ")])
 }

@@ -7,30 +7,47 @@ use Rattle.clap.proofs.OnLiterals.{clap_on_literals}
 use Rattle.cert_text.specs.declared.kind.Kind.TheVariants.{Flowsheet, Matrix, Netlist}
 use Rattle.report_cli.specs.CommandLine.{command_line}
 use Rattle.report_cli.specs.Words.{AsksFor, AsksForNothing}
-use Rattle.report_cli.specs.declared.command.Command.TheVariants.{Analyse, Layer}
+use Rattle.report_cli.specs.declared.command.Command.TheVariants.{Check, OfModel}
+use Rattle.report_cli.specs.declared.command.Task.TheVariants.{Analyse, Layer, Plan, Report}
 
 -- words that clap does not take ask for nothing
 untaken : (words : List (List ℕ)) (kind : ErrorKind) (kinds : Kinds) → fault_of command_line words ≡ kind ∷ kinds → AsksForNothing words
 untaken words kind kinds fails command asks = let none : kind ∷ kinds ≡ [] = sym fails ∙ asks.0 in absurd cc
 
-pub analyse : AsksFor (codes "mixed" ∷ codes "analyse" ∷ codes "matrix" ∷ []) (Analyse Matrix)
+pub analyse : AsksFor (codes "mixed" ∷ codes "analyse" ∷ codes "matrix" ∷ []) (OfModel Analyse Matrix)
 unfolding clap_on_literals
-analyse = (refl, (_, refl, (refl, refl)))
+analyse = (refl, (refl, refl))
 
-pub layer : AsksFor (codes "mixed" ∷ codes "layer" ∷ codes "netlist" ∷ []) (Layer Netlist)
+pub layer : AsksFor (codes "mixed" ∷ codes "layer" ∷ codes "netlist" ∷ []) (OfModel Layer Netlist)
 unfolding clap_on_literals
-layer = (refl, (_, refl, (refl, refl)))
+layer = (refl, (refl, refl))
+
+pub report : AsksFor (codes "mixed" ∷ codes "report" ∷ codes "flowsheet" ∷ []) (OfModel Report Flowsheet)
+unfolding clap_on_literals
+report = (refl, (refl, refl))
+
+pub plan : AsksFor (codes "mixed" ∷ codes "plan" ∷ codes "matrix" ∷ []) (OfModel Plan Matrix)
+unfolding clap_on_literals
+plan = (refl, (refl, refl))
+
+pub check : AsksFor (codes "mixed" ∷ codes "check" ∷ []) Check
+unfolding clap_on_literals
+check = (refl, (refl, refl))
+
+pub check_of_kind : AsksForNothing (codes "mixed" ∷ codes "check" ∷ codes "matrix" ∷ [])
+unfolding clap_on_literals
+check_of_kind = untaken (codes "mixed" ∷ codes "check" ∷ codes "matrix" ∷ []) _ _ refl
 
 -- another word at KIND
-unknown : (word kind : List ℕ) → Some (codes "picture") ≡ Some word → word ≡ kind → get_or kind 0 0 ≡ 112
-unknown word kind there is = let same : codes "picture" ≡ word = cc in ap (λ t. get_or t 0 0) (sym (same ∙ is))
+unknown : (word : List ℕ) → Some (codes "picture") ≡ Some word → get_or word 0 0 ≡ 112
+unknown word there = let same : codes "picture" ≡ word = cc in ap (λ t. get_or t 0 0) (sym same)
 
 pub unknown_kind : AsksForNothing (codes "mixed" ∷ codes "analyse" ∷ codes "picture" ∷ [])
 unfolding clap_on_literals
-unknown_kind (Analyse Matrix) (taken, (word, there, names)) = let other : 109 ≡ 112 = unknown word _ there names.1 in absurd (omega (arith, other))
-unknown_kind (Analyse Netlist) (taken, (word, there, names)) = let other : 110 ≡ 112 = unknown word _ there names.1 in absurd (omega (arith, other))
-unknown_kind (Analyse Flowsheet) (taken, (word, there, names)) = let other : 102 ≡ 112 = unknown word _ there names.1 in absurd (omega (arith, other))
-unknown_kind (Layer kind) (taken, (word, there, names)) = let other : 97 ≡ 108 = ap (λ t. get_or t 0 0) names.0 in absurd (omega (arith, other))
+unknown_kind (OfModel task Matrix) (taken, names) = let other : 109 ≡ 112 = unknown _ names.1 in absurd (omega (arith, other))
+unknown_kind (OfModel task Netlist) (taken, names) = let other : 110 ≡ 112 = unknown _ names.1 in absurd (omega (arith, other))
+unknown_kind (OfModel task Flowsheet) (taken, names) = let other : 102 ≡ 112 = unknown _ names.1 in absurd (omega (arith, other))
+unknown_kind Check (taken, names) = absurd cc
 
 pub no_word : AsksForNothing (codes "mixed" ∷ [])
 unfolding clap_on_literals

@@ -23,19 +23,12 @@ met_by (Some b) f g name rows is_name are_rows =
     let two : rows ≡ g b = cc in
     rw (one, two) refl
 
--- where nothing is at KIND
-pub of_no_kind : (name : Text) (rows : List Row) → None ≡ first_of (codes "KIND") rows → NamesNone (Some (name, rows))
-of_no_kind name rows nothing command (kind, there, names) = let both : None ≡ Some kind = nothing ∙ there in absurd cc
-
--- where something is
-pub of_names : (name kind : Text) (rows : List Row) (result : Option Command) → Some kind ≡ first_of (codes "KIND") rows →
-    MatchOption result ((command : Command) → AreNamesOf name kind command → ⊥) (AreNamesOf name kind) →
+-- by its name and the word at KIND
+pub by_names : (name : Text) (word : Option Text) (rows : List Row) (result : Option Command) → word ≡ first_of (codes "KIND") rows →
+    MatchOption result ((command : Command) → AreNamesOf name word command → ⊥) (AreNamesOf name word) →
     MatchOption result (NamesNone (Some (name, rows))) (Names (Some (name, rows)))
-of_names name kind rows (Some command) there named = (kind, sym there, named)
-of_names name kind rows None there named = λ command (word, found, names).
-    let both : Some kind ≡ Some word = there ∙ found in
-    let one : kind ≡ word = cc in
-    named command (names.0, one ∙ names.1)
+by_names name word rows result is named =
+    subst (λ w. MatchOption result ((command : Command) → AreNamesOf name w command → ⊥) (AreNamesOf name w)) is named
 
 pub with_none : {T : Type 0} (P : Type 0) (Q : T → Type 0) (result : Option T) → result ≡ None → P → MatchOption result P Q
 with_none P Q None is holds = holds

@@ -5,17 +5,20 @@ use Rattle.port_io.specs.declared.writing.WriteFault.{WriteFault as Fault}
 use Rattle.text_writer.specs.Giving.{IsWritten}
 use Rattle.report_cli.specs.Notes.{Noted, note_of, line_of}
 use Rattle.report_cli.specs.declared.status.Status.{Status}
-use Rattle.report_cli.specs.declared.status.Status.TheVariants.{Done, Usage, Refused, TooLong, ReadFault, WriteFault, Memory}
+use Rattle.report_cli.specs.declared.status.Status.TheVariants.{BadCertificate, Done, Memory, NotRegular, ReadFault, Refused, Rejected, TooLong, Usage, WriteFault}
 
--- the line of a status that is not `Done`
-pub note_is : (s : Status) → (s ≡ Done → ⊥) → line_of s ≡ note_of s
-note_is Done other = absurd (other refl)
-note_is Usage other = refl
-note_is (Refused refused) other = refl
-note_is (TooLong limit) other = refl
-note_is ReadFault other = refl
-note_is WriteFault other = refl
-note_is Memory other = refl
+-- the line of a status without the whole text
+pub note_is : (s : Status) → (s ≡ Done → ⊥) → (s ≡ NotRegular → ⊥) → line_of s ≡ note_of s
+note_is Done done other = absurd (done refl)
+note_is NotRegular done other = absurd (other refl)
+note_is Usage done other = refl
+note_is (Refused refused) done other = refl
+note_is (TooLong limit) done other = refl
+note_is (BadCertificate line) done other = refl
+note_is ReadFault done other = refl
+note_is WriteFault done other = refl
+note_is Memory done other = refl
+note_is (Rejected rule) done other = refl
 
 -- a line that was written, as far as the sink took it, is noted
 pub noted : {S : Type 0} {K : Ghosts S} {first last : S} {line : List ℕ} (result : Result (Unit {0}) Fault) → IsWritten K first last line result →

@@ -13,6 +13,7 @@ use Rattle.port_io.proofs.Askings.{asks_on}
 use Rattle.port_io.proofs.Chains.{took_at_most, took_exactly, took_more}
 use Rattle.cert_text.specs.declared.kind.Kind.{Kind}
 use Rattle.report_cli.specs.Reading.{IsUnread}
+use Rattle.report_cli.specs.declared.command.Format.TheVariants.{Model}
 use Rattle.report_cli.specs.Statuses.{status_of_error}
 use Rattle.report_cli.specs.declared.status.Status.TheVariants.{Memory}
 
@@ -50,7 +51,7 @@ module _ {S : Type 0} (K : Ghosts S) (first old new : S) (before after : Pumping
       (result ≡ Err Longer → after.taken ≡ before.limit + 1) →
       (result ≡ Err Longer → TookExactly (after.taken - before.taken) (K.left old) (K.left new)) →
       (result ≡ Err Failed → Keeps (K.left old) (K.left new)) → (result ≡ Err Wanting → ⊥) →
-      IsUnread kind (status_of_error why) (K.left first) (K.left new)
+      IsUnread (Model kind) (status_of_error input_limit why) (K.left first) (K.left new)
   unread_by_error kind result Failed is all more kept memory =
       (has.text, has.room, took_kept (K.left first) (K.left old) (K.left new) has.text has.so_far (kept is))
   unread_by_error kind result Longer is all more kept memory =
@@ -69,7 +70,7 @@ module _ {S : Type 0} (K : Ghosts S) (first old new : S) (before after : Pumping
     few = omega (arith, has.limit, has.taken, counted, within)
 
     -- there is no memory for a piece
-    pub unread_for_memory : (kind : Kind) → IsUnread kind Memory (K.left first) (K.left new)
+    pub unread_for_memory : (kind : Kind) → IsUnread (Model kind) Memory (K.left first) (K.left new)
     unread_for_memory kind =
         took_at_most (K.left first) (K.left old) (K.left new) has.text after.piece input_limit has.so_far took few
 

@@ -1,31 +1,34 @@
 -- The answers of a run, by its words.
-use Rattle.std.proofs.Common.{◌≡◌, ◌≤◌, ◌⊎◌, ℕ, length, List, [], Option, Some, None, refl, sym, subst, append-nil}
-use Rattle.limits.specs.Limits.{input_limit}
-use Rattle.port_io.specs.Bytes.{Appended, Took}
-use Rattle.mixed_model.specs.Models.{MixedModel}
-use Rattle.report_cli.specs.Answer.{Answered, IsAnswer, IsAnswerOf, IsComplete, OnlyAnswer, Tells}
-use Rattle.report_cli.specs.Kinds.{Gives}
+use Rattle.std.proofs.Common.{◌≡◌, ◌≤◌, ◌⊎◌, ℕ, length, List, [], Option, Some, None, refl, sym, subst, append-nil, arith, inl, inr}
+use Rattle.port_io.specs.Bytes.{Appended, Took, TookAtMost}
+use Rattle.report_cli.specs.Answer.{Answered, CutShort, HasText, IsAnswer, IsAnswerOf, IsComplete, OnlyAnswer, TakesBy, Tells}
+use Rattle.report_cli.specs.Formats.{KeepsRules, limit_of}
 use Rattle.report_cli.specs.Statuses.{status_of_words}
-use Rattle.report_cli.specs.Words.{AsksFor, AsksForNothing, IsWhy, kind_of}
+use Rattle.report_cli.specs.Words.{AsksFor, AsksForNothing, IsWhy, format_of}
 use Rattle.report_cli.specs.declared.command.Command.{Command}
 use Rattle.report_cli.specs.declared.command.WordsError.{WordsError}
 use Rattle.report_cli.specs.declared.command.WordsError.TheVariants.{Told, UnknownKind, NoMemory}
 use Rattle.report_cli.specs.declared.status.Status.{Status}
-use Rattle.report_cli.specs.declared.status.Status.TheVariants.{Done, Usage, Refused, TooLong, ReadFault, WriteFault, Memory}
+use Rattle.report_cli.specs.declared.status.Status.TheVariants.{BadCertificate, Done, Memory, NotRegular, ReadFault, Refused, Rejected, TooLong, Usage, WriteFault}
 use Rattle.report_cli.proofs.Asking.{asks-one}
 
 -- what answers words that ask for a command is an answer of the command
-of_command : (words : List (List ℕ)) (command : Command) (input : List ℕ) (answer : Status) (text : List ℕ) → AsksFor words command → IsAnswer words input answer text → IsAnswerOf command input answer text
+asked : (words : List (List ℕ)) (command : Command) (input : List ℕ) (answer : Status) (text : List ℕ) → AsksFor words command →
+    ((other : Command) × AsksFor words other × IsAnswerOf other input answer text) → IsAnswerOf command input answer text
+asked words command input answer text asks (other, asks_other, given) =
+    subst (λ c. IsAnswerOf c input answer text) (asks-one words other command asks_other asks) given
+
+pub of_command : (words : List (List ℕ)) (command : Command) (input : List ℕ) (answer : Status) (text : List ℕ) → AsksFor words command → IsAnswer words input answer text → IsAnswerOf command input answer text
+of_command words command input Done text asks given = asked words command input Done text asks given
+of_command words command input NotRegular text asks given = asked words command input NotRegular text asks given
 of_command words command input Usage text asks given = absurd (given.0 command asks)
-of_command words command input (TooLong limit) text asks given =
-    subst (λ c. IsAnswerOf c input (TooLong limit) text) (asks-one words given.0 command given.1 asks) given.2
-of_command words command input (Refused refused) text asks given =
-    subst (λ c. IsAnswerOf c input (Refused refused) text) (asks-one words given.0 command given.1 asks) given.2
-of_command words command input Done text asks given =
-    subst (λ c. IsAnswerOf c input Done text) (asks-one words given.0 command given.1 asks) given.2
+of_command words command input (Refused refused) text asks given = asked words command input (Refused refused) text asks given
+of_command words command input (TooLong limit) text asks given = asked words command input (TooLong limit) text asks given
+of_command words command input (BadCertificate line) text asks given = asked words command input (BadCertificate line) text asks given
 of_command words command input ReadFault text asks given = absurd given.2
 of_command words command input WriteFault text asks given = absurd given.2
 of_command words command input Memory text asks given = absurd given.2
+of_command words command input (Rejected rule) text asks given = asked words command input (Rejected rule) text asks given
 
 pub only_for : (words : List (List ℕ)) (command : Command) (left : Option (List ℕ)) (status : Status) → AsksFor words command →
     ((input : List ℕ) (answer : Status) (text : List ℕ) → left ≡ Some input → IsAnswerOf command input answer text → (status ≡ answer) ⊎ (status ≡ Memory)) →
@@ -33,10 +36,37 @@ pub only_for : (words : List (List ℕ)) (command : Command) (left : Option (Lis
 only_for words command left status asks only = λ input answer text is given. only input answer text is (of_command words command input answer text asks given)
 
 pub complete_for : (words : List (List ℕ)) (command : Command) (left : Option (List ℕ)) (status : Status) → AsksFor words command →
-    ((input : List ℕ) (model : MixedModel) → left ≡ Some input → length input ≤ input_limit → Gives (kind_of command) input model → (status ≡ Done) ⊎ (status ≡ Memory)) →
+    ((input : List ℕ) → left ≡ Some input → length input ≤ limit_of (format_of command) → KeepsRules (format_of command) input → HasText status ⊎ (status ≡ Memory)) →
     IsComplete words left status
-complete_for words command left status asks done = λ input other model is asks_other short gives.
-    done input model is short (subst (λ c. Gives (kind_of c) input model) (asks-one words other command asks_other asks) gives)
+complete_for words command left status asks done = λ input other is asks_other short keeps.
+    let same : other ≡ command = asks-one words other command asks_other asks in
+    done input is (subst (λ c. length input ≤ limit_of (format_of c)) same short) (subst (λ c. KeepsRules (format_of c) input) same keeps)
+
+-- a text that is written by the command is one by the words
+written-for : (words : List (List ℕ)) (command : Command) (input : List ℕ) (status : Status) (text : List ℕ) → AsksFor words command → HasText status →
+    IsAnswerOf command input status text → IsAnswer words input status text
+written-for words command input status text asks (inl done) answer =
+    subst (λ s. IsAnswer words input s text) (sym done) (command, asks, subst (λ s. IsAnswerOf command input s text) done answer)
+written-for words command input status text asks (inr other) answer =
+    subst (λ s. IsAnswer words input s text) (sym other) (command, asks, subst (λ s. IsAnswerOf command input s text) other answer)
+
+pub cut-for : (words : List (List ℕ)) (command : Command) (left left' written written' : Option (List ℕ)) → AsksFor words command →
+    CutShort (IsAnswerOf command) left left' written written' → CutShort (IsAnswer words) left left' written written'
+cut-for words command left left' written written' asks cut = record {
+  read = cut.read;
+  text = cut.text;
+  took = cut.took;
+  ended = cut.ended;
+  cut = cut.cut;
+  status = cut.status;
+  whole = cut.whole;
+  answer = written-for words command cut.read cut.status cut.text asks cut.whole cut.answer;
+}
+
+-- what holds of the command that the words ask for holds of each
+pub of_each_asked : (P : Command → Type 0) (words : List (List ℕ)) (command : Command) → AsksFor words command → P command →
+    (other : Command) → AsksFor words other → P other
+of_each_asked P words command asks holds other asks_other = subst P (asks-one words command other asks asks_other) holds
 
 -- nothing is read and written for words that ask for nothing
 took_nothing : (left : Option (List ℕ)) → Took left left []
@@ -46,6 +76,14 @@ took_nothing (Some bytes) = refl
 appended_nothing : (written : Option (List ℕ)) → Appended written written []
 appended_nothing None = tt
 appended_nothing (Some bytes) = sym (append-nil bytes)
+
+took_none : (most : ℕ) (left : Option (List ℕ)) → TookAtMost most left left
+took_none most left = ([], omega arith, took_nothing left)
+
+pub untaken : (why : WordsError) (most : ℕ) (left : Option (List ℕ)) → TakesBy most (status_of_words why) left left
+untaken (Told text) most left = took_none most left
+untaken UnknownKind most left = took_none most left
+untaken NoMemory most left = took_none most left
 
 usage_answered : (words : List (List ℕ)) (left written : Option (List ℕ)) → AsksForNothing words → Answered (IsAnswer words) left left written written Usage
 usage_answered words left written never = record {

@@ -1,18 +1,17 @@
 -- A command has one answer to a whole input.
-use Rattle.std.proofs.Common.{◌≡◌, ℕ, ◌+◌, ◌≤◌, ◌<◌, List, ◌++◌, length, ◌⊎◌, Option, Some, None, refl, sym, ◌∙◌, ap, subst, arith, inl, inr, append-nil}
+use Rattle.std.proofs.Common.{◌≡◌, ◌≢◌, ℕ, ◌+◌, ◌≤◌, ◌<◌, List, ◌++◌, length, ◌⊎◌, Option, Some, None, refl, sym, ◌∙◌, ap, subst, arith, inl, inr, append-nil}
 use Rattle.std.proofs.lemmas.List.{length-append}
 use Rattle.port_io.specs.Bytes.{Took, Ended}
-use Rattle.refusals.specs.declared.Refused.{Refused as Refusal}
-use Rattle.mixed_model.specs.Models.{MixedModel}
 use Rattle.report_cli.specs.declared.status.Status.{Status}
-use Rattle.report_cli.specs.declared.status.Status.TheVariants.{Done, Usage, Refused, TooLong, ReadFault, WriteFault, Memory}
-use Rattle.report_cli.specs.Kinds.{Gives, IsRefused}
-use Rattle.report_cli.specs.Words.{kind_of}
-use Rattle.report_cli.specs.Answer.{Answered, IsAnswerOf, IsReported, Tells}
+use Rattle.report_cli.specs.declared.status.Status.TheVariants.{BadCertificate, Done, Memory, NotRegular, ReadFault, Refused, Rejected, TooLong, Usage, WriteFault}
+use Rattle.report_cli.specs.Formats.{IsFault, KeepsRules, limit_of}
+use Rattle.report_cli.specs.Words.{format_of}
+use Rattle.report_cli.specs.Answer.{Answered, HasText, IsAnswerOf, Tells}
 use Rattle.report_cli.specs.declared.command.Command.{Command}
-use Rattle.report_cli.proofs.ByKind.{given-unrefused, refused-alone}
-use Rattle.limits.specs.Limits.{input_limit}
-use Rattle.report_cli.proofs.Reported.{gives_model}
+use Rattle.report_cli.specs.Outputs.{IsOutputFor, end_of}
+use Rattle.report_cli.specs.declared.output.Output.{Output}
+use Rattle.report_cli.proofs.Ends.{kept-unfaulty, one-fault}
+use Rattle.report_cli.proofs.Outputs.{has-text, keeps-rules, one-status}
 
 -- what was taken of a known input is no longer than it
 took_prefix : (input : List ℕ) (after : Option (List ℕ)) (read : List ℕ) → Took (Some input) after read → length read ≤ length input
@@ -30,82 +29,89 @@ at_input left after input read is took = let P : Option (List ℕ) → Type 0 = 
 pub read_is : (left after : Option (List ℕ)) (input read : List ℕ) → left ≡ Some input → Took left after read → Ended after → read ≡ input
 read_is left after input read is took ended = took_whole input after read (at_input left after input read is took) ended
 
-too_long : {A : Type 0} (input : List ℕ) → input_limit < length input → length input ≤ input_limit → A
-too_long {A} input long short = absurd (omega (arith, long, short))
+-- an input is too long, or it breaks a rule, or its output is written
+abbrev IsLong : Command → List ℕ → Status → Type 0
+IsLong command input status = (status ≡ TooLong (limit_of (format_of command))) × (limit_of (format_of command) < length input)
 
--- the model of an input that has a report
-model_of : (command : Command) (input text : List ℕ) → IsReported command input text → (model : MixedModel) × Gives (kind_of command) input model
-model_of command input text reported = gives_model command input reported.report reported.right
+abbrev IsFaulty : Command → List ℕ → Status → Type 0
+IsFaulty command input status = (length input ≤ limit_of (format_of command)) × IsFault (format_of command) input status
 
--- an input past the limit
-long_only : (command : Command) (input : List ℕ) (limit : ℕ) (answer : Status) (text : List ℕ) → limit ≡ input_limit → input_limit < length input →
-    IsAnswerOf command input answer text → TooLong limit ≡ answer
-long_only command input limit Usage text is long a = absurd a
-long_only command input limit Done text is long a = too_long input long a.0
-long_only command input limit (Refused refused) text is long a = too_long input long a.0
-long_only command input limit (TooLong other) text is long a = ap TooLong (is ∙ sym a.0)
-long_only command input limit ReadFault text is long a = absurd a
-long_only command input limit WriteFault text is long a = absurd a
-long_only command input limit Memory text is long a = absurd a
+abbrev IsTold : Command → List ℕ → Status → Type 0
+IsTold command input status =
+    (length input ≤ limit_of (format_of command)) × ((output : Output) × IsOutputFor command input output × (status ≡ end_of output))
 
--- an input that breaks a rule
-refused_only : (command : Command) (input : List ℕ) (refused : Refusal) (answer : Status) (text : List ℕ) → length input ≤ input_limit → IsRefused (kind_of command) input refused →
-    IsAnswerOf command input answer text → Refused refused ≡ answer
-refused_only command input refused Usage text short is a = absurd a
-refused_only command input refused Done text short is a = let model = model_of command input text a.1 in given-unrefused (kind_of command) input refused model.0 model.1 is
-refused_only command input refused (Refused other) text short is a = ap Refused (refused-alone (kind_of command) input refused other is a.1)
-refused_only command input refused (TooLong limit) text short is a = too_long input a.1 short
-refused_only command input refused ReadFault text short is a = absurd a
-refused_only command input refused WriteFault text short is a = absurd a
-refused_only command input refused Memory text short is a = absurd a
+abbrev Ends : Command → List ℕ → Status → Type 0
+Ends command input status = IsLong command input status ⊎ (IsFaulty command input status ⊎ IsTold command input status)
 
--- an input that gives a model
-done_only : (command : Command) (input : List ℕ) (model : MixedModel) (answer : Status) (text : List ℕ) → length input ≤ input_limit → Gives (kind_of command) input model →
-    IsAnswerOf command input answer text → Done ≡ answer
-done_only command input model Usage text short gives a = absurd a
-done_only command input model Done text short gives a = refl
-done_only command input model (Refused refused) text short gives a = given-unrefused (kind_of command) input refused model gives a.1
-done_only command input model (TooLong limit) text short gives a = too_long input a.1 short
-done_only command input model ReadFault text short gives a = absurd a
-done_only command input model WriteFault text short gives a = absurd a
-done_only command input model Memory text short gives a = absurd a
+ends : (command : Command) (input : List ℕ) (status : Status) (text : List ℕ) → IsAnswerOf command input status text → Ends command input status
+ends command input Done text (short, is) = inr (inr (short, (is.output, is.right, is.ends)))
+ends command input NotRegular text (short, is) = inr (inr (short, (is.output, is.right, is.ends)))
+ends command input Usage text answer = absurd answer
+ends command input (Refused refused) text (short, fault, empty) = inr (inl (short, fault))
+ends command input (TooLong limit) text (is, long, empty) = inl (ap TooLong is, long)
+ends command input (BadCertificate line) text (short, fault, empty) = inr (inl (short, fault))
+ends command input ReadFault text answer = absurd answer
+ends command input WriteFault text answer = absurd answer
+ends command input Memory text answer = absurd answer
+ends command input (Rejected rule) text (short, fault, empty) = inr (inl (short, fault))
 
--- where no fault came, no other answer than the one given is one
-pub only : (command : Command) (left after written written' : Option (List ℕ)) (status : Status) → Tells status (Answered (IsAnswerOf command) left after written written' status) →
-    (status ≡ ReadFault → ⊥) → (status ≡ WriteFault → ⊥) →
-    (input : List ℕ) (answer : Status) (text : List ℕ) → left ≡ Some input → IsAnswerOf command input answer text → (status ≡ answer) ⊎ (status ≡ Memory)
-only command left after written written' Usage a no_read no_write input answer text is given = absurd a.answer
-only command left after written written' (TooLong limit) a no_read no_write input answer text is given =
-    let short : length a.read ≤ length input = took_prefix input after a.read (at_input left after input a.read is a.took) in
-    let long : input_limit < length a.read = a.answer.1 in
-    inl (long_only command input limit answer text a.answer.0 (omega (arith, short, long)) given)
-only command left after written written' (Refused refused) a no_read no_write input answer text is given =
-    let same : a.read ≡ input = read_is left after input a.read is a.took a.ended in
-    let own : IsAnswerOf command input (Refused refused) a.text = subst (λ r. IsAnswerOf command r (Refused refused) a.text) same a.answer in
-    inl (refused_only command input refused answer text own.0 own.1 given)
-only command left after written written' Done a no_read no_write input answer text is given =
-    let same : a.read ≡ input = read_is left after input a.read is a.took a.ended in
-    let own : IsAnswerOf command input Done a.text = subst (λ r. IsAnswerOf command r Done a.text) same a.answer in
-    let model = model_of command input a.text own.1 in
-    inl (done_only command input model.0 answer text own.0 model.1 given)
-only command left after written written' ReadFault a no_read no_write input answer text is given = absurd (no_read refl)
-only command left after written written' WriteFault a no_read no_write input answer text is given = absurd (no_write refl)
-only command left after written written' Memory a no_read no_write input answer text is given = inr refl
+-- an input that is too long has no other end
+not-long : {A : Type 0} (command : Command) (input : List ℕ) → limit_of (format_of command) < length input → length input ≤ limit_of (format_of command) → A
+not-long command input long short = absurd (omega (arith, long, short))
 
--- where no fault came, an input that keeps each rule is answered
-pub done_where_given : (command : Command) (left after written written' : Option (List ℕ)) (status : Status) → Tells status (Answered (IsAnswerOf command) left after written written' status) →
-    (status ≡ ReadFault → ⊥) → (status ≡ WriteFault → ⊥) →
-    (input : List ℕ) (model : MixedModel) → left ≡ Some input → length input ≤ input_limit → Gives (kind_of command) input model → (status ≡ Done) ⊎ (status ≡ Memory)
-done_where_given command left after written written' Usage a no_read no_write input model is short gives = absurd a.answer
-done_where_given command left after written written' (TooLong limit) a no_read no_write input model is short gives =
-    let part : length a.read ≤ length input = took_prefix input after a.read (at_input left after input a.read is a.took) in
-    let long : input_limit < length a.read = a.answer.1 in
-    too_long input (omega (arith, part, long)) short
-done_where_given command left after written written' (Refused refused) a no_read no_write input model is short gives =
-    let same : a.read ≡ input = read_is left after input a.read is a.took a.ended in
-    let own : IsAnswerOf command input (Refused refused) a.text = subst (λ r. IsAnswerOf command r (Refused refused) a.text) same a.answer in
-    given-unrefused (kind_of command) input refused model gives own.1
-done_where_given command left after written written' Done a no_read no_write input model is short gives = inl refl
-done_where_given command left after written written' ReadFault a no_read no_write input model is short gives = absurd (no_read refl)
-done_where_given command left after written written' WriteFault a no_read no_write input model is short gives = absurd (no_write refl)
-done_where_given command left after written written' Memory a no_read no_write input model is short gives = inr refl
+one-answer : (command : Command) (input : List ℕ) (a b : Status) → Ends command input a → Ends command input b → a ≡ b
+one-answer command input a b (inl (is, long)) (inl (are, longer)) = is ∙ sym are
+one-answer command input a b (inl (is, long)) (inr (inl (short, fault))) = not-long command input long short
+one-answer command input a b (inl (is, long)) (inr (inr (short, told))) = not-long command input long short
+one-answer command input a b (inr (inl (short, fault))) (inl (are, long)) = not-long command input long short
+one-answer command input a b (inr (inr (short, told))) (inl (are, long)) = not-long command input long short
+one-answer command input a b (inr (inl (short, one))) (inr (inl (shorter, two))) = one-fault (format_of command) input a b short one two
+one-answer command input a b (inr (inl (short, fault))) (inr (inr (shorter, (output, right, is)))) =
+    kept-unfaulty (format_of command) input a short (keeps-rules command input output right) fault
+one-answer command input a b (inr (inr (short, (output, right, is)))) (inr (inl (shorter, fault))) =
+    kept-unfaulty (format_of command) input b short (keeps-rules command input output right) fault
+one-answer command input a b (inr (inr (short, (output, right, is)))) (inr (inr (shorter, (other, another, are)))) =
+    is ∙ one-status command input output other right another ∙ sym are
+
+-- where no fault came, what is told of the input that was read is told of the whole input
+module _ (command : Command) (left after written written' : Option (List ℕ)) (input : List ℕ) (is : left ≡ Some input) where
+  told-whole : (status : Status) (text read : List ℕ) → Took left after read → Ended after → IsAnswerOf command read status text → Ends command input status
+  told-whole status text read took ended answer =
+      ends command input status text (subst (λ r. IsAnswerOf command r status text) (read_is left after input read is took ended) answer)
+
+  told : (status : Status) → Tells status (Answered (IsAnswerOf command) left after written written' status) →
+      (status ≡ ReadFault → ⊥) → (status ≡ WriteFault → ⊥) → Ends command input status ⊎ (status ≡ Memory)
+  told NotRegular a no_read no_write = inl (told-whole NotRegular a.text a.read a.took a.ended a.answer)
+  told Done a no_read no_write = inl (told-whole Done a.text a.read a.took a.ended a.answer)
+  told Usage a no_read no_write = absurd a.answer
+  told (Refused refused) a no_read no_write = inl (told-whole (Refused refused) a.text a.read a.took a.ended a.answer)
+  told (TooLong limit) a no_read no_write =
+      let short : length a.read ≤ length input = took_prefix input after a.read (at_input left after input a.read is a.took) in
+      let long : limit_of (format_of command) < length a.read = a.answer.1 in
+      inl (inl (ap TooLong a.answer.0, omega (arith, short, long)))
+  told (BadCertificate line) a no_read no_write = inl (told-whole (BadCertificate line) a.text a.read a.took a.ended a.answer)
+  told ReadFault a no_read no_write = absurd (no_read refl)
+  told WriteFault a no_read no_write = absurd (no_write refl)
+  told Memory a no_read no_write = inr refl
+  told (Rejected rule) a no_read no_write = inl (told-whole (Rejected rule) a.text a.read a.took a.ended a.answer)
+
+  module _ (status : Status) (tells : Tells status (Answered (IsAnswerOf command) left after written written' status))
+      (no_read : status ≡ ReadFault → ⊥) (no_write : status ≡ WriteFault → ⊥) where
+    -- no other answer than the one given is one
+    pub only : (answer : Status) (text : List ℕ) → IsAnswerOf command input answer text → (status ≡ answer) ⊎ (status ≡ Memory)
+    only answer text given = elim (told status tells no_read no_write) [
+      | inl own ↦ inl (one-answer command input status answer own (ends command input answer text given))
+      | inr memory ↦ inr memory
+    ]
+
+    -- of an input that keeps each rule the text is written
+    kept-told : length input ≤ limit_of (format_of command) → KeepsRules (format_of command) input → Ends command input status → HasText status
+    kept-told short keeps (inl (is, long)) = not-long command input long short
+    kept-told short keeps (inr (inl (shorter, fault))) = kept-unfaulty (format_of command) input status short keeps fault
+    kept-told short keeps (inr (inr (shorter, (output, right, is)))) = subst HasText (sym is) (has-text output)
+
+    pub told_where_kept : length input ≤ limit_of (format_of command) → KeepsRules (format_of command) input → HasText status ⊎ (status ≡ Memory)
+    told_where_kept short keeps = elim (told status tells no_read no_write) [
+      | inl own ↦ inl (kept-told short keeps own)
+      | inr memory ↦ inr memory
+    ]

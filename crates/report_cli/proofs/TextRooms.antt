@@ -1,5 +1,5 @@
 -- Each text that may be written for an input fits in the room that its length gives.
-use Rattle.std.proofs.Common.{◌≡◌, ℕ, ◌+◌, ◌≤◌, Bool, List, length, refl, ap, arith}
+use Rattle.std.proofs.Common.{◌≡◌, ℕ, ◌+◌, ◌≤◌, Bool, List, length, refl, ap, subst, sym, arith, lit≤}
 use Rattle.residue_field.specs.Modulus.{res_modulus}
 use Rattle.residue_theory.specs.Sets.{everything}
 use Rattle.residue_theory.proofs.CountLaws.{size-everything}
@@ -16,16 +16,27 @@ use Rattle.text_lengths.proofs.TextLengths.{certificate-short}
 use Rattle.limits.specs.Limits.{input_limit}
 use Rattle.report_cli.specs.Kinds.{Gives}
 use Rattle.report_cli.specs.RightFor.{IsRightFor}
-use Rattle.report_cli.specs.Reports.{IsReportFor, report_text}
-use Rattle.report_cli.specs.Rooms.{columns_within, text_room}
-use Rattle.report_cli.specs.WholeLayers.{AreWholeLayers}
-use Rattle.report_cli.specs.Words.{kind_of}
+use Rattle.report_cli.specs.Formats.{limit_of}
+use Rattle.report_cli.specs.Outputs.{IsOutputFor, output_text}
+use Rattle.report_cli.specs.Rooms.{columns_within, places_within, task_room, text_room}
+use Rattle.answer_texts.specs.WholeLayers.{AreWholeLayers}
+use Rattle.report_cli.specs.Words.{format_of}
+use Rattle.report_cli.specs.declared.command.Task.TheVariants as Task
+use Rattle.solve_plan.specs.Reports.{IsReportOf}
+use Rattle.solve_plan.specs.declared.told.Report.{Report as Told}
+use Rattle.dense_q.specs.Tables.{height}
+use Rattle.solve_plan.specs.declared.steps.Plan.{Plan}
+use Rattle.answer_texts.proofs.PlanFacts.{steps-few, steps-in, steps-short}
+use Rattle.answer_texts.proofs.PlanLengths.{plan-text-short}
+use Rattle.answer_texts.proofs.ReportLengths.{report-text-short}
+use Rattle.report_cli.specs.PlanFor.{IsPlanFor}
+use Rattle.report_cli.proofs.ReportFacts.{rank-many, surplus-few, undetermined-few}
 use Rattle.report_cli.specs.declared.command.Command.{Command}
-use Rattle.report_cli.specs.declared.command.Command.TheVariants.{Analyse, Layer}
-use Rattle.report_cli.specs.declared.report.Report.{Report}
-use Rattle.report_cli.specs.declared.report.Report.TheVariants.{Certificate as Certified, Layers as Layering}
-use Rattle.report_cli.proofs.ByKind.{few-names, is-model}
-use Rattle.report_cli.proofs.LayerLengths.{layer-text-short}
+use Rattle.report_cli.specs.declared.output.Output.{Output}
+use Rattle.report_cli.specs.declared.output.Output.TheVariants.{Accepted, Certificate as Certified, Layers as Layering, Plan as Planning, Report as Reporting}
+use Rattle.input_kinds.proofs.ByKind.{is-model}
+use Rattle.report_cli.proofs.ByKind.{few-names}
+use Rattle.answer_texts.proofs.LayerLengths.{layer-text-short}
 
 -- members of a set below n are at most n
 pub members-few : (A : ℕ → Bool) (n : ℕ) (at : ℕ → ℕ) (m : ℕ) → AreMembers A n at m → m ≤ n
@@ -36,11 +47,12 @@ pub record IsNarrow (kind : Kind) (n : ℕ) (L : LayeredMatrix) : Type 0 where
   pub q_rows : L.q_rows ≤ columns_within kind n
   pub t_rows : L.t_rows ≤ columns_within kind n
   pub columns : L.columns ≤ columns_within kind n
+  pub rows : L.q_rows + L.t_rows ≤ columns_within kind n
 
 narrow : (kind : Kind) (text : List ℕ) (model : MixedModel) (L : LayeredMatrix) (O : Origins) → Gives kind text model → IsLayeredMatrixOf (mixed_matrix_of model) L O → IsNarrow kind (length text) L
 narrow kind text model L O gives are =
     let few = few-names kind text model gives in
-    let is : IsModel res_modulus model = is-model kind text model gives in
+    let is : IsModel res_modulus model = is-model res_modulus kind text model gives in
     let e : length model.equations ≤ 4096 = (is.equations).few in
     let u : length model.unknowns ≤ 4096 = (is.unknowns).few in
     let q : L.q_rows ≤ length model.equations = members-few _ _ _ _ are.q_rows in
@@ -51,12 +63,13 @@ narrow kind text model L O gives are =
       q_rows = omega (arith, few.0, e, q);
       t_rows = omega (arith, few.0, e, t);
       columns = omega (arith, few.0, few.1, e, u, s, n);
+      rows = omega (arith, few.0, e, q, t);
     }
 
 few_columns : (kind : Kind) (n : ℕ) → columns_within kind n ≤ 8192
 few_columns kind n = omega arith
 
-certificate-fits : (kind : Kind) (input : List ℕ) (c : Certificate) → IsRightFor kind input c → length input ≤ input_limit → length (report_text (Certified c)) ≤ text_room kind (length input)
+certificate-fits : (kind : Kind) (input : List ℕ) (c : Certificate) → IsRightFor kind input c → length input ≤ input_limit → length (output_text (Certified c)) ≤ task_room Task.Analyse kind (length input)
 certificate-fits kind input c right short =
     let low = narrow kind input right.model right.layered right.origins right.gives right.layers in
     let shape = (right.right).shape in
@@ -73,14 +86,52 @@ certificate-fits kind input c right short =
     )
 
 layers-fit : (kind : Kind) (input : List ℕ) (model : MixedModel) (layers : Layers) → Gives kind input model → AreLayersOf model layers → AreWholeLayers layers →
-    length (report_text (Layering model layers)) ≤ text_room kind (length input)
+    length (output_text (Layering model layers)) ≤ task_room Task.Layer kind (length input)
 layers-fit kind input model layers gives are whole =
     let low = narrow kind input model (layered_matrix_of layers) (origins_of layers are.split) gives are.layered in
-    omega (arith, layer-text-short model (is-model kind input model gives) layers are whole (columns_within kind (length input)) (few_columns kind (length input)) low.q_rows low.t_rows low.columns)
+    omega (arith, layer-text-short model (is-model res_modulus kind input model gives) layers are whole (columns_within kind (length input)) (few_columns kind (length input)) low.q_rows low.t_rows low.columns)
 
-pub report_fits : (command : Command) (input : List ℕ) (report : Report) → IsReportFor command input report → length input ≤ input_limit →
-    length (report_text report) ≤ text_room (kind_of command) (length input)
-report_fits (Analyse kind) input (Certified c) right short = certificate-fits kind input c right short
-report_fits (Analyse kind) input (Layering model layers) right short = absurd right
-report_fits (Layer kind) input (Certified c) right short = absurd right
-report_fits (Layer kind) input (Layering model layers) right short = layers-fit kind input model layers right.0 right.1 right.2
+reports-fit : (kind : Kind) (input : List ℕ) (model : MixedModel) (told : Told) → Gives kind input model → IsReportOf res_modulus (mixed_matrix_of model) told →
+    length (output_text (Reporting model told)) ≤ task_room Task.Report kind (length input)
+reports-fit kind input model told gives reports =
+    let is : IsModel res_modulus model = is-model res_modulus kind input model gives in
+    let few = few-names kind input model gives in
+    let k : ℕ = places_within kind (length input) in
+    let e : length model.equations ≤ 4096 = (is.equations).few in
+    let u : length model.unknowns ≤ 4096 = (is.unknowns).few in
+    let low_e : length model.equations ≤ k = omega (arith, few.0, e) in
+    let low_u : length model.unknowns ≤ k = omega (arith, few.1, u) in
+    let M = mixed_matrix_of model in
+    let equations : told.equations ≤ k = omega (arith, reports.equations, low_e) in
+    let unknowns : told.unknowns ≤ k = omega (arith, reports.unknowns, low_u) in
+    report-text-short model is told k (omega arith) equations unknowns (omega (arith, rank-many M told reports, equations))
+    (omega (arith, surplus-few M told reports, low_e)) (omega (arith, undetermined-few M told reports, low_u))
+
+plans-fit : (kind : Kind) (input : List ℕ) (model : MixedModel) (layers : Layers) (plan : Plan ℕ) → IsPlanFor kind input model layers plan →
+    length (output_text (Planning model layers plan)) ≤ task_room Task.Plan kind (length input)
+plans-fit kind input model layers plan right =
+    let low = narrow kind input model (layered_matrix_of layers) (origins_of layers (right.are).split) right.gives (right.are).layered in
+    let is : IsModel res_modulus model = is-model res_modulus kind input model right.gives in
+    let k : ℕ = columns_within kind (length input) in
+    let rows : height layers.q + length layers.t.rows ≤ k = low.rows in
+    plan-text-short (λ x. x) model is layers k (few_columns kind (length input)) (length model.equations) layers.q.width plan
+    (steps-few model is layers right.are right.whole right.ccf right.form right.right plan right.is k low.columns)
+    (steps-in model is layers right.are right.whole right.ccf right.form right.right plan right.is)
+    (steps-short model is layers right.are right.whole right.ccf right.form right.right plan right.is k rows low.columns)
+
+pub output_fits : (command : Command) (input : List ℕ) (output : Output) → IsOutputFor command input output →
+    length input ≤ limit_of (format_of command) → length (output_text output) ≤ text_room command (length input)
+output_fits command input (Certified c) (kind, is, right) short =
+    subst (λ f. length (output_text (Certified c)) ≤ text_room f (length input)) (sym is)
+    (certificate-fits kind input c right (subst (λ f. length input ≤ limit_of (format_of f)) is short))
+output_fits command input (Layering model layers) (kind, is, gives, are, whole) short =
+    subst (λ f. length (output_text (Layering model layers)) ≤ text_room f (length input)) (sym is)
+    (layers-fit kind input model layers gives are whole)
+output_fits command input (Reporting model told) (kind, is, gives, reports) short =
+    subst (λ f. length (output_text (Reporting model told)) ≤ text_room f (length input)) (sym is)
+    (reports-fit kind input model told gives reports)
+output_fits command input (Planning model layers plan) (kind, is, right) short =
+    subst (λ f. length (output_text (Planning model layers plan)) ≤ text_room f (length input)) (sym is)
+    (plans-fit kind input model layers plan right)
+output_fits command input Accepted (is, accepted) short =
+    subst (λ f. length (output_text Accepted) ≤ text_room f (length input)) (sym is) (lit≤ tt)

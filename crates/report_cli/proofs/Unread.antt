@@ -1,4 +1,4 @@
--- Inputs that give no report.
+-- Inputs that give no output.
 use Rattle.std.proofs.Common.{◌≡◌, ℕ, List, Option, Result, Ok, Err, sym, ◌∙◌, refl, subst}
 use Rattle.std.specs.Result.{IfErr, IsErr, IsErrAnd}
 use Rattle.port_io.specs.declared.ports.Source.{Ghosts}
@@ -8,6 +8,8 @@ use Rattle.cert_text.specs.declared.kind.Kind.{Kind}
 use Rattle.report_cli.specs.Kinds.{IsWhyUnread}
 use Rattle.report_cli.specs.Reading.{IsUnread, ReadsWhole, TellsOfSource}
 use Rattle.report_cli.specs.Statuses.{status_of_refusal}
+use Rattle.limits.specs.Limits.{input_limit}
+use Rattle.report_cli.specs.declared.command.Format.TheVariants.{Model}
 use Rattle.report_cli.specs.declared.status.Status.{Status}
 
 -- what holds of a status holds of the answer with it
@@ -21,16 +23,16 @@ pub answered : {T E : Type 0} {result : Result T E} {it : T} {error : E} → res
 answered is not = let both = sym is ∙ not in cc
 
 -- an input that was read whole, and is refused or finds no memory
-pub unread_by_refusal : (kind : Kind) (left left' : Option (List ℕ)) (Holds : List ℕ → Type 0) (whole : ReadsWhole left left' Holds) (why : ReadModel) →
-    IsWhyUnread kind whole.input why → IsUnread kind (status_of_refusal why) left left'
+pub unread_by_refusal : (kind : Kind) (left left' : Option (List ℕ)) (Holds : List ℕ → Type 0) (whole : ReadsWhole input_limit left left' Holds) (why : ReadModel) →
+    IsWhyUnread kind whole.input why → IsUnread (Model kind) (status_of_refusal why) left left'
 unread_by_refusal kind left left' Holds whole (Broken refused) is =
     record { input = whole.input; took = whole.took; ended = whole.ended; short = whole.short; holds = is }
 unread_by_refusal kind left left' Holds whole NoMemory is = (whole.input, whole.short, whole.took)
 
 -- what holds of each input of which this holds, holds of the one that was read
-pub reads_so : (left left' : Option (List ℕ)) (Holds Next : List ℕ → Type 0) → ((input : List ℕ) → Holds input → Next input) →
-    ReadsWhole left left' Holds → ReadsWhole left left' Next
-reads_so left left' Holds Next next whole = record {
+pub reads_so : (most : ℕ) (left left' : Option (List ℕ)) (Holds Next : List ℕ → Type 0) → ((input : List ℕ) → Holds input → Next input) →
+    ReadsWhole most left left' Holds → ReadsWhole most left left' Next
+reads_so most left left' Holds Next next whole = record {
   input = whole.input;
   took = whole.took;
   ended = whole.ended;
@@ -39,8 +41,8 @@ reads_so left left' Holds Next next whole = record {
 }
 
 -- what is told of the source where nothing was refused is told of any such answer
-pub tells_still : {S T R : Type 0} (K : Ghosts S) (old new : S) (it : T) (other : R) → TellsOfSource K old new (Ok it) → TellsOfSource K old new (Ok other)
-tells_still K old new it other tells = record {
+pub tells_still : {S T R : Type 0} (K : Ghosts S) (most : ℕ) (old new : S) (it : T) (other : R) → TellsOfSource K most old new (Ok it) → TellsOfSource K most old new (Ok other)
+tells_still K most old new it other tells = record {
   fault = λ e. absurd (answered refl e);
   told = λ _. tells.told (answered refl);
   later = tells.later;

@@ -1,29 +1,38 @@
 -- What a run answers.
 use Rattle.std.specs.Prelude.{◌≡◌, ℕ, ◌+◌, ◌≤◌, ◌<◌, ◌⊎◌, List, [], length, Option, Some}
 use Rattle.port_io.specs.Bytes.{Took, TookAtMost, TookExactly, Appended, Ended}
-use Rattle.mixed_model.specs.Models.{MixedModel}
-use Rattle.limits.specs.Limits.{input_limit}
-use Rattle.report_cli.specs.Reports.{IsReportFor, report_text}
-use Rattle.report_cli.specs.Kinds.{Gives, IsRefused}
-use Rattle.report_cli.specs.Words.{AsksFor, AsksForNothing, kind_of}
+use Rattle.report_cli.specs.Formats.{IsFault, KeepsRules, limit_of}
+use Rattle.report_cli.specs.Outputs.{IsOutputFor, end_of, output_text}
+use Rattle.report_cli.specs.Words.{AsksFor, AsksForNothing, format_of}
 use Rattle.text_writer.specs.Giving.{AppendedPart}
 use Rattle.report_cli.specs.declared.command.Command.{Command}
-use Rattle.report_cli.specs.declared.report.Report.{Report}
+use Rattle.report_cli.specs.declared.command.Format.{Format}
+use Rattle.report_cli.specs.declared.output.Output.{Output}
 use Rattle.report_cli.specs.declared.status.Status.{Status}
-use Rattle.report_cli.specs.declared.status.Status.TheVariants.{Done, Usage, Refused, TooLong, ReadFault, WriteFault, Memory}
+use Rattle.report_cli.specs.declared.status.Status.TheVariants.{BadCertificate, Done, Memory, NotRegular, ReadFault, Refused, Rejected, TooLong, Usage, WriteFault}
 
--- the text of a report on the input by this command
-pub record IsReported (command : Command) (input text : List ℕ) : Type 0 where
-  pub report : Report
-  pub right : IsReportFor command input report
-  pub text_is : text ≡ report_text report
+-- the text of an output for the input by this command, with which a run ends so
+pub record IsOutputText (command : Command) (input : List ℕ) (status : Status) (text : List ℕ) : Type 0 where
+  pub output : Output
+  pub right : IsOutputFor command input output
+  pub ends : status ≡ end_of output
+  pub text_is : text ≡ output_text output
+
+-- the input is not too long, and the status tells the first rule that it breaks; there is no text
+abbrev pub IsRefusal : Format → List ℕ → Status → List ℕ → Type 0
+IsRefusal format input status text = (length input ≤ limit_of format) × IsFault format input status × (text ≡ [])
 
 -- a run of this command on this whole input ends with this status and this text on `out`, when nothing fails
 abbrev pub IsAnswerOf : Command → List ℕ → Status → List ℕ → Type 0
-IsAnswerOf command input (TooLong limit) text = (limit ≡ input_limit) × (input_limit < length input) × (text ≡ [])
-IsAnswerOf command input (Refused refusal) text =
-    (length input ≤ input_limit) × IsRefused (kind_of command) input refusal × (text ≡ [])
-IsAnswerOf command input Done text = (length input ≤ input_limit) × IsReported command input text
+IsAnswerOf command input Done text =
+    (length input ≤ limit_of (format_of command)) × IsOutputText command input Done text
+IsAnswerOf command input NotRegular text =
+    (length input ≤ limit_of (format_of command)) × IsOutputText command input NotRegular text
+IsAnswerOf command input (TooLong limit) text =
+    (limit ≡ limit_of (format_of command)) × (limit_of (format_of command) < length input) × (text ≡ [])
+IsAnswerOf command input (Refused refused) text = IsRefusal (format_of command) input (Refused refused) text
+IsAnswerOf command input (BadCertificate line) text = IsRefusal (format_of command) input (BadCertificate line) text
+IsAnswerOf command input (Rejected rule) text = IsRefusal (format_of command) input (Rejected rule) text
 IsAnswerOf command input _ text = ⊥
 
 -- a run with these words on this whole input ends with this status and this text on `out`, when nothing fails: words
@@ -35,13 +44,20 @@ IsAnswer words input status text = (command : Command) × AsksFor words command 
 -- the statuses that tell of a whole input within the limit
 abbrev pub ReadsAll : Status → Type 0 → Type 0
 ReadsAll Done p = p
-ReadsAll (Refused refusal) p = p
+ReadsAll NotRegular p = p
+ReadsAll (Refused refused) p = p
+ReadsAll (BadCertificate line) p = p
+ReadsAll (Rejected rule) p = p
 ReadsAll _ p = Unit {0}
 
--- what was taken, by the status: one byte past the limit exactly where the input is too long
-abbrev pub TakesBy : Status → Option (List ℕ) → Option (List ℕ) → Type 0
-TakesBy (TooLong limit) left left' = TookExactly (input_limit + 1) left left'
-TakesBy _ left left' = TookAtMost input_limit left left'
+-- what was taken of an input of at most so many bytes: one byte past the limit exactly where it is too long
+abbrev pub TakesBy : ℕ → Status → Option (List ℕ) → Option (List ℕ) → Type 0
+TakesBy most (TooLong limit) left left' = TookExactly (most + 1) left left'
+TakesBy most _ left left' = TookAtMost most left left'
+
+-- the statuses with which the whole text was written and flushed
+abbrev pub HasText : Status → Type 0
+HasText status = (status ≡ Done) ⊎ (status ≡ NotRegular)
 
 -- the status is no fault and no want of memory
 abbrev pub Tells : Status → Type 0 → Type 0
@@ -53,6 +69,7 @@ Tells _ p = p
 -- the statuses with which nothing is written
 abbrev pub WritesNothing : Status → Type 0 → Type 0
 WritesNothing Done p = Unit {0}
+WritesNothing NotRegular p = Unit {0}
 WritesNothing WriteFault p = Unit {0}
 WritesNothing _ p = p
 
@@ -74,7 +91,9 @@ pub record CutShort (IsAnswer : List ℕ → Status → List ℕ → Type 0) (le
   pub took : Took left left' read
   pub ended : Ended left'
   pub cut : AppendedPart written written' text
-  pub answer : IsAnswer read Done text
+  pub status : Status
+  pub whole : HasText status
+  pub answer : IsAnswer read status text
 
 -- where the whole input has an answer, the status is that of the answer, but for want of memory
 abbrev pub OnlyAnswer : List (List ℕ) → Option (List ℕ) → Status → Type 0
@@ -82,14 +101,14 @@ OnlyAnswer words left status =
     (input : List ℕ) (answer : Status) (text : List ℕ) → left ≡ Some input → IsAnswer words input answer text →
     (status ≡ answer) ⊎ (status ≡ Memory)
 
--- where the words ask for a command and the whole input keeps each rule, the run is done, but for want of memory
+-- where the words ask for a command and the whole input keeps each rule, its text is written, but for want of memory
 abbrev pub IsComplete : List (List ℕ) → Option (List ℕ) → Status → Type 0
 IsComplete words left status =
-    (input : List ℕ) (command : Command) (model : MixedModel) → left ≡ Some input → AsksFor words command →
-    length input ≤ input_limit → Gives (kind_of command) input model → (status ≡ Done) ⊎ (status ≡ Memory)
+    (input : List ℕ) (command : Command) → left ≡ Some input → AsksFor words command →
+    length input ≤ limit_of (format_of command) → KeepsRules (format_of command) input →
+    HasText status ⊎ (status ≡ Memory)
 
--- a text was written whole, or the sink failed
-abbrev pub IsDelivered : Status → Type 0 → Type 0 → Type 0
-IsDelivered Done whole failed = whole
-IsDelivered WriteFault whole failed = failed
-IsDelivered _ whole failed = ⊥
+-- the text of an output was written whole, and the run ends as it says; or the sink failed
+abbrev pub IsDelivered : Output → Status → Type 0 → Type 0 → Type 0
+IsDelivered output WriteFault whole failed = failed
+IsDelivered output status whole failed = (status ≡ end_of output) × whole

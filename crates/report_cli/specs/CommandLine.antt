@@ -1,4 +1,4 @@
--- The command line `mixed SUBCOMMAND KIND`, as clap reads it.
+-- The command line `mixed SUBCOMMAND KIND`, or `mixed check`, as clap reads it.
 use Rattle.std.specs.Prelude.{[], ◌∷◌, true, false, codes}
 use Rattle.clap.specs.Simple.{App, Shape, new_rule, new_shape}
 use Rattle.clap.specs.Walk.{Rule, Text}
@@ -11,13 +11,24 @@ kind_argument = record (new_rule (codes "KIND")) { required = true }
 abbrev pub with_kind : Text → Shape
 with_kind name = record (new_shape name) { rules = kind_argument ∷ [] }
 
--- the command `mixed`: a subcommand is required, and where there is no word at all help is given
-abbrev pub command_line : App
-command_line = record {
+-- a subcommand of this name, without an argument
+abbrev pub without_kind : Text → Shape
+without_kind name = new_shape name
+
+-- the command `mixed` before it has a subcommand: one is required, and where there is no word at all help is given
+abbrev pub bare_line : App
+bare_line = record {
   top = record (new_shape (codes "mixed")) {
-    is_leaf = false;
     subcommand_required = true;
     arg_required_else_help = true;
   };
-  subs = with_kind (codes "analyse") ∷ with_kind (codes "layer") ∷ [];
+  subs = [];
+}
+
+-- the command `mixed`
+abbrev pub command_line : App
+command_line = record {
+  top = record bare_line.top { is_leaf = false };
+  subs = with_kind (codes "analyse") ∷ with_kind (codes "layer") ∷ with_kind (codes "report") ∷ with_kind (codes "plan")
+      ∷ without_kind (codes "check") ∷ [];
 }

@@ -1,14 +1,13 @@
 pub mod Numbers
 pub mod CommandLine
 pub mod Kinds
+pub mod Formats
 pub mod Words
 pub mod Notes
 pub mod RightFor
-pub mod LayerTexts
-pub mod Columns
-pub mod WholeLayers
+pub mod PlanFor
 pub mod Rooms
-pub mod Reports
+pub mod Outputs
 pub mod Reading
 pub mod Statuses
 pub mod Answer

@@ -9,29 +9,41 @@ use Rattle.report_cli.specs.Words.{AreTaken}
 use Rattle.report_cli.specs.declared.command.WordsError.{WordsError}
 use Rattle.report_cli.specs.declared.command.WordsError.TheVariants.{Told, UnknownKind, NoMemory}
 use Rattle.report_cli.specs.declared.status.Status.{Status}
-use Rattle.report_cli.specs.declared.status.Status.TheVariants.{Done, Usage, Refused, TooLong, ReadFault, WriteFault, Memory}
+use Rattle.report_cli.specs.declared.status.Status.TheVariants.{BadCertificate, Done, Memory, NotRegular, ReadFault, Refused, Rejected, TooLong, Usage, WriteFault}
 
 -- the words for an input that is longer than a limit
 abbrev pub limit_text : ℕ → List ℕ
 limit_text limit = codes "input longer than" ++ spaced limit ++ codes " bytes"
 
+-- the words for a text that is that of no certificate from this line on
+abbrev pub line_text : ℕ → List ℕ
+line_text line = codes "line" ++ spaced line ++ codes ": not a certificate line"
+
+-- the words for a certificate that breaks this rule
+abbrev pub rule_text : ℕ → List ℕ
+rule_text rule = codes "rejected by rule" ++ spaced rule
+
 -- the words for a status
 abbrev pub words_of : Status → List ℕ
 words_of Done = []
+words_of NotRegular = []
 words_of Usage = codes "unknown word"
 words_of (Refused refused) = refusal_text refused
 words_of (TooLong limit) = limit_text limit
+words_of (BadCertificate line) = line_text line
 words_of ReadFault = codes "read fault"
 words_of WriteFault = codes "write fault"
 words_of Memory = codes "out of memory"
+words_of (Rejected rule) = rule_text rule
 
 -- the line for a status
 abbrev pub line_of : Status → List ℕ
 line_of status = codes "mixed: " ++ words_of status ++ codes "\n"
 
--- what is noted of a status: nothing where the run is done
+-- what is noted of a status: nothing where the whole text was written
 abbrev pub note_of : Status → List ℕ
 note_of Done = []
+note_of NotRegular = []
 note_of status = line_of status
 
 -- what is noted of words that ask for no command: what clap tells, or the line for a status

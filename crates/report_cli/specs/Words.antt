@@ -3,36 +3,45 @@ use Rattle.std.specs.Prelude.{◌≡◌, ℕ, List, [], Option, Some, None, code
 use Rattle.clap.specs.Faults.{fault_of}
 use Rattle.clap.specs.Simple.{subcommand_of}
 use Rattle.clap.specs.Walk.{Row, Text, first_of}
-use Rattle.cert_text.specs.Texts.{kind_text}
-use Rattle.cert_text.specs.declared.kind.Kind.{Kind}
 use Rattle.report_cli.specs.CommandLine.{command_line}
 use Rattle.report_cli.specs.declared.command.Command.{Command}
-use Rattle.report_cli.specs.declared.command.Command.TheVariants.{Analyse, Layer}
+use Rattle.report_cli.specs.declared.command.Command.TheVariants.{Check, OfModel}
+use Rattle.report_cli.specs.declared.command.Format.{Format}
+use Rattle.report_cli.specs.declared.command.Format.TheVariants.{Certificate, Model}
+use Rattle.report_cli.specs.declared.command.Task.{Task}
+use Rattle.report_cli.specs.declared.command.Task.TheVariants.{Analyse, Layer, Plan, Report}
+use Rattle.report_cli.specs.Formats.{word_of}
 use Rattle.report_cli.specs.declared.command.WordsError.{WordsError}
 use Rattle.report_cli.specs.declared.command.WordsError.TheVariants.{Told, UnknownKind, NoMemory}
 
+-- the name of a task
+abbrev pub task_text : Task → List ℕ
+task_text Analyse = codes "analyse"
+task_text Layer = codes "layer"
+task_text Report = codes "report"
+task_text Plan = codes "plan"
+
 -- the name of a command
 abbrev pub name_of : Command → List ℕ
-name_of (Analyse kind) = codes "analyse"
-name_of (Layer kind) = codes "layer"
+name_of (OfModel task kind) = task_text task
+name_of Check = codes "check"
 
--- the kind of a command's input
-abbrev pub kind_of : Command → Kind
-kind_of (Analyse kind) = kind
-kind_of (Layer kind) = kind
+-- what a command's input is to be
+abbrev pub format_of : Command → Format
+format_of (OfModel task kind) = Model kind
+format_of Check = Certificate
 
 -- clap's definition takes the words: no step of the parse fails
 abbrev pub AreTaken : List (List ℕ) → Type 0
 AreTaken words = fault_of command_line words ≡ []
 
--- these are the name of a command, and the word of its kind
-abbrev pub AreNamesOf : List ℕ → List ℕ → Command → Type 0
-AreNamesOf name word command = (name ≡ name_of command) × (word ≡ kind_text (kind_of command))
+-- these are the name of a command, and the word at KIND where it has one
+abbrev pub AreNamesOf : List ℕ → Option (List ℕ) → Command → Type 0
+AreNamesOf name word command = (name ≡ name_of command) × (word ≡ word_of (format_of command))
 
 -- a subcommand with its values is that of a command: by its name, and by the word at KIND
 abbrev pub Names : Option (Text × List Row) → Command → Type 0
-Names (Some (name, values)) command =
-    (word : List ℕ) × (first_of (codes "KIND") values ≡ Some word) × AreNamesOf name word command
+Names (Some (name, values)) command = AreNamesOf name (first_of (codes "KIND") values) command
 Names None command = ⊥
 
 -- it is that of no command

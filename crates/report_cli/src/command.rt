@@ -1,11 +1,11 @@
 //! The command that the words of the command line ask for.
 
-ghost use Rattle.std.specs.Prelude.{◌≡◌, ◌≢◌, List, ℕ, map, MatchOption, MatchResult, OnOk};
+ghost use Rattle.std.specs.Prelude.{◌≡◌, ◌≢◌, List, ℕ, map, MatchOption, MatchResult, OnOk, Some, None};
 ghost use Rattle.std.specs.String.{string_bytes};
 ghost use Rattle.cert_text.specs.Texts.{kind_text};
 ghost use Rattle.clap.specs.Words.{kind_of as error_kind, subcommand_rows_of};
 ghost use Rattle.report_cli.specs.Statuses.{status_of_words};
-ghost use Rattle.report_cli.specs.Words.{AreNamesOf, AsksFor, IsWhy, Names, NamesNone, kind_of};
+ghost use Rattle.report_cli.specs.Words.{AreNamesOf, AsksFor, IsWhy, Names, NamesNone, task_text};
 
 use crate::command_line::command_line;
 use crate::status::Status;
@@ -14,13 +14,35 @@ use clap::error::ErrorKind;
 use clap::{ArgMatches, Error};
 use std::alloc::{AllocError, Global};
 
-/// What to write of an input of a kind.
+/// What to write of a model.
+#[derive(Clone, Copy, Debug, PartialEq, Eq)]
+pub enum Task {
+    /// A certificate.
+    Analyse,
+    /// The layered matrix.
+    Layer,
+    /// Its rank, its surplus equations and its undetermined unknowns.
+    Report,
+    /// In which steps it can be solved.
+    Plan,
+}
+
+/// What to do with an input.
 #[derive(Clone, Copy, Debug, PartialEq, Eq)]
 pub enum Command {
-    /// A certificate.
-    Analyse(Kind),
-    /// The layered matrix.
-    Layer(Kind),
+    /// To write something of the model that an input of this kind gives.
+    OfModel(Task, Kind),
+    /// To tell whether a certificate is right for the input that it repeats.
+    Check,
+}
+
+/// What an input is to be.
+#[derive(Clone, Copy, Debug, PartialEq, Eq)]
+pub enum Format {
+    /// A text of this kind, of at most 8,388,608 bytes, that gives a model.
+    Model(Kind),
+    /// The text of a certificate, of at most 2,147,483,648 bytes.
+    Certificate,
 }
 
 /// Why the words ask for no command.
@@ -55,30 +77,44 @@ impl Command {
             (Names (subcommand_rows_of matches.now)) }
     {
         let (name, values) = matches.subcommand()?;
-        let kind = values.get_str("KIND")?;
-        Command::named(name, kind)
+        match values.get_str("KIND") {
+            Some(kind) => Command::of_kind(name, kind),
+            None => Command::alone(name),
+        }
     }
 
     // The command of this name, on the kind of this name.
-    fn named(name: &str, kind: &str) -> Option<Command>
-        ensures { MatchOption result ((command : Command) → AreNamesOf name.now kind.now command → ⊥)
-            (AreNamesOf name.now kind.now) }
+    fn of_kind(name: &str, kind: &str) -> Option<Command>
+        ensures { MatchOption result ((command : Command) → AreNamesOf name.now (Some kind.now) command → ⊥)
+            (AreNamesOf name.now (Some kind.now)) }
     {
+        let task = task_named(name)?;
         let kind = kind_named(kind)?;
+        Some(Command::OfModel(task, kind))
+    }
+
+    // The command of this name that has no kind.
+    fn alone(name: &str) -> Option<Command>
+        ensures { MatchOption result ((command : Command) → AreNamesOf name.now None command → ⊥)
+            (AreNamesOf name.now None) }
+    {
         match name {
-            "analyse" => Some(Command::Analyse(kind)),
-            "layer" => Some(Command::Layer(kind)),
+            "check" => Some(Command::Check),
             _ => None,
         }
     }
+}
 
-    /// The kind of the input.
-    pub fn kind(self) -> Kind
-        ensures { result ≡ kind_of self }
-    {
-        match self {
-            Command::Analyse(kind) | Command::Layer(kind) => kind,
-        }
+// The task of this name.
+fn task_named(word: &str) -> Option<Task>
+    ensures { MatchOption result ((task : Task) → word.now ≢ task_text task) (λ task. word.now ≡ task_text task) }
+{
+    match word {
+        "analyse" => Some(Task::Analyse),
+        "layer" => Some(Task::Layer),
+        "report" => Some(Task::Report),
+        "plan" => Some(Task::Plan),
+        _ => None,
     }
 }
 

@@ -1,14 +1,19 @@
 //! Words of the command line at worked examples.
 
 ghost use Rattle.std.specs.Prelude.{[], ◌∷◌, codes};
-ghost use Rattle.cert_text.specs.declared.kind.Kind.TheVariants.{Matrix, Netlist};
+ghost use Rattle.cert_text.specs.declared.kind.Kind.TheVariants.{Flowsheet, Matrix, Netlist};
 ghost use Rattle.report_cli.specs.Words.{AsksFor, AsksForNothing};
-ghost use Rattle.report_cli.specs.declared.command.Command.TheVariants.{Analyse, Layer};
+ghost use Rattle.report_cli.specs.declared.command.Command.TheVariants.{Check, OfModel};
+ghost use Rattle.report_cli.specs.declared.command.Task.TheVariants.{Analyse, Layer, Plan, Report};
 
 /// What words ask for at worked examples.
 pub fn words_at_examples()
-    ensures analyse { AsksFor (codes "mixed" ∷ codes "analyse" ∷ codes "matrix" ∷ []) (Analyse Matrix) }
-    ensures layer { AsksFor (codes "mixed" ∷ codes "layer" ∷ codes "netlist" ∷ []) (Layer Netlist) }
+    ensures analyse { AsksFor (codes "mixed" ∷ codes "analyse" ∷ codes "matrix" ∷ []) (OfModel Analyse Matrix) }
+    ensures layer { AsksFor (codes "mixed" ∷ codes "layer" ∷ codes "netlist" ∷ []) (OfModel Layer Netlist) }
+    ensures report { AsksFor (codes "mixed" ∷ codes "report" ∷ codes "flowsheet" ∷ []) (OfModel Report Flowsheet) }
+    ensures plan { AsksFor (codes "mixed" ∷ codes "plan" ∷ codes "matrix" ∷ []) (OfModel Plan Matrix) }
+    ensures check { AsksFor (codes "mixed" ∷ codes "check" ∷ []) Check }
+    ensures check_of_kind { AsksForNothing (codes "mixed" ∷ codes "check" ∷ codes "matrix" ∷ []) }
     ensures no_word { AsksForNothing (codes "mixed" ∷ []) }
     ensures no_kind { AsksForNothing (codes "mixed" ∷ codes "analyse" ∷ []) }
     ensures unknown_kind { AsksForNothing (codes "mixed" ∷ codes "analyse" ∷ codes "picture" ∷ []) }

@@ -4,9 +4,8 @@
 mod command;
 mod command_line;
 mod examples;
-mod layer_lines;
+mod output;
 mod reading;
-mod report;
 mod running;
 mod status;
 mod telling;

@@ -5,7 +5,11 @@ ghost use Rattle.cert_text.specs.declared.kind.Kind.{Kind};
 ghost use Rattle.limits.specs.Limits.{input_limit};
 ghost use Rattle.port_io.specs.Pumping.{nothing_pumped};
 ghost use Rattle.report_cli.specs.Kinds.{Gives, IsWhyUnread};
+ghost use Rattle.cert_reader.specs.Limits.{certificate_limit};
+ghost use Rattle.report_cli.specs.Formats.{limit_of};
 ghost use Rattle.report_cli.specs.Reading.{IsUnread, ReadsWhole, TellsOfSource};
+ghost use Rattle.report_cli.specs.declared.command.Format.{Format};
+ghost use Rattle.report_cli.specs.declared.command.Format.TheVariants.{Model};
 
 use crate::status::Status;
 use cert_text::Kind;
@@ -117,15 +121,19 @@ impl ModelReader for FlowsheetReader {
     }
 }
 
-/// The text of an input.
-pub fn read_text<S: Source>(alloc: Global, source: &mut S) -> Result<Vec<u8>, Status>
+/// The text of an input of at most `limit` bytes.
+pub fn read_text<S: Source>(alloc: Global, source: &mut S, limit: u64) -> Result<Vec<u8>, Status>
+    requires { limit ≤ certificate_limit }
     ensures read { IfOk result (λ text.
-        ReadsWhole (S.left source.old) (S.left source.new) (λ input. input ≡ text.items)) }
-    ensures unread { (kind : Kind) → IfErr result (λ status.
-        IsUnread kind status (S.left source.old) (S.left source.new)) }
-    ensures source { TellsOfSource S.Source source.old source.new result }
+        ReadsWhole limit (S.left source.old) (S.left source.new) (λ input. input ≡ text.items)) }
+    ensures unread { (format : Format) → limit_of format ≡ limit → IfErr result (λ status.
+        IsUnread format status (S.left source.old) (S.left source.new)) }
+    ensures source { TellsOfSource S.Source limit source.old source.new result }
 {
-    Ok(read_all(alloc, source, INPUT_LIMIT as u64)?)
+    match read_all(alloc, source, limit) {
+        Ok(text) => Ok(text),
+        Err(error) => Err(Status::unread(error, limit)),
+    }
 }
 
 /// The model that a text gives.
@@ -149,9 +157,9 @@ pub fn read_model<S: Source, R: ModelReader>(
     source: &mut S,
 ) -> Result<Mixed<Res>, Status>
     ensures read { IfOk result (λ model.
-        ReadsWhole (S.left source.old) (S.left source.new) (λ input. Gives R.KIND input model)) }
-    ensures unread { IfErr result (λ status. IsUnread R.KIND status (S.left source.old) (S.left source.new)) }
-    ensures source { TellsOfSource S.Source source.old source.new result }
+        ReadsWhole input_limit (S.left source.old) (S.left source.new) (λ input. Gives R.KIND input model)) }
+    ensures unread { IfErr result (λ status. IsUnread (Model R.KIND) status (S.left source.old) (S.left source.new)) }
+    ensures source { TellsOfSource S.Source input_limit source.old source.new result }
 {
     let pump = Pump::new(alloc, INPUT_LIMIT as u64)?;
     let reader = R::start(alloc)?;
@@ -168,9 +176,9 @@ fn feed_all<S: Source, R: ModelReader>(
     requires pump { pump ≡ nothing_pumped input_limit }
     requires reader { R.is_fed reader [] }
     ensures read { IfOk result (λ fed.
-        ReadsWhole (S.left source.old) (S.left source.new) (λ input. R.is_fed fed input)) }
-    ensures unread { IfErr result (λ status. IsUnread R.KIND status (S.left source.old) (S.left source.new)) }
-    ensures source { TellsOfSource S.Source source.old source.new result }
+        ReadsWhole input_limit (S.left source.old) (S.left source.new) (λ input. R.is_fed fed input)) }
+    ensures unread { IfErr result (λ status. IsUnread (Model R.KIND) status (S.left source.old) (S.left source.new)) }
+    ensures source { TellsOfSource S.Source input_limit source.old source.new result }
 {
     while pump.next(source)? > 0 {
         reader = reader.take(pump.piece())?;

@@ -5,16 +5,16 @@ ghost use Rattle.std.specs.String.{string_bytes};
 ghost use Rattle.port_io.specs.Causes.{Rose, one_more};
 ghost use Rattle.port_io.specs.Asking.{AsksWithin};
 ghost use Rattle.port_io.specs.Bytes.{Appended};
-ghost use Rattle.report_cli.specs.Answer.{Answered, CutShort, IsAnswer, IsAnswerOf, IsComplete, OnlyAnswer, TakesBy, Tells, WritesNothing, IsDelivered};
-ghost use Rattle.limits.specs.Limits.{input_limit};
-ghost use Rattle.report_cli.specs.Reports.{IsWritable, report_text};
+ghost use Rattle.report_cli.specs.Answer.{Answered, CutShort, HasText, IsAnswer, IsAnswerOf, IsComplete, OnlyAnswer, TakesBy, Tells, WritesNothing, IsDelivered};
+ghost use Rattle.report_cli.specs.Formats.{limit_of};
+ghost use Rattle.report_cli.specs.Outputs.{IsWritable, output_text};
 ghost use Rattle.report_cli.specs.Rooms.{HasTextRoom, text_room};
-ghost use Rattle.report_cli.specs.Words.{kind_of};
+ghost use Rattle.report_cli.specs.Words.{AsksFor, format_of};
 ghost use Rattle.report_cli.specs.Notes.{IsToldOf};
 ghost use Rattle.text_writer.specs.Giving.{AppendedPart};
 
 use crate::command::Command;
-use crate::report::Report;
+use crate::output::Output;
 use crate::status::Status;
 use crate::telling::{tell, tell_words};
 use port_io::{Sink, Source};
@@ -35,8 +35,8 @@ pub fn run<S: Source, K: Sink, N: Sink>(
     // a status that is no fault is the answer to what was read
     ensures answered { Tells result (Answered (IsAnswer (map string_bytes words.now)) (S.left source.old)
         (S.left source.new) (K.written out.old) (K.written out.new) result) }
-    ensures finished { result ≡ Status.Done → IsTrue (K.flushed out.new) }
-    ensures one_flush { result ≡ Status.Done → K.flushes out.new ≡ one_more (K.flushes out.old) }
+    ensures finished { HasText result → IsTrue (K.flushed out.new) }
+    ensures one_flush { HasText result → K.flushes out.new ≡ one_more (K.flushes out.old) }
 
     // where nothing fails, no other status comes, and an input that keeps each rule is answered
     ensures only_answer { (Rose (S.faults source.old) (S.faults source.new) → ⊥) →
@@ -58,9 +58,11 @@ pub fn run<S: Source, K: Sink, N: Sink>(
     ensures nothing_written { WritesNothing result (K.written out.new ≡ K.written out.old) }
     ensures noted { IsToldOf (map string_bytes words.now) (N.written notes.old) (N.written notes.new)
         (N.faults notes.old) (N.faults notes.new) result }
-    ensures taken { TakesBy result (S.left source.old) (S.left source.new) }
+    ensures taken { (command : Command) → AsksFor (map string_bytes words.now) command →
+        TakesBy (limit_of (format_of command)) result (S.left source.old) (S.left source.new) }
     ensures taken_usage { result ≡ Status.Usage → S.left source.new ≡ S.left source.old }
-    ensures asked { AsksWithin 65536 (input_limit + 1) (S.asked source.old) (S.asked source.new) }
+    ensures asked { (command : Command) → AsksFor (map string_bytes words.now) command →
+        AsksWithin 65536 (limit_of (format_of command) + 1) (S.asked source.old) (S.asked source.new) }
     ensures asked_usage { result ≡ Status.Usage → S.asked source.new ≡ S.asked source.old }
 
     // counts of faults: none falls, and none rises over what is known not to fail
@@ -89,8 +91,8 @@ fn work<S: Source, K: Sink>(alloc: Global, command: Command, source: &mut S, out
     ensures asked_for { result ≢ Status.Usage }
     ensures answered { Tells result (Answered (IsAnswerOf command) (S.left source.old) (S.left source.new)
         (K.written out.old) (K.written out.new) result) }
-    ensures finished { result ≡ Status.Done → IsTrue (K.flushed out.new) }
-    ensures one_flush { result ≡ Status.Done → K.flushes out.new ≡ one_more (K.flushes out.old) }
+    ensures finished { HasText result → IsTrue (K.flushed out.new) }
+    ensures one_flush { HasText result → K.flushes out.new ≡ one_more (K.flushes out.old) }
     ensures read_told { result ≢ Status.ReadFault → S.faults source.new ≡ S.faults source.old }
     ensures write_told { result ≢ Status.WriteFault → K.faults out.new ≡ K.faults out.old }
     ensures read_fault { result ≡ Status.ReadFault → Rose (S.faults source.old) (S.faults source.new) }
@@ -98,37 +100,37 @@ fn work<S: Source, K: Sink>(alloc: Global, command: Command, source: &mut S, out
         × CutShort (IsAnswerOf command) (S.left source.old) (S.left source.new) (K.written out.old)
         (K.written out.new) }
     ensures nothing_written { WritesNothing result (K.written out.new ≡ K.written out.old) }
-    ensures taken { TakesBy result (S.left source.old) (S.left source.new) }
-    ensures asked { AsksWithin 65536 (input_limit + 1) (S.asked source.old) (S.asked source.new) }
+    ensures taken { TakesBy (limit_of (format_of command)) result (S.left source.old) (S.left source.new) }
+    ensures asked { AsksWithin 65536 (limit_of (format_of command) + 1) (S.asked source.old) (S.asked source.new) }
     ensures counts_source { S.faults source.old ≤ S.faults source.new }
     ensures counts_out { K.faults out.old ≤ K.faults out.new }
     ensures calm_source { S.never_fails source.old → S.faults source.new ≡ S.faults source.old }
     ensures calm_out { (input : List ℕ) → S.left source.old ≡ Some input →
-        K.takes out.old (text_room (kind_of command) (length input)) → K.faults out.new ≡ K.faults out.old }
+        K.takes out.old (text_room command (length input)) → K.faults out.new ≡ K.faults out.old }
 {
-    match Report::read(alloc, command, source) {
-        Ok(report) => deliver(out, &report),
+    match Output::read(alloc, command, source) {
+        Ok(output) => deliver(out, &output),
         Err(status) => status,
     }
 }
 
-// Writes the whole text of a report, and flushes it.
-fn deliver<K: Sink>(out: &mut K, report: &Report) -> Status
-    requires { IsWritable report.now }
-    ensures ends { IsDelivered result
-        (Appended (K.written out.old) (K.written out.new) (report_text report.now) × IsTrue (K.flushed out.new))
+// Writes the whole text of an output, and flushes it.
+fn deliver<K: Sink>(out: &mut K, output: &Output) -> Status
+    requires { IsWritable output.now }
+    ensures ends { IsDelivered output.now result
+        (Appended (K.written out.old) (K.written out.new) (output_text output.now) × IsTrue (K.flushed out.new))
         (Rose (K.faults out.old) (K.faults out.new)
-        × AppendedPart (K.written out.old) (K.written out.new) (report_text report.now)) }
+        × AppendedPart (K.written out.old) (K.written out.new) (output_text output.now)) }
     ensures counts { K.faults out.old ≤ K.faults out.new }
     ensures told { result ≢ Status.WriteFault → K.faults out.new ≡ K.faults out.old }
-    ensures one_flush { result ≡ Status.Done → K.flushes out.new ≡ one_more (K.flushes out.old) }
-    ensures calm { (more : ℕ) → K.takes out.old (length (report_text report.now) + more) →
-        (K.faults out.new ≡ K.faults out.old) × (result ≡ Status.Done) × K.takes out.new more }
+    ensures one_flush { HasText result → K.flushes out.new ≡ one_more (K.flushes out.old) }
+    ensures calm { (more : ℕ) → K.takes out.old (length (output_text output.now) + more) →
+        (K.faults out.new ≡ K.faults out.old) × HasText result × K.takes out.new more }
 {
-    match report.write(out) {
+    match output.write(out) {
         Err(_) => Status::WriteFault,
         Ok(()) => match out.flush() {
-            Ok(()) => Status::Done,
+            Ok(()) => output.status(),
             Err(_) => Status::WriteFault,
         },
     }

@@ -2,7 +2,9 @@
 
 ghost use Rattle.std.specs.Prelude.{◌≡◌};
 ghost use Rattle.report_cli.specs.Numbers.{number_of};
+ghost use Rattle.report_cli.specs.Statuses.{status_of_error};
 
+use cert_verdict::NotAccepted;
 use limits::INPUT_LIMIT;
 use out_of_memory::NoMemory;
 use port_io::ReadError;
@@ -14,18 +16,24 @@ use std::alloc::AllocError;
 pub enum Status {
     /// The input was read to its end, and the whole text was written and flushed.
     Done,
+    /// The same, and what was written tells that the rank is below the number of equations, or of unknowns.
+    NotRegular,
     /// The words ask for no command.
     Usage,
     /// The first rule of its format that the input breaks.
     Refused(refusals::Refused),
     /// The input has more bytes than this limit.
     TooLong(u64),
+    /// The input is the text of no certificate: the first line that is refused.
+    BadCertificate(u32),
     /// The source failed.
     ReadFault,
     /// The sink failed: a prefix of the text was written.
     WriteFault,
     /// Memory ran out, before anything was written.
     Memory,
+    /// The first rule that the certificate in the input breaks.
+    Rejected(u32),
 }
 
 impl Status {
@@ -35,26 +43,51 @@ impl Status {
     {
         match self {
             Status::Done => 0,
+            Status::NotRegular => 1,
             Status::Usage => 2,
-            Status::Refused(_) | Status::TooLong(_) => 3,
+            Status::Refused(_) | Status::TooLong(_) | Status::BadCertificate(_) => 3,
             Status::ReadFault => 4,
             Status::WriteFault => 5,
             Status::Memory => 6,
+            Status::Rejected(_) => 7,
+        }
+    }
+
+    // How a run ends whose input, of at most `limit` bytes, was not read.
+    pub(crate) fn unread(error: ReadError, limit: u64) -> Status
+        ensures { result ≡ status_of_error limit error }
+    {
+        match error {
+            ReadError::ReadFault => Status::ReadFault,
+            ReadError::TooLong => Status::TooLong(limit),
+            ReadError::NoMemory => Status::Memory,
         }
     }
 }
 
 impl From<ReadError> for Status {
     ghost use Rattle.std.specs.Prelude.{◌≡◌};
+    ghost use Rattle.limits.specs.Limits.{input_limit};
     ghost use Rattle.report_cli.specs.Statuses.{status_of_error};
 
-    ghost from_gives = { λ error status. status ≡ status_of_error error };
+    ghost from_gives = { λ error status. status ≡ status_of_error input_limit error };
 
     fn from(error: ReadError) -> Status {
-        match error {
-            ReadError::ReadFault => Status::ReadFault,
-            ReadError::TooLong => Status::TooLong(INPUT_LIMIT as u64),
-            ReadError::NoMemory => Status::Memory,
+        Status::unread(error, INPUT_LIMIT as u64)
+    }
+}
+
+impl From<NotAccepted> for Status {
+    ghost use Rattle.std.specs.Prelude.{◌≡◌};
+    ghost use Rattle.report_cli.specs.Statuses.{status_of_verdict};
+
+    ghost from_gives = { λ why status. status ≡ status_of_verdict why };
+
+    fn from(why: NotAccepted) -> Status {
+        match why {
+            NotAccepted::Refused { line } => Status::BadCertificate(line),
+            NotAccepted::Rejected { rule } => Status::Rejected(rule),
+            NotAccepted::NoMemory => Status::Memory,
         }
     }
 }

@@ -16,27 +16,27 @@ const LAYER: &[&str] = &["mixed", "layer", "matrix"];
 
 /// One run over memory.
 #[derive(Clone, Copy)]
-struct Case<'a> {
-    words: &'a [&'a str],
-    input: &'a [u8],
+pub(crate) struct Case<'a> {
+    pub(crate) words: &'a [&'a str],
+    pub(crate) input: &'a [u8],
     /// The most bytes that the source gives in one call.
-    step: usize,
+    pub(crate) step: usize,
     /// The most bytes that the sink takes in one call.
-    most: usize,
+    pub(crate) most: usize,
     /// The calls of the source, the sink and the notes that fail.
-    source_fails: &'a [u64],
-    out_fails: &'a [u64],
-    notes_fail: &'a [u64],
+    pub(crate) source_fails: &'a [u64],
+    pub(crate) out_fails: &'a [u64],
+    pub(crate) notes_fail: &'a [u64],
     /// What is wanted: the status, how the output begins and ends, what stands in it, and what is noted.
-    status: u8,
-    begins: &'a [u8],
-    holds: &'a [u8],
-    ends: &'a [u8],
-    notes: &'a [u8],
+    pub(crate) status: u8,
+    pub(crate) begins: &'a [u8],
+    pub(crate) holds: &'a [u8],
+    pub(crate) ends: &'a [u8],
+    pub(crate) notes: &'a [u8],
 }
 
-// A case with ample room and no failing call.
-fn calm<'a>(
+/// A case with ample room and no failing call.
+pub(crate) fn calm<'a>(
     input: &'a [u8],
     status: u8,
     begins: &'a [u8],
@@ -77,8 +77,8 @@ fn holds(text: &[u8], piece: &[u8]) -> bool {
     false
 }
 
-// Runs a case, and compares what it leaves. A run of status 2 takes no byte.
-fn expect_case(rt: &impl Abort, alloc: Global, case: &Case) -> Result<(), Fail> {
+/// Runs a case, and compares what it leaves. A run of status 2 takes no byte.
+pub(crate) fn expect_case(rt: &impl Abort, alloc: Global, case: &Case) -> Result<(), Fail> {
     let words = words_of(alloc, case.words)?;
     let mut source = MemSource::new(alloc, case.input, case.step.max(1), case.source_fails)?;
     let mut out = MemSink::new(alloc, case.most.max(1), ROOM, case.out_fails)?;
@@ -347,8 +347,8 @@ fn circuits(rt: HostRuntime) -> Result<(), Fail> {
     Ok(())
 }
 
-// The same case, with these words.
-fn asked<'a>(words: &'a [&'a str], case: Case<'a>) -> Case<'a> {
+/// The same case, with these words.
+pub(crate) fn asked<'a>(words: &'a [&'a str], case: Case<'a>) -> Case<'a> {
     Case { words, ..case }
 }
 
@@ -384,7 +384,7 @@ fn layers_of_netlists(rt: HostRuntime) -> Result<(), Fail> {
 }
 
 /// A feed that a separator splits.
-const SEPARATOR: &[u8] =
+pub(crate) const SEPARATOR: &[u8] =
     b"components = [\"A\"]\nstreams = [\"s1\", \"s2\", \"s3\"]\n[[unit]]\nname = \"F\"\nkind = \"spec\"\nstream = \"s1\"\ncomponent = \"A\"\n[[unit]]\nname = \"S\"\nkind = \"separator\"\ninlet = \"s1\"\ntop = \"s2\"\nbottom = \"s3\"\n";
 
 /// A tee with three outlets, in version 2, up to its fractions.
@@ -489,7 +489,7 @@ fn unknown_kinds(rt: HostRuntime) -> Result<(), Fail> {
 
 #[test]
 fn words_that_clap_does_not_take(rt: HostRuntime) -> Result<(), Fail> {
-    let cases: [(&[&str], &[u8]); 10] = [
+    let cases: [(&[&str], &[u8]); 12] = [
         (&["mixed"], b"Usage: mixed <COMMAND>\n"),
         (&[], b"Usage: mixed <COMMAND>\n"),
         (&["mixed", "help"], b"Usage: mixed <COMMAND>\n"),
@@ -498,6 +498,8 @@ fn words_that_clap_does_not_take(rt: HostRuntime) -> Result<(), Fail> {
             &["mixed", "analyse", "--help"],
             b"Usage: mixed analyse <KIND>\n",
         ),
+        (&["mixed", "check", "--help"], b"Usage: mixed check\n"),
+        (&["mixed", "check", "matrix"], b"'matrix'"),
         (&["mixed", "order", "matrix"], b"'order'"),
         (&["mixed", "anal", "matrix"], b"'anal'"),
         (&["mixed", "analyse"], b"<KIND>"),

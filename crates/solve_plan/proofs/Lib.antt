@@ -3,3 +3,8 @@ pub mod MemberLists
 pub mod PartPlaces
 pub mod SurplusLaws
 pub mod ReportLaws
+pub mod EntryPlaces
+pub mod StepRows
+pub mod StepPlaces
+pub mod PlanSizes
+pub mod PlanLaws

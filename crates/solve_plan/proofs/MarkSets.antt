@@ -1,10 +1,11 @@
 -- Sets that are marked, one number after the other.
 use Rattle.std.proofs.Common.{◌≡◌, ℕ, ◌+◌, ◌<◌, ◌⊎◌, Bool, true, false, List, length, replicate, slice_set, inl, inr, refl, sym, subst, ◌∙◌, arith}
 use Rattle.std.proofs.lemmas.List.{get_or-set_same, get_or-set_other, length-set, length-replicate}
+use Rattle.residue_theory.proofs.SetLaws.{differ}
 use Rattle.residue_theory.proofs.SumLaws.{nat_cases}
 use Rattle.part_rules.specs.Listed.{marked}
 use Rattle.form_arcs.proofs.Gathered.{none-marked}
-use Rattle.solve_plan.specs.Marks.{AreMarksOf, Marks, OfSome}
+use Rattle.solve_plan.specs.Marks.{AreMarksOf, Marks, OfSome, Unmarks}
 
 -- nothing is marked yet
 pub mark-none : (P : ℕ → ℕ → Type 0) (old : List Bool) → Marks (OfSome 0 P) old old
@@ -68,7 +69,8 @@ module _ (P : ℕ → ℕ → Type 0) (n : ℕ) where
   })
 
   -- number n adds v
-  pub mark-set : (old now : List Bool) (v : ℕ) → Marks (OfSome n P) old now → v < length old → P n v → ((x : ℕ) → P n x → v ≡ x) → Marks (OfSome (n + 1) P) old (slice_set now v true)
+  pub mark-set : (old now : List Bool) (v : ℕ) → Marks (OfSome n P) old now → v < length old → P n v → ((x : ℕ) → P n x → v ≡ x) →
+      Marks (OfSome (n + 1) P) old (slice_set now v true)
   mark-set old now v before low is only = mark-join old now (slice_set now v true) before (record {
     count = length-set now v true;
     tells = λ x. (set-told x, told-set x);
@@ -89,6 +91,44 @@ module _ (P : ℕ → ℕ → Type 0) (n : ℕ) where
         | inl same ↦ subst (λ i. marked (slice_set now v true) i ≡ true) same here
         | inr other ↦ get_or-set_other now v x true false (λ e. other (sym e)) ∙ h
       ]
+
+-- nothing is unmarked yet
+pub unmark-none : (P : ℕ → ℕ → Type 0) (old : List Bool) → Unmarks (OfSome 0 P) old old
+unmark-none P old = record {
+  count = refl;
+  tells = λ x. (λ h. (h, λ item. absurd (omega (arith, item.1))), λ h. h.0);
+}
+
+-- number n unmarks v
+pub unmark-set : (P : ℕ → ℕ → Type 0) (n : ℕ) (old now : List Bool) (v : ℕ) → Unmarks (OfSome n P) old now → v < length old → P n v → ((x : ℕ) →
+    P n x → v ≡ x) →
+    Unmarks (OfSome (n + 1) P) old (slice_set now v false)
+unmark-set P n old now v before low is only = record {
+  count = length-set now v false ∙ before.count;
+  tells = λ x. (set-told x, told-set x);
+}
+  where
+    here : marked (slice_set now v false) v ≡ false
+    here = get_or-set_same now v false false (subst (λ m. v < m) (sym before.count) low)
+
+    set-told : (x : ℕ) → marked (slice_set now v false) x ≡ true → (marked old x ≡ true) × (OfSome (n + 1) P x → ⊥)
+    set-told x h = elim (nat_cases v x) [
+      | inl same ↦ absurd (differ here (subst (λ i. marked (slice_set now v false) i ≡ true) (sym same) h))
+      | inr other ↦
+          let kept = (before.tells x).0 (subst (λ b. b ≡ true) (get_or-set_other now v x false false (λ e. other (sym e))) h) in (
+            kept.0,
+            λ item. elim (of-cases P n x item) [
+              | inl early ↦ kept.1 early
+              | inr new ↦ other (only x new)
+            ],
+          )
+    ]
+
+    told-set : (x : ℕ) → (marked old x ≡ true) × (OfSome (n + 1) P x → ⊥) → marked (slice_set now v false) x ≡ true
+    told-set x h = elim (nat_cases v x) [
+      | inl same ↦ absurd (h.1 (newest P n x (subst (λ i. P n i) same is)))
+      | inr other ↦ get_or-set_other now v x false false (λ e. other (sym e)) ∙ (before.tells x).1 (h.0, λ item. h.1 (more P n x item))
+    ]
 
 -- marks that are set where none was
 pub mark-fresh : (n : ℕ) (A : ℕ → Type 0) (none now : List Bool) → none ≡ replicate n false → Marks A none now → AreMarksOf n A now

@@ -1,3 +1,5 @@
 pub mod Marks
 pub mod Reports
 pub mod Surplus
+pub mod PlanSteps
+pub mod Plans

@@ -17,6 +17,11 @@ pub record Marks (A : ℕ → Type 0) (old now : List Bool) : Type 0 where
   pub count : length now ≡ length old
   pub tells : (x : ℕ) → (marked now x ≡ true) ↔ ((marked old x ≡ true) ⊎ A x)
 
+-- the numbers of A are marked no more
+pub record Unmarks (A : ℕ → Type 0) (old now : List Bool) : Type 0 where
+  pub count : length now ≡ length old
+  pub tells : (x : ℕ) → (marked now x ≡ true) ↔ ((marked old x ≡ true) × (A x → ⊥))
+
 -- of n numbers those of A are marked
 pub record AreMarksOf (n : ℕ) (A : ℕ → Type 0) (marks : List Bool) : Type 0 where
   pub count : length marks ≡ n

@@ -4,7 +4,7 @@ ghost use Rattle.std.specs.Prelude.{◌≡◌, ◌<◌, ◌≤◌, ℕ, IfOk, le
 ghost use Rattle.std.specs.List.{All};
 ghost use Rattle.form_arcs.specs.Marking.{keys_of, row_of};
 ghost use Rattle.part_rules.specs.Listed.{marked};
-ghost use Rattle.solve_plan.specs.Marks.{AreMembersOf, IsItem, Marks, OfSome};
+ghost use Rattle.solve_plan.specs.Marks.{AreMembersOf, IsItem, Marks, OfSome, Unmarks};
 
 use cert_text::Items;
 use out_of_memory::NoMemory;
@@ -20,10 +20,19 @@ pub fn mark_numbers(marks: &mut [bool], list: &[usize])
     }
 }
 
-// Marks the columns of the entries of a row of a square matrix.
+/// Unmarks each number of a list.
+pub fn unmark_numbers(marks: &mut [bool], list: &[usize])
+    requires { All (λ number. number < length marks.old) list.now }
+    ensures { Unmarks (IsItem list.now) marks.old marks.new }
+{
+    for number in list {
+        marks[*number] = false;
+    }
+}
+
+// Marks the columns of the entries of a row.
 fn mark_row<T: Drop>(marks: &mut [bool], rows: &[Items<(usize, T)>], row: usize)
     requires row { row < length rows.now }
-    requires square { length rows.now ≡ length marks.old }
     requires rows { All (All (λ item. item.0 < length marks.old)) rows.now }
     ensures { Marks (IsItem (row_of (map keys_of rows.now) row)) marks.old marks.new }
 {
@@ -33,16 +42,27 @@ fn mark_row<T: Drop>(marks: &mut [bool], rows: &[Items<(usize, T)>], row: usize)
     }
 }
 
-/// Marks the columns of the entries of these rows of a square matrix.
+/// Marks the columns of the entries of these rows.
 pub fn mark_rows<T: Drop>(marks: &mut [bool], rows: &[Items<(usize, T)>], list: &[usize])
     requires list { All (λ i. i < length rows.now) list.now }
-    requires square { length rows.now ≡ length marks.old }
     requires rows { All (All (λ item. item.0 < length marks.old)) rows.now }
     ensures { Marks (OfSome (length list.now) (λ k. IsItem (row_of (map keys_of rows.now) (slice_index list.now k))))
         marks.old marks.new }
 {
     for row in list {
         mark_row(marks, rows, *row);
+    }
+}
+
+/// Marks what stands in these of the lists.
+pub fn mark_lists(marks: &mut [bool], lists: &[Items<usize>], which: &[usize])
+    requires which { All (λ i. i < length lists.now) which.now }
+    requires lists { All (All (λ number. number < length marks.old)) lists.now }
+    ensures { Marks (OfSome (length which.now) (λ k. IsItem (row_of lists.now (slice_index which.now k))))
+        marks.old marks.new }
+{
+    for i in which {
+        mark_numbers(marks, lists[*i].as_slice());
     }
 }
 

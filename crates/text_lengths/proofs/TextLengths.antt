@@ -21,7 +21,7 @@ use Rattle.text_lengths.proofs.Lengths.{marked-short}
 use Rattle.text_lengths.proofs.LineLengths.{pairs-within, matrix-short, pattern-short, tail-short, blocks-short}
 
 -- canonical parts have no more blocks than columns
-blocks-few : (p : ℕ) (L : LayeredMatrix) (G : Parts) → AreCanonical p L G → G.blocks ≤ L.columns
+pub blocks-few : (p : ℕ) (L : LayeredMatrix) (G : Parts) → AreCanonical p L G → G.blocks ≤ L.columns
 blocks-few p L G are = omega (
   arith,
   size-everything G.blocks,

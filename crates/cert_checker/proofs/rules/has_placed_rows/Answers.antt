@@ -1,9 +1,7 @@
 use Rattle.std.proofs.Common.{◌≡◌, ◌+◌, MatchOption, length, ap, subst, ◌∙◌, arith}
 use Rattle.std.proofs.lemmas.Result.{IfOk-weaker}
 use Rattle.residue_theory.proofs.SetLaws.{differ}
-use Rattle.dense_q.specs.Tables.{height}
-use Rattle.sparse_t.specs.Incidences.{row_count}
-use Rattle.mixed_model.specs.Layers.{Layers, layered_matrix_of}
+use Rattle.sparse_layering.specs.Layers.{matrix_of_rows}
 use Rattle.cert_text.specs.Readings.{StandsOnce, q_row_lists, t_row_lists}
 use Rattle.cert_checker.specs.Standing.{Not, TellsPlaces, lists_in}
 use Rattle.cert_checker.specs.declared.standing.Member.TheVariants.{QRow, TRow}
@@ -13,32 +11,32 @@ use Rattle.cert_checker.proofs.rules.has_placed_rows.Goals as goal
 pub returns-in_default : goal.returns-in_default
 returns-in_default g c =
     let form = c.args.form.now in
-    let never : Not (StandsOnce c.rows.result (lists_in QRow form)) =
-    subst (λ found. MatchOption found (Not (StandsOnce c.rows.result (lists_in QRow form))) (λ places. TellsPlaces c.rows.result (lists_in QRow form) places.items)) c.in_default.is c.in_ok-q_rows.ensures in (
+    let never : Not (StandsOnce c.q_rows.result (lists_in QRow form)) =
+    subst (λ found. MatchOption found (Not (StandsOnce c.q_rows.result (lists_in QRow form))) (λ places. TellsPlaces c.q_rows.result (lists_in QRow form) places.items)) c.in_default.is c.in_ok-q_rows.ensures in (
       λ f. absurd (cc),
-      λ placed. absurd (q-never g.F.Field.modulus (layered_matrix_of c.args.layered.now) form c.rows.result (c.rows.ensures.rows ∙ ap (λ (l : Layers). height l.q) c.layered.view_is) never placed),
+      λ placed. absurd (q-never g.F.Field.modulus (matrix_of_rows c.args.layered.now) form c.q_rows.result c.q_rows.ensures never placed),
     )
 
 pub returns-in_default-2 : goal.returns-in_default-2
 returns-in_default-2 g c =
     let form = c.args.form.now in
-    let never : Not (StandsOnce c.rows-2.result (lists_in TRow form)) =
-    subst (λ found. MatchOption found (Not (StandsOnce c.rows-2.result (lists_in TRow form))) (λ places. TellsPlaces c.rows-2.result (lists_in TRow form) places.items)) c.in_default-2.is c.in_ok-t_rows.ensures in (
+    let never : Not (StandsOnce c.t_rows.result (lists_in TRow form)) =
+    subst (λ found. MatchOption found (Not (StandsOnce c.t_rows.result (lists_in TRow form))) (λ places. TellsPlaces c.t_rows.result (lists_in TRow form) places.items)) c.in_default-2.is c.in_ok-t_rows.ensures in (
       λ f. absurd (cc),
-      λ placed. absurd (t-never g.F.Field.modulus (layered_matrix_of c.args.layered.now) form c.rows-2.result (c.rows-2.ensures.rows ∙ ap (λ (l : Layers). row_count l.t) c.layered.view_is) never placed),
+      λ placed. absurd (t-never g.F.Field.modulus (matrix_of_rows c.args.layered.now) form c.t_rows.result c.t_rows.ensures never placed),
     )
 
 pub returns-then-not-branch : goal.returns-then-not-branch
 returns-then-not-branch g c =
     let p = g.F.Field.modulus in
     let form = c.args.form.now in
-    let L = layered_matrix_of c.args.layered.now in
+    let L = matrix_of_rows c.args.layered.now in
     let q = c.in-Some.q_rows.items in
     let t = c.in-Some-2.t_rows.items in
-    let q_told : TellsPlaces L.q_rows (q_row_lists form) q = q-told p L form c.rows.result q (c.rows.ensures.rows ∙ ap (λ (l : Layers). height l.q) c.layered.view_is)
-    (subst (λ found. MatchOption found (Not (StandsOnce c.rows.result (lists_in QRow form))) (λ places. TellsPlaces c.rows.result (lists_in QRow form) places.items)) c.in-Some.is c.in_ok-q_rows.ensures) in
-    let t_told : TellsPlaces L.t_rows (t_row_lists form) t = t-told p L form c.rows-2.result t (c.rows-2.ensures.rows ∙ ap (λ (l : Layers). row_count l.t) c.layered.view_is)
-    (subst (λ found. MatchOption found (Not (StandsOnce c.rows-2.result (lists_in TRow form))) (λ places. TellsPlaces c.rows-2.result (lists_in TRow form) places.items)) c.in-Some-2.is c.in_ok-t_rows.ensures) in
+    let q_told : TellsPlaces L.q_rows (q_row_lists form) q = q-told p L form c.q_rows.result q c.q_rows.ensures
+    (subst (λ found. MatchOption found (Not (StandsOnce c.q_rows.result (lists_in QRow form))) (λ places. TellsPlaces c.q_rows.result (lists_in QRow form) places.items)) c.in-Some.is c.in_ok-q_rows.ensures) in
+    let t_told : TellsPlaces L.t_rows (t_row_lists form) t = t-told p L form c.t_rows.result t c.t_rows.ensures
+    (subst (λ found. MatchOption found (Not (StandsOnce c.t_rows.result (lists_in TRow form))) (λ places. TellsPlaces c.t_rows.result (lists_in TRow form) places.items)) c.in-Some-2.is c.in_ok-t_rows.ensures) in
     let last : length c.as_slice.result.now + 2 ≡ length form.blocks + 2 = omega (arith, ap length (c.as_slice.ensures ∙ c.blocks-2.ensures.blocks)) in
     let stand = stand_as (length c.deref.result.now) L.q_rows (length c.as_slice.result.now + 2) (length form.blocks + 2) form.base c.as_slice-2.result.now c.args.columns.now c.deref.result.now q
     (ap length c.deref.ensures.value ∙ q_told.count) (c.as_slice-2.ensures ∙ c.base.ensures.base) last c.deref.ensures.value in (
@@ -50,13 +48,13 @@ pub returns : goal.returns
 returns g c =
     let p = g.F.Field.modulus in
     let form = c.args.form.now in
-    let L = layered_matrix_of c.args.layered.now in
+    let L = matrix_of_rows c.args.layered.now in
     let q = c.in-Some.q_rows.items in
     let t = c.in-Some-2.t_rows.items in
-    let q_told : TellsPlaces L.q_rows (q_row_lists form) q = q-told p L form c.rows.result q (c.rows.ensures.rows ∙ ap (λ (l : Layers). height l.q) c.layered.view_is)
-    (subst (λ found. MatchOption found (Not (StandsOnce c.rows.result (lists_in QRow form))) (λ places. TellsPlaces c.rows.result (lists_in QRow form) places.items)) c.in-Some.is c.in_ok-q_rows.ensures) in
-    let t_told : TellsPlaces L.t_rows (t_row_lists form) t = t-told p L form c.rows-2.result t (c.rows-2.ensures.rows ∙ ap (λ (l : Layers). row_count l.t) c.layered.view_is)
-    (subst (λ found. MatchOption found (Not (StandsOnce c.rows-2.result (lists_in TRow form))) (λ places. TellsPlaces c.rows-2.result (lists_in TRow form) places.items)) c.in-Some-2.is c.in_ok-t_rows.ensures) in
+    let q_told : TellsPlaces L.q_rows (q_row_lists form) q = q-told p L form c.q_rows.result q c.q_rows.ensures
+    (subst (λ found. MatchOption found (Not (StandsOnce c.q_rows.result (lists_in QRow form))) (λ places. TellsPlaces c.q_rows.result (lists_in QRow form) places.items)) c.in-Some.is c.in_ok-q_rows.ensures) in
+    let t_told : TellsPlaces L.t_rows (t_row_lists form) t = t-told p L form c.t_rows.result t c.t_rows.ensures
+    (subst (λ found. MatchOption found (Not (StandsOnce c.t_rows.result (lists_in TRow form))) (λ places. TellsPlaces c.t_rows.result (lists_in TRow form) places.items)) c.in-Some-2.is c.in_ok-t_rows.ensures) in
     let last : length c.as_slice.result.now + 2 ≡ length form.blocks + 2 = omega (arith, ap length (c.as_slice.ensures ∙ c.blocks-2.ensures.blocks)) in
     let q_stand = stand_as (length c.deref.result.now) L.q_rows (length c.as_slice.result.now + 2) (length form.blocks + 2) form.base c.as_slice-2.result.now c.args.columns.now c.deref.result.now q
     (ap length c.deref.ensures.value ∙ q_told.count) (c.as_slice-2.ensures ∙ c.base.ensures.base) last c.deref.ensures.value in

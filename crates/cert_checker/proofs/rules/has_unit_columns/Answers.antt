@@ -1,6 +1,5 @@
-use Rattle.std.proofs.Common.{length, ap, sym, ◌∙◌}
+use Rattle.std.proofs.Common.{length, sym, ◌∙◌}
 use Rattle.std.proofs.lemmas.Result.{IfOk-weaker}
-use Rattle.mixed_model.specs.Layers.{Layers}
 use Rattle.cert_checker.proofs.FormSizes.{pairs-as, printed-count, printed-matrix, printed-rows, units_as}
 use Rattle.cert_checker.proofs.rules.has_unit_columns.Goals as goal
 
@@ -10,8 +9,8 @@ are_units-requires-clause-p g c =
     let p = g.F.Field.modulus in
     let form = c.args.form.now in
     let P = printed-rows number c.p.result.now c.as_slice.result.now form.p c.as_slice.ensures c.p.ensures.p in
-    printed-matrix number p form.shape.q_rows form.shape.columns (length c.as_slice.result.now) c.cols.result c.as_slice.result.now form.p P c.p.ensures.ccf.p
-    (sym (printed-count number p form.shape.q_rows form.shape.columns c.as_slice.result.now form.p P c.p.ensures.ccf.p)) (c.requires.columns ∙ sym (c.cols.ensures.cols ∙ ap (λ (l : Layers). l.q.width) c.layered.view_is))
+    printed-matrix number p form.shape.q_rows form.shape.columns (length c.as_slice.result.now) c.columns.result c.as_slice.result.now form.p P c.p.ensures.ccf.p
+    (sym (printed-count number p form.shape.q_rows form.shape.columns c.as_slice.result.now form.p P c.p.ensures.ccf.p)) (c.requires.columns ∙ sym c.columns.ensures)
 
 pub are_units-requires-clause-base : goal.are_units-requires-clause-base
 are_units-requires-clause-base g c =
@@ -19,8 +18,8 @@ are_units-requires-clause-base g c =
     let p = g.F.Field.modulus in
     let form = c.args.form.now in
     let P = printed-rows number c.p.result.now c.as_slice.result.now form.p c.as_slice.ensures c.p.ensures.p in
-    pairs-as form.shape.q_rows form.shape.columns (length c.as_slice.result.now) c.cols.result form.base c.as_slice-2.result.now (c.as_slice-2.ensures ∙ c.base.ensures.base) c.base.ensures.ccf.base
-    (sym (printed-count number p form.shape.q_rows form.shape.columns c.as_slice.result.now form.p P c.p.ensures.ccf.p)) (c.requires.columns ∙ sym (c.cols.ensures.cols ∙ ap (λ (l : Layers). l.q.width) c.layered.view_is))
+    pairs-as form.shape.q_rows form.shape.columns (length c.as_slice.result.now) c.columns.result form.base c.as_slice-2.result.now (c.as_slice-2.ensures ∙ c.base.ensures.base) c.base.ensures.ccf.base
+    (sym (printed-count number p form.shape.q_rows form.shape.columns c.as_slice.result.now form.p P c.p.ensures.ccf.p)) (c.requires.columns ∙ sym c.columns.ensures)
 
 pub returns : goal.returns
 returns g c =

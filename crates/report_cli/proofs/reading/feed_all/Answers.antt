@@ -2,6 +2,7 @@ use Rattle.std.proofs.Common.{◌≡◌, ℕ, ◌≤◌, ◌+◌, ◌++◌, List
 use Rattle.limits.specs.Limits.{input_limit}
 use Rattle.report_cli.specs.Reading.{IsUnread}
 use Rattle.report_cli.specs.Statuses.{status_of_error}
+use Rattle.report_cli.specs.declared.command.Format.TheVariants.{Model}
 use Rattle.report_cli.specs.declared.status.Status.TheVariants.{Memory}
 use Rattle.report_cli.proofs.Pumped.{pumped_more, unended, unread_by_error, unread_for_memory}
 use Rattle.report_cli.proofs.Unread.{answered, with_status}
@@ -12,9 +13,9 @@ returns-in_err-next-clause-unread g c =
     let next = c.next.ensures in
     let why = c.in_err-next.field-0.0 in
     with_status
-    (λ status. IsUnread g.R.ModelReader.KIND status (g.S.Source.left c.args.source.now) (g.S.Source.left c.next.new.source))
+    (λ status. IsUnread (Model g.R.ModelReader.KIND) status (g.S.Source.left c.args.source.now) (g.S.Source.left c.next.new.source))
     c.from_residual.result
-    (status_of_error why)
+    (status_of_error input_limit why)
     c.from_residual.ensures.0
     c.from_residual.ensures.1
     (unread_by_error g.S.Source c.args.source.now c.loop-reader.source c.next.new.source c.loop-reader.pump c.next.new.self
@@ -24,7 +25,7 @@ pub returns-in_err-reader-clause-unread : goal.returns-in_err-reader-clause-unre
 returns-in_err-reader-clause-unread g c =
     let next = c.in_ok-next.ensures in
     with_status
-    (λ status. IsUnread g.R.ModelReader.KIND status (g.S.Source.left c.args.source.now) (g.S.Source.left c.next.new.source))
+    (λ status. IsUnread (Model g.R.ModelReader.KIND) status (g.S.Source.left c.args.source.now) (g.S.Source.left c.next.new.source))
     c.from_residual-in_err-reader.result
     Memory
     c.from_residual-in_err-reader.ensures.0

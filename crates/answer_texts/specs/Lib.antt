@@ -1,0 +1,7 @@
+pub mod Columns
+pub mod LayerTexts
+pub mod PlanRanges
+pub mod PlanTexts
+pub mod ReportTexts
+pub mod WholeLayers
+pub mod Rooms

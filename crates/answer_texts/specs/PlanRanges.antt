@@ -1,0 +1,40 @@
+-- The ranges that a plan keeps in which a model is solved, and the lengths of its lists.
+use Rattle.std.specs.Prelude.{ℕ, ◌<◌, ◌≤◌, length}
+use Rattle.std.specs.List.{All}
+use Rattle.limits.specs.Limits.{column_limit}
+use Rattle.residue_field.specs.Modulus.{res_modulus}
+use Rattle.solve_plan.specs.declared.steps.Step.{Step}
+use Rattle.solve_plan.specs.declared.steps.StepPart.{StepPart}
+use Rattle.solve_plan.specs.declared.steps.StepPart.TheVariants.{First, Block, Last}
+use Rattle.solve_plan.specs.declared.steps.StepRow.{StepRow}
+use Rattle.solve_plan.specs.declared.steps.StepRow.TheVariants.{Combined, Symbols}
+
+-- a block has a number below n
+abbrev pub IsPartBelow : ℕ → StepPart → Type 0
+IsPartBelow n First = Unit {0}
+IsPartBelow n (Block block) = block < n
+IsPartBelow n Last = Unit {0}
+
+-- a row is made of equations below n
+abbrev pub IsRowBelow : {T : Type 0} → ℕ → StepRow T → Type 0
+IsRowBelow n (Combined terms) = All (λ term. term.1 < n) terms
+IsRowBelow n (Symbols equation) = equation < n
+
+-- a step of m equations and n columns
+pub record IsStepIn {T : Type 0} (m n : ℕ) (step : Step T) : Type 0 where
+  pub part : IsPartBelow column_limit step.part
+  pub columns : All (λ column. column < n) step.columns
+  pub rows : All (IsRowBelow m) step.rows
+  pub uses : All (λ column. column < n) step.uses
+
+-- a sum has at most k terms, and its coefficients are residues
+abbrev pub IsShortRow : {T : Type 0} → (T → ℕ) → ℕ → StepRow T → Type 0
+IsShortRow number k (Combined terms) = (length terms ≤ k) × All (λ term. number term.0 < res_modulus) terms
+IsShortRow number k (Symbols equation) = Unit {0}
+
+-- a step has at most k columns, rows and columns that it uses, and short rows
+pub record IsShortStep {T : Type 0} (number : T → ℕ) (k : ℕ) (step : Step T) : Type 0 where
+  pub columns : length step.columns ≤ k
+  pub rows : length step.rows ≤ k
+  pub uses : length step.uses ≤ k
+  pub short : All (IsShortRow number k) step.rows

@@ -1,0 +1,72 @@
+//! A certificate's text read, its echo read by its kind, and its form checked.
+
+ghost use Rattle.std.specs.Prelude.{◌≡◌, ◌≤◌, IfErr, IfOk, length};
+ghost use Rattle.cert_reader.specs.CertLines.{IsCertificate};
+ghost use Rattle.cert_reader.specs.Limits.{certificate_limit};
+ghost use Rattle.cert_text.specs.Texts.{certificate_text};
+ghost use Rattle.cert_verdict.specs.Judging.{IsWhyBroken};
+ghost use Rattle.cert_verdict.specs.Verdicts.{IsAccepted, IsWhyNotAccepted, KeepsRules};
+
+use cert_checker::{CheckError, check};
+use cert_reader::{ReadCert, read};
+use cert_text::Certificate;
+use input_kinds::read_model;
+use refusals::ReadModel;
+use residue_field::Field;
+use std::alloc::Global;
+
+/// Why a certificate's text is not accepted.
+#[derive(Clone, Copy, Debug, PartialEq, Eq)]
+pub enum NotAccepted {
+    /// No certificate has this text: the first line that is refused, counted from 1. The echo is one line.
+    Refused { line: u32 },
+    /// The text is that of a certificate, which breaks this rule, from 1 to 12, and none before it.
+    Rejected { rule: u32 },
+    /// There was not enough memory.
+    NoMemory,
+}
+
+// The certificate that has this text. The text is let go.
+fn certificate_of<F: Field>(alloc: Global, text: Vec<u8>) -> Result<Certificate<F>, NotAccepted>
+    requires { length text.items ≤ certificate_limit }
+    ensures found { IfOk result (λ c. IsCertificate F.modulus c × (text.items ≡ certificate_text c)) }
+    ensures unread { IfErr result (IsWhyNotAccepted F.modulus text.items) }
+{
+    match read(alloc, &text) {
+        Ok(certificate) => Ok(certificate),
+        Err(ReadCert::Refused { line }) => Err(NotAccepted::Refused { line }),
+        Err(ReadCert::NoMemory) => Err(NotAccepted::NoMemory),
+    }
+}
+
+// Tries the rules 1 to 12 on a certificate.
+fn check_certificate<F: Field>(
+    alloc: Global,
+    certificate: &Certificate<F>,
+) -> Result<(), NotAccepted>
+    requires { IsCertificate F.modulus certificate.now }
+    ensures kept { IfOk result (λ kept. KeepsRules F.modulus certificate.now) }
+    ensures broken { IfErr result (IsWhyBroken F.modulus certificate.now) }
+{
+    let model = match read_model(alloc, certificate.kind, certificate.echo.as_slice()) {
+        Ok(model) => model,
+        Err(ReadModel::Refused(_)) => return Err(NotAccepted::Rejected { rule: 1 }),
+        Err(ReadModel::NoMemory) => return Err(NotAccepted::NoMemory),
+    };
+    match check(alloc, &model, &certificate.ccf) {
+        Ok(()) => Ok(()),
+        Err(CheckError::Reject { rule }) => Err(NotAccepted::Rejected { rule }),
+        Err(CheckError::NoMemory) => Err(NotAccepted::NoMemory),
+    }
+}
+
+/// Accepts the text of a certificate, of at most 2,147,483,648 bytes, exactly where it is right for the input that it
+/// repeats, whoever wrote it. The text is let go before the form is checked. (Murota, chapters 2 and 4.)
+pub fn judge<F: Field>(alloc: Global, text: Vec<u8>) -> Result<(), NotAccepted>
+    requires { length text.items ≤ certificate_limit }
+    ensures accepted { IfOk result (λ accepted. IsAccepted F.modulus text.items) }
+    ensures why { IfErr result (IsWhyNotAccepted F.modulus text.items) }
+{
+    let certificate = certificate_of::<F>(alloc, text)?;
+    check_certificate(alloc, &certificate)
+}

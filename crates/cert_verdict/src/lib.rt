@@ -1,0 +1,7 @@
+//! What the text of a certificate is worth: whether it is right for the input that it repeats.
+#![tactic(auto)]
+
+mod judging;
+pub mod laws;
+
+pub use judging::{NotAccepted, judge};

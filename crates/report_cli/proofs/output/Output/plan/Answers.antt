@@ -1,0 +1,28 @@
+use Rattle.std.proofs.Common.{refl}
+use Rattle.report_cli.proofs.Certified.{right-ccf, right-form}
+use Rattle.report_cli.proofs.output.Output.plan.Goals as goal
+
+pub plan-requires : goal.plan-requires
+plan-requires c =
+    let promise = c.in_ok-ccf.ensures in
+    right-form c.args.model c.in_ok-layered.layered c.in_ok-ccf.ccf c.equations.ensures.model c.in_ok-layered.ensures
+    (right-ccf c.args.model c.in_ok-layered.layered c.in_ok-ccf.ccf c.equations.ensures.model c.in_ok-layered.ensures
+    promise.shape promise.transform promise.pair_and_rank promise.block_triangular_form promise.ideals promise.canonical_listing)
+
+pub returns : goal.returns
+returns c = λ kind input gives.
+    let promise = c.in_ok-ccf.ensures in
+    let right = right-ccf c.args.model c.in_ok-layered.layered c.in_ok-ccf.ccf c.equations.ensures.model c.in_ok-layered.ensures
+    promise.shape promise.transform promise.pair_and_rank promise.block_triangular_form promise.ideals promise.canonical_listing in (
+      kind,
+      refl,
+      record {
+        gives = gives;
+        are = c.in_ok-layered.ensures;
+        whole = c.is_whole.ensures;
+        ccf = c.in_ok-ccf.ccf;
+        form = c.is_in_form.ensures;
+        right = right;
+        is = c.in_ok-plan.ensures c.args.model c.equations.ensures.model c.in_ok-layered.ensures right;
+      },
+    )

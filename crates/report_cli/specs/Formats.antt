@@ -1,0 +1,51 @@
+-- What an input is to be, what keeps that, and how a run ends on what does not.
+use Rattle.std.specs.Prelude.{ℕ, List, Option, Some, None}
+use Rattle.limits.specs.Limits.{input_limit}
+use Rattle.cert_reader.specs.Limits.{certificate_limit}
+use Rattle.cert_text.specs.Texts.{kind_text}
+use Rattle.cert_text.specs.declared.kind.Kind.{Kind}
+use Rattle.cert_verdict.specs.Verdicts.{IsAccepted, IsNoCertificate, IsRejectedBy}
+use Rattle.mixed_model.specs.Models.{MixedModel}
+use Rattle.residue_field.specs.Modulus.{res_modulus}
+use Rattle.report_cli.specs.Kinds.{Gives, IsRefused}
+use Rattle.report_cli.specs.declared.command.Format.{Format}
+use Rattle.report_cli.specs.declared.command.Format.TheVariants.{Certificate, Model}
+use Rattle.report_cli.specs.declared.status.Status.{Status}
+use Rattle.report_cli.specs.declared.status.Status.TheVariants.{BadCertificate, Done, Refused, Rejected}
+
+-- how many bytes an input has at most
+abbrev pub limit_of : Format → ℕ
+limit_of (Model kind) = input_limit
+limit_of Certificate = certificate_limit
+
+-- the word at KIND: a certificate tells its own
+abbrev pub word_of : Format → Option (List ℕ)
+word_of (Model kind) = Some (kind_text kind)
+word_of Certificate = None
+
+-- the input keeps each rule: it gives a model, or it is the text of a certificate that is accepted
+abbrev pub KeepsRules : Format → List ℕ → Type 0
+KeepsRules (Model kind) input = (model : MixedModel) × Gives kind input model
+KeepsRules Certificate input = IsAccepted res_modulus input
+
+-- it is a model of a kind of which this holds
+abbrev pub OfModel : Format → (Kind → Type 0) → Type 0
+OfModel (Model kind) Of = Of kind
+OfModel Certificate Of = ⊥
+
+-- it is a certificate, and this holds
+abbrev pub OfCertificate : Format → Type 0 → Type 0
+OfCertificate (Model kind) holds = ⊥
+OfCertificate Certificate holds = holds
+
+-- the status tells the first rule that the input breaks
+abbrev pub IsFault : Format → List ℕ → Status → Type 0
+IsFault format input (Refused refused) = OfModel format (λ kind. IsRefused kind input refused)
+IsFault format input (BadCertificate line) = OfCertificate format (IsNoCertificate res_modulus input line)
+IsFault format input (Rejected rule) = OfCertificate format (IsRejectedBy res_modulus input rule)
+IsFault format input _ = ⊥
+
+-- how a run ends on an input that is not too long
+abbrev pub IsEnd : Format → List ℕ → Status → Type 0
+IsEnd format input Done = KeepsRules format input
+IsEnd format input status = IsFault format input status

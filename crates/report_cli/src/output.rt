@@ -1,0 +1,292 @@
+//! What a command writes of an input.
+
+ghost use Rattle.std.specs.Prelude.{◌≡◌, ◌≤◌, ℕ, List, codes, length, IfErr, IfOk};
+ghost use Rattle.cert_text.specs.Ranges.{IsCcf};
+ghost use Rattle.cert_text.specs.declared.kind.Kind.{Kind};
+ghost use Rattle.mixed_layering.specs.Layers.{AreLayersOf};
+ghost use Rattle.answer_texts.specs.LayerTexts.{layer_text};
+ghost use Rattle.residue_field.specs.Modulus.{res_modulus};
+ghost use Rattle.limits.specs.Limits.{input_limit};
+ghost use Rattle.report_cli.specs.Kinds.{Gives, IsWhyUnread};
+ghost use Rattle.report_cli.specs.Reading.{IsUnread, ReadsWhole, TellsOfSource};
+ghost use Rattle.report_cli.specs.Outputs.{IsOutputFor, IsWritable, end_of, end_of_rank, output_text};
+ghost use Rattle.std.specs.List.{All};
+ghost use Rattle.answer_texts.specs.PlanRanges.{IsStepIn};
+ghost use Rattle.answer_texts.specs.PlanTexts.{plan_text};
+ghost use Rattle.answer_texts.specs.ReportTexts.{report_text};
+ghost use Rattle.mixed_model.specs.Models.{mixed_matrix_of};
+ghost use Rattle.solve_plan.specs.Reports.{IsReportOf};
+ghost use Rattle.answer_texts.specs.WholeLayers.{AreWholeLayers};
+ghost use Rattle.cert_reader.specs.Limits.{certificate_limit};
+ghost use Rattle.report_cli.specs.Formats.{limit_of};
+ghost use Rattle.report_cli.specs.Words.{format_of};
+ghost use Rattle.text_writer.specs.Giving.{IsWritten};
+
+use crate::command::{Command, Format, Task};
+use crate::reading::{ModelReader, read_model, read_text, read_whole};
+use crate::status::Status;
+use answer_texts::{put_layers, put_plan, put_report};
+use ccf_builder::build;
+use cert_reader::CERTIFICATE_LIMIT;
+use cert_text::{Ccf, Certificate, Items, Kind};
+use cert_verdict::judge;
+use flowsheet_reader::FlowsheetReader;
+use limits::INPUT_LIMIT;
+use matrix_reader::MatrixReader;
+use mixed_layering::layer;
+use mixed_model::{Layered, Mixed};
+use netlist_reader::NetlistReader;
+use out_of_memory::NoMemory;
+use port_io::{Sink, Source, WriteFault};
+use refusals::ReadModel;
+use residue_field::Res;
+use row_transform::DenseTableau;
+use solve_plan::{Plan, Report, plan, report};
+use std::alloc::Global;
+use text_writer::TextWriter;
+
+/// What a command writes of an input.
+#[derive(Drop)]
+pub enum Output {
+    /// The certificate of the input.
+    Certificate(Certificate<Res>),
+    /// The model that the input gives, and the layered matrix of the model.
+    Layers(Mixed<Res>, Layered<Res>),
+    /// The model that the input gives, and the report on it.
+    Report(Mixed<Res>, Report),
+    /// The model that the input gives, the layered matrix of the model, and a plan to solve it.
+    Plan(Mixed<Res>, Layered<Res>, Plan<Res>),
+    /// That the certificate in the input is right for the input that it repeats.
+    Accepted,
+}
+
+impl Output {
+    /// What the command writes of the input that the source gives, or how the run ends without it.
+    pub fn read<S: Source>(
+        alloc: Global,
+        command: Command,
+        source: &mut S,
+    ) -> Result<Output, Status>
+        ensures right { IfOk result (λ output. ReadsWhole (limit_of (format_of command)) (S.left source.old)
+            (S.left source.new) (λ input. IsOutputFor command input output)) }
+        ensures unread { IfErr result (λ status.
+            IsUnread (format_of command) status (S.left source.old) (S.left source.new)) }
+        ensures source { TellsOfSource S.Source (limit_of (format_of command)) source.old source.new result }
+    {
+        match command {
+            Command::OfModel(task, Kind::Matrix) => {
+                Output::of_model::<S, MatrixReader<Res>>(alloc, task, source)
+            }
+            Command::OfModel(task, Kind::Netlist) => {
+                Output::of_model::<S, NetlistReader<Res>>(alloc, task, source)
+            }
+            Command::OfModel(task, Kind::Flowsheet) => {
+                Output::of_model::<S, FlowsheetReader>(alloc, task, source)
+            }
+            Command::Check => Output::verdict(alloc, source),
+        }
+    }
+
+    // What is written of a model, by a reader of inputs of its kind.
+    fn of_model<S: Source, R: ModelReader>(
+        alloc: Global,
+        task: Task,
+        source: &mut S,
+    ) -> Result<Output, Status>
+        ensures right { IfOk result (λ output. ReadsWhole input_limit (S.left source.old) (S.left source.new)
+            (λ input. IsOutputFor (Command.OfModel task R.KIND) input output)) }
+        ensures unread { IfErr result (λ status.
+            IsUnread (Format.Model R.KIND) status (S.left source.old) (S.left source.new)) }
+        ensures source { TellsOfSource S.Source input_limit source.old source.new result }
+    {
+        match task {
+            Task::Layer => {
+                let model = read_model::<S, R>(alloc, source)?;
+                Ok(Output::layers(alloc, model)?)
+            }
+            Task::Report => {
+                let model = read_model::<S, R>(alloc, source)?;
+                Ok(Output::report(alloc, model)?)
+            }
+            Task::Plan => {
+                let model = read_model::<S, R>(alloc, source)?;
+                Ok(Output::plan(alloc, model)?)
+            }
+            Task::Analyse => {
+                let text = read_text(alloc, source, INPUT_LIMIT as u64)?;
+                Ok(Output::certificate::<R>(alloc, text)?)
+            }
+        }
+    }
+
+    // That the certificate in the input is accepted.
+    fn verdict<S: Source>(alloc: Global, source: &mut S) -> Result<Output, Status>
+        ensures right { IfOk result (λ output. ReadsWhole certificate_limit (S.left source.old) (S.left source.new)
+            (λ input. IsOutputFor Command.Check input output)) }
+        ensures unread { IfErr result (λ status.
+            IsUnread Format.Certificate status (S.left source.old) (S.left source.new)) }
+        ensures source { TellsOfSource S.Source certificate_limit source.old source.new result }
+    {
+        let text = read_text(alloc, source, CERTIFICATE_LIMIT as u64)?;
+        judge::<Res>(alloc, text)?;
+        Ok(Output::Accepted)
+    }
+
+    // The layered matrix of a model.
+    fn layers(alloc: Global, model: Mixed<Res>) -> Result<Output, NoMemory>
+        ensures { IfOk result (λ output. (kind : Kind) (input : List ℕ) → Gives kind input model →
+            IsOutputFor (Command.OfModel Task.Layer kind) input output) }
+    {
+        let layered = layer(alloc, &model)?;
+        is_whole(&layered);
+        Ok(Output::Layers(model, layered))
+    }
+
+    // The report on a model.
+    fn report(alloc: Global, model: Mixed<Res>) -> Result<Output, NoMemory>
+        ensures { IfOk result (λ output. (kind : Kind) (input : List ℕ) → Gives kind input model →
+            IsOutputFor (Command.OfModel Task.Report kind) input output) }
+    {
+        let layered = layer(alloc, &model)?;
+        // it tells what the type of a model keeps
+        let _ = model.equations();
+        let ccf = build::<Res, DenseTableau<Res>>(alloc, &layered)?;
+        let told = report(alloc, &layered, &ccf)?;
+        Ok(Output::Report(model, told))
+    }
+
+    // A plan to solve a model.
+    fn plan(alloc: Global, model: Mixed<Res>) -> Result<Output, NoMemory>
+        ensures { IfOk result (λ output. (kind : Kind) (input : List ℕ) → Gives kind input model →
+            IsOutputFor (Command.OfModel Task.Plan kind) input output) }
+    {
+        let layered = layer(alloc, &model)?;
+        is_whole(&layered);
+        // it tells what the type of a model keeps
+        let _ = model.equations();
+        let ccf = build::<Res, DenseTableau<Res>>(alloc, &layered)?;
+        is_in_form(&ccf);
+        let plan = plan(alloc, &layered, &ccf)?;
+        Ok(Output::Plan(model, layered, plan))
+    }
+
+    // The certificate of a text of at most 8,388,608 bytes, or why the text is refused.
+    fn certificate<R: ModelReader>(alloc: Global, text: Vec<u8>) -> Result<Output, ReadModel>
+        requires { length text.items ≤ input_limit }
+        ensures right { IfOk result (IsOutputFor (Command.OfModel Task.Analyse R.KIND) text.items) }
+        ensures refused { IfErr result (IsWhyUnread R.KIND text.items) }
+    {
+        let model = read_whole::<R>(alloc, &text)?;
+        let Ok(layered) = layer(alloc, &model) else {
+            return Err(ReadModel::NoMemory);
+        };
+        let Ok(ccf) = build::<Res, DenseTableau<Res>>(alloc, &layered) else {
+            return Err(ReadModel::NoMemory);
+        };
+        is_in_form(&ccf);
+        Ok(Output::Certificate(Certificate {
+            kind: R::KIND,
+            echo: Items::from_vec(text),
+            ccf,
+        }))
+    }
+
+    /// Appends the whole text to the sink, in pieces of some KiB, and takes no memory. It does not flush. Where the
+    /// sink fails, a first part of the text was appended, and `written` counts its bytes.
+    pub fn write<K: Sink>(&self, out: &mut K) -> Result<(), WriteFault>
+        requires { IsWritable self.now }
+        ensures { IsWritten K.Sink out.old out.new (output_text self.now) result }
+    {
+        match self {
+            Output::Certificate(certificate) => cert_text::write(certificate, out),
+            Output::Layers(model, layered) => write_layers(out, model, layered),
+            Output::Report(model, told) => write_report(out, model, told),
+            Output::Plan(model, layered, plan) => write_plan(out, model, layered, plan),
+            Output::Accepted => write_accepted(out),
+        }
+    }
+
+    /// How a run ends once all is written and flushed.
+    pub fn status(&self) -> Status
+        ensures { result ≡ end_of self.now }
+    {
+        match self {
+            Output::Report(_, told) => status_of(told),
+            _ => Status::Done,
+        }
+    }
+}
+
+// How a run ends that reports so.
+fn status_of(told: &Report) -> Status
+    ensures { result ≡ end_of_rank told.now.equations told.now.unknowns told.now.rank }
+{
+    if told.equations <= told.rank && told.unknowns <= told.rank {
+        Status::Done
+    } else {
+        Status::NotRegular
+    }
+}
+
+// Tells a proof what the type of a layered matrix keeps.
+fn is_whole(layered: &Layered<Res>)
+    ensures { AreWholeLayers layered.now }
+{
+    let _ = (layered.split(), layered.q.rows(), layered.t.rows());
+}
+
+// Tells a proof what the type of a printed form keeps.
+fn is_in_form(ccf: &Ccf<Res>)
+    ensures { IsCcf res_modulus ccf.now }
+{
+    let _ = ccf.rank();
+}
+
+// Appends the text of the layered matrix of a model to the sink.
+fn write_layers<K: Sink>(
+    out: &mut K,
+    model: &Mixed<Res>,
+    layered: &Layered<Res>,
+) -> Result<(), WriteFault>
+    requires { AreLayersOf model.now layered.now }
+    ensures { IsWritten K.Sink out.old out.new (layer_text model.now layered.now) result }
+{
+    let mut writer = TextWriter::new(out);
+    put_layers(&mut writer, model, layered);
+    writer.finish()
+}
+
+// Appends the text of the report on a model to the sink.
+fn write_report<K: Sink>(out: &mut K, model: &Mixed<Res>, told: &Report) -> Result<(), WriteFault>
+    requires { IsReportOf res_modulus (mixed_matrix_of model.now) told.now }
+    ensures { IsWritten K.Sink out.old out.new (report_text model.now told.now) result }
+{
+    let mut writer = TextWriter::new(out);
+    put_report(&mut writer, model, told);
+    writer.finish()
+}
+
+// Appends the text of a plan to the sink.
+fn write_plan<K: Sink>(
+    out: &mut K,
+    model: &Mixed<Res>,
+    layered: &Layered<Res>,
+    plan: &Plan<Res>,
+) -> Result<(), WriteFault>
+    requires layers { AreLayersOf model.now layered.now }
+    requires steps { All (IsStepIn (length model.now.equations) layered.now.q.width) plan.now.steps }
+    ensures { IsWritten K.Sink out.old out.new (plan_text (λ x. x) model.now layered.now plan.now) result }
+{
+    let mut writer = TextWriter::new(out);
+    put_plan(&mut writer, model, layered, plan);
+    writer.finish()
+}
+
+// Appends the word that a certificate is accepted.
+fn write_accepted<K: Sink>(out: &mut K) -> Result<(), WriteFault>
+    ensures { IsWritten K.Sink out.old out.new (codes "accepted\n") result }
+{
+    let mut writer = TextWriter::new(out);
+    writer.piece(b"accepted\n");
+    writer.finish()
+}

@@ -1,0 +1,4 @@
+pub mod EntryPush
+pub mod PrintedRows
+pub mod ConstantRows
+pub mod LayerLaws
