@@ -16,28 +16,30 @@ use Rattle.report_cli.specs.Answer.{HasText, IsAnswer, IsAnswerOf, IsOutputText}
 use Rattle.answer_texts.specs.LayerTexts.{layer_text}
 use Rattle.report_cli.specs.Outputs.{IsOutputFor, output_text}
 use Rattle.report_cli.specs.RightFor.{IsRightFor}
-use Rattle.report_cli.specs.Rooms.{text_room}
+use Rattle.report_cli.specs.Rooms.{request_room, text_room}
 use Rattle.answer_texts.specs.WholeLayers.{AreWholeLayers}
 use Rattle.report_cli.specs.Kinds.{Gives}
-use Rattle.report_cli.specs.Words.{AsksFor, format_of}
-use Rattle.report_cli.specs.declared.command.Command.{Command}
-use Rattle.report_cli.specs.declared.command.Command.TheVariants.{OfModel}
-use Rattle.report_cli.specs.declared.command.Task.{Task}
-use Rattle.report_cli.specs.declared.command.Task.TheVariants.{Analyse, Layer}
+use Rattle.command_line.specs.Words.{Asks, AsksFor, format_of}
+use Rattle.command_line.specs.declared.command.Command.{Command}
+use Rattle.command_line.specs.declared.command.Command.TheVariants.{OfModel}
+use Rattle.command_line.specs.declared.command.Request.{Request}
+use Rattle.command_line.specs.declared.command.Request.TheVariants.{Make, OfInput}
+use Rattle.command_line.specs.declared.command.Task.{Task}
+use Rattle.command_line.specs.declared.command.Task.TheVariants.{Analyse, Layer}
 use Rattle.report_cli.specs.declared.output.Output.{Output}
-use Rattle.report_cli.specs.declared.output.Output.TheVariants.{Accepted, Certificate as Certified, Layers as Layering, Plan as Planning, Report as Reporting}
+use Rattle.report_cli.specs.declared.output.Output.TheVariants.{Accepted, Certificate as Certified, Layers as Layering, Made, Plan as Planning, Report as Reporting}
 use Rattle.report_cli.specs.declared.status.Status.{Status}
 use Rattle.report_cli.specs.declared.status.Status.TheVariants.{Done}
-use Rattle.report_cli.proofs.Asking.{asks-one}
 use Rattle.report_cli.proofs.RunWords.{of_command}
 use Rattle.input_kinds.proofs.ByKind.{gives-one}
 use Rattle.report_cli.proofs.TextRooms.{output_fits}
+use Rattle.answer_laws.proofs.OneMakeText.{fitting_make}
 use Rattle.answer_laws.specs.Agreement.{AreAgreed}
 use Rattle.answer_laws.proofs.OneLayerText.{one-layers}
 
 -- what a command reports in an answer
 reported_by : (words : List (List ℕ)) (command : Command) (input text : List ℕ) → AsksFor words command → IsAnswer words input Done text → IsOutputText command input Done text
-reported_by words command input text asks answer = subst (λ c. IsOutputText c input Done text) (asks-one words answer.0 command answer.1 asks) answer.2.1
+reported_by words command input text asks answer = (of_command words command input Done text asks answer).1
 
 -- an answer of `analyse` is the text of a certificate that is right
 pub record IsCertified (kind : Kind) (input text : List ℕ) : Type 0 where
@@ -59,6 +61,7 @@ certified kind input text (Layering model layers) (other, is, gives, are, whole)
 certified kind input text (Reporting model told) (other, is, gives, reports) text_is = absurd cc
 certified kind input text (Planning model layers plan) (other, is, right) text_is = absurd cc
 certified kind input text Accepted (is, right) text_is = absurd cc
+certified kind input text (Made size split ccf) right text_is = absurd right
 
 pub analysed : (words : List (List ℕ)) (kind : Kind) (input text : List ℕ) → AsksFor words (OfModel Analyse kind) → IsAnswer words input Done text → IsCertified kind input text
 analysed words kind input text asks answer =
@@ -87,6 +90,7 @@ layering kind input text (Layering model layers) (other, is, gives, are, whole) 
 layering kind input text (Reporting model told) (other, is, gives, reports) text_is = absurd cc
 layering kind input text (Planning model layers plan) (other, is, right) text_is = absurd cc
 layering kind input text Accepted (is, right) text_is = absurd cc
+layering kind input text (Made size split ccf) right text_is = absurd right
 
 pub layered : (words : List (List ℕ)) (kind : Kind) (input text : List ℕ) → AsksFor words (OfModel Layer kind) → IsAnswer words input Done text → IsLayered kind input text
 layered words kind input text asks answer =
@@ -136,9 +140,14 @@ is-written command input status text (inr other) answer =
     subst (λ s. (length input ≤ limit_of (format_of command)) × IsOutputText command input s text) (sym other)
     (subst (λ s. IsAnswerOf command input s text) other answer)
 
-pub fitting : (words : List (List ℕ)) (command : Command) (input : List ℕ) (status : Status) (text : List ℕ) → AsksFor words command → HasText status →
+fitting-of : (words : List (List ℕ)) (command : Command) (input : List ℕ) (status : Status) (text : List ℕ) → AsksFor words command → HasText status →
     IsAnswer words input status text → length text ≤ text_room command (length input)
-fitting words command input status text asks has answer =
+fitting-of words command input status text asks has answer =
     let written = is-written command input status text has (of_command words command input status text asks answer) in
     subst (λ t. length t ≤ text_room command (length input)) (sym (written.1).text_is)
     (output_fits command input (written.1).output (written.1).right written.0)
+
+pub fitting : (words : List (List ℕ)) (request : Request) (input : List ℕ) (status : Status) (text : List ℕ) → Asks words request → HasText status →
+    IsAnswer words input status text → length text ≤ request_room request (length input)
+fitting words (OfInput command) input status text asks has answer = fitting-of words command input status text asks has answer
+fitting words (Make n) input status text asks has answer = fitting_make words n input status text asks has answer

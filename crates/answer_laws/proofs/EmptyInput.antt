@@ -13,9 +13,9 @@ use Rattle.cert_text.specs.declared.part.CcfPart.{CcfPart}
 use Rattle.cert_text.specs.declared.shape.Shape.{Shape}
 use Rattle.report_cli.specs.Answer.{IsAnswer}
 use Rattle.report_cli.specs.RightFor.{IsRightFor}
-use Rattle.report_cli.specs.Words.{AsksFor}
-use Rattle.report_cli.specs.declared.command.Command.TheVariants.{OfModel}
-use Rattle.report_cli.specs.declared.command.Task.TheVariants.{Analyse}
+use Rattle.command_line.specs.Words.{AsksFor}
+use Rattle.command_line.specs.declared.command.Command.TheVariants.{OfModel}
+use Rattle.command_line.specs.declared.command.Task.TheVariants.{Analyse}
 use Rattle.report_cli.specs.declared.status.Status.TheVariants.{Done}
 use Rattle.report_cli.proofs.ByKind.{no-names}
 use Rattle.report_cli.proofs.TextRooms.{members-few}

@@ -1,9 +1,15 @@
 -- What the sink holds after a run over memory that began with an empty one.
-use Rattle.std.proofs.Common.{◌≡◌, ℕ, List, [], ◌++◌, inl, inr, subst, sym, ◌∙◌, ap}
-use Rattle.port_io.specs.Memory.{MemorySink, MemorySource}
-use Rattle.report_cli.specs.Answer.{IsAnswer}
+use Rattle.std.proofs.Common.{◌≡◌, ◌≤◌, ◌<◌, ◌+◌, ◌-◌, ◌^◌, ℕ, List, [], ◌++◌, length, Some, inl, inr, refl, subst, sym, ◌∙◌, ap, arith}
+use Rattle.port_io.specs.Bytes.{Ended}
+use Rattle.port_io.specs.Causes.{Rose}
+use Rattle.port_io.specs.Memory.{MemorySink, MemorySource, TakesMore}
+use Rattle.command_line.specs.Words.{AsksFor}
+use Rattle.command_line.specs.declared.command.Command.{Command}
+use Rattle.report_cli.specs.Answer.{Answered, IsAnswer, ReadsAll, Tells}
+use Rattle.report_cli.specs.Rooms.{HasTextRoom}
 use Rattle.report_cli.specs.declared.status.Status.{Status}
-use Rattle.answer_laws.specs.InMemory.{Answers, IsAnsweredBy}
+use Rattle.report_cli.specs.declared.status.Status.TheVariants.{BadCertificate, Done, Memory, NotRegular, ReadFault, Refused, Rejected, TooLong, Usage, WriteFault}
+use Rattle.answer_laws.specs.InMemory.{Answers, IsAnswered, IsAnsweredBy}
 
 pub answered_by : (words : List (List ℕ)) (input : List ℕ) (source source' : MemorySource) (out out' : MemorySink) (status : Status) →
     source.left ≡ input → out.written ≡ [] → Answers words source source' out out' status → IsAnsweredBy words input status out'.written
@@ -18,3 +24,40 @@ answered_by words input source source' out out' status left empty (inl answered)
       (sym (answered.appended ∙ ap (λ written. written ++ answered.text) empty))
       answered.answer;
 })
+
+-- a count that is as before did not rise
+pub unrisen : (before now : ℕ) → before < 2 ^ 64 - 1 → now ≡ before → Rose before now → ⊥
+unrisen before now small same rose = omega (arith, small, same, rose)
+
+-- room in the sink is room that it takes
+pub room-taken : (out : MemorySink) (words : List (List ℕ)) (n : ℕ) → out.fails ≡ [] →
+    HasTextRoom (λ size. length out.written + size ≤ out.room) words n → HasTextRoom (TakesMore out) words n
+room-taken out words n never room = λ request asks. record { none = never; room = room request asks }
+
+-- what a run over memory answers, where no call failed
+module _ (words : List (List ℕ)) (source source' : MemorySource) (out out' : MemorySink) where
+  answered-so : (status : Status) → Answered (IsAnswer words) (Some source.left) (Some source'.left) (Some out.written) (Some out'.written) status →
+      ((command : Command) → AsksFor words command → ReadsAll status (Ended (Some source'.left))) → IsAnswered words source source' out out' status
+  answered-so status a ended = record {
+    read = a.read;
+    text = a.text;
+    took = a.took;
+    ended = ended;
+    appended = a.appended;
+    answer = a.answer;
+  }
+
+  pub in-memory : (status : Status) →
+      Tells status (Answered (IsAnswer words) (Some source.left) (Some source'.left) (Some out.written) (Some out'.written) status) →
+      ((command : Command) → AsksFor words command → ReadsAll status (Ended (Some source'.left))) →
+      (status ≡ ReadFault → ⊥) → (status ≡ WriteFault → ⊥) → Answers words source source' out out' status
+  in-memory Done a ended no_read no_write = inl (answered-so Done a ended)
+  in-memory NotRegular a ended no_read no_write = inl (answered-so NotRegular a ended)
+  in-memory Usage a ended no_read no_write = inl (answered-so Usage a ended)
+  in-memory (Refused refused) a ended no_read no_write = inl (answered-so (Refused refused) a ended)
+  in-memory (TooLong limit) a ended no_read no_write = inl (answered-so (TooLong limit) a ended)
+  in-memory (BadCertificate line) a ended no_read no_write = inl (answered-so (BadCertificate line) a ended)
+  in-memory ReadFault a ended no_read no_write = absurd (no_read refl)
+  in-memory WriteFault a ended no_read no_write = absurd (no_write refl)
+  in-memory Memory a ended no_read no_write = inr refl
+  in-memory (Rejected rule) a ended no_read no_write = inl (answered-so (Rejected rule) a ended)

@@ -6,9 +6,10 @@ use Rattle.cert_text.specs.declared.kind.Kind.{Kind}
 use Rattle.certificate_laws.specs.Agreement.{Agree}
 use Rattle.report_cli.specs.Answer.{IsAnswer}
 use Rattle.report_cli.specs.RightFor.{IsRightFor}
-use Rattle.report_cli.specs.Words.{AsksFor}
-use Rattle.report_cli.specs.declared.command.Command.TheVariants.{OfModel}
-use Rattle.report_cli.specs.declared.command.Task.TheVariants.{Analyse, Layer}
+use Rattle.command_line.specs.Words.{Asks, AsksFor, AsksToMake}
+use Rattle.command_line.specs.declared.command.Request.{Request}
+use Rattle.command_line.specs.declared.command.Command.TheVariants.{OfModel}
+use Rattle.command_line.specs.declared.command.Task.TheVariants.{Analyse, Layer}
 use Rattle.report_cli.specs.declared.status.Status.TheVariants.{Done}
 
 -- the texts are those of two certificates, both right for the input of this kind, that agree
@@ -30,3 +31,13 @@ abbrev pub AnswersOfLayerAreOne : Type 0
 AnswersOfLayerAreOne =
     (words : List (List ℕ)) (kind : Kind) (input text other : List ℕ) → AsksFor words (OfModel Layer kind) →
     IsAnswer words input Done text → IsAnswer words input Done other → text ≡ other
+
+-- any two texts about a made model are the same, whatever the inputs are
+abbrev pub AnswersOfMakeAreOne : Type 0
+AnswersOfMakeAreOne =
+    (words : List (List ℕ)) (n : ℕ) (input another text other : List ℕ) → AsksToMake words n →
+    IsAnswer words input Done text → IsAnswer words another Done other → text ≡ other
+
+-- words ask for one thing at most
+abbrev pub WordsAskForOneThing : Type 0
+WordsAskForOneThing = (words : List (List ℕ)) (a b : Request) → Asks words a → Asks words b → a ≡ b

@@ -1,6 +1,8 @@
 -- Runs over memory.
 use Rattle.std.specs.Prelude.{◌≡◌, ◌⊎◌, ℕ, ◌+◌, ◌-◌, ◌^◌, ◌≤◌, ◌<◌, List, [], ◌++◌, length}
 use Rattle.port_io.specs.Memory.{MemorySink, MemorySource}
+use Rattle.command_line.specs.Words.{AsksFor}
+use Rattle.command_line.specs.declared.command.Command.{Command}
 use Rattle.report_cli.specs.Answer.{IsAnswer, ReadsAll}
 use Rattle.report_cli.specs.Rooms.{HasTextRoom}
 use Rattle.report_cli.specs.declared.status.Status.{Status}
@@ -15,14 +17,14 @@ pub record IsCalm (words : List (List ℕ)) (source : MemorySource) (out : Memor
   pub out_count : out.faults < 2 ^ 64 - 1
   pub room : HasTextRoom (λ size. length out.written + size ≤ out.room) words (length source.left)
 
--- a run took the bytes `read` from the source, all of them where it tells of the whole input, and this status and the
--- appended text answer them
+-- a run took the bytes `read` from the source, all of them where a command tells of the whole input, and this status
+-- and the appended text answer them
 pub record IsAnswered (words : List (List ℕ)) (source source' : MemorySource) (out out' : MemorySink)
     (status : Status) : Type 0 where
   pub read : List ℕ
   pub text : List ℕ
   pub took : source.left ≡ read ++ source'.left
-  pub ended : ReadsAll status (source'.left ≡ [])
+  pub ended : (command : Command) → AsksFor words command → ReadsAll status (source'.left ≡ [])
   pub appended : out'.written ≡ out.written ++ text
   pub answer : IsAnswer words read status text
 
@@ -30,13 +32,13 @@ pub record IsAnswered (words : List (List ℕ)) (source source' : MemorySource) 
 abbrev pub Answers : List (List ℕ) → MemorySource → MemorySource → MemorySink → MemorySink → Status → Type 0
 Answers words source source' out out' status = IsAnswered words source source' out out' status ⊎ (status ≡ Memory)
 
--- of the input `read` was taken, all of it where the status tells of the whole input, and this status and this text
+-- of the input `read` was taken, all of it where a command tells of the whole input, and this status and this text
 -- answer what was taken
 pub record IsAnswerTo (words : List (List ℕ)) (input : List ℕ) (status : Status) (text : List ℕ) : Type 0 where
   pub read : List ℕ
   pub rest : List ℕ
   pub took : input ≡ read ++ rest
-  pub ended : ReadsAll status (rest ≡ [])
+  pub ended : (command : Command) → AsksFor words command → ReadsAll status (rest ≡ [])
   pub answer : IsAnswer words read status text
 
 -- the input is answered, or memory ran out

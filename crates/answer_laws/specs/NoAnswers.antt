@@ -4,10 +4,10 @@ use Rattle.cert_text.specs.Texts.{kind_text}
 use Rattle.cert_text.specs.declared.kind.Kind.{Kind}
 use Rattle.cert_text.specs.declared.kind.Kind.TheVariants.{Matrix}
 use Rattle.report_cli.specs.Answer.{IsAnswer}
-use Rattle.report_cli.specs.Words.{AsksFor}
-use Rattle.report_cli.specs.declared.command.Command.{Command}
-use Rattle.report_cli.specs.declared.command.Command.TheVariants.{OfModel}
-use Rattle.report_cli.specs.declared.command.Task.TheVariants.{Analyse, Layer}
+use Rattle.command_line.specs.Words.{AsksFor}
+use Rattle.command_line.specs.declared.command.Command.{Command}
+use Rattle.command_line.specs.declared.command.Command.TheVariants.{OfModel}
+use Rattle.command_line.specs.declared.command.Task.TheVariants.{Analyse, Layer}
 use Rattle.report_cli.specs.declared.status.Status.TheVariants.{Done}
 
 -- the command never answers this input by this text

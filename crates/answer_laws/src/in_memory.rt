@@ -2,7 +2,7 @@
 
 ghost use Rattle.std.specs.Prelude.{◌≡◌, ◌≤◌, length, map, Some, IfOk};
 ghost use Rattle.std.specs.String.{string_bytes};
-ghost use Rattle.report_cli.specs.Answer.{IsComplete, OnlyAnswer};
+ghost use Rattle.report_cli.specs.Answer.{IsComplete, IsMakeComplete, OnlyAnswer};
 ghost use Rattle.report_cli.specs.Rooms.{HasTextRoom};
 ghost use Rattle.answer_laws.specs.InMemory.{Answers, IsAnsweredBy, IsCalm};
 
@@ -25,6 +25,7 @@ pub fn run_in_memory<N: Sink>(
     ensures answers { Answers (map string_bytes words.now) source.old source.new out.old out.new result }
     ensures only_answer { OnlyAnswer (map string_bytes words.now) (Some source.old.left) result }
     ensures complete { IsComplete (map string_bytes words.now) (Some source.old.left) result }
+    ensures complete_make { IsMakeComplete (map string_bytes words.now) result }
 {
     run(alloc, words, source, out, notes)
 }
@@ -42,6 +43,7 @@ pub fn answer(
         IsAnsweredBy (map string_bytes words.now) input.now answer.0 answer.1.written) }
     ensures only_answer { IfOk result (λ answer. OnlyAnswer (map string_bytes words.now) (Some input.now) answer.0) }
     ensures complete { IfOk result (λ answer. IsComplete (map string_bytes words.now) (Some input.now) answer.0) }
+    ensures complete_make { IfOk result (λ answer. IsMakeComplete (map string_bytes words.now) answer.0) }
 {
     let mut source = MemSource::new(alloc, input, 65_536, &[])?;
     let mut out = MemSink::new(alloc, room.max(1), room, &[])?;

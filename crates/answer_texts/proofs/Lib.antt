@@ -1,6 +1,7 @@
 pub mod LayerPieces
 pub mod LayerFacts
 pub mod LayerLengths
+pub mod MadeLengths
 pub mod PlanFacts
 pub mod PlanLengths
 pub mod PlanPieces

@@ -1,5 +1,6 @@
 pub mod Columns
 pub mod LayerTexts
+pub mod MadeTexts
 pub mod PlanRanges
 pub mod PlanTexts
 pub mod ReportTexts

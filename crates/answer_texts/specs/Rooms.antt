@@ -19,3 +19,7 @@ step_room k = 33 + 297 * k + 103 * (k * k)
 -- room for the text of a plan of at most k + 2 such steps
 abbrev pub plan_room : ℕ → ℕ
 plan_room k = (k + 2) * step_room k
+
+-- room for the text about a made model: 53 bytes besides its ten numbers, each of at most five digits behind a space
+abbrev pub made_room : ℕ
+made_room = 113

@@ -42,7 +42,7 @@ fn put_sizes<K: Sink>(out: &mut TextWriter<'_, K>, report: &Report)
 }
 
 // Puts the line of a number behind a word.
-fn put_count<K: Sink>(out: &mut TextWriter<'_, K>, word: &[u8], number: usize)
+pub(crate) fn put_count<K: Sink>(out: &mut TextWriter<'_, K>, word: &[u8], number: usize)
     ensures { Puts K.Sink out.old out.new (count_line word.now number) }
 {
     out.piece(word);

@@ -1,20 +1,18 @@
 -- Rows of a matrix and of a pattern, printed one after the other.
-use Rattle.std.proofs.Common.{◌≡◌, ◌≢◌, ℕ, ◌+◌, ◌<◌, Bool, true, ◌||◌, cond, eqb, nat_eq, List, [], ◌∷◌, ◌++◌, length, map, get_or, inl, inr, suc, refl, ap, sym, ◌∙◌, subst, arith}
+use Rattle.std.proofs.Common.{◌≡◌, ◌≢◌, ℕ, ◌+◌, ◌<◌, Bool, cond, eqb, List, [], ◌∷◌, ◌++◌, length, map, get_or, inl, inr, suc, refl, ap, sym, ◌∙◌, subst, arith}
 use Rattle.std.specs.List.{All}
 use Rattle.std.specs.List.Sorted.{IsStrictlyIncreasing}
 use Rattle.std.proofs.lemmas.List.{get_or_append_left, get_or_push, get_or-map, length-map, length_push, map-append}
 use Rattle.std.proofs.lemmas.List.Elements.{All-append, All-from_get_or}
 use Rattle.residue_theory.proofs.SumLaws.{nat_cases}
-use Rattle.residue_theory.proofs.SetLaws.{differ, eqb_from, eqb_true, not_true}
+use Rattle.residue_theory.proofs.SetLaws.{eqb_from, eqb_true, not_true}
 use Rattle.residue_theory.specs.Sets.{has}
 use Rattle.sparse_t.specs.Lists.{IsBelow}
-use Rattle.sparse_t.proofs.ListLaws.{nat_eq-apart, nat_eq-itself}
 use Rattle.cert_text.specs.Contents.{numbered, numbered_rows}
 use Rattle.cert_text.specs.Ranges.{AreEntries, AreRising}
 use Rattle.cert_text.specs.Readings.{entry_at}
 use Rattle.ccf_builder.specs.Matrices.{PrintsMatrix, PrintsPattern, PrintsRow}
 use Rattle.ccf_builder.proofs.MemberLists.{rising-push}
-use Rattle.ccf_builder.proofs.PairLists.{same-tests}
 
 -- a list with one item is all of it
 all-one : {A : Type 0} (P : A → Type 0) (x : A) → P x → All P (x ∷ [])

@@ -3,6 +3,7 @@ pub mod Promises
 pub mod Pairs
 pub mod Solutions
 pub mod Decompositions
+pub mod Finest
 pub mod Placings
 pub mod Matrices
 pub mod Printings

@@ -8,6 +8,7 @@ ghost use Rattle.cert_checker.specs.Answers.{IsRightFor};
 ghost use Rattle.cert_text.specs.Contents.{numbered_rows};
 ghost use Rattle.cert_text.specs.Right.{HasShape, HasTransform, HasPairAndRank, HasForm, HasIdeals, HasCanonicalListing, IsRightCcf};
 ghost use Rattle.minimiser_lattice.specs.Views.{parts_in};
+ghost use Rattle.ccf_builder.specs.Finest.{IsFinest};
 ghost use Rattle.ccf_builder.specs.Printings.{IsDecomposed, IsPrinted};
 ghost use Rattle.ccf_builder.specs.Promises.{IsOfModel, OfEachModel};
 
@@ -25,8 +26,9 @@ use residue_field::Field;
 use row_transform::Tableau;
 use std::alloc::Global;
 
-/// The canonical form of the layered matrix of a model: it is right for each model of which this is the layered matrix, and
-/// `cert_checker::check` accepts it. Any tableau does, as `build::<F, DenseTableau<F>>`. (Murota, chapters 2 and 4.)
+/// The canonical form of the layered matrix of a model: it is right for each model of which this is the layered matrix, its
+/// parts are at least as fine as those of every form, and `cert_checker::check` accepts it. Any tableau does, as
+/// `build::<F, DenseTableau<F>>`. (Murota, chapters 2 and 4.)
 pub fn build<F: Field, T: Tableau<F>>(alloc: Global, l: &Layered<F>) -> Result<Ccf<F>, NoMemory>
     requires { IsOfModel F.modulus l.now }
     ensures shape { IfOk result (λ c.
@@ -37,6 +39,7 @@ pub fn build<F: Field, T: Tableau<F>>(alloc: Global, l: &Layered<F>) -> Result<C
     ensures block_triangular_form { IfOk result (HasForm F.modulus (layered_matrix_of l.now)) }
     ensures ideals { IfOk result (HasIdeals F.modulus (layered_matrix_of l.now)) }
     ensures canonical_listing { IfOk result (HasCanonicalListing F.modulus (layered_matrix_of l.now)) }
+    ensures finest { IfOk result (IsFinest F.modulus (layered_matrix_of l.now)) }
     ensures accepted { IfOk result (λ c. OfEachModel F.modulus l.now (λ M O. IsRightFor F.modulus M c)) }
 {
     let form = built::<F, T>(alloc, l)?;

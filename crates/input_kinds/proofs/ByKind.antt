@@ -1,5 +1,5 @@
 -- What holds of texts of each kind.
-use Rattle.std.proofs.Common.{◌≡◌, ℕ, ◌+◌, List, refl, ap, sym, ◌∙◌}
+use Rattle.std.proofs.Common.{◌≡◌, ℕ, ◌+◌, List, ap, sym, ◌∙◌}
 use Rattle.refusals.specs.declared.Refused.{Refused}
 use Rattle.refusals.specs.declared.Place.TheVariants.{Line}
 use Rattle.refusals.specs.declared.Why.{Why}
@@ -9,22 +9,9 @@ use Rattle.matrix_reader.proofs.ModelLaws.{text_gives_one}
 use Rattle.netlist_reader.proofs.ModelLaws as netlists
 use Rattle.netlist_reader.proofs.ModelLaws.{gives-unrefused, one_refusal}
 use Rattle.flowsheet_reader.proofs.ModelLaws as flowsheets
-use Rattle.cert_text.specs.Texts.{kind_text}
 use Rattle.cert_text.specs.declared.kind.Kind.{Kind}
 use Rattle.cert_text.specs.declared.kind.Kind.TheVariants.{Flowsheet, Matrix, Netlist}
 use Rattle.input_kinds.specs.Kinds.{GivesModel, IsRefused}
-
--- kinds have words of their own
-pub kind-one : (a b : Kind) → kind_text a ≡ kind_text b → a ≡ b
-kind-one Matrix Matrix same = refl
-kind-one Matrix Netlist same = absurd cc
-kind-one Netlist Matrix same = absurd cc
-kind-one Netlist Netlist same = refl
-kind-one Matrix Flowsheet same = absurd cc
-kind-one Netlist Flowsheet same = absurd cc
-kind-one Flowsheet Matrix same = absurd cc
-kind-one Flowsheet Netlist same = absurd cc
-kind-one Flowsheet Flowsheet same = refl
 
 module _ (p : ℕ) where
   pub is-model : (kind : Kind) (text : List ℕ) (model : MixedModel) → GivesModel p kind text model → IsModel p model

@@ -1,8 +1,7 @@
 -- What holds of inputs of each kind.
-use Rattle.std.proofs.Common.{◌≡◌, ℕ, ◌≤◌, List, [], length, ap, arith}
+use Rattle.std.proofs.Common.{ℕ, ◌≤◌, List, [], length, ap, arith}
 use Rattle.residue_field.specs.Modulus.{res_modulus}
 use Rattle.mixed_model.specs.Models.{MixedModel, IsModel}
-use Rattle.netlist_reader.proofs.ModelLaws as netlists
 use Rattle.flowsheet_reader.proofs.ModelLaws.{nothing-given}
 use Rattle.text_lengths.proofs.InputCounts as equation_lists
 use Rattle.text_lengths.proofs.DeviceCounts.{netlist-names-few}

@@ -1,13 +1,13 @@
 -- What an output that is delivered, or is not, makes of a run.
-use Rattle.std.proofs.Common.{◌≡◌, ◌⊎◌, ℕ, List, Option, IsTrue, inl, inr, sym, subst, ◌∙◌, refl}
+use Rattle.std.proofs.Common.{◌≡◌, ◌⊎◌, ℕ, List, Option, inl, inr, sym, subst, ◌∙◌, refl}
 use Rattle.port_io.specs.Bytes.{Appended, TookAtMost}
 use Rattle.text_writer.specs.Giving.{AppendedPart}
-use Rattle.report_cli.specs.Answer.{Answered, CutShort, HasText, IsAnswerOf, IsDelivered, TakesBy, Tells, WritesNothing}
+use Rattle.report_cli.specs.Answer.{Answered, CutShort, HasText, IsAnswerOf, IsDelivered, ReadsAll, TakesBy, Tells, WritesNothing}
 use Rattle.report_cli.specs.Formats.{limit_of}
 use Rattle.report_cli.specs.Outputs.{IsOutputFor, end_of, output_text}
 use Rattle.report_cli.specs.Reading.{ReadsWhole}
-use Rattle.report_cli.specs.Words.{format_of}
-use Rattle.report_cli.specs.declared.command.Command.{Command}
+use Rattle.command_line.specs.Words.{format_of}
+use Rattle.command_line.specs.declared.command.Command.{Command}
 use Rattle.report_cli.specs.declared.output.Output.{Output}
 use Rattle.report_cli.specs.declared.status.Status.{Status}
 use Rattle.report_cli.specs.declared.status.Status.TheVariants.{BadCertificate, Done, Memory, NotRegular, ReadFault, Refused, Rejected, TooLong, Usage, WriteFault}
@@ -29,7 +29,6 @@ module _ (command : Command) (left left' written written' : Option (List ℕ)) (
     read = whole.input;
     text = output_text output;
     took = whole.took;
-    ended = whole.ended;
     appended = appended;
     answer = (whole.short, record { output = output; right = whole.holds; ends = is; text_is = refl });
   }
@@ -37,7 +36,6 @@ module _ (command : Command) (left left' written written' : Option (List ℕ)) (
     read = whole.input;
     text = output_text output;
     took = whole.took;
-    ended = whole.ended;
     appended = appended;
     answer = (whole.short, record { output = output; right = whole.holds; ends = is; text_is = refl });
   }
@@ -84,7 +82,6 @@ module _ (command : Command) (left left' written written' : Option (List ℕ)) (
           read = whole.input;
           text = output_text output;
           took = whole.took;
-          ended = whole.ended;
           cut = failed.1;
           status = end_of output;
           whole = has-text output;
@@ -113,3 +110,8 @@ pub takes-whole : (most : ℕ) (left left' : Option (List ℕ)) (status : Status
 takes-whole most left left' status (inl (inl done)) took = subst (λ s. TakesBy most s left left') (sym done) took
 takes-whole most left left' status (inl (inr other)) took = subst (λ s. TakesBy most s left left') (sym other) took
 takes-whole most left left' status (inr failed) took = subst (λ s. TakesBy most s left left') (sym failed) took
+
+pub reads-whole : (P : Type 0) (status : Status) → HasText status ⊎ (status ≡ WriteFault) → P → ReadsAll status P
+reads-whole P status (inl (inl done)) whole = subst (λ s. ReadsAll s P) (sym done) whole
+reads-whole P status (inl (inr other)) whole = subst (λ s. ReadsAll s P) (sym other) whole
+reads-whole P status (inr failed) whole = subst (λ s. ReadsAll s P) (sym failed) whole

@@ -1,5 +1,5 @@
 -- A run on an input that is not too long ends in one way.
-use Rattle.std.proofs.Common.{◌≡◌, ◌≢◌, ℕ, ◌≤◌, ◌<◌, ◌^◌, List, length, Result, Ok, Err, inl, inr, ◌⊎◌, refl, ap, subst, sym, ◌∙◌, lit<}
+use Rattle.std.proofs.Common.{◌≡◌, ◌≢◌, ℕ, ◌≤◌, List, length, Result, Ok, Err, inl, inr, ◌⊎◌, refl, ap, subst, sym, ◌∙◌, lit<}
 use Rattle.residue_field.specs.Modulus.{res_modulus}
 use Rattle.residue_theory.proofs.Primes.{prime_65521}
 use Rattle.refusals.specs.declared.Refused.{Refused as Refusal}
@@ -13,8 +13,8 @@ use Rattle.input_kinds.proofs.ByKind.{given-unrefused, refused-alone}
 use Rattle.report_cli.specs.Formats.{IsEnd, IsFault, KeepsRules, limit_of}
 use Rattle.report_cli.specs.Kinds.{IsRefused}
 use Rattle.report_cli.specs.Statuses.{status_of_verdict}
-use Rattle.report_cli.specs.declared.command.Format.{Format}
-use Rattle.report_cli.specs.declared.command.Format.TheVariants.{Certificate, Model}
+use Rattle.command_line.specs.declared.command.Format.{Format}
+use Rattle.command_line.specs.declared.command.Format.TheVariants.{Certificate, Model}
 use Rattle.report_cli.specs.declared.status.Status.{Status}
 use Rattle.report_cli.specs.declared.status.Status.TheVariants.{BadCertificate, Done, Memory, NotRegular, ReadFault, Refused, Rejected, TooLong, Usage, WriteFault}
 

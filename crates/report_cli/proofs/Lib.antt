@@ -1,15 +1,12 @@
 pub mod Noting
 pub mod ByKind
-pub mod Matching
-pub mod Lines
-pub mod Asking
-pub mod AtExamples
 pub mod Outputs
 pub mod ReportFacts
 pub mod Ends
 pub mod Delivered
 pub mod Runs
 pub mod RunWords
+pub mod Making
 pub mod Certified
 pub mod TextRooms
 pub mod Pumped

@@ -9,16 +9,16 @@ use Rattle.input_kinds.proofs.ByKind.{gives-one, is-model}
 use Rattle.solve_plan.specs.Reports.{IsReportOf}
 use Rattle.solve_plan.specs.declared.told.Report.{Report as Told}
 use Rattle.answer_texts.proofs.PlanFacts.{steps-in}
-use Rattle.report_cli.specs.declared.command.Command.{Command}
-use Rattle.report_cli.specs.declared.command.Command.TheVariants.{OfModel}
-use Rattle.report_cli.specs.declared.command.Task.TheVariants as Task
+use Rattle.command_line.specs.declared.command.Command.{Command}
+use Rattle.command_line.specs.declared.command.Command.TheVariants.{OfModel}
+use Rattle.command_line.specs.declared.command.Task.TheVariants as Task
 use Rattle.report_cli.specs.declared.output.Output.{Output}
-use Rattle.report_cli.specs.declared.output.Output.TheVariants.{Accepted, Certificate, Layers, Plan, Report}
+use Rattle.report_cli.specs.declared.output.Output.TheVariants.{Accepted, Certificate, Layers, Made, Plan, Report}
 use Rattle.report_cli.specs.declared.status.Status.TheVariants.{Done, NotRegular}
 use Rattle.report_cli.specs.Answer.{HasText}
 use Rattle.report_cli.specs.Formats.{KeepsRules}
 use Rattle.report_cli.specs.Kinds.{Gives}
-use Rattle.report_cli.specs.Words.{format_of}
+use Rattle.command_line.specs.Words.{format_of}
 use Rattle.report_cli.specs.Outputs.{IsOutputFor, IsWritable, end_of, end_of_rank}
 
 -- an output on an input can be written
@@ -29,6 +29,7 @@ writable command input (Report model told) (kind, is, gives, reports) = reports
 writable command input (Plan model layers plan) (kind, is, right) =
     (right.are, steps-in model (is-model res_modulus kind input model right.gives) layers right.are right.whole right.ccf right.form right.right plan right.is)
 writable command input Accepted (is, accepted) = tt
+writable command input (Made size split ccf) right = tt
 
 -- an input that has an output keeps each rule
 pub keeps-rules : (command : Command) (input : List ℕ) (output : Output) → IsOutputFor command input output → KeepsRules (format_of command) input
@@ -41,6 +42,7 @@ keeps-rules command input (Report model told) (kind, is, gives, reports) =
 keeps-rules command input (Plan model layers plan) (kind, is, right) =
     subst (λ c. KeepsRules (format_of c) input) (sym is) (model, right.gives)
 keeps-rules command input Accepted (is, accepted) = subst (λ c. KeepsRules (format_of c) input) (sym is) accepted
+keeps-rules command input (Made size split ccf) right = absurd right
 
 -- how an output ends: only a report on what is not regular ends otherwise
 pub has-text : (output : Output) → HasText (end_of output)
@@ -53,6 +55,7 @@ has-text (Report model told) = go (leb told.equations told.rank && leb told.unkn
     go false = inr refl
 has-text (Plan model layers plan) = inl refl
 has-text Accepted = inl refl
+has-text (Made size split ccf) = inl refl
 
 -- what a report is of: else it ends well
 abbrev IsReport : Command → List ℕ → Output → Type 0
@@ -67,6 +70,7 @@ is-report command input (Layers model layers) (kind, is, gives, are, whole) = in
 is-report command input (Report model told) (kind, is, gives, reports) = inr (kind, model, told, is, refl, gives, reports)
 is-report command input (Plan model layers plan) (kind, is, right) = inl (refl, λ other are. let both = sym is ∙ are in absurd cc)
 is-report command input Accepted (is, accepted) = inl (refl, λ other are. let both = sym is ∙ are in absurd cc)
+is-report command input (Made size split ccf) right = absurd right
 
 -- two reports on one model end alike
 same-kind : (kind other : Kind) → OfModel Task.Report kind ≡ OfModel Task.Report other → kind ≡ other

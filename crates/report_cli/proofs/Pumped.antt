@@ -13,7 +13,7 @@ use Rattle.port_io.proofs.Askings.{asks_on}
 use Rattle.port_io.proofs.Chains.{took_at_most, took_exactly, took_more}
 use Rattle.cert_text.specs.declared.kind.Kind.{Kind}
 use Rattle.report_cli.specs.Reading.{IsUnread}
-use Rattle.report_cli.specs.declared.command.Format.TheVariants.{Model}
+use Rattle.command_line.specs.declared.command.Format.TheVariants.{Model}
 use Rattle.report_cli.specs.Statuses.{status_of_error}
 use Rattle.report_cli.specs.declared.status.Status.TheVariants.{Memory}
 

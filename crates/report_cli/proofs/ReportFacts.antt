@@ -1,5 +1,5 @@
 -- What the report on a model keeps.
-use Rattle.std.proofs.Common.{◌≡◌, ◌≤◌, ◌<◌, ℕ, List, length, get_or, arith}
+use Rattle.std.proofs.Common.{◌≤◌, ◌<◌, ℕ, List, length, get_or, arith}
 use Rattle.std.specs.List.{All}
 use Rattle.std.proofs.lemmas.List.{get_or_default}
 use Rattle.residue_field.specs.Modulus.{res_modulus}

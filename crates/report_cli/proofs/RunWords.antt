@@ -1,16 +1,17 @@
 -- The answers of a run, by its words.
 use Rattle.std.proofs.Common.{◌≡◌, ◌≤◌, ◌⊎◌, ℕ, length, List, [], Option, Some, None, refl, sym, subst, append-nil, arith, inl, inr}
 use Rattle.port_io.specs.Bytes.{Appended, Took, TookAtMost}
-use Rattle.report_cli.specs.Answer.{Answered, CutShort, HasText, IsAnswer, IsAnswerOf, IsComplete, OnlyAnswer, TakesBy, Tells}
+use Rattle.report_cli.specs.Answer.{Answered, CutShort, HasText, IsAnswer, IsAnswerOf, IsCommandAnswer, IsComplete, IsMakeAnswer, OnlyAnswer, TakesBy, Tells}
 use Rattle.report_cli.specs.Formats.{KeepsRules, limit_of}
 use Rattle.report_cli.specs.Statuses.{status_of_words}
-use Rattle.report_cli.specs.Words.{AsksFor, AsksForNothing, IsWhy, format_of}
-use Rattle.report_cli.specs.declared.command.Command.{Command}
-use Rattle.report_cli.specs.declared.command.WordsError.{WordsError}
-use Rattle.report_cli.specs.declared.command.WordsError.TheVariants.{Told, UnknownKind, NoMemory}
+use Rattle.command_line.specs.Words.{AsksFor, AsksForNothing, IsWhy, format_of}
+use Rattle.command_line.specs.declared.command.Command.{Command}
+use Rattle.command_line.specs.declared.command.WordsError.{WordsError}
+use Rattle.command_line.specs.declared.command.WordsError.TheVariants.{Told, UnknownKind, NoMemory}
 use Rattle.report_cli.specs.declared.status.Status.{Status}
 use Rattle.report_cli.specs.declared.status.Status.TheVariants.{BadCertificate, Done, Memory, NotRegular, ReadFault, Refused, Rejected, TooLong, Usage, WriteFault}
-use Rattle.report_cli.proofs.Asking.{asks-one}
+use Rattle.command_line.specs.declared.command.Request.TheVariants.{OfInput}
+use Rattle.command_line.proofs.Asking.{asks-one, not-both}
 
 -- what answers words that ask for a command is an answer of the command
 asked : (words : List (List ℕ)) (command : Command) (input : List ℕ) (answer : Status) (text : List ℕ) → AsksFor words command →
@@ -18,10 +19,15 @@ asked : (words : List (List ℕ)) (command : Command) (input : List ℕ) (answer
 asked words command input answer text asks (other, asks_other, given) =
     subst (λ c. IsAnswerOf c input answer text) (asks-one words other command asks_other asks) given
 
+asked-done : (words : List (List ℕ)) (command : Command) (input text : List ℕ) → AsksFor words command →
+    IsCommandAnswer words input Done text ⊎ IsMakeAnswer words text → IsAnswerOf command input Done text
+asked-done words command input text asks (inl given) = asked words command input Done text asks given
+asked-done words command input text asks (inr (n, makes, told)) = not-both words command n asks makes
+
 pub of_command : (words : List (List ℕ)) (command : Command) (input : List ℕ) (answer : Status) (text : List ℕ) → AsksFor words command → IsAnswer words input answer text → IsAnswerOf command input answer text
-of_command words command input Done text asks given = asked words command input Done text asks given
+of_command words command input Done text asks given = asked-done words command input text asks given
 of_command words command input NotRegular text asks given = asked words command input NotRegular text asks given
-of_command words command input Usage text asks given = absurd (given.0 command asks)
+of_command words command input Usage text asks given = absurd (given.0 (OfInput command) asks)
 of_command words command input (Refused refused) text asks given = asked words command input (Refused refused) text asks given
 of_command words command input (TooLong limit) text asks given = asked words command input (TooLong limit) text asks given
 of_command words command input (BadCertificate line) text asks given = asked words command input (BadCertificate line) text asks given
@@ -46,7 +52,7 @@ complete_for words command left status asks done = λ input other is asks_other 
 written-for : (words : List (List ℕ)) (command : Command) (input : List ℕ) (status : Status) (text : List ℕ) → AsksFor words command → HasText status →
     IsAnswerOf command input status text → IsAnswer words input status text
 written-for words command input status text asks (inl done) answer =
-    subst (λ s. IsAnswer words input s text) (sym done) (command, asks, subst (λ s. IsAnswerOf command input s text) done answer)
+    subst (λ s. IsAnswer words input s text) (sym done) (inl (command, asks, subst (λ s. IsAnswerOf command input s text) done answer))
 written-for words command input status text asks (inr other) answer =
     subst (λ s. IsAnswer words input s text) (sym other) (command, asks, subst (λ s. IsAnswerOf command input s text) other answer)
 
@@ -56,7 +62,6 @@ cut-for words command left left' written written' asks cut = record {
   read = cut.read;
   text = cut.text;
   took = cut.took;
-  ended = cut.ended;
   cut = cut.cut;
   status = cut.status;
   whole = cut.whole;
@@ -69,7 +74,7 @@ pub of_each_asked : (P : Command → Type 0) (words : List (List ℕ)) (command 
 of_each_asked P words command asks holds other asks_other = subst P (asks-one words command other asks asks_other) holds
 
 -- nothing is read and written for words that ask for nothing
-took_nothing : (left : Option (List ℕ)) → Took left left []
+pub took_nothing : (left : Option (List ℕ)) → Took left left []
 took_nothing None = tt
 took_nothing (Some bytes) = refl
 
@@ -90,13 +95,12 @@ usage_answered words left written never = record {
   read = [];
   text = [];
   took = took_nothing left;
-  ended = tt;
   appended = appended_nothing written;
   answer = (never, refl);
 }
 
 pub unasked_answered : (words : List (List ℕ)) (why : WordsError) (left written : Option (List ℕ)) → IsWhy words why →
     Tells (status_of_words why) (Answered (IsAnswer words) left left written written (status_of_words why))
-unasked_answered words (Told text) left written is = usage_answered words left written (λ command asks. is asks.0)
+unasked_answered words (Told text) left written is = usage_answered words left written (λ request asks. is asks.0)
 unasked_answered words UnknownKind left written is = usage_answered words left written is.1
 unasked_answered words NoMemory left written is = tt

@@ -1,13 +1,13 @@
 -- A command has one answer to a whole input.
-use Rattle.std.proofs.Common.{◌≡◌, ◌≢◌, ℕ, ◌+◌, ◌≤◌, ◌<◌, List, ◌++◌, length, ◌⊎◌, Option, Some, None, refl, sym, ◌∙◌, ap, subst, arith, inl, inr, append-nil}
+use Rattle.std.proofs.Common.{◌≡◌, ℕ, ◌+◌, ◌≤◌, ◌<◌, List, ◌++◌, length, ◌⊎◌, Option, Some, None, refl, sym, ◌∙◌, ap, subst, arith, inl, inr, append-nil}
 use Rattle.std.proofs.lemmas.List.{length-append}
 use Rattle.port_io.specs.Bytes.{Took, Ended}
 use Rattle.report_cli.specs.declared.status.Status.{Status}
 use Rattle.report_cli.specs.declared.status.Status.TheVariants.{BadCertificate, Done, Memory, NotRegular, ReadFault, Refused, Rejected, TooLong, Usage, WriteFault}
 use Rattle.report_cli.specs.Formats.{IsFault, KeepsRules, limit_of}
-use Rattle.report_cli.specs.Words.{format_of}
-use Rattle.report_cli.specs.Answer.{Answered, HasText, IsAnswerOf, Tells}
-use Rattle.report_cli.specs.declared.command.Command.{Command}
+use Rattle.command_line.specs.Words.{format_of}
+use Rattle.report_cli.specs.Answer.{Answered, HasText, IsAnswerOf, ReadsAll, Tells}
+use Rattle.command_line.specs.declared.command.Command.{Command}
 use Rattle.report_cli.specs.Outputs.{IsOutputFor, end_of}
 use Rattle.report_cli.specs.declared.output.Output.{Output}
 use Rattle.report_cli.proofs.Ends.{kept-unfaulty, one-fault}
@@ -79,27 +79,27 @@ module _ (command : Command) (left after written written' : Option (List ℕ)) (
   told-whole status text read took ended answer =
       ends command input status text (subst (λ r. IsAnswerOf command r status text) (read_is left after input read is took ended) answer)
 
-  told : (status : Status) → Tells status (Answered (IsAnswerOf command) left after written written' status) →
+  told : (status : Status) → Tells status (Answered (IsAnswerOf command) left after written written' status) → ReadsAll status (Ended after) →
       (status ≡ ReadFault → ⊥) → (status ≡ WriteFault → ⊥) → Ends command input status ⊎ (status ≡ Memory)
-  told NotRegular a no_read no_write = inl (told-whole NotRegular a.text a.read a.took a.ended a.answer)
-  told Done a no_read no_write = inl (told-whole Done a.text a.read a.took a.ended a.answer)
-  told Usage a no_read no_write = absurd a.answer
-  told (Refused refused) a no_read no_write = inl (told-whole (Refused refused) a.text a.read a.took a.ended a.answer)
-  told (TooLong limit) a no_read no_write =
+  told NotRegular a ended no_read no_write = inl (told-whole NotRegular a.text a.read a.took ended a.answer)
+  told Done a ended no_read no_write = inl (told-whole Done a.text a.read a.took ended a.answer)
+  told Usage a ended no_read no_write = absurd a.answer
+  told (Refused refused) a ended no_read no_write = inl (told-whole (Refused refused) a.text a.read a.took ended a.answer)
+  told (TooLong limit) a ended no_read no_write =
       let short : length a.read ≤ length input = took_prefix input after a.read (at_input left after input a.read is a.took) in
       let long : limit_of (format_of command) < length a.read = a.answer.1 in
       inl (inl (ap TooLong a.answer.0, omega (arith, short, long)))
-  told (BadCertificate line) a no_read no_write = inl (told-whole (BadCertificate line) a.text a.read a.took a.ended a.answer)
-  told ReadFault a no_read no_write = absurd (no_read refl)
-  told WriteFault a no_read no_write = absurd (no_write refl)
-  told Memory a no_read no_write = inr refl
-  told (Rejected rule) a no_read no_write = inl (told-whole (Rejected rule) a.text a.read a.took a.ended a.answer)
+  told (BadCertificate line) a ended no_read no_write = inl (told-whole (BadCertificate line) a.text a.read a.took ended a.answer)
+  told ReadFault a ended no_read no_write = absurd (no_read refl)
+  told WriteFault a ended no_read no_write = absurd (no_write refl)
+  told Memory a ended no_read no_write = inr refl
+  told (Rejected rule) a ended no_read no_write = inl (told-whole (Rejected rule) a.text a.read a.took ended a.answer)
 
   module _ (status : Status) (tells : Tells status (Answered (IsAnswerOf command) left after written written' status))
-      (no_read : status ≡ ReadFault → ⊥) (no_write : status ≡ WriteFault → ⊥) where
+      (ended : ReadsAll status (Ended after)) (no_read : status ≡ ReadFault → ⊥) (no_write : status ≡ WriteFault → ⊥) where
     -- no other answer than the one given is one
     pub only : (answer : Status) (text : List ℕ) → IsAnswerOf command input answer text → (status ≡ answer) ⊎ (status ≡ Memory)
-    only answer text given = elim (told status tells no_read no_write) [
+    only answer text given = elim (told status tells ended no_read no_write) [
       | inl own ↦ inl (one-answer command input status answer own (ends command input answer text given))
       | inr memory ↦ inr memory
     ]
@@ -111,7 +111,7 @@ module _ (command : Command) (left after written written' : Option (List ℕ)) (
     kept-told short keeps (inr (inr (shorter, (output, right, is)))) = subst HasText (sym is) (has-text output)
 
     pub told_where_kept : length input ≤ limit_of (format_of command) → KeepsRules (format_of command) input → HasText status ⊎ (status ≡ Memory)
-    told_where_kept short keeps = elim (told status tells no_read no_write) [
+    told_where_kept short keeps = elim (told status tells ended no_read no_write) [
       | inl own ↦ inl (kept-told short keeps own)
       | inr memory ↦ inr memory
     ]

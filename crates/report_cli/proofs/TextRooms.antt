@@ -10,30 +10,34 @@ use Rattle.mixed_model.specs.Models.{MixedModel, IsModel, mixed_matrix_of}
 use Rattle.mixed_model.specs.Layers.{Layers, layered_matrix_of}
 use Rattle.mixed_layering.specs.Layers.{AreLayersOf, origins_of}
 use Rattle.cert_text.specs.declared.kind.Kind.{Kind}
-use Rattle.cert_text.specs.Contents.{Certificate}
+use Rattle.cert_text.specs.Contents.{Certificate, Contents}
 use Rattle.text_lengths.specs.Rooms.{IsShapeWithin}
 use Rattle.text_lengths.proofs.TextLengths.{certificate-short}
 use Rattle.limits.specs.Limits.{input_limit}
 use Rattle.report_cli.specs.Kinds.{Gives}
 use Rattle.report_cli.specs.RightFor.{IsRightFor}
 use Rattle.report_cli.specs.Formats.{limit_of}
-use Rattle.report_cli.specs.Outputs.{IsOutputFor, output_text}
+use Rattle.report_cli.specs.MadeFor.{IsMadeFor}
+use Rattle.report_cli.specs.Outputs.{IsMadeOutput, IsOutputFor, output_text}
 use Rattle.report_cli.specs.Rooms.{columns_within, places_within, task_room, text_room}
 use Rattle.answer_texts.specs.WholeLayers.{AreWholeLayers}
-use Rattle.report_cli.specs.Words.{format_of}
-use Rattle.report_cli.specs.declared.command.Task.TheVariants as Task
+use Rattle.command_line.specs.Words.{format_of}
+use Rattle.command_line.specs.declared.command.Task.TheVariants as Task
 use Rattle.solve_plan.specs.Reports.{IsReportOf}
 use Rattle.solve_plan.specs.declared.told.Report.{Report as Told}
 use Rattle.dense_q.specs.Tables.{height}
 use Rattle.solve_plan.specs.declared.steps.Plan.{Plan}
+use Rattle.answer_texts.specs.MadeTexts.{made_text}
+use Rattle.answer_texts.specs.Rooms.{made_room}
+use Rattle.answer_texts.proofs.MadeLengths.{right-made-text-short}
 use Rattle.answer_texts.proofs.PlanFacts.{steps-few, steps-in, steps-short}
 use Rattle.answer_texts.proofs.PlanLengths.{plan-text-short}
 use Rattle.answer_texts.proofs.ReportLengths.{report-text-short}
 use Rattle.report_cli.specs.PlanFor.{IsPlanFor}
 use Rattle.report_cli.proofs.ReportFacts.{rank-many, surplus-few, undetermined-few}
-use Rattle.report_cli.specs.declared.command.Command.{Command}
+use Rattle.command_line.specs.declared.command.Command.{Command}
 use Rattle.report_cli.specs.declared.output.Output.{Output}
-use Rattle.report_cli.specs.declared.output.Output.TheVariants.{Accepted, Certificate as Certified, Layers as Layering, Plan as Planning, Report as Reporting}
+use Rattle.report_cli.specs.declared.output.Output.TheVariants.{Accepted, Certificate as Certified, Layers as Layering, Made, Plan as Planning, Report as Reporting}
 use Rattle.input_kinds.proofs.ByKind.{is-model}
 use Rattle.report_cli.proofs.ByKind.{few-names}
 use Rattle.answer_texts.proofs.LayerLengths.{layer-text-short}
@@ -135,3 +139,20 @@ output_fits command input (Planning model layers plan) (kind, is, right) short =
     (plans-fit kind input model layers plan right)
 output_fits command input Accepted (is, accepted) short =
     subst (λ f. length (output_text Accepted) ≤ text_room f (length input)) (sym is) (lit≤ tt)
+output_fits command input (Made size split ccf) right short = absurd right
+
+-- what is told of a made model fits in its room
+pub made-fits : (n split : ℕ) (ccf : Contents) → IsMadeFor n split ccf → length (made_text n split ccf) ≤ made_room
+made-fits n split ccf right =
+    let e : length (right.model).equations ≤ 4096 = ((right.is).equations).few in
+    let s : (right.origins).split ≤ length (right.model).equations = members-few _ _ _ _ (right.layers).auxiliary in
+    right-made-text-short n split (mixed_matrix_of right.model) right.layered right.origins ccf right.form right.right (right.size).most
+    (omega (arith, right.split_is, s, e))
+
+pub made_fits : (n : ℕ) (output : Output) → IsMadeOutput n output → length (output_text output) ≤ made_room
+made_fits n (Made size split ccf) (same, right) = subst (λ s. length (made_text s split ccf) ≤ made_room) (sym same) (made-fits n split ccf right)
+made_fits n (Certified c) is = absurd is
+made_fits n (Layering model layers) is = absurd is
+made_fits n (Reporting model told) is = absurd is
+made_fits n (Planning model layers plan) is = absurd is
+made_fits n Accepted is = absurd is

@@ -9,7 +9,7 @@ use Rattle.report_cli.specs.Kinds.{IsWhyUnread}
 use Rattle.report_cli.specs.Reading.{IsUnread, ReadsWhole, TellsOfSource}
 use Rattle.report_cli.specs.Statuses.{status_of_refusal}
 use Rattle.limits.specs.Limits.{input_limit}
-use Rattle.report_cli.specs.declared.command.Format.TheVariants.{Model}
+use Rattle.command_line.specs.declared.command.Format.TheVariants.{Model}
 use Rattle.report_cli.specs.declared.status.Status.{Status}
 
 -- what holds of a status holds of the answer with it

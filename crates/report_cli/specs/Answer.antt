@@ -1,12 +1,13 @@
 -- What a run answers.
 use Rattle.std.specs.Prelude.{◌≡◌, ℕ, ◌+◌, ◌≤◌, ◌<◌, ◌⊎◌, List, [], length, Option, Some}
-use Rattle.port_io.specs.Bytes.{Took, TookAtMost, TookExactly, Appended, Ended}
+use Rattle.port_io.specs.Bytes.{Took, TookAtMost, TookExactly, Appended}
 use Rattle.report_cli.specs.Formats.{IsFault, KeepsRules, limit_of}
 use Rattle.report_cli.specs.Outputs.{IsOutputFor, end_of, output_text}
-use Rattle.report_cli.specs.Words.{AsksFor, AsksForNothing, format_of}
+use Rattle.report_cli.specs.MadeFor.{IsMakeText}
+use Rattle.command_line.specs.Words.{AsksFor, AsksForNothing, AsksToMake, format_of}
 use Rattle.text_writer.specs.Giving.{AppendedPart}
-use Rattle.report_cli.specs.declared.command.Command.{Command}
-use Rattle.report_cli.specs.declared.command.Format.{Format}
+use Rattle.command_line.specs.declared.command.Command.{Command}
+use Rattle.command_line.specs.declared.command.Format.{Format}
 use Rattle.report_cli.specs.declared.output.Output.{Output}
 use Rattle.report_cli.specs.declared.status.Status.{Status}
 use Rattle.report_cli.specs.declared.status.Status.TheVariants.{BadCertificate, Done, Memory, NotRegular, ReadFault, Refused, Rejected, TooLong, Usage, WriteFault}
@@ -35,18 +36,30 @@ IsAnswerOf command input (BadCertificate line) text = IsRefusal (format_of comma
 IsAnswerOf command input (Rejected rule) text = IsRefusal (format_of command) input (Rejected rule) text
 IsAnswerOf command input _ text = ⊥
 
+-- the command on an input that the words ask for gives the answer
+abbrev pub IsCommandAnswer : List (List ℕ) → List ℕ → Status → List ℕ → Type 0
+IsCommandAnswer words input status text =
+    (command : Command) × AsksFor words command × IsAnswerOf command input status text
+
+-- the words ask for a made model, and the text tells of it
+abbrev pub IsMakeAnswer : List (List ℕ) → List ℕ → Type 0
+IsMakeAnswer words text = (n : ℕ) × AsksToMake words n × IsMakeText n text
+
 -- a run with these words on this whole input ends with this status and this text on `out`, when nothing fails: words
--- that ask for nothing are answered by `Usage`, and else the command that they ask for gives the answer
+-- that ask for nothing are answered by `Usage`, and those that ask for a made model by `Done`, whatever the input is;
+-- else the command that they ask for gives the answer
 abbrev pub IsAnswer : List (List ℕ) → List ℕ → Status → List ℕ → Type 0
 IsAnswer words input Usage text = AsksForNothing words × (text ≡ [])
-IsAnswer words input status text = (command : Command) × AsksFor words command × IsAnswerOf command input status text
+IsAnswer words input Done text = IsCommandAnswer words input Done text ⊎ IsMakeAnswer words text
+IsAnswer words input status text = IsCommandAnswer words input status text
 
--- the statuses that tell of a whole input within the limit
+-- the statuses of a command that tell of a whole input within the limit
 abbrev pub ReadsAll : Status → Type 0 → Type 0
 ReadsAll Done p = p
 ReadsAll NotRegular p = p
 ReadsAll (Refused refused) p = p
 ReadsAll (BadCertificate line) p = p
+ReadsAll WriteFault p = p
 ReadsAll (Rejected rule) p = p
 ReadsAll _ p = Unit {0}
 
@@ -79,17 +92,15 @@ pub record Answered (IsAnswer : List ℕ → Status → List ℕ → Type 0) (le
   pub read : List ℕ
   pub text : List ℕ
   pub took : Took left left' read
-  pub ended : ReadsAll status (Ended left')
   pub appended : Appended written written' text
   pub answer : IsAnswer read status text
 
--- a write failed amid the text of an answer to the whole input
+-- a write failed amid the text of an answer to what was read
 pub record CutShort (IsAnswer : List ℕ → Status → List ℕ → Type 0) (left left' written written' : Option (List ℕ)) :
     Type 0 where
   pub read : List ℕ
   pub text : List ℕ
   pub took : Took left left' read
-  pub ended : Ended left'
   pub cut : AppendedPart written written' text
   pub status : Status
   pub whole : HasText status
@@ -107,6 +118,18 @@ IsComplete words left status =
     (input : List ℕ) (command : Command) → left ≡ Some input → AsksFor words command →
     length input ≤ limit_of (format_of command) → KeepsRules (format_of command) input →
     HasText status ⊎ (status ≡ Memory)
+
+-- where the words ask for a made model, its text is written, but for want of memory
+abbrev pub IsMakeComplete : List (List ℕ) → Status → Type 0
+IsMakeComplete words status = (n : ℕ) → AsksToMake words n → (status ≡ Done) ⊎ (status ≡ Memory)
+
+-- how a run ends that tells of the made model of size n, and what was written
+abbrev pub IsMakeEnd : ℕ → Status → Option (List ℕ) → Option (List ℕ) → Type 0 → Type 0
+IsMakeEnd n Done written written' rose = (text : List ℕ) × IsMakeText n text × Appended written written' text
+IsMakeEnd n WriteFault written written' rose =
+    rose × ((text : List ℕ) × IsMakeText n text × AppendedPart written written' text)
+IsMakeEnd n Memory written written' rose = written' ≡ written
+IsMakeEnd n _ written written' rose = ⊥
 
 -- the text of an output was written whole, and the run ends as it says; or the sink failed
 abbrev pub IsDelivered : Output → Status → Type 0 → Type 0 → Type 0

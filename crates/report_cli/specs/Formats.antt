@@ -1,15 +1,14 @@
 -- What an input is to be, what keeps that, and how a run ends on what does not.
-use Rattle.std.specs.Prelude.{ℕ, List, Option, Some, None}
+use Rattle.std.specs.Prelude.{ℕ, List}
 use Rattle.limits.specs.Limits.{input_limit}
 use Rattle.cert_reader.specs.Limits.{certificate_limit}
-use Rattle.cert_text.specs.Texts.{kind_text}
 use Rattle.cert_text.specs.declared.kind.Kind.{Kind}
 use Rattle.cert_verdict.specs.Verdicts.{IsAccepted, IsNoCertificate, IsRejectedBy}
 use Rattle.mixed_model.specs.Models.{MixedModel}
 use Rattle.residue_field.specs.Modulus.{res_modulus}
 use Rattle.report_cli.specs.Kinds.{Gives, IsRefused}
-use Rattle.report_cli.specs.declared.command.Format.{Format}
-use Rattle.report_cli.specs.declared.command.Format.TheVariants.{Certificate, Model}
+use Rattle.command_line.specs.declared.command.Format.{Format}
+use Rattle.command_line.specs.declared.command.Format.TheVariants.{Certificate, Model}
 use Rattle.report_cli.specs.declared.status.Status.{Status}
 use Rattle.report_cli.specs.declared.status.Status.TheVariants.{BadCertificate, Done, Refused, Rejected}
 
@@ -17,11 +16,6 @@ use Rattle.report_cli.specs.declared.status.Status.TheVariants.{BadCertificate, 
 abbrev pub limit_of : Format → ℕ
 limit_of (Model kind) = input_limit
 limit_of Certificate = certificate_limit
-
--- the word at KIND: a certificate tells its own
-abbrev pub word_of : Format → Option (List ℕ)
-word_of (Model kind) = Some (kind_text kind)
-word_of Certificate = None
 
 -- the input keeps each rule: it gives a model, or it is the text of a certificate that is accepted
 abbrev pub KeepsRules : Format → List ℕ → Type 0

@@ -1,8 +1,7 @@
 pub mod Numbers
-pub mod CommandLine
 pub mod Kinds
 pub mod Formats
-pub mod Words
+pub mod MadeFor
 pub mod Notes
 pub mod RightFor
 pub mod PlanFor

@@ -5,9 +5,9 @@ use Rattle.port_io.specs.Causes.{Rose}
 use Rattle.refusals.specs.Texts.{refusal_text}
 use Rattle.text_writer.specs.Giving.{AppendedPart}
 use Rattle.text_writer.specs.Numbers.{spaced}
-use Rattle.report_cli.specs.Words.{AreTaken}
-use Rattle.report_cli.specs.declared.command.WordsError.{WordsError}
-use Rattle.report_cli.specs.declared.command.WordsError.TheVariants.{Told, UnknownKind, NoMemory}
+use Rattle.command_line.specs.Words.{AreTaken}
+use Rattle.command_line.specs.declared.command.WordsError.{WordsError}
+use Rattle.command_line.specs.declared.command.WordsError.TheVariants.{Told, UnknownKind, NoMemory}
 use Rattle.report_cli.specs.declared.status.Status.{Status}
 use Rattle.report_cli.specs.declared.status.Status.TheVariants.{BadCertificate, Done, Memory, NotRegular, ReadFault, Refused, Rejected, TooLong, Usage, WriteFault}
 

@@ -8,24 +8,25 @@ use Rattle.mixed_layering.specs.Layers.{AreLayersOf}
 use Rattle.residue_field.specs.Modulus.{res_modulus}
 use Rattle.mixed_model.specs.Models.{mixed_matrix_of}
 use Rattle.solve_plan.specs.Reports.{IsReportOf}
-use Rattle.solve_plan.specs.declared.told.Report.{Report as Told}
 use Rattle.std.specs.List.{All}
 use Rattle.answer_texts.specs.PlanRanges.{IsStepIn}
+use Rattle.answer_texts.specs.MadeTexts.{made_text}
 use Rattle.answer_texts.specs.PlanTexts.{plan_text}
 use Rattle.answer_texts.specs.ReportTexts.{report_text}
 use Rattle.report_cli.specs.Kinds.{Gives}
 use Rattle.answer_texts.specs.LayerTexts.{layer_text}
+use Rattle.report_cli.specs.MadeFor.{IsMadeFor}
 use Rattle.report_cli.specs.PlanFor.{IsPlanFor}
 use Rattle.report_cli.specs.RightFor.{IsRightFor}
 use Rattle.answer_texts.specs.WholeLayers.{AreWholeLayers}
-use Rattle.report_cli.specs.declared.command.Command.{Command}
-use Rattle.report_cli.specs.declared.command.Command.TheVariants.{Check, OfModel}
-use Rattle.report_cli.specs.declared.command.Task.TheVariants as Task
-use Rattle.report_cli.specs.declared.command.Task.TheVariants.{Analyse, Layer}
+use Rattle.command_line.specs.declared.command.Command.{Command}
+use Rattle.command_line.specs.declared.command.Command.TheVariants.{Check, OfModel}
+use Rattle.command_line.specs.declared.command.Task.TheVariants as Task
+use Rattle.command_line.specs.declared.command.Task.TheVariants.{Analyse, Layer}
 use Rattle.report_cli.specs.declared.status.Status.{Status}
 use Rattle.report_cli.specs.declared.status.Status.TheVariants.{Done, NotRegular}
 use Rattle.report_cli.specs.declared.output.Output.{Output}
-use Rattle.report_cli.specs.declared.output.Output.TheVariants.{Accepted, Certificate, Layers, Plan, Report}
+use Rattle.report_cli.specs.declared.output.Output.TheVariants.{Accepted, Certificate, Layers, Made, Plan, Report}
 
 -- the text of an output
 abbrev pub output_text : Output → List ℕ
@@ -34,6 +35,7 @@ output_text (Layers model layers) = layer_text model layers
 output_text (Report model told) = report_text model told
 output_text (Plan model layers plan) = plan_text (λ x. x) model layers plan
 output_text Accepted = codes "accepted\n"
+output_text (Made size split ccf) = made_text size split ccf
 
 -- how a run ends that reports so many equations and unknowns, and this rank
 abbrev pub end_of_rank : ℕ → ℕ → ℕ → Status
@@ -46,6 +48,7 @@ end_of (Layers model layers) = Done
 end_of (Report model told) = end_of_rank told.equations told.unknowns told.rank
 end_of (Plan model layers plan) = Done
 end_of Accepted = Done
+end_of (Made size split ccf) = Done
 
 -- `analyse` gives a certificate that is right for the input; `layer` the model that the input gives, with its whole
 -- layers; `report` the model, with the report on it; `plan` the model, with its layers and a plan; `check` the word
@@ -62,6 +65,12 @@ IsOutputFor command input (Report model told) =
 IsOutputFor command input (Plan model layers plan) =
     (kind : Kind) × (command ≡ OfModel Task.Plan kind) × IsPlanFor kind input model layers plan
 IsOutputFor command input Accepted = (command ≡ Check) × IsAccepted res_modulus input
+IsOutputFor command input (Made size split ccf) = ⊥
+
+-- and `make` tells of a made model, whatever the input is
+abbrev pub IsMadeOutput : ℕ → Output → Type 0
+IsMadeOutput n (Made size split ccf) = (size ≡ n) × IsMadeFor n split ccf
+IsMadeOutput n output = ⊥
 
 -- the echo is no longer than an input may be, the layers are those of the model, the report is one on the model, and
 -- the steps of the plan name its columns and equations
@@ -72,3 +81,4 @@ IsWritable (Report model told) = IsReportOf res_modulus (mixed_matrix_of model) 
 IsWritable (Plan model layers plan) =
     AreLayersOf model layers × All (IsStepIn (length model.equations) layers.q.width) plan.steps
 IsWritable Accepted = Unit {0}
+IsWritable (Made size split ccf) = Unit {0}

@@ -5,7 +5,7 @@ use Rattle.port_io.specs.Bytes.{Took, TookAtMost, TookExactly, Ended}
 use Rattle.port_io.specs.Causes.{Rose}
 use Rattle.port_io.specs.declared.ports.Source.{Ghosts}
 use Rattle.report_cli.specs.Formats.{IsFault, limit_of}
-use Rattle.report_cli.specs.declared.command.Format.{Format}
+use Rattle.command_line.specs.declared.command.Format.{Format}
 use Rattle.report_cli.specs.declared.status.Status.{Status}
 use Rattle.report_cli.specs.declared.status.Status.TheVariants.{BadCertificate, Memory, ReadFault, Refused, Rejected, TooLong}
 

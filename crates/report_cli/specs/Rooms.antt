@@ -1,15 +1,17 @@
 -- How many bytes a text has at most that may be written for an input of n bytes.
-use Rattle.std.specs.Prelude.{ℕ, ◌+◌, ◌*◌, List, min}
+use Rattle.std.specs.Prelude.{ℕ, ◌*◌, List, min}
 use Rattle.limits.specs.Limits.{column_limit, equation_limit}
 use Rattle.cert_text.specs.declared.kind.Kind.{Kind}
 use Rattle.cert_text.specs.declared.kind.Kind.TheVariants.{Flowsheet, Matrix, Netlist}
-use Rattle.answer_texts.specs.Rooms.{layer_room, plan_room, report_room}
+use Rattle.answer_texts.specs.Rooms.{layer_room, made_room, plan_room, report_room}
 use Rattle.text_lengths.specs.Rooms.{certificate_room}
-use Rattle.report_cli.specs.Words.{AsksFor}
-use Rattle.report_cli.specs.declared.command.Command.{Command}
-use Rattle.report_cli.specs.declared.command.Command.TheVariants.{Check, OfModel}
-use Rattle.report_cli.specs.declared.command.Task.{Task}
-use Rattle.report_cli.specs.declared.command.Task.TheVariants.{Analyse, Layer, Plan, Report}
+use Rattle.command_line.specs.Words.{Asks}
+use Rattle.command_line.specs.declared.command.Command.{Command}
+use Rattle.command_line.specs.declared.command.Command.TheVariants.{Check, OfModel}
+use Rattle.command_line.specs.declared.command.Request.{Request}
+use Rattle.command_line.specs.declared.command.Request.TheVariants.{Make, OfInput}
+use Rattle.command_line.specs.declared.command.Task.{Task}
+use Rattle.command_line.specs.declared.command.Task.TheVariants.{Analyse, Layer, Plan, Report}
 
 -- how many equations, and how many unknowns, an input of this kind and of n bytes has at most: a flowsheet of s streams
 -- and c components has s times c unknowns, which may be more than its bytes
@@ -38,6 +40,11 @@ abbrev pub text_room : Command → ℕ → ℕ
 text_room (OfModel task kind) n = task_room task kind n
 text_room Check n = 9
 
--- there is room for each text that may be written for it, by the command that the words ask for
+-- room for each text that may be written by this request for an input of n bytes
+abbrev pub request_room : Request → ℕ → ℕ
+request_room (OfInput command) n = text_room command n
+request_room (Make size) n = made_room
+
+-- there is room for each text that may be written for it, by what the words ask for
 abbrev pub HasTextRoom : (ℕ → Type 0) → List (List ℕ) → ℕ → Type 0
-HasTextRoom takes words n = (command : Command) → AsksFor words command → takes (text_room command n)
+HasTextRoom takes words n = (request : Request) → Asks words request → takes (request_room request n)

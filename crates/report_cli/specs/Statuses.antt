@@ -7,8 +7,8 @@ use Rattle.port_io.specs.declared.reading.ReadError.TheVariants.{ReadFault as Fa
 use Rattle.refusals.specs.declared.ReadModel.{ReadModel}
 use Rattle.refusals.specs.declared.ReadModel.TheVariants.{Refused as Broken, NoMemory}
 use Rattle.report_cli.specs.declared.status.Status.{Status}
-use Rattle.report_cli.specs.declared.command.WordsError.{WordsError}
-use Rattle.report_cli.specs.declared.command.WordsError.TheVariants.{Told, UnknownKind, NoMemory as Lacking}
+use Rattle.command_line.specs.declared.command.WordsError.{WordsError}
+use Rattle.command_line.specs.declared.command.WordsError.TheVariants.{Told, UnknownKind, NoMemory as Lacking}
 use Rattle.report_cli.specs.declared.status.Status.TheVariants.{BadCertificate, Memory, ReadFault, Refused, Rejected, TooLong, Usage}
 
 -- of an input that was not read, and may have so many bytes

@@ -9,9 +9,11 @@ ghost use Rattle.residue_field.specs.Modulus.{res_modulus};
 ghost use Rattle.limits.specs.Limits.{input_limit};
 ghost use Rattle.report_cli.specs.Kinds.{Gives, IsWhyUnread};
 ghost use Rattle.report_cli.specs.Reading.{IsUnread, ReadsWhole, TellsOfSource};
-ghost use Rattle.report_cli.specs.Outputs.{IsOutputFor, IsWritable, end_of, end_of_rank, output_text};
+ghost use Rattle.report_cli.specs.Outputs.{IsMadeOutput, IsOutputFor, IsWritable, end_of, end_of_rank, output_text};
 ghost use Rattle.std.specs.List.{All};
 ghost use Rattle.answer_texts.specs.PlanRanges.{IsStepIn};
+ghost use Rattle.answer_texts.specs.MadeTexts.{made_text};
+ghost use Rattle.made_models.specs.MadeModels.{IsSize};
 ghost use Rattle.answer_texts.specs.PlanTexts.{plan_text};
 ghost use Rattle.answer_texts.specs.ReportTexts.{report_text};
 ghost use Rattle.mixed_model.specs.Models.{mixed_matrix_of};
@@ -19,19 +21,20 @@ ghost use Rattle.solve_plan.specs.Reports.{IsReportOf};
 ghost use Rattle.answer_texts.specs.WholeLayers.{AreWholeLayers};
 ghost use Rattle.cert_reader.specs.Limits.{certificate_limit};
 ghost use Rattle.report_cli.specs.Formats.{limit_of};
-ghost use Rattle.report_cli.specs.Words.{format_of};
+ghost use Rattle.command_line.specs.Words.{format_of};
 ghost use Rattle.text_writer.specs.Giving.{IsWritten};
 
-use crate::command::{Command, Format, Task};
 use crate::reading::{ModelReader, read_model, read_text, read_whole};
 use crate::status::Status;
-use answer_texts::{put_layers, put_plan, put_report};
+use answer_texts::{put_layers, put_made, put_plan, put_report};
 use ccf_builder::build;
 use cert_reader::CERTIFICATE_LIMIT;
 use cert_text::{Ccf, Certificate, Items, Kind};
 use cert_verdict::judge;
+use command_line::{Command, Format, Task};
 use flowsheet_reader::FlowsheetReader;
 use limits::INPUT_LIMIT;
+use made_models::made_model;
 use matrix_reader::MatrixReader;
 use mixed_layering::layer;
 use mixed_model::{Layered, Mixed};
@@ -58,6 +61,8 @@ pub enum Output {
     Plan(Mixed<Res>, Layered<Res>, Plan<Res>),
     /// That the certificate in the input is right for the input that it repeats.
     Accepted,
+    /// The size of a made model, how many of its equations are split, and its canonical form.
+    Made(usize, usize, Ccf<Res>),
 }
 
 impl Output {
@@ -191,6 +196,19 @@ impl Output {
         }))
     }
 
+    /// What is told of the made model of this size.
+    pub fn made(alloc: Global, size: usize) -> Result<Output, NoMemory>
+        requires { IsSize size }
+        ensures { IfOk result (IsMadeOutput size) }
+    {
+        let model = made_model::<Res>(alloc, size)?;
+        let layered = layer(alloc, &model)?;
+        let ccf = build::<Res, DenseTableau<Res>>(alloc, &layered)?;
+        is_in_form(&ccf);
+        let split = layered.split();
+        Ok(Output::Made(size, split, ccf))
+    }
+
     /// Appends the whole text to the sink, in pieces of some KiB, and takes no memory. It does not flush. Where the
     /// sink fails, a first part of the text was appended, and `written` counts its bytes.
     pub fn write<K: Sink>(&self, out: &mut K) -> Result<(), WriteFault>
@@ -203,6 +221,7 @@ impl Output {
             Output::Report(model, told) => write_report(out, model, told),
             Output::Plan(model, layered, plan) => write_plan(out, model, layered, plan),
             Output::Accepted => write_accepted(out),
+            Output::Made(size, split, ccf) => write_made(out, *size, *split, ccf),
         }
     }
 
@@ -279,6 +298,20 @@ fn write_plan<K: Sink>(
 {
     let mut writer = TextWriter::new(out);
     put_plan(&mut writer, model, layered, plan);
+    writer.finish()
+}
+
+// Appends the text about a made model to the sink.
+fn write_made<K: Sink>(
+    out: &mut K,
+    size: usize,
+    split: usize,
+    ccf: &Ccf<Res>,
+) -> Result<(), WriteFault>
+    ensures { IsWritten K.Sink out.old out.new (made_text size split ccf.now) result }
+{
+    let mut writer = TextWriter::new(out);
+    put_made(&mut writer, size, split, ccf);
     writer.finish()
 }
 

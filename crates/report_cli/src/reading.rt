@@ -8,8 +8,8 @@ ghost use Rattle.report_cli.specs.Kinds.{Gives, IsWhyUnread};
 ghost use Rattle.cert_reader.specs.Limits.{certificate_limit};
 ghost use Rattle.report_cli.specs.Formats.{limit_of};
 ghost use Rattle.report_cli.specs.Reading.{IsUnread, ReadsWhole, TellsOfSource};
-ghost use Rattle.report_cli.specs.declared.command.Format.{Format};
-ghost use Rattle.report_cli.specs.declared.command.Format.TheVariants.{Model};
+ghost use Rattle.command_line.specs.declared.command.Format.{Format};
+ghost use Rattle.command_line.specs.declared.command.Format.TheVariants.{Model};
 
 use crate::status::Status;
 use cert_text::Kind;

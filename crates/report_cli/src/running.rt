@@ -4,25 +4,28 @@ ghost use Rattle.std.specs.Prelude.{◌≡◌, ◌≢◌, ℕ, ◌+◌, ◌≤�
 ghost use Rattle.std.specs.String.{string_bytes};
 ghost use Rattle.port_io.specs.Causes.{Rose, one_more};
 ghost use Rattle.port_io.specs.Asking.{AsksWithin};
-ghost use Rattle.port_io.specs.Bytes.{Appended};
-ghost use Rattle.report_cli.specs.Answer.{Answered, CutShort, HasText, IsAnswer, IsAnswerOf, IsComplete, OnlyAnswer, TakesBy, Tells, WritesNothing, IsDelivered};
+ghost use Rattle.port_io.specs.Bytes.{Appended, Ended};
+ghost use Rattle.report_cli.specs.Answer.{Answered, CutShort, HasText, IsAnswer, IsAnswerOf, IsComplete, IsMakeComplete, IsMakeEnd, OnlyAnswer, ReadsAll, TakesBy, Tells, WritesNothing, IsDelivered};
 ghost use Rattle.report_cli.specs.Formats.{limit_of};
 ghost use Rattle.report_cli.specs.Outputs.{IsWritable, output_text};
+ghost use Rattle.answer_texts.specs.Rooms.{made_room};
+ghost use Rattle.made_models.specs.MadeModels.{IsSize};
 ghost use Rattle.report_cli.specs.Rooms.{HasTextRoom, text_room};
-ghost use Rattle.report_cli.specs.Words.{AsksFor, format_of};
+ghost use Rattle.command_line.specs.Words.{AsksFor, AsksForNoInput, AsksToMake, format_of};
 ghost use Rattle.report_cli.specs.Notes.{IsToldOf};
 ghost use Rattle.text_writer.specs.Giving.{AppendedPart};
 
-use crate::command::Command;
 use crate::output::Output;
 use crate::status::Status;
 use crate::telling::{tell, tell_words};
+use command_line::{Command, Request};
 use port_io::{Sink, Source};
 use std::alloc::Global;
 
-/// Runs the command that the words ask for: reads the source to its end, writes the whole text to `out`, and notes in
-/// one line why where that was not done. The first word is the program's own name. Of words that ask for no command it
-/// notes what clap tells of them, or the line `mixed: unknown word` where KIND alone is unknown.
+/// Runs the command that the words ask for: reads the source to its end, but for `make`, which reads nothing, writes the
+/// whole text to `out`, and notes in one line why where that was not done. The first word is the program's own name. Of
+/// words that ask for nothing it notes what clap tells of them, or the line `mixed: unknown word` where KIND alone is
+/// unknown.
 pub fn run<S: Source, K: Sink, N: Sink>(
     alloc: Global,
     words: &[String],
@@ -35,14 +38,18 @@ pub fn run<S: Source, K: Sink, N: Sink>(
     // a status that is no fault is the answer to what was read
     ensures answered { Tells result (Answered (IsAnswer (map string_bytes words.now)) (S.left source.old)
         (S.left source.new) (K.written out.old) (K.written out.new) result) }
+    ensures ended { (command : Command) → AsksFor (map string_bytes words.now) command →
+        ReadsAll result (Ended (S.left source.new)) }
     ensures finished { HasText result → IsTrue (K.flushed out.new) }
     ensures one_flush { HasText result → K.flushes out.new ≡ one_more (K.flushes out.old) }
 
-    // where nothing fails, no other status comes, and an input that keeps each rule is answered
+    // where nothing fails, no other status comes, and an input that keeps each rule is answered, as is `make`
     ensures only_answer { (Rose (S.faults source.old) (S.faults source.new) → ⊥) →
         (Rose (K.faults out.old) (K.faults out.new) → ⊥) → OnlyAnswer (map string_bytes words.now) (S.left source.old) result }
     ensures complete { (Rose (S.faults source.old) (S.faults source.new) → ⊥) →
         (Rose (K.faults out.old) (K.faults out.new) → ⊥) → IsComplete (map string_bytes words.now) (S.left source.old) result }
+    ensures complete_make { (Rose (K.faults out.old) (K.faults out.new) → ⊥) →
+        IsMakeComplete (map string_bytes words.now) result }
 
     // faults have their cause
     ensures read_fault { result ≡ Status.ReadFault → Rose (S.faults source.old) (S.faults source.new) }
@@ -60,10 +67,9 @@ pub fn run<S: Source, K: Sink, N: Sink>(
         (N.faults notes.old) (N.faults notes.new) result }
     ensures taken { (command : Command) → AsksFor (map string_bytes words.now) command →
         TakesBy (limit_of (format_of command)) result (S.left source.old) (S.left source.new) }
-    ensures taken_usage { result ≡ Status.Usage → S.left source.new ≡ S.left source.old }
     ensures asked { (command : Command) → AsksFor (map string_bytes words.now) command →
         AsksWithin 65536 (limit_of (format_of command) + 1) (S.asked source.old) (S.asked source.new) }
-    ensures asked_usage { result ≡ Status.Usage → S.asked source.new ≡ S.asked source.old }
+    ensures untouched { AsksForNoInput (map string_bytes words.now) → source.new ≡ source.old }
 
     // counts of faults: none falls, and none rises over what is known not to fail
     ensures counts_source { S.faults source.old ≤ S.faults source.new }
@@ -72,16 +78,23 @@ pub fn run<S: Source, K: Sink, N: Sink>(
     ensures calm_source { S.never_fails source.old → S.faults source.new ≡ S.faults source.old }
     ensures calm_out { (input : List ℕ) → S.left source.old ≡ Some input →
         HasTextRoom (K.takes out.old) (map string_bytes words.now) (length input) → K.faults out.new ≡ K.faults out.old }
+    ensures calm_make { (n : ℕ) → AsksToMake (map string_bytes words.now) n → K.takes out.old made_room →
+        K.faults out.new ≡ K.faults out.old }
 {
-    match Command::of(alloc, words) {
-        Ok(command) => {
+    match Request::of(alloc, words) {
+        Ok(Request::OfInput(command)) => {
             let status = work(alloc, command, source, out);
+            tell(notes, status);
+            status
+        }
+        Ok(Request::Make(size)) => {
+            let status = make(alloc, size, out);
             tell(notes, status);
             status
         }
         Err(why) => {
             tell_words(notes, &why);
-            why.status()
+            Status::of_words(&why)
         }
     }
 }
@@ -91,6 +104,7 @@ fn work<S: Source, K: Sink>(alloc: Global, command: Command, source: &mut S, out
     ensures asked_for { result ≢ Status.Usage }
     ensures answered { Tells result (Answered (IsAnswerOf command) (S.left source.old) (S.left source.new)
         (K.written out.old) (K.written out.new) result) }
+    ensures ended { ReadsAll result (Ended (S.left source.new)) }
     ensures finished { HasText result → IsTrue (K.flushed out.new) }
     ensures one_flush { HasText result → K.flushes out.new ≡ one_more (K.flushes out.old) }
     ensures read_told { result ≢ Status.ReadFault → S.faults source.new ≡ S.faults source.old }
@@ -111,6 +125,23 @@ fn work<S: Source, K: Sink>(alloc: Global, command: Command, source: &mut S, out
     match Output::read(alloc, command, source) {
         Ok(output) => deliver(out, &output),
         Err(status) => status,
+    }
+}
+
+// Writes what is told of the made model of this size.
+fn make<K: Sink>(alloc: Global, size: usize, out: &mut K) -> Status
+    requires { IsSize size }
+    ensures ends { IsMakeEnd size result (K.written out.old) (K.written out.new)
+        (Rose (K.faults out.old) (K.faults out.new)) }
+    ensures finished { HasText result → IsTrue (K.flushed out.new) }
+    ensures one_flush { HasText result → K.flushes out.new ≡ one_more (K.flushes out.old) }
+    ensures write_told { result ≢ Status.WriteFault → K.faults out.new ≡ K.faults out.old }
+    ensures counts_out { K.faults out.old ≤ K.faults out.new }
+    ensures calm_out { K.takes out.old made_room → K.faults out.new ≡ K.faults out.old }
+{
+    match Output::made(alloc, size) {
+        Ok(output) => deliver(out, &output),
+        Err(_) => Status::Memory,
     }
 }
 

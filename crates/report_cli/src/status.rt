@@ -2,9 +2,10 @@
 
 ghost use Rattle.std.specs.Prelude.{◌≡◌};
 ghost use Rattle.report_cli.specs.Numbers.{number_of};
-ghost use Rattle.report_cli.specs.Statuses.{status_of_error};
+ghost use Rattle.report_cli.specs.Statuses.{status_of_error, status_of_words};
 
 use cert_verdict::NotAccepted;
+use command_line::WordsError;
 use limits::INPUT_LIMIT;
 use out_of_memory::NoMemory;
 use port_io::ReadError;
@@ -50,6 +51,16 @@ impl Status {
             Status::WriteFault => 5,
             Status::Memory => 6,
             Status::Rejected(_) => 7,
+        }
+    }
+
+    // How a run ends whose words ask for nothing.
+    pub(crate) fn of_words(why: &WordsError) -> Status
+        ensures { result ≡ status_of_words why.now }
+    {
+        match why {
+            WordsError::Told(_) | WordsError::UnknownKind => Status::Usage,
+            WordsError::NoMemory => Status::Memory,
         }
     }
 

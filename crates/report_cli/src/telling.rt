@@ -6,8 +6,8 @@ ghost use Rattle.report_cli.specs.Notes.{limit_text, line_text, rule_text, words
 ghost use Rattle.text_writer.specs.Giving.{IsWritten};
 ghost use Rattle.text_writer.specs.Texts.{Puts};
 
-use crate::command::WordsError;
 use crate::status::Status;
+use command_line::WordsError;
 use port_io::{Sink, WriteFault};
 use text_writer::TextWriter;
 

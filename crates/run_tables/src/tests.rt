@@ -59,7 +59,7 @@ pub(crate) fn calm<'a>(
     }
 }
 
-fn words_of(alloc: Global, words: &[&str]) -> Result<Vec<String>, Fail> {
+pub(crate) fn words_of(alloc: Global, words: &[&str]) -> Result<Vec<String>, Fail> {
     let mut all = Vec::new(alloc);
     for word in words {
         all.push(String::from_str(alloc, word)?)?;
@@ -512,8 +512,13 @@ fn words_that_clap_does_not_take(rt: HostRuntime) -> Result<(), Fail> {
     Ok(())
 }
 
-// Runs words that ask for nothing: no byte is taken or written, and what is noted holds this piece.
-fn expect_told(rt: &impl Abort, alloc: Global, words: &[&str], told: &[u8]) -> Result<(), Fail> {
+/// Runs words that ask for nothing: no byte is taken or written, and what is noted holds this piece.
+pub(crate) fn expect_told(
+    rt: &impl Abort,
+    alloc: Global,
+    words: &[&str],
+    told: &[u8],
+) -> Result<(), Fail> {
     let words = words_of(alloc, words)?;
     let mut source = MemSource::new(alloc, b"eq a x=1\n", ROOM, &[])?;
     let mut out = MemSink::new(alloc, ROOM, ROOM, &[])?;

@@ -2,7 +2,7 @@ use Rattle.std.proofs.Common.{◌≡◌, ℕ, ◌≤◌, ◌+◌, ◌++◌, List
 use Rattle.limits.specs.Limits.{input_limit}
 use Rattle.report_cli.specs.Reading.{IsUnread}
 use Rattle.report_cli.specs.Statuses.{status_of_error}
-use Rattle.report_cli.specs.declared.command.Format.TheVariants.{Model}
+use Rattle.command_line.specs.declared.command.Format.TheVariants.{Model}
 use Rattle.report_cli.specs.declared.status.Status.TheVariants.{Memory}
 use Rattle.report_cli.proofs.Pumped.{pumped_more, unended, unread_by_error, unread_for_memory}
 use Rattle.report_cli.proofs.Unread.{answered, with_status}

@@ -1,6 +1,6 @@
 use Rattle.report_cli.specs.Reading.{IsUnread}
 use Rattle.limits.specs.Limits.{input_limit}
-use Rattle.report_cli.specs.declared.command.Format.TheVariants.{Model}
+use Rattle.command_line.specs.declared.command.Format.TheVariants.{Model}
 use Rattle.report_cli.specs.Statuses.{status_of_refusal}
 use Rattle.report_cli.proofs.Unread.{tells_still, unread_by_refusal, with_status}
 use Rattle.report_cli.proofs.reading.read_model.Goals as goal

@@ -1,51 +1,120 @@
 use Rattle.std.proofs.Common.{◌+◌, map, subst, sym}
 use Rattle.std.specs.String.{string_bytes}
 use Rattle.port_io.specs.Asking.{AsksWithin}
+use Rattle.command_line.specs.Words.{Asks, format_of}
+use Rattle.command_line.specs.declared.command.Request.TheVariants.{Make, OfInput}
+use Rattle.command_line.proofs.Asking.{not-both}
 use Rattle.report_cli.specs.Answer.{Answered, IsAnswer, TakesBy, Tells}
 use Rattle.report_cli.specs.Formats.{limit_of}
-use Rattle.report_cli.specs.Words.{format_of}
+use Rattle.report_cli.proofs.Making.{make-answered, make-cut, make-only}
 use Rattle.report_cli.proofs.RunWords.{complete_for, cut-for, of_each_asked, only_for, unasked_answered, untaken}
 use Rattle.report_cli.proofs.Runs.{told_where_kept, only}
 use Rattle.report_cli.proofs.running.run.Goals as goal
 
-pub returns-in-Ok-clause-only_answer : goal.returns-in-Ok-clause-only_answer
-returns-in-Ok-clause-only_answer g c = λ quiet calm.
-    only_for (map string_bytes c.args.words.now) c.in-Ok.command (g.S.Source.left c.args.source.now) c.work-status.result c.in-Ok.ensures
-    (λ input answer text is given. only c.in-Ok.command (g.S.Source.left c.args.source.now) (g.S.Source.left c.work-status.new.source)
+-- a command on an input
+pub returns-in-Ok-OfInput-clause-only_answer : goal.returns-in-Ok-OfInput-clause-only_answer
+returns-in-Ok-OfInput-clause-only_answer g c = λ quiet calm.
+    let asked = subst (Asks (map string_bytes c.args.words.now)) c.in-Ok-OfInput.field-0-is c.in-Ok-OfInput.ensures in
+    let command = c.in-Ok-OfInput.command in
+    only_for (map string_bytes c.args.words.now) command (g.S.Source.left c.args.source.now) c.work-status.result asked
+    (λ input answer text is given. only command (g.S.Source.left c.args.source.now) (g.S.Source.left c.work-status.new.source)
     (g.K.Sink.written c.args.out.now) (g.K.Sink.written c.work-status.new.out) input is c.work-status.result c.work-status.ensures.answered
-    (λ e. quiet (c.work-status.ensures.read_fault e)) (λ e. calm (c.work-status.ensures.write_fault e).0) answer text given)
+    c.work-status.ensures.ended (λ e. quiet (c.work-status.ensures.read_fault e)) (λ e. calm (c.work-status.ensures.write_fault e).0)
+    answer text given)
 
-pub returns-in-Ok-clause-complete : goal.returns-in-Ok-clause-complete
-returns-in-Ok-clause-complete g c = λ quiet calm.
-    complete_for (map string_bytes c.args.words.now) c.in-Ok.command (g.S.Source.left c.args.source.now) c.work-status.result c.in-Ok.ensures
-    (λ input is short keeps. told_where_kept c.in-Ok.command (g.S.Source.left c.args.source.now) (g.S.Source.left c.work-status.new.source)
+pub returns-in-Ok-OfInput-clause-complete : goal.returns-in-Ok-OfInput-clause-complete
+returns-in-Ok-OfInput-clause-complete g c = λ quiet calm.
+    let asked = subst (Asks (map string_bytes c.args.words.now)) c.in-Ok-OfInput.field-0-is c.in-Ok-OfInput.ensures in
+    let command = c.in-Ok-OfInput.command in
+    complete_for (map string_bytes c.args.words.now) command (g.S.Source.left c.args.source.now) c.work-status.result asked
+    (λ input is short keeps. told_where_kept command (g.S.Source.left c.args.source.now) (g.S.Source.left c.work-status.new.source)
     (g.K.Sink.written c.args.out.now) (g.K.Sink.written c.work-status.new.out) input is c.work-status.result c.work-status.ensures.answered
-    (λ e. quiet (c.work-status.ensures.read_fault e)) (λ e. calm (c.work-status.ensures.write_fault e).0) short keeps)
+    c.work-status.ensures.ended (λ e. quiet (c.work-status.ensures.read_fault e)) (λ e. calm (c.work-status.ensures.write_fault e).0)
+    short keeps)
 
-pub returns-in-Ok-clause-write_fault : goal.returns-in-Ok-clause-write_fault
-returns-in-Ok-clause-write_fault g c = λ failed.
+pub returns-in-Ok-OfInput-clause-complete_make : goal.returns-in-Ok-OfInput-clause-complete_make
+returns-in-Ok-OfInput-clause-complete_make g c = λ calm n makes.
+    let asked = subst (Asks (map string_bytes c.args.words.now)) c.in-Ok-OfInput.field-0-is c.in-Ok-OfInput.ensures in
+    not-both (map string_bytes c.args.words.now) c.in-Ok-OfInput.command n asked makes
+
+pub returns-in-Ok-OfInput-clause-write_fault : goal.returns-in-Ok-OfInput-clause-write_fault
+returns-in-Ok-OfInput-clause-write_fault g c = λ failed.
+    let asked = subst (Asks (map string_bytes c.args.words.now)) c.in-Ok-OfInput.field-0-is c.in-Ok-OfInput.ensures in
     let cut = c.work-status.ensures.write_fault failed in (
       cut.0,
-      cut-for (map string_bytes c.args.words.now) c.in-Ok.command (g.S.Source.left c.args.source.now) (g.S.Source.left c.work-status.new.source)
-          (g.K.Sink.written c.args.out.now) (g.K.Sink.written c.work-status.new.out) c.in-Ok.ensures cut.1,
+      cut-for (map string_bytes c.args.words.now) c.in-Ok-OfInput.command (g.S.Source.left c.args.source.now)
+          (g.S.Source.left c.work-status.new.source) (g.K.Sink.written c.args.out.now) (g.K.Sink.written c.work-status.new.out)
+          asked cut.1,
     )
 
-pub returns-in-Ok-clause-taken : goal.returns-in-Ok-clause-taken
-returns-in-Ok-clause-taken g c =
+pub returns-in-Ok-OfInput-clause-taken : goal.returns-in-Ok-OfInput-clause-taken
+returns-in-Ok-OfInput-clause-taken g c =
+    let asked = subst (Asks (map string_bytes c.args.words.now)) c.in-Ok-OfInput.field-0-is c.in-Ok-OfInput.ensures in
     of_each_asked (λ command. TakesBy (limit_of (format_of command)) c.work-status.result (g.S.Source.left c.args.source.now)
     (g.S.Source.left c.work-status.new.source))
-    (map string_bytes c.args.words.now) c.in-Ok.command c.in-Ok.ensures c.work-status.ensures.taken
+    (map string_bytes c.args.words.now) c.in-Ok-OfInput.command asked c.work-status.ensures.taken
 
-pub returns-in-Ok-clause-asked : goal.returns-in-Ok-clause-asked
-returns-in-Ok-clause-asked g c =
+pub returns-in-Ok-OfInput-clause-asked : goal.returns-in-Ok-OfInput-clause-asked
+returns-in-Ok-OfInput-clause-asked g c =
+    let asked = subst (Asks (map string_bytes c.args.words.now)) c.in-Ok-OfInput.field-0-is c.in-Ok-OfInput.ensures in
     of_each_asked (λ command. AsksWithin 65536 (limit_of (format_of command) + 1) (g.S.Source.asked c.args.source.now)
     (g.S.Source.asked c.work-status.new.source))
-    (map string_bytes c.args.words.now) c.in-Ok.command c.in-Ok.ensures c.work-status.ensures.asked
+    (map string_bytes c.args.words.now) c.in-Ok-OfInput.command asked c.work-status.ensures.asked
 
+pub returns-in-Ok-OfInput-clause-untouched : goal.returns-in-Ok-OfInput-clause-untouched
+returns-in-Ok-OfInput-clause-untouched g c = λ none.
+    let asked = subst (Asks (map string_bytes c.args.words.now)) c.in-Ok-OfInput.field-0-is c.in-Ok-OfInput.ensures in
+    absurd (none c.in-Ok-OfInput.command asked)
+
+pub returns-in-Ok-OfInput-clause-calm_out : goal.returns-in-Ok-OfInput-clause-calm_out
+returns-in-Ok-OfInput-clause-calm_out g c = λ input is room.
+    let asked = subst (Asks (map string_bytes c.args.words.now)) c.in-Ok-OfInput.field-0-is c.in-Ok-OfInput.ensures in
+    c.work-status.ensures.calm_out input is (room (OfInput c.in-Ok-OfInput.command) asked)
+
+pub returns-in-Ok-OfInput-clause-calm_make : goal.returns-in-Ok-OfInput-clause-calm_make
+returns-in-Ok-OfInput-clause-calm_make g c = λ n makes takes.
+    let asked = subst (Asks (map string_bytes c.args.words.now)) c.in-Ok-OfInput.field-0-is c.in-Ok-OfInput.ensures in
+    not-both (map string_bytes c.args.words.now) c.in-Ok-OfInput.command n asked makes
+
+-- a made model
+pub returns-in-Ok-Make-clause-answered : goal.returns-in-Ok-Make-clause-answered
+returns-in-Ok-Make-clause-answered g c =
+    let asked = subst (Asks (map string_bytes c.args.words.now)) c.in-Ok-Make.field-0-is c.in-Ok-Make.ensures in
+    make-answered (map string_bytes c.args.words.now) c.in-Ok-Make.size asked (g.S.Source.left c.args.source.now)
+    (g.K.Sink.written c.args.out.now) (g.K.Sink.written c.make-status.new.out) _ c.make-status.result c.make-status.ensures.ends
+
+pub returns-in-Ok-Make-clause-ended : goal.returns-in-Ok-Make-clause-ended
+returns-in-Ok-Make-clause-ended g c = λ command asks.
+    let asked = subst (Asks (map string_bytes c.args.words.now)) c.in-Ok-Make.field-0-is c.in-Ok-Make.ensures in
+    not-both (map string_bytes c.args.words.now) command c.in-Ok-Make.size asks asked
+
+pub returns-in-Ok-Make-clause-only_answer : goal.returns-in-Ok-Make-clause-only_answer
+returns-in-Ok-Make-clause-only_answer g c = λ quiet calm.
+    let asked = subst (Asks (map string_bytes c.args.words.now)) c.in-Ok-Make.field-0-is c.in-Ok-Make.ensures in
+    make-only (map string_bytes c.args.words.now) c.in-Ok-Make.size asked (g.S.Source.left c.args.source.now)
+    (g.K.Sink.written c.args.out.now) (g.K.Sink.written c.make-status.new.out) _ c.make-status.result c.make-status.ensures.ends calm
+
+pub returns-in-Ok-Make-clause-write_fault : goal.returns-in-Ok-Make-clause-write_fault
+returns-in-Ok-Make-clause-write_fault g c = λ failed.
+    let asked = subst (Asks (map string_bytes c.args.words.now)) c.in-Ok-Make.field-0-is c.in-Ok-Make.ensures in
+    make-cut (map string_bytes c.args.words.now) c.in-Ok-Make.size asked (g.S.Source.left c.args.source.now)
+    (g.K.Sink.written c.args.out.now) (g.K.Sink.written c.make-status.new.out) _ c.make-status.result c.make-status.ensures.ends failed
+
+pub returns-in-Ok-Make-clause-taken : goal.returns-in-Ok-Make-clause-taken
+returns-in-Ok-Make-clause-taken g c = λ command asks.
+    let asked = subst (Asks (map string_bytes c.args.words.now)) c.in-Ok-Make.field-0-is c.in-Ok-Make.ensures in
+    not-both (map string_bytes c.args.words.now) command c.in-Ok-Make.size asks asked
+
+pub returns-in-Ok-Make-clause-calm_out : goal.returns-in-Ok-Make-clause-calm_out
+returns-in-Ok-Make-clause-calm_out g c = λ input is room.
+    let asked = subst (Asks (map string_bytes c.args.words.now)) c.in-Ok-Make.field-0-is c.in-Ok-Make.ensures in
+    c.make-status.ensures.calm_out (room (Make c.in-Ok-Make.size) asked)
+
+-- words that ask for nothing
 pub returns-in-Err-clause-taken : goal.returns-in-Err-clause-taken
 returns-in-Err-clause-taken g c = λ command asks.
     let left = g.S.Source.left c.args.source.now in
-    subst (λ status. TakesBy (limit_of (format_of command)) status left left) (sym c.status.ensures)
+    subst (λ status. TakesBy (limit_of (format_of command)) status left left) (sym c.of_words.ensures)
     (untaken c.in-Err.why (limit_of (format_of command)) left)
 
 pub returns-in-Err-clause-answered : goal.returns-in-Err-clause-answered
@@ -53,8 +122,5 @@ returns-in-Err-clause-answered g c =
     let words = map string_bytes c.args.words.now in
     let left = g.S.Source.left c.args.source.now in
     let written = g.K.Sink.written c.args.out.now in
-    subst (λ status. Tells status (Answered (IsAnswer words) left left written written status)) (sym c.status.ensures)
+    subst (λ status. Tells status (Answered (IsAnswer words) left left written written status)) (sym c.of_words.ensures)
     (unasked_answered words c.in-Err.why left written c.in-Err.ensures)
-
-pub returns-in-Ok-clause-calm_out : goal.returns-in-Ok-clause-calm_out
-returns-in-Ok-clause-calm_out g c = λ input is room. c.work-status.ensures.calm_out input is (room c.in-Ok.command c.in-Ok.ensures)

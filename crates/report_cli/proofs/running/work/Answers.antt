@@ -2,7 +2,7 @@ use Rattle.std.proofs.Common.{◌≡◌, ◌≤◌, ◌+◌, ◌-◌, ℕ, subst
 use Rattle.report_cli.specs.Formats.{limit_of}
 use Rattle.report_cli.specs.Outputs.{IsOutputFor, output_text}
 use Rattle.report_cli.specs.Rooms.{text_room}
-use Rattle.report_cli.specs.Words.{format_of}
+use Rattle.command_line.specs.Words.{format_of}
 use Rattle.report_cli.proofs.Delivered.{answered-by, cut-by, delivered-ends, not-read-fault, not-usage, takes-whole, writes-something}
 use Rattle.report_cli.proofs.Outputs.{writable}
 use Rattle.report_cli.proofs.Runs.{read_is}

@@ -1,7 +1,7 @@
 use Rattle.std.proofs.Common.{subst, sym}
 use Rattle.limits.specs.Limits.{input_limit}
 use Rattle.report_cli.specs.Outputs.{IsOutputFor}
-use Rattle.report_cli.specs.declared.command.Command.TheVariants.{OfModel}
+use Rattle.command_line.specs.declared.command.Command.TheVariants.{OfModel}
 use Rattle.report_cli.proofs.Unread.{reads_so}
 use Rattle.report_cli.proofs.output.Output.of_model.Goals as goal
 

@@ -1,0 +1,4 @@
+pub mod Asking
+pub mod Matching
+pub mod Lines
+pub mod AtExamples

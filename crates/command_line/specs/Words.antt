@@ -1,0 +1,100 @@
+-- What the words of a command line ask for. Each word is its bytes, and the first is the program's own name.
+use Rattle.std.specs.Prelude.{◌≡◌, ℕ, List, [], Option, Some, None, codes}
+use Rattle.std.specs.Borrow.{Bor}
+use Rattle.std.specs.Option.{option_map}
+use Rattle.std.specs.Str.Parse.{IsNumeral, digits_value, without_leading_plus}
+use Rattle.clap.specs.Faults.{fault_of}
+use Rattle.clap.specs.Simple.{subcommand_of}
+use Rattle.clap.specs.Walk.{Row, Text, first_of}
+use Rattle.cert_text.specs.Texts.{kind_text}
+use Rattle.made_models.specs.MadeModels.{IsSize}
+use Rattle.command_line.specs.CommandLine.{command_line}
+use Rattle.command_line.specs.declared.command.Command.{Command}
+use Rattle.command_line.specs.declared.command.Command.TheVariants.{Check, OfModel}
+use Rattle.command_line.specs.declared.command.Format.{Format}
+use Rattle.command_line.specs.declared.command.Format.TheVariants.{Certificate, Model}
+use Rattle.command_line.specs.declared.command.Task.{Task}
+use Rattle.command_line.specs.declared.command.Task.TheVariants.{Analyse, Layer, Plan, Report}
+use Rattle.command_line.specs.declared.command.Request.{Request}
+use Rattle.command_line.specs.declared.command.Request.TheVariants.{Make, OfInput}
+use Rattle.command_line.specs.declared.command.WordsError.{WordsError}
+use Rattle.command_line.specs.declared.command.WordsError.TheVariants.{Told, UnknownKind, NoMemory}
+
+-- the name of a task
+abbrev pub task_text : Task → List ℕ
+task_text Analyse = codes "analyse"
+task_text Layer = codes "layer"
+task_text Report = codes "report"
+task_text Plan = codes "plan"
+
+-- the name of a command
+abbrev pub name_of : Command → List ℕ
+name_of (OfModel task kind) = task_text task
+name_of Check = codes "check"
+
+-- the word at KIND: a certificate tells its own
+abbrev pub word_of : Format → Option (List ℕ)
+word_of (Model kind) = Some (kind_text kind)
+word_of Certificate = None
+
+-- what a command's input is to be
+abbrev pub format_of : Command → Format
+format_of (OfModel task kind) = Model kind
+format_of Check = Certificate
+
+-- clap's definition takes the words: no step of the parse fails
+abbrev pub AreTaken : List (List ℕ) → Type 0
+AreTaken words = fault_of command_line words ≡ []
+
+-- these are the name of a command, and the word at KIND where it has one
+abbrev pub AreNamesOf : List ℕ → Option (List ℕ) → Command → Type 0
+AreNamesOf name word command = (name ≡ name_of command) × (word ≡ word_of (format_of command))
+
+-- the text of a word, where there is one
+abbrev pub text_at : Option (Bor (List ℕ)) → Option (List ℕ)
+text_at word = option_map (λ text. text.now) word
+
+-- the word is a number in decimal digits, perhaps behind a plus sign
+abbrev pub IsNumber : List ℕ → ℕ → Type 0
+IsNumber word n = IsNumeral 10 (without_leading_plus word) × (n ≡ digits_value 10 (without_leading_plus word))
+
+-- the word at N is the size of a made model
+abbrev pub IsSizeWord : Option (List ℕ) → ℕ → Type 0
+IsSizeWord (Some word) n = IsNumber word n × IsSize n
+IsSizeWord None n = ⊥
+
+-- a subcommand with its values is that of a request: by its name, and by the word at KIND or at N
+abbrev pub Names : Option (Text × List Row) → Request → Type 0
+Names (Some (name, values)) (OfInput command) = AreNamesOf name (first_of (codes "KIND") values) command
+Names (Some (name, values)) (Make n) = (name ≡ codes "make") × IsSizeWord (first_of (codes "N") values) n
+Names None request = ⊥
+
+-- it is that of no request
+abbrev pub NamesNone : Option (Text × List Row) → Type 0
+NamesNone subcommand = (request : Request) → Names subcommand request → ⊥
+
+-- the words ask for this
+abbrev pub Asks : List (List ℕ) → Request → Type 0
+Asks words request = AreTaken words × Names (subcommand_of command_line words) request
+
+-- the words ask for this command on an input
+abbrev pub AsksFor : List (List ℕ) → Command → Type 0
+AsksFor words command = Asks words (OfInput command)
+
+-- the words ask for the made model of this size
+abbrev pub AsksToMake : List (List ℕ) → ℕ → Type 0
+AsksToMake words n = Asks words (Make n)
+
+-- the words ask for nothing
+abbrev pub AsksForNothing : List (List ℕ) → Type 0
+AsksForNothing words = (request : Request) → Asks words request → ⊥
+
+-- the words ask for no command on an input
+abbrev pub AsksForNoInput : List (List ℕ) → Type 0
+AsksForNoInput words = (command : Command) → AsksFor words command → ⊥
+
+-- why the words ask for nothing: clap's definition does not take them, or the kind alone is unknown
+abbrev pub IsWhy : List (List ℕ) → WordsError → Type 0
+IsWhy words (Told text) = ¬ AreTaken words
+IsWhy words UnknownKind = AreTaken words × AsksForNothing words
+IsWhy words NoMemory = Unit {0}
