@@ -3,6 +3,7 @@
 #   symbols    three places an equation, drawn at random, each with a symbol
 #   constants  the same places, each with a constant from 1 to 65,520
 #   mixed      the same places, each with a constant or a symbol at equal odds, and one in 64 with both
+#   grid       the points of a square grid, each with 4 at itself and -1 at its neighbours; the size is that of a square
 
 # The equation list of a family with so many equations and unknowns, always the same.
 equations() {
@@ -36,10 +37,25 @@ equations() {
             return line
         }
 
+        # The Laplace equation at a point: what it has at the point, and at its neighbours within the square.
+        function laplace(point, side,   line) {
+            line = " x" point "=4"
+            if (point > side) line = line " x" point - side "=-1"
+            if (point % side != 1) line = line " x" point - 1 "=-1"
+            if (point % side != 0) line = line " x" point + 1 "=-1"
+            if (point <= size - side) line = line " x" point + side "=-1"
+            return line
+        }
+
+        function places(equation) {
+            if (family == "dense") return dense()
+            return family == "grid" ? laplace(equation, int(sqrt(size) + 0.5)) : sparse()
+        }
+
         BEGIN {
             letters = "abcdefghijklmnopqrstuvwxyzABCDEFGHIJKLMNOPQRSTUVWXYZ"
             last = size
             if (family != "dense") for (u = 1; u <= size; u++) print "unknown x" u
-            for (e = 1; e <= size; e++) print "eq e" e (family == "dense" ? dense() : sparse())
+            for (e = 1; e <= size; e++) print "eq e" e places(e)
         }'
 }

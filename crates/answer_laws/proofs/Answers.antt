@@ -27,7 +27,9 @@ use Rattle.command_line.specs.declared.command.Request.TheVariants.{Make, OfInpu
 use Rattle.command_line.specs.declared.command.Task.{Task}
 use Rattle.command_line.specs.declared.command.Task.TheVariants.{Analyse, Layer}
 use Rattle.report_cli.specs.declared.output.Output.{Output}
-use Rattle.report_cli.specs.declared.output.Output.TheVariants.{Accepted, Certificate as Certified, Layers as Layering, Made, Plan as Planning, Report as Reporting}
+use Rattle.report_cli.specs.declared.output.Output.TheVariants.{Accepted, Certificate as Certified}
+use Rattle.report_cli.specs.declared.output.Output.TheVariants.{Layers as Layering, Made, Plan as Planning}
+use Rattle.report_cli.specs.declared.output.Output.TheVariants.{Report as Reporting}
 use Rattle.report_cli.specs.declared.status.Status.{Status}
 use Rattle.report_cli.specs.declared.status.Status.TheVariants.{Done}
 use Rattle.report_cli.proofs.RunWords.{of_command}
@@ -38,7 +40,8 @@ use Rattle.answer_laws.specs.Agreement.{AreAgreed}
 use Rattle.answer_laws.proofs.OneLayerText.{one-layers}
 
 -- what a command reports in an answer
-reported_by : (words : List (List ℕ)) (command : Command) (input text : List ℕ) → AsksFor words command → IsAnswer words input Done text → IsOutputText command input Done text
+reported_by : (words : List (List ℕ)) (command : Command) (input text : List ℕ) → AsksFor words command →
+    IsAnswer words input Done text → IsOutputText command input Done text
 reported_by words command input text asks answer = (of_command words command input Done text asks answer).1
 
 -- an answer of `analyse` is the text of a certificate that is right
@@ -51,7 +54,8 @@ pub record IsCertified (kind : Kind) (input text : List ℕ) : Type 0 where
 same-kind : (task : Task) (kind other : Kind) → OfModel task kind ≡ OfModel task other → other ≡ kind
 same-kind task kind other is = cc
 
-certified : (kind : Kind) (input text : List ℕ) (output : Output) → IsOutputFor (OfModel Analyse kind) input output → text ≡ output_text output → IsCertified kind input text
+certified : (kind : Kind) (input text : List ℕ) (output : Output) → IsOutputFor (OfModel Analyse kind) input output →
+    text ≡ output_text output → IsCertified kind input text
 certified kind input text (Certified certificate) (other, is, right) text_is = record {
   certificate = certificate;
   text_is = text_is;
@@ -63,7 +67,8 @@ certified kind input text (Planning model layers plan) (other, is, right) text_i
 certified kind input text Accepted (is, right) text_is = absurd cc
 certified kind input text (Made size split ccf) right text_is = absurd right
 
-pub analysed : (words : List (List ℕ)) (kind : Kind) (input text : List ℕ) → AsksFor words (OfModel Analyse kind) → IsAnswer words input Done text → IsCertified kind input text
+pub analysed : (words : List (List ℕ)) (kind : Kind) (input text : List ℕ) → AsksFor words (OfModel Analyse kind) →
+    IsAnswer words input Done text → IsCertified kind input text
 analysed words kind input text asks answer =
     let reported = reported_by words (OfModel Analyse kind) input text asks answer in
     certified kind input text reported.output reported.right reported.text_is
@@ -77,7 +82,8 @@ pub record IsLayered (kind : Kind) (input text : List ℕ) : Type 0 where
   pub are : AreLayersOf model layers
   pub whole : AreWholeLayers layers
 
-layering : (kind : Kind) (input text : List ℕ) (output : Output) → IsOutputFor (OfModel Layer kind) input output → text ≡ output_text output → IsLayered kind input text
+layering : (kind : Kind) (input text : List ℕ) (output : Output) → IsOutputFor (OfModel Layer kind) input output →
+    text ≡ output_text output → IsLayered kind input text
 layering kind input text (Certified certificate) (other, is, right) text_is = absurd cc
 layering kind input text (Layering model layers) (other, is, gives, are, whole) text_is = record {
   model = model;
@@ -92,19 +98,23 @@ layering kind input text (Planning model layers plan) (other, is, right) text_is
 layering kind input text Accepted (is, right) text_is = absurd cc
 layering kind input text (Made size split ccf) right text_is = absurd right
 
-pub layered : (words : List (List ℕ)) (kind : Kind) (input text : List ℕ) → AsksFor words (OfModel Layer kind) → IsAnswer words input Done text → IsLayered kind input text
+pub layered : (words : List (List ℕ)) (kind : Kind) (input text : List ℕ) → AsksFor words (OfModel Layer kind) →
+    IsAnswer words input Done text → IsLayered kind input text
 layered words kind input text asks answer =
     let reported = reported_by words (OfModel Layer kind) input text asks answer in
     layering kind input text reported.output reported.right reported.text_is
 
-pub agreeing : (words : List (List ℕ)) (kind : Kind) (input text other : List ℕ) → AsksFor words (OfModel Analyse kind) → IsAnswer words input Done text → IsAnswer words input Done other → AreAgreed kind input text other
+pub agreeing : (words : List (List ℕ)) (kind : Kind) (input text other : List ℕ) →
+    AsksFor words (OfModel Analyse kind) → IsAnswer words input Done text → IsAnswer words input Done other →
+    AreAgreed kind input text other
 agreeing words kind input text other asks first second =
     let one = analysed words kind input text asks first in
     let two = analysed words kind input other asks second in
     let a = one.right in
     let b = two.right in
     let same : b.model ≡ a.model = gives-one res_modulus kind input b.model a.model b.gives a.gives in
-    let layers : IsLayeredMatrixOf (mixed_matrix_of a.model) b.layered b.origins = subst (λ m. IsLayeredMatrixOf (mixed_matrix_of m) b.layered b.origins) same b.layers in
+    let layers : IsLayeredMatrixOf (mixed_matrix_of a.model) b.layered b.origins =
+    subst (λ m. IsLayeredMatrixOf (mixed_matrix_of m) b.layered b.origins) same b.layers in
     let right : IsRightCcf res_modulus (mixed_matrix_of a.model) b.layered b.origins (two.certificate).ccf =
     subst (λ m. IsRightCcf res_modulus (mixed_matrix_of m) b.layered b.origins (two.certificate).ccf) same b.right in
     record {
@@ -118,11 +128,14 @@ agreeing words kind input text other asks first second =
           (one.certificate).ccf (two.certificate).ccf a.form b.form a.right right;
     }
 
-pub one-layer-text : (model : MixedModel) (layers others : Layers) → AreLayersOf model layers → AreWholeLayers layers → AreLayersOf model others → AreWholeLayers others →
+pub one-layer-text : (model : MixedModel) (layers others : Layers) → AreLayersOf model layers → AreWholeLayers layers →
+    AreLayersOf model others → AreWholeLayers others →
     layer_text model layers ≡ layer_text model others
 one-layer-text model layers others are whole them complete = ap (layer_text model) (one-layers model layers others are whole them complete)
 
-pub one-answer : (words : List (List ℕ)) (kind : Kind) (input text other : List ℕ) → AsksFor words (OfModel Layer kind) → IsAnswer words input Done text → IsAnswer words input Done other → text ≡ other
+pub one-answer : (words : List (List ℕ)) (kind : Kind) (input text other : List ℕ) →
+    AsksFor words (OfModel Layer kind) → IsAnswer words input Done text → IsAnswer words input Done other →
+    text ≡ other
 one-answer words kind input text other asks first second =
     let one = layered words kind input text asks first in
     let two = layered words kind input other asks second in

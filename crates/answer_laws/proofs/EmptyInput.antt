@@ -39,7 +39,8 @@ empty-pairs m n (pair ∷ pairs) none are =
 abbrev part : List ℕ → List ℕ → List ℕ → CcfPart
 part columns q_rows t_rows = record { columns = columns; q_rows = q_rows; t_rows = t_rows }
 
-empty-part : (shape : Shape) (p : CcfPart) → shape.q_rows ≡ 0 → shape.t_rows ≡ 0 → shape.columns ≡ 0 → IsPart shape p → p ≡ record { columns = []; q_rows = []; t_rows = [] }
+empty-part : (shape : Shape) (p : CcfPart) → shape.q_rows ≡ 0 → shape.t_rows ≡ 0 → shape.columns ≡ 0 → IsPart shape p →
+    p ≡ record { columns = []; q_rows = []; t_rows = [] }
 empty-part shape p q t n is =
     ap (λ x. part x p.q_rows p.t_rows) (empty-rising shape.columns p.columns n is.columns)
     ∙ ap (λ x. part [] x p.t_rows) (empty-rising shape.q_rows p.q_rows q is.q_rows)
@@ -69,7 +70,8 @@ text_with kind echo shape rank base mates matrices parts =
 
 pub text-with : (c : Certificate) (kind : Kind) (echo : List ℕ) (shape : Shape) (rank : ℕ) (base mates : List (ℕ × ℕ)) →
     c.kind ≡ kind → c.echo ≡ echo → c.ccf.shape ≡ shape → c.ccf.rank ≡ rank → c.ccf.base ≡ base → c.ccf.mates ≡ mates →
-    certificate_text c ≡ text_with kind echo shape rank base mates (matrices_text c.ccf.s c.ccf.u c.ccf.p c.ccf.t) (parts_text c.ccf.first c.ccf.blocks c.ccf.last)
+    certificate_text c ≡ text_with kind echo shape rank base mates (matrices_text c.ccf.s c.ccf.u c.ccf.p c.ccf.t)
+    (parts_text c.ccf.first c.ccf.blocks c.ccf.last)
 text-with c kind echo shape rank base mates is_kind is_echo is_shape is_rank is_base is_mates =
     let X : List ℕ = matrices_text c.ccf.s c.ccf.u c.ccf.p c.ccf.t in
     let Y : List ℕ = parts_text c.ccf.first c.ccf.blocks c.ccf.last in
@@ -90,14 +92,22 @@ empty-matrices c is q t =
 abbrev nothing : CcfPart
 nothing = part [] [] []
 
-empty-parts : (c : Contents) → IsCcf res_modulus c → c.shape.q_rows ≡ 0 → c.shape.t_rows ≡ 0 → c.shape.columns ≡ 0 → parts_text c.first c.blocks c.last ≡ codes "first |\nlast |\n"
+empty-parts : (c : Contents) → IsCcf res_modulus c → c.shape.q_rows ≡ 0 → c.shape.t_rows ≡ 0 → c.shape.columns ≡ 0 →
+    parts_text c.first c.blocks c.last ≡ codes "first |\nlast |\n"
 empty-parts c is q t n =
     ap (λ x. parts_text x c.blocks c.last) (empty-part c.shape c.first q t n is.first)
     ∙ ap (λ x. parts_text nothing x c.last) (empty-blocks c.shape c.blocks n is.blocks)
     ∙ ap (λ x. parts_text nothing [] x) (empty-part c.shape c.last q t n is.last)
 
 -- the text of a certificate of nothing, by its kind
-nothing-text : (kind : Kind) → text_with kind [] (record { equations = 0; unknowns = 0; q_rows = 0; t_rows = 0; columns = 0 }) 0 [] [] [] (codes "first |\nlast |\n") ≡ empty_text kind
+nothing-text : (kind : Kind) → text_with kind [] (record {
+  equations = 0;
+  unknowns = 0;
+  q_rows = 0;
+  t_rows =
+      0;
+  columns = 0;
+}) 0 [] [] [] (codes "first |\nlast |\n") ≡ empty_text kind
 unfolding digits
 nothing-text Matrix = refl
 nothing-text Netlist = refl
@@ -127,5 +137,6 @@ empty-certificate kind c right =
     ∙ ap (λ x. text_with kind [] S 0 [] [] [] x) (empty-parts c.ccf is (shape.q_rows ∙ q) (shape.t_rows ∙ t) (shape.columns ∙ n))
     ∙ nothing-text kind
 
-pub empty-answer : (words : List (List ℕ)) (kind : Kind) (text : List ℕ) → AsksFor words (OfModel Analyse kind) → IsAnswer words [] Done text → text ≡ empty_text kind
+pub empty-answer : (words : List (List ℕ)) (kind : Kind) (text : List ℕ) → AsksFor words (OfModel Analyse kind) →
+    IsAnswer words [] Done text → text ≡ empty_text kind
 empty-answer words kind text asks answer = let one = analysed words kind [] text asks answer in one.text_is ∙ empty-certificate kind one.certificate one.right

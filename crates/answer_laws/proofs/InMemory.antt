@@ -8,7 +8,8 @@ use Rattle.command_line.specs.declared.command.Command.{Command}
 use Rattle.report_cli.specs.Answer.{Answered, IsAnswer, ReadsAll, Tells}
 use Rattle.report_cli.specs.Rooms.{HasTextRoom}
 use Rattle.report_cli.specs.declared.status.Status.{Status}
-use Rattle.report_cli.specs.declared.status.Status.TheVariants.{BadCertificate, Done, Memory, NotRegular, ReadFault, Refused, Rejected, TooLong, Usage, WriteFault}
+use Rattle.report_cli.specs.declared.status.Status.TheVariants.{BadCertificate, Done, Memory, NotRegular, ReadFault}
+use Rattle.report_cli.specs.declared.status.Status.TheVariants.{Refused, Rejected, TooLong, Usage, WriteFault}
 use Rattle.answer_laws.specs.InMemory.{Answers, IsAnswered, IsAnsweredBy}
 
 pub answered_by : (words : List (List ℕ)) (input : List ℕ) (source source' : MemorySource) (out out' : MemorySink) (status : Status) →

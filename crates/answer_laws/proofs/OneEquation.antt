@@ -1,5 +1,7 @@
 -- What answers one equation in one unknown.
-use Rattle.std.proofs.Common.{◌≡◌, ℕ, zero, suc, ◌+◌, ◌<◌, Bool, true, false, cond, not, ◌||◌, ◌⊎◌, List, [], ◌∷◌, ◌++◌, length, get_or, decimal, codes, Some, refl, ap, sym, subst, ◌∙◌, arith, inl, inr, ⊎_elim}
+use Rattle.std.proofs.Common.{◌≡◌, ℕ, zero, suc, ◌+◌, ◌<◌, Bool, true, false, cond, not, ◌||◌, ◌⊎◌, List, [], ◌∷◌}
+use Rattle.std.proofs.Common.{◌++◌, length, get_or, decimal, codes, Some, refl, ap, sym, subst, ◌∙◌, arith, inl, inr}
+use Rattle.std.proofs.Common.{⊎_elim}
 use Rattle.std.specs.Fmt.{digits}
 use Rattle.std.specs.List.{slice_get}
 use Rattle.std.proofs.lemmas.List.Elements.{All-head}
@@ -124,7 +126,8 @@ module _ (c : Certificate) (right : IsRightFor Matrix one_equation c) where
       let there : get_or (certificate_text c) 72 0 ≡ 49 = ap (λ t. get_or t 72 0) same in absurd (omega (arith, at, there)))
       (λ one. let at : get_or (certificate_text c) 81 0 ≡ 49 = ap (λ t. get_or t 81 0) (text-is ((0, 0) ∷ []) one) in
       let there : get_or (certificate_text c) 81 0 ≡ 56 = ap (λ t. get_or t 81 0) same in absurd (omega (arith, at, there)))
-      (small-base c.ccf.shape.q_rows c.ccf.shape.columns c.ccf.base (ap (λ (s : Shape). s.q_rows) shape-is) (ap (λ (s : Shape). s.columns) shape-is) (right.form).base)
+      (small-base c.ccf.shape.q_rows c.ccf.shape.columns c.ccf.base (ap (λ (s : Shape). s.q_rows) shape-is)
+      (ap (λ (s : Shape). s.columns) shape-is) (right.form).base)
 
 pub in-range : NoListLeavesItsRange
 in-range words asks answer =
@@ -141,7 +144,8 @@ one-column-text model (origin ∷ []) one got named =
     ap (λ o. column_lines model 1 (o ∷ [])) is ∙ ap (λ (unknowns : List (List ℕ)). codes "c1 " ++ get_or unknowns 0 [] ++ codes "\n" ++ []) named
 one-column-text model (origin ∷ next ∷ origins) one got named = absurd (omega (arith, one))
 
-first-row : (names : List (List ℕ)) (origins : List ℕ) (rows : List (List ℕ)) (more : List ℕ) → length rows ≡ 1 → get_or (row_lines q_line names origins 0 rows ++ more) 0 0 ≡ 113
+first-row : (names : List (List ℕ)) (origins : List ℕ) (rows : List (List ℕ)) (more : List ℕ) → length rows ≡ 1 →
+    get_or (row_lines q_line names origins 0 rows ++ more) 0 0 ≡ 113
 first-row names origins [] more one = absurd (omega (arith, one))
 first-row names origins (row ∷ rows) more one = refl
 
@@ -151,7 +155,8 @@ unfolding digits
 never-made-up model layers gives are whole same =
     let wide : layers.q.width ≡ 1 = one-wide model gives (layered_matrix_of layers) (origins_of layers are.split) are.layered in
     let rows : height layers.q ≡ 1 = one-q model gives (layered_matrix_of layers) (origins_of layers are.split) are.layered in
-    let columns : column_lines model 1 layers.column_origins ≡ codes "c1 x\n" = one-column-text model layers.column_origins ((whole.origins).column_origins ∙ wide)
+    let columns : column_lines model 1 layers.column_origins ≡ codes "c1 x\n" =
+    one-column-text model layers.column_origins ((whole.origins).column_origins ∙ wide)
     (are.unknowns 0 (omega (arith, one-column model gives))) (names model gives) in
     let q : List ℕ = row_lines q_line model.equations layers.q_origins 0 layers.q.rows in
     let t : List ℕ = row_lines t_line model.equations layers.t_origins 0 layers.t.rows in
@@ -163,4 +168,5 @@ never-made-up model layers gives are whole same =
     absurd (omega (arith, at, there))
 
 pub no-line : NoColumnLineIsMadeUp
-no-line words asks answer = let one = layered words Matrix one_equation _ asks answer in never-made-up one.model one.layers one.gives one.are one.whole (sym one.text_is)
+no-line words asks answer = let one = layered words Matrix one_equation _ asks answer in
+    never-made-up one.model one.layers one.gives one.are one.whole (sym one.text_is)

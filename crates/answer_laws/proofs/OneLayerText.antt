@@ -16,9 +16,11 @@ use Rattle.answer_texts.specs.WholeLayers.{AreWholeLayers}
 use Rattle.mixed_layering.proofs.EntryLaws.{row_long}
 use Rattle.answer_texts.proofs.LayerPieces.{got_or}
 
-module _ (model : MixedModel) (layers others : Layers) (are : AreLayersOf model layers) (whole : AreWholeLayers layers) (them : AreLayersOf model others) (complete : AreWholeLayers others) where
+module _ (model : MixedModel) (layers others : Layers) (are : AreLayersOf model layers)
+    (whole : AreWholeLayers layers) (them : AreLayersOf model others) (complete : AreWholeLayers others) where
   same : AreOneMatrix (layered_matrix_of layers) (layered_matrix_of others) (origins_of layers are.split) (origins_of others them.split)
-  same = are-one (mixed_matrix_of model) (gives_q (mixed_matrix_of model)) (has_symbol (mixed_matrix_of model)) (layered_matrix_of layers) (layered_matrix_of others)
+  same = are-one (mixed_matrix_of model) (gives_q (mixed_matrix_of model)) (has_symbol (mixed_matrix_of model))
+      (layered_matrix_of layers) (layered_matrix_of others)
       (origins_of layers are.split) (origins_of others them.split) are.layered them.layered
 
   splits : are.split ≡ them.split
@@ -70,9 +72,13 @@ module _ (model : MixedModel) (layers others : Layers) (are : AreLayersOf model 
       let other : List ℕ = get_or others.t.rows i [] in
       let wide : layers.t.width ≡ layers.q.width = (whole.origins).same_columns in
       let width : others.t.width ≡ layers.q.width = (complete.origins).same_columns ∙ sym same.columns in
-      let below : All (λ column. column < layers.q.width) row = λ j e jl. subst (λ column. column < layers.q.width) (get_or_default row j 0 e jl) (omega (arith, (whole.t).below i il j jl, wide)) in
-      let under : All (λ column. column < layers.q.width) other = λ j e jl. subst (λ column. column < layers.q.width) (get_or_default other j 0 e jl) (omega (arith, (complete.t).below i low j jl, width)) in
-      same-lists layers.q.width row other (record { rising = (whole.t).rising i il; below = below }) (record { rising = (complete.t).rising i low; below = under })
+      let below : All (λ column. column < layers.q.width) row = λ j e jl. subst (λ column. column < layers.q.width)
+      (get_or_default row j 0 e jl) (omega (arith, (whole.t).below i il j jl, wide)) in
+      let under : All (λ column. column < layers.q.width) other =
+      λ j e jl. subst (λ column. column < layers.q.width) (get_or_default other j 0 e jl)
+      (omega (arith, (complete.t).below i low j jl, width)) in
+      same-lists layers.q.width row other (record { rising = (whole.t).rising i il; below = below })
+      (record { rising = (complete.t).rising i low; below = under })
       (λ j jl h. sym (same.t i j il jl) ∙ h) (λ j jl h. same.t i j il jl ∙ h))
 
   t_widths : layers.t.width ≡ others.t.width

@@ -1,5 +1,7 @@
 -- The length of a layer text.
-use Rattle.std.proofs.Common.{◌≡◌, ℕ, ◌+◌, ◌-◌, ◌*◌, ◌<◌, ◌≤◌, ◌==◌, Bool, true, false, cond, eqb, List, [], ◌∷◌, ◌++◌, length, get_or, codes, Option, Some, None, unwrap_or, nat_eq, if◌then◌else◌, refl, sym, ap, subst, arith, suc-mul, ⊎_elim, slice_index}
+use Rattle.std.proofs.Common.{◌≡◌, ℕ, ◌+◌, ◌-◌, ◌*◌, ◌<◌, ◌≤◌, ◌==◌, Bool, true, false, cond, eqb, List, [], ◌∷◌}
+use Rattle.std.proofs.Common.{◌++◌, length, get_or, codes, Option, Some, None, unwrap_or, nat_eq, if◌then◌else◌, refl}
+use Rattle.std.proofs.Common.{sym, ap, subst, arith, suc-mul, ⊎_elim, slice_index}
 use Rattle.std.specs.List.{All}
 use Rattle.std.proofs.Math.ListN.{get_or-eq_default}
 use Rattle.std.proofs.lemmas.Bool.{cases_lt, leb-true}
@@ -19,7 +21,8 @@ use Rattle.mixed_layering.specs.Layers.{AreLayersOf}
 use Rattle.cert_text.specs.Texts.{marked, spaced, item, numbers_text}
 use Rattle.text_lengths.proofs.Lengths.{marked-short, item-short, numbers-short, rising-few}
 use Rattle.text_lengths.proofs.TextLengths.{at_most}
-use Rattle.answer_texts.specs.LayerTexts.{name_at, line_head, column_name, column_line, column_lines, entry_text, row_entries_text, q_line, t_line, row_lines, columns_text, layer_text}
+use Rattle.answer_texts.specs.LayerTexts.{name_at, line_head, column_name, column_line, column_lines, entry_text}
+use Rattle.answer_texts.specs.LayerTexts.{row_entries_text, q_line, t_line, row_lines, columns_text, layer_text}
 use Rattle.answer_texts.specs.Rooms.{layer_room}
 use Rattle.answer_texts.specs.WholeLayers.{AreWholeLayers}
 use Rattle.mixed_layering.proofs.EntryLaws.{row_long}
@@ -40,9 +43,15 @@ head-short letter number few = omega (arith, length-append (marked letter number
 -- the lines of columns
 pub column-name-short : (model : MixedModel) → IsModel res_modulus model → (origin : Origin) → length (column_name model origin) ≤ 97
 column-name-short model is (Unknown unknown) = omega (arith, name-short model.unknowns is.unknowns unknown)
-column-name-short model is (Split equation) = omega (arith, name-short model.equations is.equations equation, length-append (codes "*") (name_at model.equations equation))
+column-name-short model is (Split equation) = omega (
+  arith,
+  name-short model.equations is.equations equation,
+  length-append (codes "*")
+      (name_at model.equations equation),
+)
 
-columns-short : (model : MixedModel) → IsModel res_modulus model → (number : ℕ) (origins : List Origin) → number + length origins ≤ 8193 → length (column_lines model number origins) ≤ length origins * 105
+columns-short : (model : MixedModel) → IsModel res_modulus model → (number : ℕ) (origins : List Origin) →
+    number + length origins ≤ 8193 → length (column_lines model number origins) ≤ length origins * 105
 columns-short model is number [] few = omega arith
 columns-short model is number (origin ∷ origins) few =
     let head : List ℕ = line_head 99 number in
@@ -54,7 +63,14 @@ columns-short model is number (origin ∷ origins) few =
       length-append head name,
       length-append (head ++ name) (codes "\n"),
     ) in
-    rw (suc-mul (length origins) 105) (omega (arith, line, columns-short model is (number + 1) origins (omega (arith, few)), length-append (column_line model number origin) (column_lines model (number + 1) origins)))
+    rw (suc-mul (length origins) 105) (omega (
+      arith,
+      line,
+      columns-short model is (number + 1) origins
+          (omega (arith, few)),
+      length-append (column_line model number origin)
+          (column_lines model (number + 1) origins),
+    ))
 
 -- the lines of rows, each of at most w bytes
 rows-short : (line : ℕ → List ℕ → List ℕ → List ℕ) (names : List (List ℕ)) (origins : List ℕ) (w : ℕ) (P : List ℕ → Type 0) →
@@ -62,9 +78,16 @@ rows-short : (line : ℕ → List ℕ → List ℕ → List ℕ) (names : List (
     (k : ℕ) (rows : List (List ℕ)) → k + length rows ≤ 8192 → All P rows → length (row_lines line names origins k rows) ≤ length rows * w
 rows-short line names origins w P each are k [] few all = omega arith
 rows-short line names origins w P each are k (row ∷ rows) few all =
-    let here = each (k + 1) (name_at names (slice_index origins k)) row (omega (arith, few)) (name-short names are (slice_index origins k)) (All-head P row rows all) in
+    let here = each (k + 1) (name_at names (slice_index origins k)) row (omega (arith, few))
+    (name-short names are (slice_index origins k)) (All-head P row rows all) in
     let rest = rows-short line names origins w P each are (k + 1) rows (omega (arith, few)) (All-tail P row rows all) in
-    rw (suc-mul (length rows) w) (omega (arith, here, rest, length-append (line (k + 1) (name_at names (slice_index origins k)) row) (row_lines line names origins (k + 1) rows)))
+    rw (suc-mul (length rows) w) (omega (
+      arith,
+      here,
+      rest,
+      length-append
+          (line (k + 1) (name_at names (slice_index origins k)) row) (row_lines line names origins (k + 1) rows),
+    ))
 
 -- the entries of a row of constants
 entry-short : (column number : ℕ) → column < 100000 → number < 65521 → length (entry_text column number) ≤ 12
@@ -74,7 +97,8 @@ entry-short column number few small = go (number == 0)
     go true = omega arith
     go false = item-short column number few (omega (arith, small))
 
-entries-short : (column : ℕ) (row : List ℕ) → column + length row ≤ 8193 → All (λ number. number < 65521) row → length (row_entries_text column row) ≤ 12 * length row
+entries-short : (column : ℕ) (row : List ℕ) → column + length row ≤ 8193 → All (λ number. number < 65521) row →
+    length (row_entries_text column row) ≤ 12 * length row
 entries-short column [] few small = omega arith
 entries-short column (number ∷ row) few small =
     let here : number < 65521 = All-head (λ number. number < 65521) number row small in
@@ -97,7 +121,8 @@ constants-small first (item ∷ row) rises j = go (constants-small (item.column 
 constant-small : (model : MixedModel) → IsModel res_modulus model → (i j : ℕ) → i < length model.equations → constant_at model i j < 65521
 constant-small model is i j within = constants-small 0 (get_or model.rows i []) (is.rows i [] (omega (arith, within, is.one_row_each))).0 j
 
-module _ (model : MixedModel) (is : IsModel res_modulus model) (layers : Layers) (are : AreLayersOf model layers) (whole : AreWholeLayers layers) (k : ℕ) (few : k ≤ 8192)
+module _ (model : MixedModel) (is : IsModel res_modulus model) (layers : Layers) (are : AreLayersOf model layers)
+    (whole : AreWholeLayers layers) (k : ℕ) (few : k ≤ 8192)
     (low_q : height layers.q ≤ k) (low_t : length layers.t.rows ≤ k) (low : layers.q.width ≤ k) where
   entry-small : (i j : ℕ) → i < height layers.q → j < layers.q.width → entry layers.q i j < 65521
   entry-small i j il jl = ⊎_elim
@@ -108,8 +133,10 @@ module _ (model : MixedModel) (is : IsModel res_modulus model) (layers : Layers)
       let n : ℕ = j - length model.unknowns in
       let within : n < length are.split = omega (arith, (are.layered).columns, auxiliary, jl) in
       let place : length model.unknowns + n ≡ j = omega (arith, auxiliary) in
-      let e : entry layers.q i (length model.unknowns + n) ≡ cond (eqb (slice_index layers.q_origins i) (slice_index are.split n)) 1 0 = (are.layered).q_auxiliary i n il within in
-      let unit : cond (eqb (slice_index layers.q_origins i) (slice_index are.split n)) 1 0 ≤ 1 = one (eqb (slice_index layers.q_origins i) (slice_index are.split n)) in
+      let e : entry layers.q i (length model.unknowns + n) ≡ cond (eqb (slice_index layers.q_origins i)
+      (slice_index are.split n)) 1 0 = (are.layered).q_auxiliary i n il within in
+      let unit : cond (eqb (slice_index layers.q_origins i) (slice_index are.split n)) 1 0 ≤ 1 =
+      one (eqb (slice_index layers.q_origins i) (slice_index are.split n)) in
       subst (λ c. entry layers.q i c < 65521) place (omega (arith, e, unit)))
       (cases_lt j (length model.unknowns))
     where
@@ -125,7 +152,8 @@ module _ (model : MixedModel) (is : IsModel res_modulus model) (layers : Layers)
       (entry-small i j il (omega (arith, jl, long))) in
       subst (λ row. All (λ number. number < 65521) row × (length row ≤ k)) (sym same) (small, omega (arith, long, low))
 
-  q-line-short : (number : ℕ) (name row : List ℕ) → number < 100000 → length name ≤ 96 → All (λ number. number < 65521) row × (length row ≤ k) → length (q_line number name row) ≤ 104 + 12 * k
+  q-line-short : (number : ℕ) (name row : List ℕ) → number < 100000 → length name ≤ 96 →
+      All (λ number. number < 65521) row × (length row ≤ k) → length (q_line number name row) ≤ 104 + 12 * k
   q-line-short number name row small short row_is =
       let head : List ℕ = line_head 113 number in
       omega (
@@ -139,7 +167,8 @@ module _ (model : MixedModel) (is : IsModel res_modulus model) (layers : Layers)
         length-append (head ++ name ++ row_entries_text 1 row) (codes "\n"),
       )
 
-  t-line-short : (number : ℕ) (name row : List ℕ) → number < 100000 → length name ≤ 96 → All (λ column. column < 8192) row × (length row ≤ k) → length (t_line number name row) ≤ 104 + 6 * k
+  t-line-short : (number : ℕ) (name row : List ℕ) → number < 100000 → length name ≤ 96 →
+      All (λ column. column < 8192) row × (length row ≤ k) → length (t_line number name row) ≤ 104 + 6 * k
   t-line-short number name row small short row_is =
       let head : List ℕ = line_head 116 number in
       omega (
@@ -174,16 +203,19 @@ module _ (model : MixedModel) (is : IsModel res_modulus model) (layers : Layers)
   q-lines-short = omega (
     arith,
     at_most (height layers.q) k 104 12 low_q,
-    rows-short q_line model.equations layers.q_origins (104 + 12 * k) (λ row. All (λ number. number < 65521) row × (length row ≤ k)) q-line-short is.equations 0 layers.q.rows
+    rows-short q_line model.equations layers.q_origins (104 + 12 * k) (λ row. All (λ number. number < 65521) row
+        × (length row ≤ k)) q-line-short is.equations 0 layers.q.rows
         (omega (arith, low_q, few)) (λ i d il. row-small i d il),
   )
 
-  t-row-small : (i : ℕ) (d : List ℕ) → i < length layers.t.rows → All (λ column. column < 8192) (get_or layers.t.rows i d) × (length (get_or layers.t.rows i d) ≤ k)
+  t-row-small : (i : ℕ) (d : List ℕ) → i < length layers.t.rows → All (λ column. column < 8192)
+      (get_or layers.t.rows i d) × (length (get_or layers.t.rows i d) ≤ k)
   t-row-small i d il =
       let same : get_or layers.t.rows i d ≡ get_or layers.t.rows i [] = get_or_default layers.t.rows i d [] il in
       let width : layers.t.width ≤ k = omega (arith, (whole.origins).same_columns, low) in
       let row : List ℕ = get_or layers.t.rows i [] in
-      let below : All (λ column. column < layers.t.width) row = λ j e jl. subst (λ column. column < layers.t.width) (get_or_default row j 0 e jl) ((whole.t).below i il j jl) in
+      let below : All (λ column. column < layers.t.width) row = λ j e jl. subst (λ column. column < layers.t.width)
+      (get_or_default row j 0 e jl) ((whole.t).below i il j jl) in
       let small : All (λ column. column < 8192) row = λ j e jl. let b : get_or row j e < layers.t.width = below j e jl in omega (arith, b, width, few) in
       let count : length row ≤ layers.t.width = rising-few layers.t.width row ((whole.t).rising i il) below in
       subst (λ r. All (λ column. column < 8192) r × (length r ≤ k)) (sym same) (small, omega (arith, count, width))
@@ -192,7 +224,8 @@ module _ (model : MixedModel) (is : IsModel res_modulus model) (layers : Layers)
   t-lines-short = omega (
     arith,
     at_most (length layers.t.rows) k 104 6 low_t,
-    rows-short t_line model.equations layers.t_origins (104 + 6 * k) (λ row. All (λ column. column < 8192) row × (length row ≤ k)) t-line-short is.equations 0 layers.t.rows
+    rows-short t_line model.equations layers.t_origins (104 + 6 * k) (λ row. All (λ column. column < 8192) row
+        × (length row ≤ k)) t-line-short is.equations 0 layers.t.rows
         (omega (arith, low_t, few)) (λ i d il. t-row-small i d il),
   )
 

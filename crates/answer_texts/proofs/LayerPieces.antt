@@ -30,7 +30,8 @@ pub entries_end : (column : ℕ) (row : List ℕ) (i : ℕ) → length row ≤ i
 entries_end column row i all = ap (row_entries_text column) (drop_of_length-le row all)
 
 pub rows_left : (line : ℕ → List ℕ → List ℕ → List ℕ) (names : List (List ℕ)) (origins : List ℕ) (rows : List (List ℕ)) (k : ℕ) → k < length rows →
-    row_lines line names origins k (drop k rows) ≡ line (k + 1) (name_at names (slice_index origins k)) (get_or rows k []) ++ row_lines line names origins (k + 1) (drop (k + 1) rows)
+    row_lines line names origins k (drop k rows) ≡ line (k + 1) (name_at names (slice_index origins k))
+    (get_or rows k []) ++ row_lines line names origins (k + 1) (drop (k + 1) rows)
 rows_left line names origins rows k within = ap (row_lines line names origins k) (drop_next rows k [] within)
 
 pub rows_end : (line : ℕ → List ℕ → List ℕ → List ℕ) (names : List (List ℕ)) (origins : List ℕ) (rows : List (List ℕ)) (k : ℕ) → length rows ≤ k →

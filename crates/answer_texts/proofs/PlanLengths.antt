@@ -18,7 +18,9 @@ use Rattle.solve_plan.specs.declared.steps.StepRow.{StepRow}
 use Rattle.solve_plan.specs.declared.steps.StepRow.TheVariants.{Combined, Symbols}
 use Rattle.answer_texts.specs.LayerTexts.{name_at, column_name}
 use Rattle.answer_texts.specs.PlanRanges.{IsPartBelow, IsStepIn, IsShortRow, IsShortStep}
-use Rattle.answer_texts.specs.PlanTexts.{part_text, step_head, column_item, column_items, columns_line, term_item, term_items, row_text, row_line, step_row_lines, step_text, steps_text, plan_text}
+use Rattle.answer_texts.specs.PlanTexts.{part_text, step_head, column_item, column_items, columns_line, term_item}
+use Rattle.answer_texts.specs.PlanTexts.{term_items, row_text, row_line, step_row_lines, step_text, steps_text}
+use Rattle.answer_texts.specs.PlanTexts.{plan_text}
 use Rattle.answer_texts.specs.Rooms.{step_room, plan_room}
 use Rattle.answer_texts.proofs.LayerLengths.{name-short, column-name-short}
 
@@ -120,8 +122,10 @@ module _ {T : Type 0} (number : T → ℕ) (model : MixedModel) (is : IsModel re
       length (steps_text number model layers place steps) ≤ length steps * step_room k
   steps-short place m n [] low within short = omega arith
   steps-short place m n (step ∷ steps) low within short =
-      let here = step-short place m n step (omega (arith, low)) (All-head (IsStepIn m n) step steps within) (All-head (IsShortStep number k) step steps short) in
-      let rest = steps-short (place + 1) m n steps (omega (arith, low)) (All-tail (IsStepIn m n) step steps within) (All-tail (IsShortStep number k) step steps short) in
+      let here = step-short place m n step (omega (arith, low)) (All-head (IsStepIn m n) step steps within)
+      (All-head (IsShortStep number k) step steps short) in
+      let rest = steps-short (place + 1) m n steps (omega (arith, low)) (All-tail (IsStepIn m n) step steps within)
+      (All-tail (IsShortStep number k) step steps short) in
       rw (suc-mul (length steps) (step_room k))
       (omega (arith, here, rest, length-append (step_text number model layers place step) (steps_text number model layers (place + 1) steps)))
 

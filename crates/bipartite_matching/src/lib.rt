@@ -5,6 +5,3 @@ mod matching;
 
 pub use matching::Match;
 pub use out_of_memory::NoMemory;
-
-#[cfg(test)]
-mod tests;

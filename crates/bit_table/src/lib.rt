@@ -5,6 +5,3 @@ mod table;
 
 pub use out_of_memory::NoMemory;
 pub use table::BitTable;
-
-#[cfg(test)]
-mod tests;

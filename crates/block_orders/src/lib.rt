@@ -9,6 +9,3 @@ pub use chains::chains_of;
 pub use covers::are_covers;
 pub use heads::{first_places, is_least_first};
 pub use out_of_memory::NoMemory;
-
-#[cfg(test)]
-mod tests;

@@ -36,11 +36,13 @@ use Rattle.minimiser_lattice.specs.declared.lattice.Part.{Part}
 use Rattle.minimiser_lattice.specs.declared.lattice.Part.TheVariants.{First, Block, Last}
 use Rattle.ccf_builder.proofs.Counts.{few-q_rows, few-split, few-t_rows, rows-counted, size-within}
 use Rattle.ccf_builder.proofs.PairLists.{are-pairs}
-use Rattle.ccf_builder.proofs.PrintedPair.{solved, base_told, base_has, base_low, mate_told, mate_has, mate_low, base-units, mate-symbols, pair-columns-differ, pair-size}
+use Rattle.ccf_builder.proofs.PrintedPair.{solved, base_told, base_has, base_low, mate_told, mate_has, mate_low}
+use Rattle.ccf_builder.proofs.PrintedPair.{base-units, mate-symbols, pair-columns-differ, pair-size}
 use Rattle.ccf_builder.proofs.PrintedParts.{block-some, columns-once, parts-printed, q_rows-once, t_rows-once}
 use Rattle.ccf_builder.proofs.Products.{inverse-entries, product-entries, transformed}
 
-part-ranges : (q t n e u : ℕ) (placing : Placing) (part : Part) (c : CcfPart) → length placing.columns ≡ n → length placing.q_rows ≡ q → length placing.t_rows ≡ t → HasPart placing part c →
+part-ranges : (q t n e u : ℕ) (placing : Placing) (part : Part) (c : CcfPart) → length placing.columns ≡ n →
+    length placing.q_rows ≡ q → length placing.t_rows ≡ t → HasPart placing part c →
     IsPart (record { equations = e; unknowns = u; q_rows = q; t_rows = t; columns = n }) c
 part-ranges q t n e u placing part c columns q_rows t_rows is = record {
   columns = subst (λ k. AreRising k c.columns) columns is.columns.rising;
@@ -61,7 +63,14 @@ module _ (p : ℕ) (prime : IsPrime p) (odd : 2 < p) (of : Layers) (layers_ok : 
 
   abbrev pub contents : Contents
   contents = record {
-    shape = record { equations = t.rows + length of.t.rows - split_of of; unknowns = t.columns - split_of of; q_rows = t.rows; t_rows = length of.t.rows; columns = t.columns };
+    shape = record {
+      equations = t.rows + length of.t.rows - split_of of;
+      unknowns = t.columns - split_of of;
+      q_rows =
+          t.rows;
+      t_rows = length of.t.rows;
+      columns = t.columns;
+    };
     rank = size_of t matching - split_of of;
     base = base;
     mates = mates;
@@ -93,9 +102,11 @@ module _ (p : ℕ) (prime : IsPrime p) (odd : 2 < p) (of : Layers) (layers_ok : 
 
   product : HasProduct p N contents
   product = record {
-    q = product-entries p t.rows t.columns (matrix_of s) t.s (entry of.q) (matrix_of P) t.p prints.s_is.same prints.p_is.same (transformed p (entry of.q) t solution.entries tableau);
+    q = product-entries p t.rows t.columns (matrix_of s) t.s (entry of.q)
+        (matrix_of P) t.p prints.s_is.same prints.p_is.same (transformed p (entry of.q) t solution.entries tableau);
     t = λ i j il jl.
-        prints_t.same i j (subst (λ m. i < m) (sym t_rows_are) il) (subst (λ n. j < n) (sym width_is) jl) ∙ sym (ap (λ (K : LayeredMatrix). K.t i j) solution.layers_are);
+        prints_t.same i j (subst (λ m. i < m) (sym t_rows_are) il) (subst (λ n. j < n) (sym width_is) jl)
+        ∙ sym (ap (λ (K : LayeredMatrix). K.t i j) solution.layers_are);
   }
 
   module _ (model : MixedModel) (is : IsModel p model) (are : AreLayersOf model of) where
@@ -156,9 +167,14 @@ module _ (p : ℕ) (prime : IsPrime p) (odd : 2 < p) (of : Layers) (layers_ok : 
         columns = omega (arith, few-split (mixed_matrix_of model) N O laid, is.equations.few, is.unknowns.few, laid.columns);
       };
       rank = omega (arith, few_in_pair, few-split (mixed_matrix_of model) N O laid, is.equations.few, is.unknowns.few, laid.columns);
-      base = are-pairs (IsBaseColumn t) t.rows t.columns base pair.base_is t.base t.row (base_told p of t matching reached solution tableau) (base_has p of t matching reached solution tableau) (base_low p of t matching reached solution tableau);
+      base = are-pairs (IsBaseColumn t) t.rows t.columns base pair.base_is t.base t.row
+          (base_told p of t matching reached solution tableau) (base_has p of t matching reached solution tableau)
+          (base_low p of t matching reached solution tableau);
       mates = subst (λ m. ArePairs m t.columns mates) (sym t_rows_are)
-          (are-pairs (IsMate matching t.columns) N.t_rows t.columns mates matched (is_matched matching) (mate_of matching) (mate_told p of t matching reached solution tableau) (mate_has p of t matching reached solution tableau) (mate_low p of t matching reached solution tableau));
+          (are-pairs (IsMate matching t.columns) N.t_rows t.columns mates matched (is_matched matching)
+          (mate_of matching) (mate_told p of t matching reached solution tableau)
+          (mate_has p of t matching reached solution tableau)
+          (mate_low p of t matching reached solution tableau));
       s = prints.s_is.is;
       u = prints.u_is.is;
       p = prints.p_is.is;
@@ -174,7 +190,8 @@ module _ (p : ℕ) (prime : IsPrime p) (odd : 2 < p) (of : Layers) (layers_ok : 
 
   -- the number of split rows is small
   pub split-rows : IsOfModel p of → split_of of ≤ t.rows + length of.t.rows
-  split-rows some = let counted = rows-counted (mixed_matrix_of some.model) N (O some.model some.is some.are) (laid some.model some.is some.are) in omega (arith, counted, t_rows_are, some.are.count)
+  split-rows some = let counted = rows-counted (mixed_matrix_of some.model) N (O some.model some.is some.are)
+      (laid some.model some.is some.are) in omega (arith, counted, t_rows_are, some.are.count)
 
   pub split-size : IsOfModel p of → split_of of ≤ size_of t matching
   split-size some = omega (arith, (ranked some.model some.is some.are).1, some.are.count)
@@ -186,16 +203,82 @@ module _ (p : ℕ) (prime : IsPrime p) (odd : 2 < p) (of : Layers) (layers_ok : 
   of-each model is are = right model is are
 
   -- the same for equal parts
-  module _ (sizes : Shape) (rank : ℕ) (base_list mates_list : List (ℕ × ℕ)) (sizes_are : sizes ≡ contents.shape) (rank_is : rank ≡ contents.rank) (base_is : base_list ≡ base) (mates_are : mates_list ≡ mates) where
+  module _ (sizes : Shape) (rank : ℕ) (base_list mates_list : List (ℕ × ℕ)) (sizes_are : sizes ≡ contents.shape)
+      (rank_is : rank ≡ contents.rank) (base_is : base_list ≡ base) (mates_are : mates_list ≡ mates) where
     abbrev pub copied : Contents
-    copied = record { shape = sizes; rank = rank; base = base_list; mates = mates_list; s = s; u = u; p = P; t = T; first = first; blocks = blocks; last = last }
+    copied = record {
+      shape = sizes;
+      rank = rank;
+      base = base_list;
+      mates = mates_list;
+      s = s;
+      u = u;
+      p = P;
+      t =
+          T;
+      first = first;
+      blocks = blocks;
+      last = last;
+    }
 
     same : contents ≡ copied
     same =
-        ap (λ k. record { shape = k; rank = contents.rank; base = base; mates = mates; s = s; u = u; p = P; t = T; first = first; blocks = blocks; last = last }) (sym sizes_are)
-        ∙ ap (λ k. record { shape = sizes; rank = k; base = base; mates = mates; s = s; u = u; p = P; t = T; first = first; blocks = blocks; last = last }) (sym rank_is)
-        ∙ ap (λ k. record { shape = sizes; rank = rank; base = k; mates = mates; s = s; u = u; p = P; t = T; first = first; blocks = blocks; last = last }) (sym base_is)
-        ∙ ap (λ k. record { shape = sizes; rank = rank; base = base_list; mates = k; s = s; u = u; p = P; t = T; first = first; blocks = blocks; last = last }) (sym mates_are)
+        ap (λ k. record {
+          shape = k;
+          rank = contents.rank;
+          base = base;
+          mates = mates;
+          s = s;
+          u = u;
+          p = P;
+          t =
+              T;
+          first = first;
+          blocks = blocks;
+          last = last;
+        }) (sym sizes_are)
+        ∙ ap (λ k. record {
+          shape = sizes;
+          rank = k;
+          base = base;
+          mates = mates;
+          s = s;
+          u = u;
+          p = P;
+          t = T;
+          first =
+              first;
+          blocks = blocks;
+          last = last;
+        }) (sym rank_is)
+        ∙ ap (λ k. record {
+          shape = sizes;
+          rank = rank;
+          base = k;
+          mates = mates;
+          s = s;
+          u = u;
+          p = P;
+          t = T;
+          first =
+              first;
+          blocks = blocks;
+          last = last;
+        }) (sym base_is)
+        ∙ ap (λ k. record {
+          shape = sizes;
+          rank = rank;
+          base = base_list;
+          mates = k;
+          s = s;
+          u = u;
+          p = P;
+          t =
+              T;
+          first = first;
+          blocks = blocks;
+          last = last;
+        }) (sym mates_are)
 
     pub copied-fits : IsOfModel p of → IsCcf p copied
     copied-fits some = subst (IsCcf p) same (of-model some)

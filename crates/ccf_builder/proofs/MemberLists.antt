@@ -1,5 +1,6 @@
 -- Rising lists of numbers.
-use Rattle.std.proofs.Common.{◌≡◌, ℕ, ◌+◌, ◌<◌, ◌≤◌, Bool, true, false, ◌||◌, eqb, List, [], ◌∷◌, ◌++◌, length, get_or, inl, inr, refl, ap, sym, ◌∙◌, subst, arith}
+use Rattle.std.proofs.Common.{◌≡◌, ℕ, ◌+◌, ◌<◌, ◌≤◌, Bool, true, false, ◌||◌, eqb, List, [], ◌∷◌, ◌++◌, length}
+use Rattle.std.proofs.Common.{get_or, inl, inr, refl, ap, sym, ◌∙◌, subst, arith}
 use Rattle.std.proofs.lemmas.List.{get_or_append_left, get_or_push, length_push}
 use Rattle.std.proofs.lemmas.List.Elements.{All-from_get_or}
 use Rattle.residue_theory.proofs.SumLaws.{nat_cases}
@@ -55,7 +56,14 @@ rising-wider n m xs more are = record { rising = are.rising; below = All-from_ge
 
 module _ (P : ℕ → Type 0) where
   pub lists-none : ListsBelow P 0 []
-  lists-none = record { rising = record { rising = λ k kl. absurd (omega (arith, kl)); below = λ k d kl. absurd (omega (arith, kl)) }; exact = λ x low. absurd (omega (arith, low)) }
+  lists-none = record {
+    rising = record {
+      rising = λ k kl. absurd (omega (arith, kl));
+      below =
+          λ k d kl. absurd (omega (arith, kl));
+    };
+    exact = λ x low. absurd (omega (arith, low));
+  }
 
   -- one number more, of which P is true
   pub lists-more : (n : ℕ) (list : List ℕ) → ListsBelow P n list → P n → ListsBelow P (n + 1) (list ++ n ∷ [])

@@ -1,5 +1,6 @@
 -- Lists of rows with their columns: how they are made, row by row, and what they tell of the columns.
-use Rattle.std.proofs.Common.{◌≡◌, ℕ, ◌+◌, ◌<◌, Bool, true, false, eqb, List, [], ◌∷◌, ◌++◌, length, map, get_or, ◌⊎◌, inl, inr, refl, ap, sym, ◌∙◌, subst, arith}
+use Rattle.std.proofs.Common.{◌≡◌, ℕ, ◌+◌, ◌<◌, Bool, true, false, eqb, List, [], ◌∷◌, ◌++◌, length, map, get_or, ◌⊎◌}
+use Rattle.std.proofs.Common.{inl, inr, refl, ap, sym, ◌∙◌, subst, arith}
 use Rattle.std.proofs.lemmas.List.{get_or_append_left, get_or_push, get_or-map, length-map, length_push}
 use Rattle.std.proofs.lemmas.List.Elements.{All-from_get_or}
 use Rattle.residue_theory.specs.Sums.{size_on}
@@ -31,7 +32,8 @@ lists-none Has m pairs bare lists = record {
 }
 
 -- one row more, with its column
-module _ (Has : ℕ → ℕ → Type 0) (m v : ℕ) (pairs : List (ℕ × ℕ)) (one : (r y z : ℕ) → Has r y → Has r z → y ≡ z) (has : Has m v) (lists : ListsPairs Has m pairs) where
+module _ (Has : ℕ → ℕ → Type 0) (m v : ℕ) (pairs : List (ℕ × ℕ)) (one : (r y z : ℕ) → Has r y → Has r z → y ≡ z)
+    (has : Has m v) (lists : ListsPairs Has m pairs) where
   below_more : (k : ℕ) → k < length (pairs ++ (m, v) ∷ []) → (pair_at (pairs ++ (m, v) ∷ []) k).0 < m + 1
   below_more k within = elim (pushed_cases pairs (m, v) k within) [
     | inl old ↦ omega (arith, ap (λ (x : ℕ × ℕ). x.0) old.1, lists.below k old.0)
@@ -57,8 +59,12 @@ module _ (Has : ℕ → ℕ → Type 0) (m v : ℕ) (pairs : List (ℕ × ℕ)) 
   all_more : (r y : ℕ) → r < m + 1 → Has r y → (k : ℕ) × (k < length (pairs ++ (m, v) ∷ [])) × (pair_at (pairs ++ (m, v) ∷ []) k ≡ (r, y))
   all_more r y low other = elim (nat_cases r m) [
     | inl same ↦
-        let column : y ≡ v = one m y v (subst (λ i. Has i y) same other) has in
-        (length pairs, omega (arith, length_push pairs (m, v)), get_or_push pairs (m, v) (0, 0) (length pairs) refl ∙ ap (λ i. (i, v)) (sym same) ∙ ap (λ j. (r, j)) (sym column))
+        let column : y ≡ v = one m y v (subst (λ i. Has i y) same other) has in (
+          length pairs,
+          omega (arith, length_push pairs (m, v)),
+          get_or_push pairs (m, v) (0, 0) (length pairs) refl
+              ∙ ap (λ i. (i, v)) (sym same) ∙ ap (λ j. (r, j)) (sym column),
+        )
     | inr apart ↦
         let found = lists.all r y (omega arith) other in
         (found.0, omega (arith, found.1, length_push pairs (m, v)), get_or_append_left pairs ((m, v) ∷ []) (0, 0) found.0 found.1 ∙ found.2)
@@ -74,7 +80,8 @@ same-tests false b f g = sym (not_true b (λ h. differ refl (g h)))
 
 -- the whole list, where the columns with a row are those of B, each with a row of its own
 module _ (Has : ℕ → ℕ → Type 0) (m n : ℕ) (pairs : List (ℕ × ℕ)) (lists : ListsPairs Has m pairs) (B : ℕ → Bool) (row : ℕ → ℕ)
-    (told : (r y : ℕ) → Has r y → (y < n) × (B y ≡ true) × (row y ≡ r)) (has : (y : ℕ) → y < n → B y ≡ true → Has (row y) y) (low : (y : ℕ) → y < n → B y ≡ true → row y < m) where
+    (told : (r y : ℕ) → Has r y → (y < n) × (B y ≡ true) × (row y ≡ r)) (has : (y : ℕ) → y < n → B y ≡ true →
+    Has (row y) y) (low : (y : ℕ) → y < n → B y ≡ true → row y < m) where
   of_item : (k : ℕ) → k < length pairs → ((pair_at pairs k).1 < n) × (B (pair_at pairs k).1 ≡ true) × (row (pair_at pairs k).1 ≡ (pair_at pairs k).0)
   of_item k kl = told (pair_at pairs k).0 (pair_at pairs k).1 (lists.member k kl)
 
@@ -118,7 +125,8 @@ module _ (Has : ℕ → ℕ → Type 0) (m n : ℕ) (pairs : List (ℕ × ℕ)) 
         let next : k + 1 < length pairs = omega (arith, kl, long) in
         let here : k < length pairs = omega (arith, next) in
         let first : get_or (map (λ (pair : ℕ × ℕ). pair.0) pairs) k 0 ≡ (pair_at pairs k).0 = get_or-map (λ (pair : ℕ × ℕ). pair.0) pairs k (0, 0) 0 here in
-        let second : get_or (map (λ (pair : ℕ × ℕ). pair.0) pairs) (k + 1) 0 ≡ (pair_at pairs (k + 1)).0 = get_or-map (λ (pair : ℕ × ℕ). pair.0) pairs (k + 1) (0, 0) 0 next in
+        let second : get_or (map (λ (pair : ℕ × ℕ). pair.0) pairs) (k + 1) 0 ≡ (pair_at pairs (k + 1)).0 =
+        get_or-map (λ (pair : ℕ × ℕ). pair.0) pairs (k + 1) (0, 0) 0 next in
         let less : k < k + 1 = omega arith in
         omega (arith, first, second, lists.rising k (k + 1) less next);
     within = All-from_get_or (λ (pair : ℕ × ℕ). (pair.0 < m) × (pair.1 < n)) pairs (0, 0) (λ k kl. (lists.below k kl, column-below k kl));

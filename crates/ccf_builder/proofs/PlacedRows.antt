@@ -26,7 +26,8 @@ placed-none m pairs columns = record {
 
 module _ (m : ℕ) (pairs : List (ℕ × ℕ)) (columns : List Part) (within : AreWithin m (length columns) pairs) where
   -- the row of one pair more has the part of its column
-  pub placed-more : (n : ℕ) (rows : List Part) (part : Part) → IsPlacedTo m pairs columns n rows → n < length pairs → slice_get columns (pair_at pairs n).1 ≡ Some part →
+  pub placed-more : (n : ℕ) (rows : List Part) (part : Part) → IsPlacedTo m pairs columns n rows → n < length pairs →
+      slice_get columns (pair_at pairs n).1 ≡ Some part →
       IsPlacedTo m pairs columns (n + 1) (slice_set rows (pair_at pairs n).0 part)
   placed-more n rows part placed low is = record {
     count = length-set rows (pair_at pairs n).0 part ∙ placed.count;

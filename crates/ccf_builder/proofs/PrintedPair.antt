@@ -81,23 +81,30 @@ module _ (p : ℕ) (of : Layers) (t : State) (M : Matching) (reached : ℕ → B
     module _ (x : ℕ) (xl : x < t.columns) where
       pub printed-arc : (y : ℕ) → y < t.columns → leads_to p (layers_of t M) F x y ≡ leads_to p L G x y
       printed-arc y yl = sym (ap (λ (arc : ℕ → ℕ → Bool). arc x y) (kept-arcs p (entry of.q) t M)) ∙ same-arcs p L F G
-          (λ z zl. sym (base-same z zl)) (λ z zl h. sym (base-row z zl h)) base_low (λ z zl. sym (mate-same z zl)) (λ z zl h. sym (mate-row z zl h)) (λ i j il jl. sym (prints_p.same i j il jl)) x y xl yl
+          (λ z zl. sym (base-same z zl)) (λ z zl h. sym (base-row z zl h)) base_low (λ z zl. sym (mate-same z zl))
+          (λ z zl h. sym (mate-row z zl h)) (λ i j il jl. sym (prints_p.same i j il jl)) x y xl yl
 
       pub printed-free : is_free F x ≡ is_free G x
       printed-free = same-free p L F G
-          (λ z zl. sym (base-same z zl)) (λ z zl h. sym (base-row z zl h)) base_low (λ z zl. sym (mate-same z zl)) (λ z zl h. sym (mate-row z zl h)) (λ i j il jl. sym (prints_p.same i j il jl)) x xl
+          (λ z zl. sym (base-same z zl)) (λ z zl h. sym (base-row z zl h)) base_low (λ z zl. sym (mate-same z zl))
+          (λ z zl h. sym (mate-row z zl h)) (λ i j il jl. sym (prints_p.same i j il jl)) x xl
 
       pub printed-end : is_end p (layers_of t M) F x ≡ is_end p L G x
       printed-end = sym (ap (λ (ends : ℕ → Bool). ends x) (kept-ends p (entry of.q) t M)) ∙ same-ends p L F G
-          (λ z zl. sym (base-same z zl)) (λ z zl h. sym (base-row z zl h)) base_low (λ z zl. sym (mate-same z zl)) (λ z zl h. sym (mate-row z zl h)) (λ i j il jl. sym (prints_p.same i j il jl)) x xl
+          (λ z zl. sym (base-same z zl)) (λ z zl h. sym (base-row z zl h)) base_low (λ z zl. sym (mate-same z zl))
+          (λ z zl h. sym (mate-row z zl h)) (λ i j il jl. sym (prints_p.same i j il jl)) x xl
 
     pub base-units : (k : ℕ) → k < length base → IsUnitColumn p t.rows (matrix_of P) (pair_at base k).0 (pair_at base k).1
     base-units k kl =
         let column = bases.member k kl in
         let low : (pair_at base k).0 < t.rows = bases.below k kl in
         record {
-          one = ap (λ x. x % p) (prints_p.same (pair_at base k).0 (pair_at base k).1 low column.below) ∙ subst (λ i. t.p i (pair_at base k).1 % p ≡ 1) column.at_row ((tableau.unit_columns).one (pair_at base k).1 column.below column.member);
-          zero = λ i il other. ap (λ x. x % p) (prints_p.same i (pair_at base k).1 il column.below) ∙ (tableau.unit_columns).zero (pair_at base k).1 i column.below column.member il (λ e. other (e ∙ column.at_row));
+          one = ap (λ x. x % p) (prints_p.same (pair_at base k).0 (pair_at base k).1 low column.below)
+              ∙ subst (λ i. t.p i (pair_at base k).1 % p ≡ 1) column.at_row
+              ((tableau.unit_columns).one (pair_at base k).1 column.below column.member);
+          zero = λ i il other. ap (λ x. x % p) (prints_p.same i (pair_at base k).1 il column.below)
+              ∙ (tableau.unit_columns).zero (pair_at base k).1 i column.below column.member il
+              (λ e. other (e ∙ column.at_row));
         }
 
     pub mate-symbols : (k : ℕ) → k < length mates → L.t (pair_at mates k).0 (pair_at mates k).1 ≡ true
@@ -120,7 +127,10 @@ module _ (p : ℕ) (of : Layers) (t : State) (M : Matching) (reached : ℕ → B
     pub pair-size : size_of t M ≡ length base + length mates
     pair-size =
         let of_base : size_on t.base t.columns ≡ length base =
-        sym (sum_on-same (has_column base) t.base t.columns (λ _. 1) base-same) ∙ counted (IsBaseColumn t) t.rows t.columns base bases t.base t.row base_told base_has base_low in
+        sym (sum_on-same (has_column base) t.base t.columns (λ _. 1) base-same)
+        ∙ counted (IsBaseColumn t) t.rows t.columns base bases t.base t.row base_told base_has base_low in
         let of_mates : size_on (is_matched M) t.columns ≡ length mates =
-        sym (sum_on-same (has_column mates) (is_matched M) t.columns (λ _. 1) mate-same) ∙ counted (IsMate M t.columns) L.t_rows t.columns mates matched (is_matched M) (mate_of M) mate_told mate_has mate_low in
+        sym (sum_on-same (has_column mates) (is_matched M) t.columns (λ _. 1) mate-same)
+        ∙ counted (IsMate M t.columns) L.t_rows t.columns mates matched (is_matched M)
+        (mate_of M) mate_told mate_has mate_low in
         omega (arith, of_base, of_mates)

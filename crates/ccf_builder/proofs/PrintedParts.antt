@@ -1,5 +1,7 @@
 -- The printed parts of an engine's arcs keep their rules.
-use Rattle.std.proofs.Common.{◌≡◌, ℕ, ◌+◌, ◌-◌, ◌<◌, ◌≤◌, inl, inr, Bool, true, false, cond, eqb, ◌&&◌, List, [], ◌∷◌, ◌++◌, length, map, get_or, slice_get, slice_index_or, Some, refl, ap, sym, ◌∙◌, subst, arith}
+use Rattle.std.proofs.Common.{◌≡◌, ℕ, ◌+◌, ◌-◌, ◌<◌, ◌≤◌, inl, inr, Bool, true, false, cond, eqb, ◌&&◌, List, [], ◌∷◌}
+use Rattle.std.proofs.Common.{◌++◌, length, map, get_or, slice_get, slice_index_or, Some, refl, ap, sym, ◌∙◌, subst}
+use Rattle.std.proofs.Common.{arith}
 use Rattle.std.proofs.lemmas.List.{get_or-map, get_or_past, length-map}
 use Rattle.residue_theory.proofs.SetLaws.{differ, both_true, eqb_from, eqb_true, not_true, lt_cases, some_below-holds}
 use Rattle.dense_q.specs.Tables.{entry}
@@ -31,7 +33,8 @@ use Rattle.ccf_builder.specs.Placings.{PlacesColumns, PlacesRows, Placing, HasPa
 use Rattle.ccf_builder.specs.Solutions.{IsSolution}
 use Rattle.cert_text.proofs.PrintedRules.{has-below}
 use Rattle.ccf_builder.proofs.PairLists.{same-tests}
-use Rattle.ccf_builder.proofs.PrintedPair.{L, F, G, solved, base_told, base_has, base_low, mate_told, mate_has, mate_low, printed-arc, printed-free, printed-end}
+use Rattle.ccf_builder.proofs.PrintedPair.{L, F, G, solved, base_told, base_has, base_low, mate_told, mate_has}
+use Rattle.ccf_builder.proofs.PrintedPair.{mate_low, printed-arc, printed-free, printed-end}
 use Rattle.ccf_builder.proofs.RowParts.{bare-part, column-part, part_of_row, row-bounded, row-part, row-with-below}
 use Rattle.ccf_builder.proofs.PartLists.{IsOfBlocks, once, place, place_of_part}
 use Rattle.ccf_builder.proofs.SameRules.{same-below, same-clear, same-rules}
@@ -54,11 +57,13 @@ first-code b true l k = refl
 first-code b false true k = not_true (eqb (b + 1) 0) (λ h. absurd (let e : b + 1 ≡ 0 = eqb_true (b + 1) 0 h in omega (arith, e)))
 first-code b false false k = not_true (eqb (k + 1) 0) (λ h. absurd (let e : k + 1 ≡ 0 = eqb_true (k + 1) 0 h in omega (arith, e)))
 
-last-code : (b : ℕ) (f l : Bool) (k : ℕ) → (f ≡ true → l ≡ true → ⊥) → (f ≡ false → l ≡ false → k < b) → eqb (place_of_part b (cond f First (cond l Last (Block k)))) (b + 1) ≡ l
+last-code : (b : ℕ) (f l : Bool) (k : ℕ) → (f ≡ true → l ≡ true → ⊥) → (f ≡ false → l ≡ false → k < b) →
+    eqb (place_of_part b (cond f First (cond l Last (Block k)))) (b + 1) ≡ l
 last-code b true true k apart low = absurd (apart refl refl)
 last-code b true false k apart low = not_true (eqb 0 (b + 1)) (λ h. absurd (let e : 0 ≡ b + 1 = eqb_true 0 (b + 1) h in omega (arith, e)))
 last-code b false true k apart low = eqb_from (b + 1) (b + 1) refl
-last-code b false false k apart low = not_true (eqb (k + 1) (b + 1)) (λ h. absurd (let e : k + 1 ≡ b + 1 = eqb_true (k + 1) (b + 1) h in omega (arith, e, low refl refl)))
+last-code b false false k apart low = not_true (eqb (k + 1) (b + 1))
+    (λ h. absurd (let e : k + 1 ≡ b + 1 = eqb_true (k + 1) (b + 1) h in omega (arith, e, low refl refl)))
 
 block-code : (b : ℕ) (f l : Bool) (k : ℕ) → f ≡ false → l ≡ false → place_of_part b (cond f First (cond l Last (Block k))) - 1 ≡ k
 block-code b true l k ef el = absurd (differ ef refl)
@@ -75,7 +80,8 @@ module _ (list_of : CcfPart → List ℕ) (parts : List Part) (blocks : List Ccf
   middle-count = length-map blocks (λ (block : CcfBlock). list_of block.part)
 
   pub middle-lists : (k : ℕ) → k < length blocks → ListsPart parts (Block k) (get_or middle_lists k [])
-  middle-lists k kb = subst (λ list. ListsPart parts (Block k) list) (sym (get_or-map (λ (block : CcfBlock). list_of block.part) blocks k no_block [] kb)) (in_blocks k kb)
+  middle-lists k kb = subst (λ list. ListsPart parts (Block k) list)
+      (sym (get_or-map (λ (block : CcfBlock). list_of block.part) blocks k no_block [] kb)) (in_blocks k kb)
 
 module _ (p : ℕ) (of : Layers) (S : State) (M : Matching) (reached : ℕ → Bool) (solution : IsSolution p of S M reached) (tableau : IsTableau p S)
     (base mates : List (ℕ × ℕ)) (bases : ListsPairs (IsBaseColumn S) S.rows base)
@@ -96,7 +102,9 @@ module _ (p : ℕ) (of : Layers) (S : State) (M : Matching) (reached : ℕ → B
   arc = leads_to p (layers_of S M) (F p of S M reached solution tableau)
 
   pub clear : NoEndReached arc S.columns decomposed.starts decomposed.ends
-  clear = same-clear (leads_to p N (F p of S M reached solution tableau)) arc S.columns (is_free (F p of S M reached solution tableau)) decomposed.starts (is_end p N (F p of S M reached solution tableau)) decomposed.ends
+  clear = same-clear (leads_to p N (F p of S M reached solution tableau)) arc S.columns
+      (is_free (F p of S M reached solution tableau)) decomposed.starts
+      (is_end p N (F p of S M reached solution tableau)) decomposed.ends
       (λ x y _ _. ap (λ (a : ℕ → ℕ → Bool). a x y) (kept-arcs p (entry of.q) S M)) (λ x xl. sym (decomposed.starts_are x xl))
       (λ x xl. ap (λ (e : ℕ → Bool). e x) (kept-ends p (entry of.q) S M) ∙ sym (decomposed.ends_are x xl)) (solved p of S M reached solution tableau).no_walk
 
@@ -127,22 +135,30 @@ module _ (p : ℕ) (of : Layers) (S : State) (M : Matching) (reached : ℕ → B
       (middle_lists (λ part. part.columns) placing.columns blocks column_blocks) (middle-count (λ part. part.columns) placing.columns blocks column_blocks)
       of_first.columns (middle-lists (λ part. part.columns) placing.columns blocks column_blocks) of_last.columns (part_in v) column-told bounded-here
 
-  pub column-place : (x : ℕ) → x < S.columns → place_of (first.columns ∷ (map (λ (block : CcfBlock). block.part.columns) blocks ++ last.columns ∷ [])) x ≡ place_of_part (length blocks) (part_in v x)
+  pub column-place : (x : ℕ) → x < S.columns → place_of
+      (first.columns ∷ (map (λ (block : CcfBlock). block.part.columns) blocks ++ last.columns ∷ [])) x ≡ place_of_part (length blocks) (part_in v x)
   column-place = place (length blocks) S.columns placing.columns (of_columns.count ∙ decomposed.places) first.columns last.columns
       (middle_lists (λ part. part.columns) placing.columns blocks column_blocks) (middle-count (λ part. part.columns) placing.columns blocks column_blocks)
       of_first.columns (middle-lists (λ part. part.columns) placing.columns blocks column_blocks) of_last.columns (part_in v) column-told bounded-here
 
   -- the Q rows
   abbrev pub q_part : ℕ → Part
-  q_part = part_of_row (IsBaseColumn S) S.rows S.columns base bases S.base S.row (base_told p of S M reached solution tableau) (base_has p of S M reached solution tableau) (base_low p of S M reached solution tableau)
+  q_part = part_of_row (IsBaseColumn S) S.rows S.columns base bases S.base S.row
+      (base_told p of S M reached solution tableau) (base_has p of S M reached solution tableau)
+      (base_low p of S M reached solution tableau)
       v placing.columns placing.q_rows decomposed.places of_columns of_q bounded
 
   q_told : (i : ℕ) → i < S.rows → slice_get placing.q_rows i ≡ Some (q_part i)
-  q_told = row-part (IsBaseColumn S) S.rows S.columns base bases S.base S.row (base_told p of S M reached solution tableau) (base_has p of S M reached solution tableau) (base_low p of S M reached solution tableau)
+  q_told = row-part (IsBaseColumn S) S.rows S.columns base bases S.base S.row
+      (base_told p of S M reached solution tableau) (base_has p of S M reached solution tableau)
+      (base_low p of S M reached solution tableau)
       v placing.columns placing.q_rows decomposed.places of_columns of_q bounded
 
   q_bounded : (i : ℕ) → i < S.rows → IsOfBlocks (length blocks) (q_part i)
-  q_bounded i il = subst (λ b. IsOfBlocks b (q_part i)) (sym count) (row-bounded (IsBaseColumn S) S.rows S.columns base bases S.base S.row (base_told p of S M reached solution tableau) (base_has p of S M reached solution tableau) (base_low p of S M reached solution tableau)
+  q_bounded i il = subst (λ b. IsOfBlocks b (q_part i)) (sym count)
+      (row-bounded (IsBaseColumn S) S.rows S.columns base bases S.base S.row
+      (base_told p of S M reached solution tableau) (base_has p of S M reached solution tableau)
+      (base_low p of S M reached solution tableau)
       v placing.columns placing.q_rows decomposed.places of_columns of_q bounded i il)
 
   q_blocks : (k : ℕ) → k < length blocks → ListsPart placing.q_rows (Block k) (get_or blocks k no_block).part.q_rows
@@ -153,22 +169,31 @@ module _ (p : ℕ) (of : Layers) (S : State) (M : Matching) (reached : ℕ → B
       (middle_lists (λ part. part.q_rows) placing.q_rows blocks q_blocks) (middle-count (λ part. part.q_rows) placing.q_rows blocks q_blocks)
       of_first.q_rows (middle-lists (λ part. part.q_rows) placing.q_rows blocks q_blocks) of_last.q_rows q_part q_told q_bounded
 
-  pub q_row-place : (i : ℕ) → i < S.rows → place_of (first.q_rows ∷ (map (λ (block : CcfBlock). block.part.q_rows) blocks ++ last.q_rows ∷ [])) i ≡ place_of_part (length blocks) (q_part i)
+  pub q_row-place : (i : ℕ) → i < S.rows → place_of
+      (first.q_rows ∷ (map (λ (block : CcfBlock). block.part.q_rows) blocks ++ last.q_rows ∷ [])) i ≡ place_of_part
+      (length blocks) (q_part i)
   q_row-place = place (length blocks) S.rows placing.q_rows of_q.count first.q_rows last.q_rows
       (middle_lists (λ part. part.q_rows) placing.q_rows blocks q_blocks) (middle-count (λ part. part.q_rows) placing.q_rows blocks q_blocks)
       of_first.q_rows (middle-lists (λ part. part.q_rows) placing.q_rows blocks q_blocks) of_last.q_rows q_part q_told q_bounded
 
   -- the T rows
   abbrev pub t_part : ℕ → Part
-  t_part = part_of_row (IsMate M S.columns) N.t_rows S.columns mates matched (is_matched M) (mate_of M) (mate_told p of S M reached solution tableau) (mate_has p of S M reached solution tableau) (mate_low p of S M reached solution tableau)
+  t_part = part_of_row (IsMate M S.columns) N.t_rows S.columns mates matched (is_matched M) (mate_of M)
+      (mate_told p of S M reached solution tableau) (mate_has p of S M reached solution tableau)
+      (mate_low p of S M reached solution tableau)
       v placing.columns placing.t_rows decomposed.places of_columns of_t bounded
 
   t_told : (i : ℕ) → i < N.t_rows → slice_get placing.t_rows i ≡ Some (t_part i)
-  t_told = row-part (IsMate M S.columns) N.t_rows S.columns mates matched (is_matched M) (mate_of M) (mate_told p of S M reached solution tableau) (mate_has p of S M reached solution tableau) (mate_low p of S M reached solution tableau)
+  t_told = row-part (IsMate M S.columns) N.t_rows S.columns mates matched (is_matched M) (mate_of M)
+      (mate_told p of S M reached solution tableau) (mate_has p of S M reached solution tableau)
+      (mate_low p of S M reached solution tableau)
       v placing.columns placing.t_rows decomposed.places of_columns of_t bounded
 
   t_bounded : (i : ℕ) → i < N.t_rows → IsOfBlocks (length blocks) (t_part i)
-  t_bounded i il = subst (λ b. IsOfBlocks b (t_part i)) (sym count) (row-bounded (IsMate M S.columns) N.t_rows S.columns mates matched (is_matched M) (mate_of M) (mate_told p of S M reached solution tableau) (mate_has p of S M reached solution tableau) (mate_low p of S M reached solution tableau)
+  t_bounded i il = subst (λ b. IsOfBlocks b (t_part i)) (sym count)
+      (row-bounded (IsMate M S.columns) N.t_rows S.columns mates matched (is_matched M) (mate_of M)
+      (mate_told p of S M reached solution tableau) (mate_has p of S M reached solution tableau)
+      (mate_low p of S M reached solution tableau)
       v placing.columns placing.t_rows decomposed.places of_columns of_t bounded i il)
 
   t_blocks : (k : ℕ) → k < length blocks → ListsPart placing.t_rows (Block k) (get_or blocks k no_block).part.t_rows
@@ -179,7 +204,9 @@ module _ (p : ℕ) (of : Layers) (S : State) (M : Matching) (reached : ℕ → B
       (middle_lists (λ part. part.t_rows) placing.t_rows blocks t_blocks) (middle-count (λ part. part.t_rows) placing.t_rows blocks t_blocks)
       of_first.t_rows (middle-lists (λ part. part.t_rows) placing.t_rows blocks t_blocks) of_last.t_rows t_part t_told t_bounded
 
-  pub t_row-place : (i : ℕ) → i < N.t_rows → place_of (first.t_rows ∷ (map (λ (block : CcfBlock). block.part.t_rows) blocks ++ last.t_rows ∷ [])) i ≡ place_of_part (length blocks) (t_part i)
+  pub t_row-place : (i : ℕ) → i < N.t_rows → place_of
+      (first.t_rows ∷ (map (λ (block : CcfBlock). block.part.t_rows) blocks ++ last.t_rows ∷ [])) i ≡ place_of_part
+      (length blocks) (t_part i)
   t_row-place = place (length blocks) N.t_rows placing.t_rows of_t.count first.t_rows last.t_rows
       (middle_lists (λ part. part.t_rows) placing.t_rows blocks t_blocks) (middle-count (λ part. part.t_rows) placing.t_rows blocks t_blocks)
       of_first.t_rows (middle-lists (λ part. part.t_rows) placing.t_rows blocks t_blocks) of_last.t_rows t_part t_told t_bounded
@@ -202,25 +229,44 @@ module _ (p : ℕ) (of : Layers) (S : State) (M : Matching) (reached : ℕ → B
   rows-printed = record {
     columns = λ x xl. subst (λ n. n ≤ length blocks + 1) (sym (column-place x xl)) (place-few (length blocks) (part_in v x) (bounded-here x xl));
     base = λ y yl h.
-        q_row-place (row_with base y) (row-with-below (IsBaseColumn S) S.rows S.columns base bases S.base S.row (base_told p of S M reached solution tableau) (base_has p of S M reached solution tableau) (base_low p of S M reached solution tableau)
+        q_row-place (row_with base y) (row-with-below (IsBaseColumn S) S.rows S.columns base bases S.base S.row
+        (base_told p of S M reached solution tableau) (base_has p of S M reached solution tableau)
+        (base_low p of S M reached solution tableau)
         v placing.columns placing.q_rows decomposed.places of_columns of_q bounded y h)
-        ∙ ap (place_of_part (length blocks)) (column-part (IsBaseColumn S) S.rows S.columns base bases S.base S.row (base_told p of S M reached solution tableau) (base_has p of S M reached solution tableau) (base_low p of S M reached solution tableau)
+        ∙ ap (place_of_part (length blocks)) (column-part (IsBaseColumn S) S.rows S.columns base bases S.base S.row
+        (base_told p of S M reached solution tableau) (base_has p of S M reached solution tableau)
+        (base_low p of S M reached solution tableau)
         v placing.columns placing.q_rows decomposed.places of_columns of_q bounded y h)
         ∙ sym (column-place y yl);
     matched = λ y yl h.
-        t_row-place (row_with mates y) (row-with-below (IsMate M S.columns) N.t_rows S.columns mates matched (is_matched M) (mate_of M) (mate_told p of S M reached solution tableau) (mate_has p of S M reached solution tableau) (mate_low p of S M reached solution tableau)
+        t_row-place (row_with mates y) (row-with-below (IsMate M S.columns) N.t_rows S.columns mates matched
+        (is_matched M) (mate_of M) (mate_told p of S M reached solution tableau)
+        (mate_has p of S M reached solution tableau) (mate_low p of S M reached solution tableau)
         v placing.columns placing.t_rows decomposed.places of_columns of_t bounded y h)
-        ∙ ap (place_of_part (length blocks)) (column-part (IsMate M S.columns) N.t_rows S.columns mates matched (is_matched M) (mate_of M) (mate_told p of S M reached solution tableau) (mate_has p of S M reached solution tableau) (mate_low p of S M reached solution tableau)
+        ∙ ap (place_of_part (length blocks)) (column-part (IsMate M S.columns) N.t_rows S.columns mates matched
+        (is_matched M) (mate_of M) (mate_told p of S M reached solution tableau)
+        (mate_has p of S M reached solution tableau) (mate_low p of S M reached solution tableau)
         v placing.columns placing.t_rows decomposed.places of_columns of_t bounded y h)
         ∙ sym (column-place y yl);
     other_q = λ i il none.
-        q_row-place i il ∙ ap (place_of_part (length blocks)) (bare-part (IsBaseColumn S) S.rows S.columns base bases S.base S.row (base_told p of S M reached solution tableau) (base_has p of S M reached solution tableau) (base_low p of S M reached solution tableau)
+        q_row-place i il ∙ ap (place_of_part (length blocks))
+        (bare-part (IsBaseColumn S) S.rows S.columns base bases S.base S.row
+        (base_told p of S M reached solution tableau) (base_has p of S M reached solution tableau)
+        (base_low p of S M reached solution tableau)
         v placing.columns placing.q_rows decomposed.places of_columns of_q bounded i il
-        (λ y yl member same. differ none (some_below-holds S.columns (λ z. has_column base z && eqb (row_with base z) i) y yl (both_true (has_column base y) (eqb (row_with base y) i) member (eqb_from (row_with base y) i same)))));
+        (λ y yl member same. differ none (some_below-holds S.columns
+        (λ z. has_column base z && eqb (row_with base z) i) y yl
+        (both_true (has_column base y) (eqb (row_with base y) i) member (eqb_from (row_with base y) i same)))));
     other_t = λ i il none.
-        t_row-place i il ∙ ap (place_of_part (length blocks)) (bare-part (IsMate M S.columns) N.t_rows S.columns mates matched (is_matched M) (mate_of M) (mate_told p of S M reached solution tableau) (mate_has p of S M reached solution tableau) (mate_low p of S M reached solution tableau)
+        t_row-place i il ∙ ap (place_of_part (length blocks))
+        (bare-part (IsMate M S.columns) N.t_rows S.columns mates matched (is_matched M) (mate_of M)
+        (mate_told p of S M reached solution tableau) (mate_has p of S M reached solution tableau)
+        (mate_low p of S M reached solution tableau)
         v placing.columns placing.t_rows decomposed.places of_columns of_t bounded i il
-        (λ y yl member same. differ none (some_below-holds S.columns (λ z. has_column mates z && eqb (row_with mates z) i) y yl (both_true (has_column mates y) (eqb (row_with mates y) i) member (eqb_from (row_with mates y) i same)))));
+        (λ y yl member same. differ none (some_below-holds S.columns
+        (λ z. has_column mates z && eqb (row_with mates z) i) y yl
+        (both_true (has_column mates y) (eqb (row_with mates y) i) member
+        (eqb_from (row_with mates y) i same)))));
   }
 
   first_same : (x : ℕ) → x < S.columns → v.first x ≡ in_first printed x
@@ -234,14 +280,16 @@ module _ (p : ℕ) (of : Layers) (S : State) (M : Matching) (reached : ℕ → B
   block_same x xl f l = sym (ap (λ k. k - 1) (column-place x xl) ∙ block-code (length blocks) (v.first x) (v.last x) (v.block x) f l)
 
   lower_list : (k : ℕ) → k < length blocks → ListsBelow (λ j. v.covers k j ≡ true) k (get_or (map (λ (block : CcfBlock). block.lower) blocks) k [])
-  lower_list k kb = subst (λ list. ListsBelow (λ j. v.covers k j ≡ true) k list) (sym (get_or-map (λ (block : CcfBlock). block.lower) blocks k no_block [] kb)) (in_blocks k no_block kb).lower
+  lower_list k kb = subst (λ list. ListsBelow (λ j. v.covers k j ≡ true) k list)
+      (sym (get_or-map (λ (block : CcfBlock). block.lower) blocks k no_block [] kb)) (in_blocks k no_block kb).lower
 
   pub lower_falls : (k l : ℕ) → lower l k ≡ true → k < l
   lower_falls k l h = elim (lt_cases l (length blocks)) [
     | inl low ↦ has-below l (get_or (map (λ (block : CcfBlock). block.lower) blocks) l []) k (lower_list l low).rising.below h
     | inr high ↦
         let past : get_or (map (λ (block : CcfBlock). block.lower) blocks) l [] ≡ [] =
-        get_or_past (map (λ (block : CcfBlock). block.lower) blocks) l [] (subst (λ n. n ≤ l) (sym (length-map blocks (λ (block : CcfBlock). block.lower))) high) in
+        get_or_past (map (λ (block : CcfBlock). block.lower) blocks) l []
+        (subst (λ n. n ≤ l) (sym (length-map blocks (λ (block : CcfBlock). block.lower))) high) in
         absurd (differ refl (subst (λ list. has list k ≡ true) past h))
   ]
 
@@ -296,7 +344,8 @@ module _ (p : ℕ) (of : Layers) (S : State) (M : Matching) (reached : ℕ → B
   block-some k d kb =
       let column = rules.member k (subst (λ b. k < b) count kb) in
       let x : ℕ = column.0 in
-      let here : slice_get placing.columns x ≡ Some (Block k) = column-told x column.1.below ∙ ap Some (block-is x (v.first x) (v.last x) k column.1.not_first column.1.not_last column.2) in
+      let here : slice_get placing.columns x ≡ Some (Block k) = column-told x column.1.below
+      ∙ ap Some (block-is x (v.first x) (v.last x) k column.1.not_first column.1.not_last column.2) in
       let low : x < length placing.columns = subst (λ n. x < n) (sym (of_columns.count ∙ decomposed.places)) column.1.below in
       has-some (get_or blocks k d).part.columns x (((in_blocks k d kb).part.columns.exact x low).1 here)
     where

@@ -1,5 +1,5 @@
 -- Rows of a matrix and of a pattern, printed one after the other.
-use Rattle.std.proofs.Common.{◌≡◌, ◌≢◌, ℕ, ◌+◌, ◌<◌, Bool, cond, eqb, List, [], ◌∷◌, ◌++◌, length, map, get_or, inl, inr, suc, refl, ap, sym, ◌∙◌, subst, arith}
+use Rattle.std.proofs.Common.{◌≡◌, ◌≢◌, ℕ, ◌+◌, ◌<◌, Bool, false, not, zero, ◌-◌, ◌≤◌, cond, eqb, List, [], ◌∷◌, ◌++◌, length, map, get_or, inl, inr, suc, refl, ap, sym, ◌∙◌, subst, arith}
 use Rattle.std.specs.List.{All}
 use Rattle.std.specs.List.Sorted.{IsStrictlyIncreasing}
 use Rattle.std.proofs.lemmas.List.{get_or_append_left, get_or_push, get_or-map, length-map, length_push, map-append}
@@ -11,6 +11,7 @@ use Rattle.sparse_t.specs.Lists.{IsBelow}
 use Rattle.cert_text.specs.Contents.{numbered, numbered_rows}
 use Rattle.cert_text.specs.Ranges.{AreEntries, AreRising}
 use Rattle.cert_text.specs.Readings.{entry_at}
+use Rattle.number_ranges.specs.Ranges.{HasNone}
 use Rattle.ccf_builder.specs.Matrices.{PrintsMatrix, PrintsPattern, PrintsRow}
 use Rattle.ccf_builder.proofs.MemberLists.{rising-push}
 
@@ -55,7 +56,8 @@ module _ (p n : ℕ) (row : ℕ → ℕ) (entries : List (ℕ × ℕ)) (prints :
   unfolding keys
   row-more v is some small = record {
     are = record {
-      rising = subst IsStrictlyIncreasing (sym (map-append (λ (entry : ℕ × ℕ). entry.0) entries ((n, v) ∷ []))) (rising-push n (n + 1) n (keys entries) keys_are (omega arith) (omega arith)).rising;
+      rising = subst IsStrictlyIncreasing (sym (map-append (λ (entry : ℕ × ℕ). entry.0) entries ((n, v) ∷ [])))
+          (rising-push n (n + 1) n (keys entries) keys_are (omega arith) (omega arith)).rising;
       within = All-append (λ (entry : ℕ × ℕ). (entry.0 < n + 1) × (0 < entry.1) × (entry.1 < p)) entries ((n, v) ∷ [])
           (λ k d kl. let at = prints.are.within k d kl in (omega (arith, at.0), at.1, at.2))
           (all-one (λ (entry : ℕ × ℕ). (entry.0 < n + 1) × (0 < entry.1) × (entry.1 < p)) (n, v) (omega arith, omega (arith, some), small));
@@ -76,6 +78,26 @@ module _ (p n : ℕ) (row : ℕ → ℕ) (entries : List (ℕ × ℕ)) (prints :
     ];
   }
 
+-- columns whose entries are 0
+pub row-skips : (p : ℕ) (row : ℕ → ℕ) (entries : List (ℕ × ℕ)) (a k : ℕ) → PrintsRow p a row entries →
+    ((j : ℕ) → a ≤ j → j < a + k → row j ≡ 0) → PrintsRow p (a + k) row entries
+row-skips p row entries a zero prints none = subst (λ n. PrintsRow p n row entries) (omega arith) prints
+row-skips p row entries a (suc k) prints none =
+    subst (λ n. PrintsRow p n row entries) (omega arith)
+    (row-same p (a + k) row entries
+    (row-skips p row entries a k prints (λ j low high. none j low (omega (arith, high))))
+    (none (a + k) (omega arith) (omega arith)))
+
+pub row-until : (p : ℕ) (row : ℕ → ℕ) (entries : List (ℕ × ℕ)) (a b : ℕ) → PrintsRow p a row entries → a ≤ b →
+    HasNone (λ j. not (eqb (row j) 0)) a b → PrintsRow p b row entries
+row-until p row entries a b prints low none =
+    subst (λ n. PrintsRow p n row entries) (omega (arith, low))
+    (row-skips p row entries a (b - a) prints
+    (λ j from before. is_zero (row j) (none j from (omega (arith, low, before)))))
+  where
+    is_zero : (x : ℕ) → not (eqb x 0) ≡ false → x ≡ 0
+    is_zero x h = eqb_true x 0 (grind (arith, h))
+
 -- one entry more, whose value is seen by its number
 numbered-push : {T : Type 0} (number : T → ℕ) (entries : List (ℕ × T)) (n : ℕ) (v : T) →
     numbered number (entries ++ (n, v) ∷ []) ≡ numbered number entries ++ (n, number v) ∷ []
@@ -92,7 +114,8 @@ entry-more number p n row entries prints v is some small =
     subst (PrintsRow p (n + 1) row) (sym (numbered-push number entries n v)) (row-more p n row (numbered number entries) prints (number v) is some small)
 
 -- the next row of a matrix
-pub matrix-push : (p m n : ℕ) (matrix : ℕ → ℕ → ℕ) (rows : List (List (ℕ × ℕ))) (entries : List (ℕ × ℕ)) → PrintsMatrix p m n matrix rows → PrintsRow p n (matrix m) entries →
+pub matrix-push : (p m n : ℕ) (matrix : ℕ → ℕ → ℕ) (rows : List (List (ℕ × ℕ))) (entries : List (ℕ × ℕ)) →
+    PrintsMatrix p m n matrix rows → PrintsRow p n (matrix m) entries →
     PrintsMatrix p (m + 1) n matrix (rows ++ entries ∷ [])
 matrix-push p m n matrix rows entries prints next = record {
   is = record {
@@ -124,7 +147,12 @@ pub pattern-push : (m n : ℕ) (pattern : ℕ → ℕ → Bool) (rows : List (Li
 pattern-push m n pattern rows row prints rising below next = record {
   is = record {
     count = let long : length (rows ++ row ∷ []) ≡ length rows + 1 = length_push rows row in omega (arith, long, prints.is.count);
-    columns = All-append (AreRising n) rows (row ∷ []) prints.is.columns (all-one (AreRising n) row (record { rising = rising; below = All-from_get_or (λ x. x < n) row 0 (λ k kl. below k kl) }));
+    columns = All-append (AreRising n) rows (row ∷ []) prints.is.columns
+        (all-one (AreRising n) row (record {
+          rising = rising;
+          below = All-from_get_or (λ x. x < n) row 0
+              (λ k kl. below k kl);
+        }));
   };
   same = λ i j il jl. elim (nat_cases i m) [
     | inl last ↦

@@ -15,7 +15,8 @@ use Rattle.ccf_builder.proofs.PartLists.{IsOfBlocks}
 
 -- a list of pairs of rows and columns, and the parts of both
 module _ (Has : ℕ → ℕ → Type 0) (m n : ℕ) (pairs : List (ℕ × ℕ)) (lists : ListsPairs Has m pairs) (B : ℕ → Bool) (row : ℕ → ℕ)
-    (told : (r y : ℕ) → Has r y → (y < n) × (B y ≡ true) × (row y ≡ r)) (has : (y : ℕ) → y < n → B y ≡ true → Has (row y) y) (low : (y : ℕ) → y < n → B y ≡ true → row y < m)
+    (told : (r y : ℕ) → Has r y → (y < n) × (B y ≡ true) × (row y ≡ r)) (has : (y : ℕ) → y < n → B y ≡ true →
+    Has (row y) y) (low : (y : ℕ) → y < n → B y ≡ true → row y < m)
     (v : Parts) (columns rows : List Part) (wide : v.places ≡ n) (of_columns : PlacesColumns v columns) (of_rows : PlacesRows m pairs columns rows)
     (bounded : (x : ℕ) → x < n → IsOfBlocks v.blocks (part_in v x)) where
   -- the part of a row
@@ -27,7 +28,8 @@ module _ (Has : ℕ → ℕ → Type 0) (m n : ℕ) (pairs : List (ℕ × ℕ)) 
 
   pub paired-part : (k : ℕ) → k < length pairs → part_of_row (pair_at pairs k).0 ≡ part_in v (pair_at pairs k).1
   paired-part k kl =
-      let column : (pair_at pairs k).1 < v.places = subst (λ c. (pair_at pairs k).1 < c) (sym wide) (column-below Has m n pairs lists B row told has low k kl) in
+      let column : (pair_at pairs k).1 < v.places = subst (λ c. (pair_at pairs k).1 < c) (sym wide)
+      (column-below Has m n pairs lists B row told has low k kl) in
       get_or_from_slice_get rows (pair_at pairs k).0 (part_in v (pair_at pairs k).1) Last (of_rows.listed k kl ∙ of_columns.at (pair_at pairs k).1 column)
 
   -- a row has a pair or none
@@ -39,13 +41,16 @@ module _ (Has : ℕ → ℕ → Type 0) (m n : ℕ) (pairs : List (ℕ × ℕ)) 
 
   pub row-bounded : (i : ℕ) → i < m → IsOfBlocks v.blocks (part_of_row i)
   row-bounded i il = elim (row-cases i) [
-    | inl (k, kl, same) ↦ subst (λ r. IsOfBlocks v.blocks (part_of_row r)) same (subst (λ q. IsOfBlocks v.blocks q) (sym (paired-part k kl)) (bounded (pair_at pairs k).1 (column-below Has m n pairs lists B row told has low k kl)))
+    | inl (k, kl, same) ↦ subst (λ r. IsOfBlocks v.blocks (part_of_row r)) same
+        (subst (λ q. IsOfBlocks v.blocks q) (sym (paired-part k kl))
+        (bounded (pair_at pairs k).1 (column-below Has m n pairs lists B row told has low k kl)))
     | inr none ↦ subst (λ q. IsOfBlocks v.blocks q) (sym (lone-part i il none)) tt
   ]
 
   -- the part of a row is that of its column
   pub column-part : (y : ℕ) → has_column pairs y ≡ true → part_of_row (row_with pairs y) ≡ part_in v y
-  column-part y h = let at = has-found pairs y h in subst (λ r. part_of_row r ≡ part_in v y) at.3 (subst (λ c. part_of_row (pair_at pairs at.0).0 ≡ part_in v c) at.2 (paired-part at.0 at.1))
+  column-part y h = let at = has-found pairs y h in subst (λ r. part_of_row r ≡ part_in v y) at.3
+      (subst (λ c. part_of_row (pair_at pairs at.0).0 ≡ part_in v c) at.2 (paired-part at.0 at.1))
 
   pub row-with-below : (y : ℕ) → has_column pairs y ≡ true → row_with pairs y < m
   row-with-below y h = let at = has-found pairs y h in subst (λ r. r < m) at.3 (lists.below at.0 at.1)

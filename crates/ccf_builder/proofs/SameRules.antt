@@ -9,10 +9,12 @@ pub same-walk : (arc brc : ℕ → ℕ → Bool) (n : ℕ) → ((x y : ℕ) → 
 same-walk arc brc n same zero x y yl e = e
 same-walk arc brc n same (suc k) x y yl (z, zl, w, h) = (z, zl, same-walk arc brc n same k x z zl w, sym (same z y zl yl) ∙ h)
 
-pub same-reaches : (arc brc : ℕ → ℕ → Bool) (n : ℕ) → ((x y : ℕ) → x < n → y < n → arc x y ≡ brc x y) → (x y : ℕ) → y < n → Reaches arc n x y → Reaches brc n x y
+pub same-reaches : (arc brc : ℕ → ℕ → Bool) (n : ℕ) → ((x y : ℕ) → x < n → y < n → arc x y ≡ brc x y) → (x y : ℕ) →
+    y < n → Reaches arc n x y → Reaches brc n x y
 same-reaches arc brc n same x y yl (k, w) = (k, same-walk arc brc n same k x y yl w)
 
-pub same-reaches_on : (arc brc : ℕ → ℕ → Bool) (n : ℕ) → ((x y : ℕ) → x < n → y < n → arc x y ≡ brc x y) → (x y : ℕ) → y < n → ReachesOn arc n x y → ReachesOn brc n x y
+pub same-reaches_on : (arc brc : ℕ → ℕ → Bool) (n : ℕ) → ((x y : ℕ) → x < n → y < n → arc x y ≡ brc x y) → (x y : ℕ) →
+    y < n → ReachesOn arc n x y → ReachesOn brc n x y
 same-reaches_on arc brc n same x y yl (k, w) = (k, same-walk arc brc n same (suc k) x y yl w)
 
 pub same-from : (arc brc : ℕ → ℕ → Bool) (n : ℕ) (S T : ℕ → Bool) → ((x y : ℕ) → x < n → y < n → arc x y ≡ brc x y) → ((x : ℕ) → x < n → S x ≡ T x) →
@@ -42,7 +44,12 @@ module _ (arc brc : ℕ → ℕ → Bool) (n : ℕ) (S T E G : ℕ → Bool) (sa
   ends_back x xl = sym (ends x xl)
 
   middle-back : (x : ℕ) → IsMiddle brc n T G x → IsMiddle arc n S E x
-  middle-back x (xl, no_start, no_end) = (xl, λ from. no_start (same-from arc brc n S T same starts x xl from), λ to. no_end (same-to arc brc n E G same ends x to))
+  middle-back x (xl, no_start, no_end) = (
+    xl,
+    λ from. no_start
+        (same-from arc brc n S T same starts x xl from),
+    λ to. no_end (same-to arc brc n E G same ends x to),
+  )
 
   module _ (block clock : ℕ → ℕ) (b : ℕ) (below : ℕ → ℕ → Bool) (blocks : (x : ℕ) → IsMiddle arc n S E x → block x ≡ clock x) where
     pub same-below : IsBelow arc n S E block b below → IsBelow brc n T G clock b below
@@ -51,7 +58,8 @@ module _ (arc brc : ℕ → ℕ → Bool) (n : ℕ) (S T E G : ℕ → Bool) (sa
       tells = λ x y mx my h.
           let bx = blocks x (middle-back x mx) in
           let by = blocks y (middle-back y my) in
-          same-reaches arc brc n same x y my.0 (is.tells x y (middle-back x mx) (middle-back y my) (subst (λ k. below k (block x) ≡ true) (sym by) (subst (λ k. below (clock y) k ≡ true) (sym bx) h)));
+          same-reaches arc brc n same x y my.0 (is.tells x y (middle-back x mx) (middle-back y my)
+          (subst (λ k. below k (block x) ≡ true) (sym by) (subst (λ k. below (clock y) k ≡ true) (sym bx) h)));
       made = λ x y mx my r apart.
           let bx = blocks x (middle-back x mx) in
           let by = blocks y (middle-back y my) in
@@ -89,7 +97,8 @@ module _ (arc brc : ℕ → ℕ → Bool) (n : ℕ) (S T E G : ℕ → Bool) (sa
           ((y : ℕ) → InBlock n H K y → Reaches brc n x y → (clock y < k) ⊎ (clock y ≡ clock x)) →
           (z : ℕ) × (z < x) × InBlock n H K z × (clock z ≡ k)
       least x k is low all =
-          let found = rules.least x k (in_back x is) (subst (λ c. k < c) (sym (at x is)) low) (λ y other r. elim (all y (in_block y other) (same-reaches arc brc n same x y other.below r)) [
+          let found = rules.least x k (in_back x is) (subst (λ c. k < c) (sym (at x is)) low)
+          (λ y other r. elim (all y (in_block y other) (same-reaches arc brc n same x y other.below r)) [
             | inl before ↦ inl (subst (λ c. c < k) (sym (blocks y other)) before)
             | inr equal ↦ inr (blocks y other ∙ equal ∙ sym (at x is))
           ]) in

@@ -31,7 +31,8 @@ module _ (p : ℕ) (L : LayeredMatrix) (F G : Tableau)
   pub same-arcs : (x y : ℕ) → x < L.columns → y < L.columns → leads_to p L F x y ≡ leads_to p L G x y
   unfolding leads_to
   same-arcs x y xl yl = ap (λ b. not (eqb x y) && b) (either_same
-      (F.base y && not (eqb (F.P (F.row y) x % p) 0)) (G.base y && not (eqb (G.P (G.row y) x % p) 0)) (F.matched y && L.t (F.mate y) x) (G.matched y && L.t (G.mate y) x)
+      (F.base y && not (eqb (F.P (F.row y) x % p) 0)) (G.base y && not (eqb (G.P (G.row y) x % p) 0))
+      (F.matched y && L.t (F.mate y) x) (G.matched y && L.t (G.mate y) x)
       (both_same (F.base y) (G.base y) (not (eqb (F.P (F.row y) x % p) 0)) (not (eqb (G.P (G.row y) x % p) 0)) (base y yl)
       (λ h. entry_same (F.row y) x (low y yl h) xl ∙ ap (λ i. not (eqb (G.P i x % p) 0)) (row y yl h)))
       (both_same (F.matched y) (G.matched y) (L.t (F.mate y) x) (L.t (G.mate y) x) (matched y yl) (λ h. ap (λ i. L.t i x) (mate y yl h))))
@@ -49,8 +50,11 @@ module _ (p : ℕ) (L : LayeredMatrix) (F G : Tableau)
   pub same-ends : (x : ℕ) → x < L.columns → is_end p L F x ≡ is_end p L G x
   unfolding is_end
   same-ends x xl = either_same
-      (some_below L.q_rows (λ i. not (eqb (F.P i x % p) 0) && not (has_base L F i))) (some_below L.q_rows (λ i. not (eqb (G.P i x % p) 0) && not (has_base L G i)))
+      (some_below L.q_rows (λ i. not (eqb (F.P i x % p) 0) && not (has_base L F i)))
+      (some_below L.q_rows (λ i. not (eqb (G.P i x % p) 0) && not (has_base L G i)))
       (some_below L.t_rows (λ i. L.t i x && not (has_match L F i))) (some_below L.t_rows (λ i. L.t i x && not (has_match L G i)))
       (some_same L.q_rows (λ i. not (eqb (F.P i x % p) 0) && not (has_base L F i)) (λ i. not (eqb (G.P i x % p) 0) && not (has_base L G i)) (λ i il.
-      both_same (not (eqb (F.P i x % p) 0)) (not (eqb (G.P i x % p) 0)) (not (has_base L F i)) (not (has_base L G i)) (entry_same i x il xl) (λ _. ap not (same-has_base i))))
-      (some_same L.t_rows (λ i. L.t i x && not (has_match L F i)) (λ i. L.t i x && not (has_match L G i)) (λ i _. ap (λ b. L.t i x && not b) (same-has_match i)))
+      both_same (not (eqb (F.P i x % p) 0)) (not (eqb (G.P i x % p) 0)) (not (has_base L F i))
+      (not (has_base L G i)) (entry_same i x il xl) (λ _. ap not (same-has_base i))))
+      (some_same L.t_rows (λ i. L.t i x && not (has_match L F i)) (λ i. L.t i x && not (has_match L G i))
+      (λ i _. ap (λ b. L.t i x && not b) (same-has_match i)))

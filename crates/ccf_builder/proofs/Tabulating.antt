@@ -14,11 +14,13 @@ module _ {A : Type 0} (f : ℕ → A) where
     count = let long : length (list ++ value ∷ []) ≡ length list + 1 = length_push list value in omega (arith, long, is.count);
     at = λ x low.
         let long : length (list ++ value ∷ []) ≡ length list + 1 = length_push list value in
-        let some : slice_get (list ++ value ∷ []) x ≡ Some (get_or (list ++ value ∷ []) x value) = slice_get-get_or (list ++ value ∷ []) x value (omega (arith, long, is.count, low)) in
+        let some : slice_get (list ++ value ∷ []) x ≡ Some (get_or (list ++ value ∷ []) x value) =
+        slice_get-get_or (list ++ value ∷ []) x value (omega (arith, long, is.count, low)) in
         elim (nat_cases x n) [
           | inl last ↦ some ∙ ap Some (get_or_push list value value x (is.count ∙ sym last) ∙ new ∙ ap f (sym last))
           | inr other ↦
               let before : x < n = omega (arith, low, other) in
-              some ∙ ap Some (get_or_append_left list (value ∷ []) value x (omega (arith, is.count, before)) ∙ get_or_from_slice_get list x (f x) value (is.at x before))
+              some ∙ ap Some (get_or_append_left list (value ∷ []) value x (omega (arith, is.count, before))
+              ∙ get_or_from_slice_get list x (f x) value (is.at x before))
         ];
   }

@@ -11,6 +11,3 @@ mod solution;
 
 pub use building::build;
 pub use out_of_memory::NoMemory;
-
-#[cfg(test)]
-mod tests;

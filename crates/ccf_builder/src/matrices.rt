@@ -1,49 +1,56 @@
 //! The printed rows of matrices and patterns.
 
 ghost use Rattle.std.specs.Prelude.{◌≡◌, ◌<◌, ◌≤◌, ℕ, IfOk, length};
-ghost use Rattle.dense_q.specs.Tables.{entry, height};
+ghost use Rattle.row_transform.specs.Tableaus.{matrix_of, width_of};
 ghost use Rattle.sparse_t.specs.Incidences.{touches};
 ghost use Rattle.cert_text.specs.Contents.{numbered, numbered_rows};
 ghost use Rattle.ccf_builder.specs.Matrices.{PrintsMatrix, PrintsPattern, PrintsRow, PrintsTableau};
 
 use cert_text::Items;
-use dense_q::Mat;
 use out_of_memory::NoMemory;
 use residue_field::Field;
-use row_transform::Tableau;
+use row_transform::{Tableau, Which};
 use sparse_t::Pattern;
 use std::alloc::Global;
 
-// The entries of a row that are not 0, by rising column.
-fn entries_of<F: Field>(
+// The entries of a row of a tableau's matrix that are not 0, by rising column.
+fn entries_of<F: Field, T: Tableau<F>>(
     alloc: Global,
-    matrix: &Mat<F>,
+    tableau: &T,
+    which: Which,
     row: usize,
 ) -> Result<Items<(usize, F)>, NoMemory>
-    requires { row < height matrix.now }
+    requires { row < (T.state tableau.now).rows }
     ensures { IfOk result (λ entries.
-        PrintsRow F.modulus matrix.now.width (entry matrix.now row) (numbered F.number entries)) }
+        PrintsRow F.modulus (width_of which (T.state tableau.now)) (matrix_of which (T.state tableau.now) row)
+        (numbered F.number entries)) }
 {
+    // there are at most 8,192 rows and columns, so that the sum below fits
+    let (_rows, _columns) = (tableau.rows(), tableau.columns());
     let mut entries = Vec::new(alloc);
-    for column in 0..matrix.cols() {
-        let number = matrix.get(row, column);
+    let mut at = 0;
+    while let Some(entry) = tableau.next_in_row(which, row, at) {
         // its number is a residue
-        number.in_field();
-        if !number.is_zero() {
-            entries.push((column, number))?;
-        }
+        entry.1.in_field();
+        entries.push(entry)?;
+        at = entry.0 + 1;
     }
     Ok(Items::from_vec(entries))
 }
 
-// The rows of a matrix.
-fn rows_of<F: Field>(alloc: Global, matrix: &Mat<F>) -> Result<Items<Items<(usize, F)>>, NoMemory>
+// The rows of a tableau's matrix.
+fn rows_of<F: Field, T: Tableau<F>>(
+    alloc: Global,
+    tableau: &T,
+    which: Which,
+) -> Result<Items<Items<(usize, F)>>, NoMemory>
     ensures { IfOk result (λ rows.
-        PrintsMatrix F.modulus (height matrix.now) matrix.now.width (entry matrix.now) (numbered_rows F.number rows)) }
+        PrintsMatrix F.modulus (T.state tableau.now).rows (width_of which (T.state tableau.now))
+        (matrix_of which (T.state tableau.now)) (numbered_rows F.number rows)) }
 {
-    let mut rows = Vec::with_capacity(alloc, matrix.rows())?;
-    for row in 0..matrix.rows() {
-        rows.push(entries_of(alloc, matrix, row)?)?;
+    let mut rows = Vec::with_capacity(alloc, tableau.rows())?;
+    for row in 0..tableau.rows() {
+        rows.push(entries_of(alloc, tableau, which, row)?)?;
     }
     Ok(Items::from_vec(rows))
 }
@@ -87,10 +94,9 @@ pub fn tableau_of<F: Field, T: Tableau<F>>(
         PrintsTableau F.modulus (T.state tableau.now) (numbered_rows F.number printed.s)
         (numbered_rows F.number printed.u) (numbered_rows F.number printed.p)) }
 {
-    let parts = tableau.parts()?;
     Ok(PrintedTableau {
-        s: rows_of(alloc, &parts.s)?,
-        u: rows_of(alloc, &parts.u)?,
-        p: rows_of(alloc, &parts.p)?,
+        s: rows_of(alloc, tableau, Which::S)?,
+        u: rows_of(alloc, tableau, Which::U)?,
+        p: rows_of(alloc, tableau, Which::P)?,
     })
 }

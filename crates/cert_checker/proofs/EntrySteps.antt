@@ -1,5 +1,6 @@
 -- A row to which entries are added, one after the other.
-use Rattle.std.proofs.Common.{◌≡◌, ℕ, zero, suc, ◌+◌, ◌*◌, ◌%◌, ◌<◌, ◌≤◌, ◌≢◌, ◌⊎◌, cond, eqb, List, [], ◌∷◌, length, map, drop, slice_index, slice_set, inl, inr, refl, ap, sym, subst, ◌∙◌, arith}
+use Rattle.std.proofs.Common.{◌≡◌, ℕ, zero, suc, ◌+◌, ◌*◌, ◌%◌, ◌<◌, ◌≤◌, ◌≢◌, ◌⊎◌, cond, eqb, List, [], ◌∷◌, length}
+use Rattle.std.proofs.Common.{map, drop, slice_index, slice_set, inl, inr, refl, ap, sym, subst, ◌∙◌, arith}
 use Rattle.std.specs.List.Sorted.{IsStrictlyIncreasing}
 use Rattle.std.proofs.lemmas.List.{get_or-set_same, get_or-set_other}
 use Rattle.std.proofs.Math.Nat.{add-mod-mod, mod-add-mod, mod-mod}
@@ -70,8 +71,10 @@ moved p x f e v w product sum =
     plain : (a b : ℕ) → a + b * 0 ≡ a
     plain a b = grind arith
 
-pub left-step : (p n f : ℕ) (now : List ℕ) (entry : ℕ × ℕ) (entries : List (ℕ × ℕ)) (want : ℕ → ℕ) (v w : ℕ) → length now ≡ n → entry.0 < n → AreKeysRising (entry ∷ entries) →
-    v ≡ (entry.1 * f) % p → w ≡ (slice_index now entry.0 + v) % p → IsLeft p n f now (entry ∷ entries) want → IsLeft p n f (slice_set now entry.0 w) entries want
+pub left-step : (p n f : ℕ) (now : List ℕ) (entry : ℕ × ℕ) (entries : List (ℕ × ℕ)) (want : ℕ → ℕ) (v w : ℕ) →
+    length now ≡ n → entry.0 < n → AreKeysRising (entry ∷ entries) →
+    v ≡ (entry.1 * f) % p → w ≡ (slice_index now entry.0 + v) % p → IsLeft p n f now (entry ∷ entries) want →
+    IsLeft p n f (slice_set now entry.0 w) entries want
 left-step p n f now entry entries want v w long low rising product sum left j jl = go (nat_cases j entry.0)
   where
     goal : ℕ → Type 0
@@ -89,7 +92,8 @@ left-step p n f now entry entries want v w long low rising product sum left j jl
         ∙ ap (λ b. (slice_index now j + f * cond b entry.1 (entry_at entries j)) % p) (sym (not_true (eqb entry.0 j) (λ h. other (sym (eqb_true entry.0 j h)))))
         ∙ left j jl
 
-pub left-end : (p n f : ℕ) (now : List ℕ) (entries : List (ℕ × ℕ)) (k : ℕ) (want : ℕ → ℕ) → length entries ≤ k → IsLeft p n f now (drop k entries) want → (j : ℕ) → j < n → slice_index now j % p ≡ want j % p
+pub left-end : (p n f : ℕ) (now : List ℕ) (entries : List (ℕ × ℕ)) (k : ℕ) (want : ℕ → ℕ) → length entries ≤ k →
+    IsLeft p n f now (drop k entries) want → (j : ℕ) → j < n → slice_index now j % p ≡ want j % p
 left-end p n f now entries k want low left j jl =
     ap (λ z. z % p) (plain (slice_index now j) f)
     ∙ subst (λ es. (slice_index now j + f * entry_at es j) % p ≡ want j % p) (drop-all entries k low) (left j jl)
@@ -135,8 +139,10 @@ abbrev pub IsSumLeft : ℕ → ℕ → ℕ → List (List (ℕ × ℕ)) → List
 IsSumLeft p m n rows now coefficients want =
     (j : ℕ) → j < n → (slice_index now j + sum_below m (λ t. entry_at coefficients t * matrix_of rows t j)) % p ≡ want j % p
 
-pub sum_left-step : (p m n : ℕ) (rows : List (List (ℕ × ℕ))) (row : List (ℕ × ℕ)) (now new : List ℕ) (entry : ℕ × ℕ) (entries : List (ℕ × ℕ)) (want : ℕ → ℕ) → entry.0 < m → AreKeysRising (entry ∷ entries) →
-    ((j : ℕ) → entry_at row j ≡ matrix_of rows entry.0 j) → IsAdded p n entry.1 row now new → IsSumLeft p m n rows now (entry ∷ entries) want → IsSumLeft p m n rows new entries want
+pub sum_left-step : (p m n : ℕ) (rows : List (List (ℕ × ℕ))) (row : List (ℕ × ℕ)) (now new : List ℕ) (entry : ℕ × ℕ)
+    (entries : List (ℕ × ℕ)) (want : ℕ → ℕ) → entry.0 < m → AreKeysRising (entry ∷ entries) →
+    ((j : ℕ) → entry_at row j ≡ matrix_of rows entry.0 j) → IsAdded p n entry.1 row now new →
+    IsSumLeft p m n rows now (entry ∷ entries) want → IsSumLeft p m n rows new entries want
 sum_left-step p m n rows row now new entry entries want low rising is added left j jl =
     sym (mod-add-mod (slice_index new j) p rest)
     ∙ ap (λ z. (z + rest) % p) (added j jl ∙ ap (λ z. (slice_index now j + entry.1 * z) % p) (is j))
@@ -154,7 +160,8 @@ sum_left-step p m n rows row now new entry entries want low rising is added left
 sum-none : (m : ℕ) (R : ℕ → ℕ) → sum_below m (λ t. 0 * R t) ≡ 0
 sum-none m R = sum_on-ext everything m (λ t. 0 * R t) (λ t. 0) (λ j jl h. omega arith) ∙ sum_on-none everything m
 
-pub sum_left-end : (p m n : ℕ) (rows : List (List (ℕ × ℕ))) (now : List ℕ) (coefficients : List (ℕ × ℕ)) (k : ℕ) (want : ℕ → ℕ) → length coefficients ≤ k → IsSumLeft p m n rows now (drop k coefficients) want →
+pub sum_left-end : (p m n : ℕ) (rows : List (List (ℕ × ℕ))) (now : List ℕ) (coefficients : List (ℕ × ℕ)) (k : ℕ)
+    (want : ℕ → ℕ) → length coefficients ≤ k → IsSumLeft p m n rows now (drop k coefficients) want →
     (j : ℕ) → j < n → slice_index now j % p ≡ want j % p
 sum_left-end p m n rows now coefficients k want low left j jl =
     ap (λ z. z % p) (plain (slice_index now j))

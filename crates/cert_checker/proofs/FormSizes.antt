@@ -18,13 +18,16 @@ shape-sizes M L c shape = record { q_rows = shape.q_rows; t_rows = shape.t_rows;
 
 module _ {T : Type 0} (number : T → ℕ) where
   -- the rows of a slice are those of a printed matrix
-  pub printed-rows : (rows slice : List (List (ℕ × T))) (printed : List (List (ℕ × ℕ))) → slice ≡ rows → numbered_rows number rows ≡ printed → numbered_rows number slice ≡ printed
+  pub printed-rows : (rows slice : List (List (ℕ × T))) (printed : List (List (ℕ × ℕ))) → slice ≡ rows →
+      numbered_rows number rows ≡ printed → numbered_rows number slice ≡ printed
   printed-rows rows slice printed same is = ap (numbered_rows number) same ∙ is
 
-  pub printed-count : (p m n : ℕ) (slice : List (List (ℕ × T))) (printed : List (List (ℕ × ℕ))) → numbered_rows number slice ≡ printed → IsMatrix p m n printed → length slice ≡ m
+  pub printed-count : (p m n : ℕ) (slice : List (List (ℕ × T))) (printed : List (List (ℕ × ℕ))) →
+      numbered_rows number slice ≡ printed → IsMatrix p m n printed → length slice ≡ m
   printed-count p m n slice printed is matrix = sym (rows_count number slice) ∙ ap length is ∙ matrix.count
 
-  pub printed-matrix : (p m n x y : ℕ) (slice : List (List (ℕ × T))) (printed : List (List (ℕ × ℕ))) → numbered_rows number slice ≡ printed → IsMatrix p m n printed → m ≡ x → n ≡ y →
+  pub printed-matrix : (p m n x y : ℕ) (slice : List (List (ℕ × T))) (printed : List (List (ℕ × ℕ))) →
+      numbered_rows number slice ≡ printed → IsMatrix p m n printed → m ≡ x → n ≡ y →
       IsMatrix p x y (numbered_rows number slice)
   printed-matrix p m n x y slice printed is matrix rows columns =
       subst (IsMatrix p x y) (sym is) (subst (λ i. IsMatrix p i y printed) rows (subst (λ j. IsMatrix p m j printed) columns matrix))
@@ -40,10 +43,12 @@ pub pattern-as : (m n x y : ℕ) (rows slice : List (List ℕ)) → slice ≡ ro
 pattern-as m n x y rows slice same are height width =
     subst (IsPattern x y) (sym same) (subst (λ i. IsPattern i y rows) height (subst (λ j. IsPattern m j rows) width are))
 
-pub units_as : (p m n : ℕ) (rows slice : List (List (ℕ × ℕ))) (base items : List (ℕ × ℕ)) → m ≡ n → slice ≡ rows → items ≡ base → AreUnits p m slice items ↔ AreUnits p n rows base
+pub units_as : (p m n : ℕ) (rows slice : List (List (ℕ × ℕ))) (base items : List (ℕ × ℕ)) → m ≡ n → slice ≡ rows →
+    items ≡ base → AreUnits p m slice items ↔ AreUnits p n rows base
 units_as p m n rows slice base items size same listed =
     subst (λ k. AreUnits p m slice items ↔ AreUnits p k rows base) size
-    (subst (λ list. AreUnits p m slice items ↔ AreUnits p m list base) same (subst (λ list. AreUnits p m slice items ↔ AreUnits p m slice list) listed (λ h. h, λ h. h)))
+    (subst (λ list. AreUnits p m slice items ↔ AreUnits p m list base) same
+    (subst (λ list. AreUnits p m slice items ↔ AreUnits p m slice list) listed (λ h. h, λ h. h)))
 
 -- the rows have the symbols of t in n columns
 abbrev Symbols : Incidence → ℕ → List (List ℕ) → Type 0

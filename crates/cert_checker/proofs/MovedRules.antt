@@ -39,7 +39,9 @@ module _ (p : ℕ) (M : MixedMatrix) (L : LayeredMatrix) (c : Contents) (is : Is
   matching-moved : HasShape M L c → HasMatching L c → HasMatching other c
   matching-moved shape h = record {
     symbols = λ k kl. let in_range = is.mates.within k (0, 0) kl in
-        sym (symbols (pair_at c.mates k).0 (pair_at c.mates k).1 (subst (λ m. (pair_at c.mates k).0 < m) shape.t_rows in_range.0) (subst (λ n. (pair_at c.mates k).1 < n) shape.columns in_range.1))
+        sym (symbols (pair_at c.mates k).0 (pair_at c.mates k).1
+        (subst (λ m. (pair_at c.mates k).0 < m) shape.t_rows in_range.0)
+        (subst (λ n. (pair_at c.mates k).1 < n) shape.columns in_range.1))
         ∙ h.symbols k kl;
     differ = h.differ;
   }
@@ -124,7 +126,8 @@ module _ (p : ℕ) (M : MixedMatrix) (L : LayeredMatrix) (c : Contents) (is : Is
     lists-moved : HasLowerLists p L c → HasLowerLists p other c
     lists-moved h = record {
       below = h.below;
-      order = below-moved L.columns arc moved_arc arcs-same (is_free (tableau_of c)) stops moved_stops stops-same (block_of (parts_of c)) (length c.blocks) h.below h.order;
+      order = below-moved L.columns arc moved_arc arcs-same (is_free (tableau_of c)) stops moved_stops stops-same
+          (block_of (parts_of c)) (length c.blocks) h.below h.order;
       lists = h.lists;
       least = λ x k of_x low lower. h.least x k of_x low (λ y of_y reached. lower y of_y (reaches-moved L.columns arc moved_arc arcs-same x y reached));
     }

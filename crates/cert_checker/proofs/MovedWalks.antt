@@ -31,7 +31,8 @@ pub below-moved : (n : ℕ) (a b : ℕ → ℕ → Bool) → ((x y : ℕ) → x 
     (block : ℕ → ℕ) (blocks : ℕ) (below : ℕ → ℕ → Bool) → IsBelow a n S E block blocks below → IsBelow b n S F block blocks below
 below-moved n a b same S E F ends block blocks below B = record {
   apart = B.apart;
-  tells = λ x y of_x of_y h. reaches-moved n a b same x y (B.tells x y (middle-moved n a b same S E F ends x of_x) (middle-moved n a b same S E F ends y of_y) h);
+  tells = λ x y of_x of_y h. reaches-moved n a b same x y (B.tells x y (middle-moved n a b same S E F ends x of_x)
+      (middle-moved n a b same S E F ends y of_y) h);
   made = λ x y of_x of_y reached other. B.made x y (middle-moved n a b same S E F ends x of_x) (middle-moved n a b same S E F ends y of_y)
       (reaches-moved n b a (λ v w low. sym (same v w low)) x y reached) other;
 }

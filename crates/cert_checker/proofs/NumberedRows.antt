@@ -20,29 +20,35 @@ module _ {T : Type 0} (number : T → ℕ) where
   rows_count rows = length-map rows (numbered number)
 
   -- an entry of the row, seen by its number
-  pub entry_is : (entries : List (ℕ × T)) (k : ℕ) (entry : ℕ × T) (d : ℕ × ℕ) → k < length entries → entry ≡ get_or entries k entry → get_or (numbered number entries) k d ≡ named entry
+  pub entry_is : (entries : List (ℕ × T)) (k : ℕ) (entry : ℕ × T) (d : ℕ × ℕ) → k < length entries →
+      entry ≡ get_or entries k entry → get_or (numbered number entries) k d ≡ named entry
   entry_is entries k entry d low is = get_or-map named entries k entry d low ∙ ap named (sym is)
 
   -- its column
-  pub key_is : (entries : List (ℕ × T)) (k : ℕ) (entry : ℕ × T) → k < length entries → entry ≡ get_or entries k entry → (get_or (numbered number entries) k (0, 0)).0 ≡ entry.0
+  pub key_is : (entries : List (ℕ × T)) (k : ℕ) (entry : ℕ × T) → k < length entries → entry ≡ get_or entries k entry →
+      (get_or (numbered number entries) k (0, 0)).0 ≡ entry.0
   key_is entries k entry low is = ap (λ (e : ℕ × ℕ). e.0) (entry_is entries k entry (0, 0) low is)
 
   -- and what is left of the row from it on
   pub next_entry : (entries : List (ℕ × T)) (k : ℕ) (entry : ℕ × T) → k < length entries → entry ≡ get_or entries k entry →
       drop k (numbered number entries) ≡ named entry ∷ drop (k + 1) (numbered number entries)
   next_entry entries k entry low is =
-      next_is (numbered number entries) k (named entry) (subst (λ n. k < n) (sym (entry_count entries)) low) (sym (entry_is entries k entry (named entry) low is))
+      next_is (numbered number entries) k (named entry) (subst (λ n. k < n) (sym (entry_count entries)) low)
+      (sym (entry_is entries k entry (named entry) low is))
 
   -- an entry stands in its range
-  pub entry_within : (p n : ℕ) (entries : List (ℕ × T)) (k : ℕ) (entry : ℕ × T) → AreEntries p n (numbered number entries) → k < length entries → entry ≡ get_or entries k entry →
+  pub entry_within : (p n : ℕ) (entries : List (ℕ × T)) (k : ℕ) (entry : ℕ × T) →
+      AreEntries p n (numbered number entries) → k < length entries → entry ≡ get_or entries k entry →
       (entry.0 < n) × (0 < number entry.1) × (number entry.1 < p)
   entry_within p n entries k entry are low is =
-      subst (λ (e : ℕ × ℕ). (e.0 < n) × (0 < e.1) × (e.1 < p)) (entry_is entries k entry (0, 0) low is) (are.within k (0, 0) (subst (λ m. k < m) (sym (entry_count entries)) low))
+      subst (λ (e : ℕ × ℕ). (e.0 < n) × (0 < e.1) × (e.1 < p)) (entry_is entries k entry (0, 0) low is)
+      (are.within k (0, 0) (subst (λ m. k < m) (sym (entry_count entries)) low))
 
   -- the columns of the entries
   pub entry_columns : (p n : ℕ) (entries : List (ℕ × T)) → AreEntries p n (numbered number entries) → All (λ entry. entry.0 < n) entries
   entry_columns p n entries are k d low =
-      subst (λ (e : ℕ × ℕ). e.0 < n) (get_or-map named entries k d (named d) low) (are.within k (named d) (subst (λ m. k < m) (sym (entry_count entries)) low)).0
+      subst (λ (e : ℕ × ℕ). e.0 < n) (get_or-map named entries k d (named d) low)
+      (are.within k (named d) (subst (λ m. k < m) (sym (entry_count entries)) low)).0
 
   keys_same : (entries : List (ℕ × T)) → map (λ (entry : ℕ × ℕ). entry.0) (numbered number entries) ≡ map (λ (entry : ℕ × T). entry.0) entries
   keys_same [] = refl
@@ -51,14 +57,17 @@ module _ {T : Type 0} (number : T → ℕ) where
   pub entry_rising : (p n : ℕ) (entries : List (ℕ × T)) → AreEntries p n (numbered number entries) → IsStrictlyIncreasing (map (λ entry. entry.0) entries)
   entry_rising p n entries are = subst IsStrictlyIncreasing (keys_same entries) are.rising
 
-  pub rising_entry : (entries : List (ℕ × T)) → IsStrictlyIncreasing (map (λ entry. entry.0) entries) → IsStrictlyIncreasing (map (λ entry. entry.0) (numbered number entries))
+  pub rising_entry : (entries : List (ℕ × T)) → IsStrictlyIncreasing (map (λ entry. entry.0) entries) →
+      IsStrictlyIncreasing (map (λ entry. entry.0) (numbered number entries))
   rising_entry entries rising = subst IsStrictlyIncreasing (sym (keys_same entries)) rising
 
   -- a row of the matrix
-  pub row_is : (rows : List (List (ℕ × T))) (i : ℕ) (slice row : List (ℕ × T)) → i < length rows → slice ≡ row → row ≡ get_or rows i row → slice_index_or (numbered_rows number rows) i [] ≡ numbered number slice
+  pub row_is : (rows : List (List (ℕ × T))) (i : ℕ) (slice row : List (ℕ × T)) → i < length rows → slice ≡ row →
+      row ≡ get_or rows i row → slice_index_or (numbered_rows number rows) i [] ≡ numbered number slice
   row_is rows i slice row low same is = get_or-map (numbered number) rows i row [] low ∙ ap (numbered number) (sym is ∙ sym same)
 
-  pub row_within : (p m n : ℕ) (rows : List (List (ℕ × T))) (i : ℕ) (slice row : List (ℕ × T)) → IsMatrix p m n (numbered_rows number rows) → i < length rows → slice ≡ row → row ≡ get_or rows i row →
+  pub row_within : (p m n : ℕ) (rows : List (List (ℕ × T))) (i : ℕ) (slice row : List (ℕ × T)) →
+      IsMatrix p m n (numbered_rows number rows) → i < length rows → slice ≡ row → row ≡ get_or rows i row →
       AreEntries p n (numbered number slice)
   row_within p m n rows i slice row is low same at =
       subst (AreEntries p n) (row_is rows i slice row low same at) (is.entries i [] (subst (λ k. i < k) (sym (rows_count rows)) low))

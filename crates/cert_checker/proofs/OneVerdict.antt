@@ -52,7 +52,9 @@ module _ (p : ℕ) (prime : IsPrime p) (big : 2 < p) (M : MixedMatrix) (c : Cont
   pub not-both : IsRightFor p M c → (rule : ℕ) → IsRejected p M c rule → ⊥
   not-both right rule rejected =
       let first : IsFirstBroken p M right.layered c rule = rejected.each right.layered right.origins right.layers in
-      broken-kept p M right.layered c rule first (printed-rules p M right.layered c (right-rules p prime big M right.layered right.origins right.layers c is (right.each right.layered right.origins right.layers)))
+      broken-kept p M right.layered c rule first (printed-rules p M right.layered c
+      (right-rules p prime big M right.layered right.origins right.layers c is
+      (right.each right.layered right.origins right.layers)))
 
   -- the first broken rule is one
   earlier : (L : LayeredMatrix) (j k : ℕ) → IsFirstBroken p M L c j → IsFirstBroken p M L c k → j < k → ⊥

@@ -34,7 +34,8 @@ module _ (p : ℕ) (L : LayeredMatrix) (c : Contents) where
   pub t-never : (n : ℕ) → n ≡ L.t_rows → Not (StandsOnce n (lists_in TRow c)) → HasPlacedRows L c → ⊥
   t-never n size never placed = never (subst (λ m. StandsOnce m (lists_in TRow c)) (sym size) (subst (StandsOnce L.t_rows) (sym (t_rows-are c)) placed.t_rows))
 
-  module _ (is : IsCcf p c) (sizes : HasSizes L c) (apart : ColumnsDiffer c.base c.mates) (columns : List ℕ) (told : TellsPlaces L.columns (column_lists c) columns)
+  module _ (is : IsCcf p c) (sizes : HasSizes L c) (apart : ColumnsDiffer c.base c.mates) (columns : List ℕ)
+      (told : TellsPlaces L.columns (column_lists c) columns)
       (q t : List ℕ) (q_told : TellsPlaces L.q_rows (q_row_lists c) q) (t_told : TellsPlaces L.t_rows (t_row_lists c) t) where
     base : ArePairs L.q_rows L.columns c.base
     base = pairs-as c.shape.q_rows c.shape.columns L.q_rows L.columns c.base c.base refl is.base sizes.q_rows sizes.columns
@@ -45,7 +46,8 @@ module _ (p : ℕ) (L : LayeredMatrix) (c : Contents) where
     long : length (column_lists c) ≡ length c.blocks + 2
     long = sym (ap (λ (lists : List (List ℕ)). length lists) (columns-are c)) ∙ list-count Column c
 
-    pub form-placed : StandWithColumns L.q_rows c.base columns (length c.blocks + 2) q → StandWithColumns L.t_rows c.mates columns (length c.blocks + 2) t → HasPlacedRows L c
+    pub form-placed : StandWithColumns L.q_rows c.base columns (length c.blocks + 2) q →
+        StandWithColumns L.t_rows c.mates columns (length c.blocks + 2) t → HasPlacedRows L c
     form-placed = rows-placed L c base mates apart long columns told q t q_told t_told
 
     pub form-q : HasPlacedRows L c → StandWithColumns L.q_rows c.base columns (length c.blocks + 2) q

@@ -47,7 +47,9 @@ module _ (p k n f : ℕ) (minus : (1 + f) % p ≡ 0) (coefficients : List (ℕ �
   unfolding wanted
   rest j jl =
       added j jl ∙ sym (mod-add-mod (slice_index sum j) p (f * entry_at entries j))
-      ∙ ap (λ z. (z + f * entry_at entries j) % p) (gathered j jl ∙ sym (mod-add-mod (slice_index old j) p (wanted j)) ∙ ap (λ z. (z + wanted j) % p) (zero_is j jl) ∙ ap (λ z. z % p) (none-before (wanted j)))
+      ∙ ap (λ z. (z + f * entry_at entries j) % p) (gathered j jl
+      ∙ sym (mod-add-mod (slice_index old j) p (wanted j)) ∙ ap (λ z. (z + wanted j) % p) (zero_is j jl)
+      ∙ ap (λ z. z % p) (none-before (wanted j)))
       ∙ mod-add-mod (wanted j) p (f * entry_at entries j)
 
   pub nothing-left : IsZeroRow p n less → IsCombination p k n coefficients matrix entries
@@ -58,7 +60,8 @@ module _ (p k n f : ℕ) (minus : (1 + f) % p ≡ 0) (coefficients : List (ℕ �
   unfolding wanted
   left-nothing is j jl = rest j jl ∙ same-zero p f (entry_at entries j) (wanted j) minus (is j jl)
 
-pub combination_as : (p k : ℕ) (rows : List (List (ℕ × ℕ))) (n m : ℕ) (a b c d : List (ℕ × ℕ)) → n ≡ m → a ≡ b → c ≡ d → IsCombination p k n a rows c → IsCombination p k m b rows d
+pub combination_as : (p k : ℕ) (rows : List (List (ℕ × ℕ))) (n m : ℕ) (a b c d : List (ℕ × ℕ)) → n ≡ m → a ≡ b →
+    c ≡ d → IsCombination p k n a rows c → IsCombination p k m b rows d
 combination_as p k rows n m a b c d size first second is =
     subst (λ i. IsCombination p k i b rows d) size (subst (λ x. IsCombination p k n x rows d) first (subst (λ x. IsCombination p k n a rows x) second is))
 

@@ -1,5 +1,7 @@
 -- Numbers that stand in lists.
-use Rattle.std.proofs.Common.{◌≡◌, ℕ, zero, suc, ◌+◌, ◌<◌, ◌≢◌, ◌⊎◌, Bool, true, false, ◌||◌, cond, eqb, List, [], ◌∷◌, ◌++◌, length, map, take, get_or, slice_index, slice_index_or, inl, inr, refl, ap, sym, subst, ◌∙◌, arith}
+use Rattle.std.proofs.Common.{◌≡◌, ℕ, zero, suc, ◌+◌, ◌<◌, ◌≢◌, ◌⊎◌, Bool, true, false, ◌||◌, cond, eqb, List, []}
+use Rattle.std.proofs.Common.{◌∷◌, ◌++◌, length, map, take, get_or, slice_index, slice_index_or, inl, inr, refl, ap}
+use Rattle.std.proofs.Common.{sym, subst, ◌∙◌, arith}
 use Rattle.std.specs.List.{All}
 use Rattle.std.specs.List.Sorted.{IsStrictlyIncreasing}
 use Rattle.std.proofs.lemmas.List.Elements.{All-append, All-from_get_or, All-map}
@@ -18,7 +20,8 @@ use Rattle.cert_text.specs.declared.part.CcfPart.{CcfPart}
 use Rattle.cert_text.specs.declared.part.CcfBlock.{CcfBlock}
 use Rattle.cert_checker.specs.Standing.{IsUnplaced, IsPlaced, AreSet, TellsPlaces, part_list, list_in, lists_in, count_in}
 
--- places tells of each number below n in which of the first m lists it stands, counted from 1, and 0 where it stands in none of them;
+-- places tells of each number below n in which of the first m lists it stands, counted from 1, and 0 where it stands
+-- in none of them;
 -- none stands in two
 pub record AreStanding (n : ℕ) (lists : List (List ℕ)) (m : ℕ) (places : List ℕ) : Type 0 where
   pub count : length places ≡ n
@@ -50,7 +53,8 @@ absent-before [] k rising low = absurd (omega arith)
 absent-before (y ∷ ys) zero rising low = refl
 absent-before (y ∷ ys) (suc k) rising low =
     let less : y < get_or ys k 0 = head-lower y ys k rising (omega (arith, low)) in
-    or-false (eqb y (get_or ys k 0)) (has (take k ys) (get_or ys k 0)) (not_true (eqb y (get_or ys k 0)) (λ h. absurd (omega (arith, less, eqb_true y (get_or ys k 0) h))))
+    or-false (eqb y (get_or ys k 0)) (has (take k ys) (get_or ys k 0))
+    (not_true (eqb y (get_or ys k 0)) (λ h. absurd (omega (arith, less, eqb_true y (get_or ys k 0) h))))
     (absent-before ys k (rising-rest y ys rising) (omega (arith, low)))
 
 pub has-at : (list : List ℕ) (k : ℕ) → k < length list → has list (get_or list k 0) ≡ true
@@ -58,14 +62,16 @@ has-at [] k low = absurd (omega arith)
 has-at (y ∷ ys) zero low = ap (λ b. b || has ys y) (eqb_from y y refl)
 has-at (y ∷ ys) (suc k) low = either-second (eqb y (get_or ys k 0)) (has ys (get_or ys k 0)) (has-at ys k (omega (arith, low)))
 
-pub put-refused : (places now list : List ℕ) (k x part : ℕ) → IsStrictlyIncreasing list → k < length list → x ≡ get_or list k 0 → x < length places → IsPlaced places (take k list) part now → slice_index now x ≢ 0 →
+pub put-refused : (places now list : List ℕ) (k x part : ℕ) → IsStrictlyIncreasing list → k < length list →
+    x ≡ get_or list k 0 → x < length places → IsPlaced places (take k list) part now → slice_index now x ≢ 0 →
     IsUnplaced places list → (b : Bool) → b ≡ true
 put-refused places now list k x part rising low is within placed some unplaced b =
     let absent : has (take k list) x ≡ false = subst (λ y. has (take k list) y ≡ false) (sym is) (absent-before list k rising low) in
     let member : has list x ≡ true = subst (λ y. has list y ≡ true) (sym is) (has-at list k low) in
     absurd (some (placed x within ∙ ap (λ c. cond c part (slice_index places x)) absent ∙ unplaced x within member))
 
-pub standing-none : (n : ℕ) (lists : List (List ℕ)) (places : List ℕ) → length places ≡ n → ((x : ℕ) → x < n → slice_index places x ≡ 0) → AreStanding n lists 0 places
+pub standing-none : (n : ℕ) (lists : List (List ℕ)) (places : List ℕ) → length places ≡ n →
+    ((x : ℕ) → x < n → slice_index places x ≡ 0) → AreStanding n lists 0 places
 standing-none n lists places count zero_is = record {
   count = count;
   none = λ x k xl is kl. absurd (omega (arith, kl));
@@ -94,7 +100,8 @@ module _ (n m : ℕ) (lists : List (List ℕ)) (places : List ℕ) (old : AreSta
       | inr other ↦ old.none x k xl (sym (now-out x xl h) ∙ zero_is) (omega (arith, kl, other))
     ]
 
-    some-found : (x : ℕ) → x < n → slice_index now x ≢ 0 → (b : Bool) → has list x ≡ b → (k : ℕ) × (k < m + 1) × (slice_index now x ≡ k + 1) × (has (slice_index_or lists k []) x ≡ true)
+    some-found : (x : ℕ) → x < n → slice_index now x ≢ 0 → (b : Bool) → has list x ≡ b → (k : ℕ) × (k < m + 1)
+        × (slice_index now x ≡ k + 1) × (has (slice_index_or lists k []) x ≡ true)
     some-found x xl some true h = (m, omega arith, now-in x xl h, here-is m x true refl h)
     some-found x xl some false h =
         let at = old.some x xl (λ e. some (now-out x xl h ∙ e)) in
@@ -103,7 +110,8 @@ module _ (n m : ℕ) (lists : List (List ℕ)) (places : List ℕ) (old : AreSta
     never : (x k : ℕ) → x < n → k < m → has list x ≡ true → has (slice_index_or lists k []) x ≡ true → (l : ℕ) → k ≡ l
     never x k xl kl h i l = absurd (differ (old.none x k xl (unplaced x (omega (arith, xl, old.count)) h) kl) i)
 
-    one-step : (x k l : ℕ) → x < n → k < m + 1 → l < m + 1 → has (slice_index_or lists k []) x ≡ true → has (slice_index_or lists l []) x ≡ true → (k ≡ m) ⊎ (k ≢ m) → (l ≡ m) ⊎ (l ≢ m) → k ≡ l
+    one-step : (x k l : ℕ) → x < n → k < m + 1 → l < m + 1 → has (slice_index_or lists k []) x ≡ true →
+        has (slice_index_or lists l []) x ≡ true → (k ≡ m) ⊎ (k ≢ m) → (l ≡ m) ⊎ (l ≢ m) → k ≡ l
     one-step x k l xl kl ll h i (inl a) (inl b) = a ∙ sym b
     one-step x k l xl kl ll h i (inl a) (inr b) = sym (never x l xl (omega (arith, ll, b)) (is-here k x true a h) i k)
     one-step x k l xl kl ll h i (inr a) (inl b) = never x k xl (omega (arith, kl, a)) (is-here l x true b i) h l
@@ -146,9 +154,11 @@ part-count c = omega (arith, length_push (map (λ (block : CcfBlock). block.part
 pub list-count : (member : Member) (c : Contents) → length (lists_in member c) ≡ length c.blocks + 2
 list-count member c = length-map (part_list c) (list_in member) ∙ part-count c
 
-pub list-at : (member : Member) (c : Contents) (k : ℕ) (part : CcfPart) (list : List ℕ) → k < length c.blocks + 2 → list ≡ list_in member part → ((d : CcfPart) → part ≡ slice_index_or (part_list c) k d) →
+pub list-at : (member : Member) (c : Contents) (k : ℕ) (part : CcfPart) (list : List ℕ) → k < length c.blocks + 2 →
+    list ≡ list_in member part → ((d : CcfPart) → part ≡ slice_index_or (part_list c) k d) →
     list ≡ slice_index_or (lists_in member c) k []
-list-at member c k part list low is at = is ∙ ap (list_in member) (at part) ∙ sym (get_or-map (list_in member) (part_list c) k part [] (omega (arith, low, part-count c)))
+list-at member c k part list low is at = is ∙ ap (list_in member) (at part)
+    ∙ sym (get_or-map (list_in member) (part_list c) k part [] (omega (arith, low, part-count c)))
 
 tail-map : (f : CcfPart → List ℕ) (blocks : List CcfBlock) (last : CcfPart) →
     map f (map (λ (block : CcfBlock). block.part) blocks ++ last ∷ []) ≡ map (λ (block : CcfBlock). f block.part) blocks ++ f last ∷ []
@@ -166,7 +176,8 @@ pub t_rows-are : (c : Contents) → lists_in TRow c ≡ t_row_lists c
 t_rows-are c = ap (λ lists. (c.first).t_rows ∷ lists) (tail-map (list_in TRow) c.blocks c.last)
 
 -- the number in places is that of the part, counted from 1
-pub place-told : (n : ℕ) (lists : List (List ℕ)) (places : List ℕ) → AreStanding n lists (length lists) places → StandsOnce n lists → (x : ℕ) → x < n → slice_index places x ≡ place_of lists x + 1
+pub place-told : (n : ℕ) (lists : List (List ℕ)) (places : List ℕ) → AreStanding n lists (length lists) places →
+    StandsOnce n lists → (x : ℕ) → x < n → slice_index places x ≡ place_of lists x + 1
 place-told n lists places are once x xl =
     let at = are.some x xl (once-set n lists places are once x (omega (arith, xl, are.count))) in
     at.2 ∙ ap (λ k. k + 1) (sym (place-is n lists once x at.0 xl at.1 at.3))
@@ -196,5 +207,6 @@ lists-rising member p c is = All-map (AreRising (count_in member c.shape)) (list
     (All-append (IsRisingIn member c.shape) (c.first ∷ []) (map (λ (block : CcfBlock). block.part) c.blocks ++ c.last ∷ [])
     (all-last (IsRisingIn member c.shape) c.first (part-rising member c.shape c.first is.first))
     (All-append (IsRisingIn member c.shape) (map (λ (block : CcfBlock). block.part) c.blocks) (c.last ∷ [])
-    (All-map (IsRisingIn member c.shape) (λ (block : CcfBlock). block.part) c.blocks (λ k d kl. part-rising member c.shape (slice_index_or c.blocks k d).part (is.blocks k d kl).part))
+    (All-map (IsRisingIn member c.shape) (λ (block : CcfBlock). block.part) c.blocks
+    (λ k d kl. part-rising member c.shape (slice_index_or c.blocks k d).part (is.blocks k d kl).part))
     (all-last (IsRisingIn member c.shape) c.last (part-rising member c.shape c.last is.last))))

@@ -15,7 +15,8 @@ absent-lower : (z y : ℕ) (ys : List ℕ) → z < y → IsStrictlyIncreasing (y
 absent-lower z y [] less rising = or-false (eqb y z) false (not_true (eqb y z) (λ h. absurd (omega (arith, less, eqb_true y z h)))) refl
 absent-lower z y (w ∷ ys) less rising =
     let first : y < w = rising 0 (omega arith) in
-    or-false (eqb y z) (has (w ∷ ys) z) (not_true (eqb y z) (λ h. absurd (omega (arith, less, eqb_true y z h)))) (absent-lower z w ys (omega (arith, less, first)) (rising-rest y (w ∷ ys) rising))
+    or-false (eqb y z) (has (w ∷ ys) z) (not_true (eqb y z) (λ h. absurd (omega (arith, less, eqb_true y z h))))
+    (absent-lower z w ys (omega (arith, less, first)) (rising-rest y (w ∷ ys) rising))
 
 absent-head : (y : ℕ) (ys : List ℕ) → IsStrictlyIncreasing (y ∷ ys) → has ys y ≡ false
 absent-head y [] rising = refl
@@ -30,7 +31,8 @@ head-least z y ys rising h = elim (lt_cases z y) [
   | inr le ↦ le
 ]
 
-tail-same : (b : Bool) (x w : ℕ) (xs ys : List ℕ) → IsStrictlyIncreasing (x ∷ xs) → IsStrictlyIncreasing (x ∷ ys) → eqb x w ≡ b → (b || has xs w) ≡ (b || has ys w) → has xs w ≡ has ys w
+tail-same : (b : Bool) (x w : ℕ) (xs ys : List ℕ) → IsStrictlyIncreasing (x ∷ xs) → IsStrictlyIncreasing (x ∷ ys) →
+    eqb x w ≡ b → (b || has xs w) ≡ (b || has ys w) → has xs w ≡ has ys w
 tail-same true x w xs ys one two e same =
     subst (λ v. has xs v ≡ has ys v) (eqb_true x w e) (absent-head x xs one ∙ sym (absent-head x ys two))
 tail-same false x w xs ys one two e same = same
@@ -53,7 +55,8 @@ rising-same (x ∷ xs) (y ∷ ys) one two same = go heads (rising-same xs ys)
         let same' : (w : ℕ) → has (x ∷ xs) w ≡ has (x ∷ ys) w = λ w. subst (λ v. has (x ∷ xs) w ≡ has (v ∷ ys) w) (sym e) (same w) in
         ap (λ v. v ∷ xs) e ∙ ap (λ zs. y ∷ zs) (rest (rising-rest x xs one) (rising-rest y ys two) (λ w. tail-same (eqb x w) x w xs ys one two' refl (same' w)))
 
-pub rows-symbols : (t : Incidence) (rows : List (List ℕ)) → HasRowsOf t rows (row_count t) → (i j : ℕ) → i < length t.rows → j < t.width → pattern_of rows i j ≡ touches t i j
+pub rows-symbols : (t : Incidence) (rows : List (List ℕ)) → HasRowsOf t rows (row_count t) → (i j : ℕ) →
+    i < length t.rows → j < t.width → pattern_of rows i j ≡ touches t i j
 rows-symbols t rows same i j il jl = ap (λ list. has list j) (same i il)
 
 absent-from : (n j : ℕ) (xs : List ℕ) → ((k d : ℕ) → k < length xs → slice_index_or xs k d < n) → n ≤ j → has xs j ≡ false
@@ -64,7 +67,9 @@ pub symbols-rows : (t : Incidence) (rows : List (List ℕ)) → IsIncidence t �
 symbols-rows t rows is printed same i il =
     rising-same row (columns_at t i) (at.rising) (is.rising i il) (λ j. elim (lt_cases j t.width) [
       | inl low ↦ same i j il low
-      | inr high ↦ absent-from t.width j row at.below high ∙ sym (absent-from t.width j (columns_at t i) (λ k d kl. subst (λ x. x < t.width) (get_or_default (columns_at t i) k 0 d kl) (is.below i il k kl)) high)
+      | inr high ↦ absent-from t.width j row at.below high
+          ∙ sym (absent-from t.width j (columns_at t i)
+          (λ k d kl. subst (λ x. x < t.width) (get_or_default (columns_at t i) k 0 d kl) (is.below i il k kl)) high)
     ])
   where
     row : List ℕ

@@ -16,5 +16,6 @@ unit-row p n i big low = record {
 }
 
 -- and of one whose entries are seen by their numbers
-pub unit-entry : {T : Type 0} (number : T → ℕ) (p n i : ℕ) (one : T) → 1 < p → i < n → number one ≡ 1 → PrintsRow p n (identity i) (numbered number ((i, one) ∷ []))
+pub unit-entry : {T : Type 0} (number : T → ℕ) (p n i : ℕ) (one : T) → 1 < p → i < n → number one ≡ 1 →
+    PrintsRow p n (identity i) (numbered number ((i, one) ∷ []))
 unit-entry number p n i one big low is = subst (λ v. PrintsRow p n (identity i) ((i, v) ∷ [])) (sym is) (unit-row p n i big low)

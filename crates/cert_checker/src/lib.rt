@@ -14,6 +14,3 @@ mod units;
 
 pub use checking::{CheckError, check};
 pub use out_of_memory::NoMemory;
-
-#[cfg(test)]
-mod tests;

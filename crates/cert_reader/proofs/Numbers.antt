@@ -1,5 +1,7 @@
 -- A number at the front of bytes.
-use Rattle.std.proofs.Common.{◌≡◌, ℕ, zero, suc, ◌+◌, ◌-◌, ◌*◌, ◌^◌, ◌<◌, ◌≤◌, Bool, true, false, cond, List, [], ◌∷◌, ◌++◌, length, take, drop, get_or, Result, Ok, Err, refl, sym, ap, subst, ◌∙◌, arith, rules, eqb, le-leb}
+use Rattle.std.proofs.Common.{◌≡◌, ℕ, zero, suc, ◌+◌, ◌-◌, ◌*◌, ◌^◌, ◌<◌, ◌≤◌, Bool, true, false, cond, List, [], ◌∷◌}
+use Rattle.std.proofs.Common.{◌++◌, length, take, drop, get_or, Result, Ok, Err, refl, sym, ap, subst, ◌∙◌, arith}
+use Rattle.std.proofs.Common.{rules, eqb, le-leb}
 use Rattle.std.specs.Prelude.{◌&&◌, decimal, nat_le}
 use Rattle.std.specs.Char.{is_ascii_digit, digit_value}
 use Rattle.std.specs.List.{list_all, position_or_len}
@@ -41,7 +43,8 @@ pub front-digits : (bytes : List ℕ) → list_all is_ascii_digit (front_digits 
 front-digits [] = refl
 front-digits (byte ∷ bytes) = by (is_ascii_digit byte) refl (front-digits bytes)
   where
-    by : (b : Bool) → is_ascii_digit byte ≡ b → list_all is_ascii_digit (front_digits bytes) ≡ true → list_all is_ascii_digit (front_digits (byte ∷ bytes)) ≡ true
+    by : (b : Bool) → is_ascii_digit byte ≡ b → list_all is_ascii_digit (front_digits bytes) ≡ true →
+        list_all is_ascii_digit (front_digits (byte ∷ bytes)) ≡ true
     by true e rest = ap (list_all is_ascii_digit) (front_digits-cons byte bytes e) ∙ rw e rest
     by false e rest = ap (list_all is_ascii_digit) (front_digits-stop byte bytes e)
 
@@ -50,7 +53,9 @@ pub front-whole : (bytes : List ℕ) → bytes ≡ front_digits bytes ++ drop (l
 front-whole [] = refl
 front-whole (byte ∷ bytes) = by (is_ascii_digit byte) refl (front-whole bytes)
   where
-    by : (b : Bool) → is_ascii_digit byte ≡ b → bytes ≡ front_digits bytes ++ drop (length (front_digits bytes)) bytes → byte ∷ bytes ≡ front_digits (byte ∷ bytes) ++ drop (length (front_digits (byte ∷ bytes))) (byte ∷ bytes)
+    by : (b : Bool) → is_ascii_digit byte ≡ b → bytes ≡ front_digits bytes ++ drop
+        (length (front_digits bytes)) bytes → byte ∷ bytes ≡ front_digits (byte ∷ bytes) ++ drop
+        (length (front_digits (byte ∷ bytes))) (byte ∷ bytes)
     by true e rest = subst (λ ds. byte ∷ bytes ≡ ds ++ drop (length ds) (byte ∷ bytes)) (sym (front_digits-cons byte bytes e)) (ap (λ zs. byte ∷ zs) rest)
     by false e rest = subst (λ ds. byte ∷ bytes ≡ ds ++ drop (length ds) (byte ∷ bytes)) (sym (front_digits-stop byte bytes e)) refl
 
@@ -74,7 +79,8 @@ plain-first (d ∷ ds) short some first = rw (few, differs) refl
 
 pub plain-again : (n : ℕ) → n < 10 ^ 10 → is_plain (decimal n) ≡ true
 plain-again zero small = ap is_plain (decimal_digit 0 (omega arith))
-plain-again (suc n) small = plain-first (decimal (suc n)) (length-decimal-le 10 (suc n) (omega arith) small (omega arith)) (decimal_nonempty (suc n) (omega arith)) (first_decimal (suc n) (omega arith) (omega arith))
+plain-again (suc n) small = plain-first (decimal (suc n)) (length-decimal-le 10 (suc n) (omega arith) small
+    (omega arith)) (decimal_nonempty (suc n) (omega arith)) (first_decimal (suc n) (omega arith) (omega arith))
 
 -- what is read
 pub number_takes : (limit line : ℕ) (bytes : List ℕ) (x : ℕ × List ℕ) → number_at limit line bytes ≡ Ok x → (bytes ≡ decimal x.0 ++ x.1) × (x.0 ≤ limit)
@@ -82,7 +88,11 @@ unfolding number_at
 number_takes limit line bytes x e = by (is_plain (front_digits bytes)) (nat_le (digits_value 10 (front_digits bytes)) limit) refl refl e
   where
     by : (a b : Bool) → is_plain (front_digits bytes) ≡ a → nat_le (digits_value 10 (front_digits bytes)) limit ≡ b →
-        cond {A = Result (ℕ × List ℕ) ℕ} (a && b) (Ok (digits_value 10 (front_digits bytes), drop (length (front_digits bytes)) bytes)) (Err line) ≡ Ok x → (bytes ≡ decimal x.0 ++ x.1) × (x.0 ≤ limit)
+        cond {A = Result (ℕ × List ℕ) ℕ} (a && b) (Ok (
+          digits_value 10 (front_digits bytes),
+          drop
+              (length (front_digits bytes)) bytes,
+        )) (Err line) ≡ Ok x → (bytes ≡ decimal x.0 ++ x.1) × (x.0 ≤ limit)
     by true true plain small e =
         let same : (digits_value 10 (front_digits bytes), drop (length (front_digits bytes)) bytes) ≡ x = cc in
         let text : decimal (digits_value 10 (front_digits bytes)) ≡ front_digits bytes = plain-is (front_digits bytes) (front-digits bytes) plain in
@@ -96,7 +106,9 @@ pub number_fails : (limit line : ℕ) (bytes : List ℕ) (l : ℕ) → number_at
 unfolding number_at
 number_fails limit line bytes l e = by (is_plain (front_digits bytes) && nat_le (digits_value 10 (front_digits bytes)) limit) e
   where
-    by : (b : Bool) → cond {A = Result (ℕ × List ℕ) ℕ} b (Ok (digits_value 10 (front_digits bytes), drop (length (front_digits bytes)) bytes)) (Err line) ≡ Err l → l ≡ line
+    by : (b : Bool) → cond {A = Result (ℕ × List ℕ) ℕ} b
+        (Ok (digits_value 10 (front_digits bytes), drop (length (front_digits bytes)) bytes)) (Err line) ≡ Err l →
+        l ≡ line
     by true e = let f : ⊥ = cc in absurd f
     by false e = cc
 
@@ -114,7 +126,10 @@ number_again limit line n rest narrow within ends =
 pub value_small : (ds : List ℕ) (i : ℕ) → list_all is_ascii_digit ds ≡ true → length ds ≤ 10 → digits_value 10 (take i ds) < 10 ^ 10
 value_small ds i all short = omega (arith, digits_value-take-le 10 ds i (omega arith), digits_value_short digits ds 10 all short)
 
-pub value_next : (ds : List ℕ) (i : ℕ) → list_all is_ascii_digit ds ≡ true → i < length ds → digits_value 10 (take (i + 1) ds) ≡ digits_value 10 (take i ds) * 10 + (get_or ds i 0 - 48)
+pub value_next : (ds : List ℕ) (i : ℕ) → list_all is_ascii_digit ds ≡ true → i < length ds →
+    digits_value 10 (take (i + 1) ds) ≡ digits_value 10 (take i ds) * 10 + (get_or ds i 0 - 48)
 value_next ds i all within =
     let range = digit_at ds i (digits.to ds all) within in
-    digits_value_more 10 ds i within ∙ ap (λ d. digits_value 10 (take i ds) * 10 + d) (let e : digit_value (get_or ds i 0) ≡ get_or ds i 0 - 48 = omega (arith, digit_value_digit (get_or ds i 0) range) in e)
+    digits_value_more 10 ds i within ∙ ap (λ d. digits_value 10 (take i ds) * 10 + d)
+    (let e : digit_value (get_or ds i 0) ≡ get_or ds i 0 - 48 =
+    omega (arith, digit_value_digit (get_or ds i 0) range) in e)

@@ -1,12 +1,14 @@
 -- Reading and the text that is read: exactly what is written so is read.
 use Rattle.std.proofs.lemmas.List.{append-nil}
-use Rattle.std.proofs.Common.{Bool, true, false, cond, ◌≡◌, ℕ, ◌^◌, ◌<◌, ◌≤◌, List, [], ◌++◌, Result, Ok, Err, refl, sym, ap, subst, ◌∙◌, append_assoc, ◌⊎◌, inl, inr}
+use Rattle.std.proofs.Common.{Bool, true, false, cond, ◌≡◌, ℕ, ◌^◌, ◌<◌, ◌≤◌, List, [], ◌++◌, Result, Ok, Err, refl}
+use Rattle.std.proofs.Common.{sym, ap, subst, ◌∙◌, append_assoc, ◌⊎◌, inl, inr}
 use Rattle.std.specs.Prelude.{decimal}
 use Rattle.cert_reader.specs.Fronts.{◌>>=◌, text_at, number_at}
 use Rattle.cert_reader.proofs.Texts.{text_takes, text_again, text_fails}
 use Rattle.cert_reader.proofs.Numbers.{EndsNumber, number_takes, number_again, number_fails}
 
--- A reader takes the texts of the values that fit, where what follows ends them, and no others; and it fails in its line
+-- A reader takes the texts of the values that fit, where what follows ends them, and no others; and it fails in its
+-- line
 -- alone.
 pub record Spells {A : Type 0} (Ends : List ℕ → Type 0) (Fits : A → Type 0) (text : A → List ℕ) (read : ℕ → List ℕ → Result (A × List ℕ) ℕ) : Type 0 where
   pub takes : (line : ℕ) (bytes : List ℕ) (x : A × List ℕ) → read line bytes ≡ Ok x → (bytes ≡ text x.0 ++ x.1) × Fits x.0
@@ -30,7 +32,8 @@ bind_err (Ok x) f l e = inr (x, refl, e)
 bind_err (Err d) f l e = inl (let same : d ≡ l = cc in ap (λ k. Err k) same)
 
 -- one reading after another
-pub Spells-then : {A B : Type 0} {EA EB : List ℕ → Type 0} {FA : A → Type 0} {FB : A → B → Type 0} {FC : B → Type 0} {ta : A → List ℕ} {tb : A → B → List ℕ} {tc : B → List ℕ}
+pub Spells-then : {A B : Type 0} {EA EB : List ℕ → Type 0} {FA : A → Type 0} {FB : A → B → Type 0} {FC : B →
+    Type 0} {ta : A → List ℕ} {tb : A → B → List ℕ} {tc : B → List ℕ}
     (p : ℕ → List ℕ → Result (A × List ℕ) ℕ) (q : A → ℕ → List ℕ → Result (B × List ℕ) ℕ) →
     Spells EA FA ta p → ((a : A) → FA a → Spells EB (FB a) (tb a) (q a)) →
     ((b : B) → FC b → (a : A) × FA a × FB a b × (tc b ≡ ta a ++ tb a b)) →
@@ -47,7 +50,8 @@ Spells-then {A} {B} {EA} {EB} {FA} {FB} {FC} {ta} {tb} {tc} p q first second apa
   again = λ line b rest fits ending.
       let parts = apart b fits in
       let regrouped : tc b ++ rest ≡ ta parts.0 ++ (tb parts.0 b ++ rest) = ap (λ zs. zs ++ rest) parts.3 ∙ append_assoc (ta parts.0) (tb parts.0 b) rest in
-      let one : p line (tc b ++ rest) ≡ Ok (parts.0, tb parts.0 b ++ rest) = ap (p line) regrouped ∙ first.again line parts.0 (tb parts.0 b ++ rest) parts.1 (ends parts.0 b rest parts.1 parts.2 ending) in
+      let one : p line (tc b ++ rest) ≡ Ok (parts.0, tb parts.0 b ++ rest) = ap (p line) regrouped
+      ∙ first.again line parts.0 (tb parts.0 b ++ rest) parts.1 (ends parts.0 b rest parts.1 parts.2 ending) in
       ap (λ r. r >>= λ x. q x.0 line x.1) one ∙ (second parts.0 parts.1).again line b rest parts.2 ending;
   fails = λ line bytes l e. elim (bind_err (p line bytes) (λ x. q x.0 line x.1) l e) [
     | inl here ↦ first.fails line bytes l here
@@ -88,7 +92,8 @@ guard_err true d l x e = absurd cc
 guard_err false d l x e = cc
 
 -- values that pass a test, seen otherwise
-pub Spells-where : {A B : Type 0} {E : List ℕ → Type 0} {F : A → Type 0} {G : B → Type 0} {t : A → List ℕ} (p : ℕ → List ℕ → Result (A × List ℕ) ℕ) (test : A → Bool) (f : A → B) (g : B → A) →
+pub Spells-where : {A B : Type 0} {E : List ℕ → Type 0} {F : A → Type 0} {G : B → Type 0} {t : A → List ℕ} (p : ℕ →
+    List ℕ → Result (A × List ℕ) ℕ) (test : A → Bool) (f : A → B) (g : B → A) →
     Spells E F t p → ((a : A) → F a → test a ≡ true → G (f a) × (g (f a) ≡ a)) → ((b : B) → G b → F (g b) × (test (g b) ≡ true) × (f (g b) ≡ b)) →
     Spells E G (λ b. t (g b)) (λ line bytes. p line bytes >>= λ x. cond (test x.0) (Ok (f x.0, x.1)) (Err line))
 Spells-where {A} {B} {E} {F} {G} {t} p test f g spells there back = record {
@@ -110,17 +115,25 @@ Spells-where {A} {B} {E} {F} {G} {t} p test f g spells there back = record {
 }
 
 -- behind a text
-pub Spells-behind : {B : Type 0} {E : List ℕ → Type 0} {F : B → Type 0} {t : B → List ℕ} (text : List ℕ) (q : ℕ → List ℕ → Result (B × List ℕ) ℕ) → Spells E F t q →
+pub Spells-behind : {B : Type 0} {E : List ℕ → Type 0} {F : B → Type 0} {t : B → List ℕ} (text : List ℕ) (q : ℕ →
+    List ℕ → Result (B × List ℕ) ℕ) → Spells E F t q →
     Spells E F (λ b. text ++ t b) (λ line bytes. text_at text line bytes >>= λ x. q line x.1)
 Spells-behind {B} {E} {F} {t} text q spells =
     Spells-then {FA = λ u. Unit {0}} {FB = λ u. F} {ta = λ u. text} {tb = λ u. t} (text_at text) (λ u. q) (Spells-text text) (λ u fits. spells)
     (λ b fits. (tt, tt, fits, refl)) (λ u b one two. (two, refl)) (λ u b rest one two ending. tt)
 
 -- before a text
-pub Spells-before : {A : Type 0} {E : List ℕ → Type 0} {F : A → Type 0} {t : A → List ℕ} (text : List ℕ) (p : ℕ → List ℕ → Result (A × List ℕ) ℕ) → Spells E F t p → ((rest : List ℕ) → E (text ++ rest)) →
+pub Spells-before : {A : Type 0} {E : List ℕ → Type 0} {F : A → Type 0} {t : A → List ℕ} (text : List ℕ) (p : ℕ →
+    List ℕ → Result (A × List ℕ) ℕ) → Spells E F t p → ((rest : List ℕ) → E (text ++ rest)) →
     Spells Any F (λ a. t a ++ text) (λ line bytes. p line bytes >>= λ x. text_at text line x.1 >>= λ y. Ok (x.0, y.1))
 Spells-before {A} {E} {F} {t} text p spells ends =
-    Spells-then {FA = F} {FB = λ a b. b ≡ a} {FC = F} {ta = t} {tb = λ a b. text ++ []} p (λ a line bytes. text_at text line bytes >>= λ y. Ok (a, y.1)) spells (λ a fits. Spells-behind text (λ line bytes. Ok (a, bytes)) (Spells-done a))
+    Spells-then {FA = F} {FB = λ a b. b ≡ a} {FC = F} {ta = t} {tb = λ a b. text ++ []} p
+    (λ a line bytes. text_at text line bytes >>= λ y. Ok (a, y.1)) spells
+    (λ a fits. Spells-behind text (λ line bytes. Ok (a, bytes)) (Spells-done a))
     (λ b fits. (b, fits, refl, ap (λ ws. t b ++ ws) (sym (append-nil text))))
-    (λ a b one two. (subst F (sym two) one, (let e : t b ++ text ≡ t a ++ (text ++ []) = ap (λ c. t c ++ text) two ∙ ap (λ ws. t a ++ ws) (sym (append-nil text)) in e)))
+    (λ a b one two. (
+      subst F (sym two) one,
+      (let e : t b ++ text ≡ t a ++ (text ++ []) = ap (λ c. t c ++ text) two
+          ∙ ap (λ ws. t a ++ ws) (sym (append-nil text)) in e),
+    ))
     (λ a b rest one two ending. subst E (ap (λ ws. ws ++ rest) (sym (append-nil text))) (ends rest))

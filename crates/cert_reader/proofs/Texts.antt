@@ -4,7 +4,8 @@ use Rattle.std.specs.Borrow.{Bor}
 use Rattle.std.proofs.lemmas.Slice.Eq.{strip_prefix_is}
 use Rattle.std.proofs.lemmas.Bool.Decides.{Decides-eqb}
 use Rattle.std.specs.Cmp.Lexicographic.{pointwise}
-use Rattle.std.proofs.Common.{◌+◌, take, ◌≡◌, ◌≢◌, ℕ, Bool, true, false, cond, List, [], ◌∷◌, ◌++◌, length, drop, Option, Some, None, Result, Ok, Err, refl, sym, ap, ◌∙◌, eqb, eqb-true, eq-eqb}
+use Rattle.std.proofs.Common.{◌+◌, take, ◌≡◌, ◌≢◌, ℕ, Bool, true, false, cond, List, [], ◌∷◌, ◌++◌, length, drop}
+use Rattle.std.proofs.Common.{Option, Some, None, Result, Ok, Err, refl, sym, ap, ◌∙◌, eqb, eqb-true, eq-eqb}
 use Rattle.std.specs.Prelude.{◌&&◌}
 use Rattle.cert_reader.specs.Fronts.{begins_with, text_at}
 
@@ -36,7 +37,8 @@ pub text_takes : (text : List ℕ) (line : ℕ) (bytes : List ℕ) (x : Unit {0}
 unfolding text_at
 text_takes text line bytes x e = by (begins_with text bytes) refl e
   where
-    by : (b : Bool) → begins_with text bytes ≡ b → cond {A = Result (Unit {0} × List ℕ) ℕ} b (Ok (tt, drop (length text) bytes)) (Err line) ≡ Ok x → bytes ≡ text ++ x.1
+    by : (b : Bool) → begins_with text bytes ≡ b → cond {A = Result (Unit {0} × List ℕ) ℕ} b
+        (Ok (tt, drop (length text) bytes)) (Err line) ≡ Ok x → bytes ≡ text ++ x.1
     by true begins e = let same : drop (length text) bytes ≡ x.1 = cc in begins-is text bytes begins ∙ ap (λ zs. text ++ zs) same
     by false begins e = let f : ⊥ = cc in absurd f
 
@@ -58,7 +60,9 @@ text_none text line bytes none = by (begins_with text bytes) refl
     by false begins = refl
 
 -- what `strip_prefix` says
-pub text_found : (text bytes : List ℕ) (line : ℕ) (rest : List ℕ) → (pointwise nat_eq (take (length text) bytes) text ≡ true) × (rest ≡ drop (length text) bytes) × (length rest + length text ≡ length bytes) → text_at text line bytes ≡ Ok (tt, rest)
+pub text_found : (text bytes : List ℕ) (line : ℕ) (rest : List ℕ) →
+    (pointwise nat_eq (take (length text) bytes) text ≡ true) × (rest ≡ drop (length text) bytes)
+    × (length rest + length text ≡ length bytes) → text_at text line bytes ≡ Ok (tt, rest)
 text_found text bytes line rest h =
     let whole : bytes ≡ text ++ rest = strip_prefix_is Decides-eqb bytes text (Some (record { ref_ptr = (0, 0); now = rest })) h in
     ap (text_at text line) whole ∙ text_again text line rest
@@ -67,7 +71,9 @@ pub text_missed : (text bytes : List ℕ) (line : ℕ) → pointwise nat_eq (tak
 text_missed text bytes line h = text_none text line bytes (strip_prefix_is Decides-eqb bytes text None h)
 
 pub stripped : (text bytes : List ℕ) (r : Option (Bor (List ℕ))) →
-    MatchOption r (pointwise nat_eq (take (length text) bytes) text ≡ false) (λ x. (pointwise nat_eq (take (length text) bytes) text ≡ true) × (x.now ≡ drop (length text) bytes) × (length x.now + length text ≡ length bytes)) →
+    MatchOption r (pointwise nat_eq (take (length text) bytes) text ≡ false)
+    (λ x. (pointwise nat_eq (take (length text) bytes) text ≡ true) × (x.now ≡ drop (length text) bytes)
+    × (length x.now + length text ≡ length bytes)) →
     MatchOption r (begins_with text bytes ≡ false) (λ x. (begins_with text bytes ≡ true) × (x.now ≡ drop (length text) bytes))
 stripped text bytes None h = none (begins_with text bytes) refl (strip_prefix_is Decides-eqb bytes text None h)
   where

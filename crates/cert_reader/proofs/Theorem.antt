@@ -5,7 +5,9 @@ use Rattle.std.specs.List.{concat}
 use Rattle.std.proofs.lemmas.List.{append-nil}
 use Rattle.std.proofs.lemmas.List.Folds.{concat-append}
 use Rattle.cert_text.specs.Contents.{Certificate, Contents}
-use Rattle.cert_text.specs.Texts.{spaced, kind_text, shape_text, pairs_text, entries_line, columns_line, tail_line, block_line, matrix_text, pattern_text, blocks_text, contents_text, certificate_text, echo_text}
+use Rattle.cert_text.specs.Texts.{spaced, kind_text, shape_text, pairs_text, entries_line, columns_line, tail_line}
+use Rattle.cert_text.specs.Texts.{block_line, matrix_text, pattern_text, blocks_text, contents_text, certificate_text}
+use Rattle.cert_text.specs.Texts.{echo_text}
 use Rattle.cert_text.specs.declared.part.CcfBlock.{CcfBlock}
 use Rattle.cert_reader.specs.declared.fault.ReadCert.{ReadCert}
 use Rattle.cert_reader.specs.declared.fault.ReadCert.TheVariants as errors
@@ -34,7 +36,9 @@ blocks-lines : (number : ℕ) (blocks : List CcfBlock) → concat (row_lines blo
 blocks-lines number [] = refl
 blocks-lines number (block ∷ blocks) = ap (λ ws. block_line number block ++ ws) (blocks-lines (number + 1) blocks)
 
-joined : (s u p t b : List (List ℕ)) (f l e : List ℕ) → concat (s ++ (u ++ (p ++ (t ++ (f ∷ (b ++ (l ∷ e ∷ []))))))) ≡ concat s ++ (concat u ++ (concat p ++ (concat t ++ (f ++ (concat b ++ (l ++ (e ++ [])))))))
+joined : (s u p t b : List (List ℕ)) (f l e : List ℕ) →
+    concat (s ++ (u ++ (p ++ (t ++ (f ∷ (b ++ (l ∷ e ∷ []))))))) ≡ concat s ++
+    (concat u ++ (concat p ++ (concat t ++ (f ++ (concat b ++ (l ++ (e ++ [])))))))
 joined s u p t b f l e =
     concat-append s (u ++ (p ++ (t ++ (f ∷ (b ++ (l ∷ e ∷ []))))))
     ∙ ap (λ ws. concat s ++ ws) (concat-append u (p ++ (t ++ (f ∷ (b ++ (l ∷ e ∷ [])))))
@@ -49,19 +53,33 @@ regrouped shape r rank nl b base m mates s u p t f k l e = simp (append_assoc, a
 
 pub contents-lines : (c : Contents) → concat (contents_lines c) ≡ contents_text c
 contents-lines c =
-    ap (λ ws. shape_text c.shape ++ ((codes "rank" ++ (spaced c.rank ++ codes "\n")) ++ ((codes "base" ++ (pairs_text c.base ++ codes "\n")) ++ ((codes "match" ++ (pairs_text c.mates ++ codes "\n")) ++ ws))))
-    (joined (row_lines (entries_line (codes "S")) 1 c.s) (row_lines (entries_line (codes "U")) 1 c.u) (row_lines (entries_line (codes "P")) 1 c.p) (row_lines (columns_line (codes "T")) 1 c.t) (row_lines block_line 1 c.blocks) (tail_line (codes "first") c.first) (tail_line (codes "last") c.last) (codes "end\n"))
-    ∙ (λ i. shape_text c.shape ++ ((codes "rank" ++ (spaced c.rank ++ codes "\n")) ++ ((codes "base" ++ (pairs_text c.base ++ codes "\n")) ++ ((codes "match" ++ (pairs_text c.mates ++ codes "\n")) ++
-    (matrix-lines (codes "S") 1 c.s i ++ (matrix-lines (codes "U") 1 c.u i ++ (matrix-lines (codes "P") 1 c.p i ++ (pattern-lines (codes "T") 1 c.t i ++ (tail_line (codes "first") c.first ++ (blocks-lines 1 c.blocks i ++ (tail_line (codes "last") c.last ++ (codes "end\n" ++ []))))))))))))
-    ∙ regrouped (shape_text c.shape) (codes "rank") (spaced c.rank) (codes "\n") (codes "base") (pairs_text c.base) (codes "match") (pairs_text c.mates) (matrix_text (codes "S") 1 c.s) (matrix_text (codes "U") 1 c.u) (matrix_text (codes "P") 1 c.p) (pattern_text (codes "T") 1 c.t)
+    ap (λ ws. shape_text c.shape ++ ((codes "rank" ++ (spaced c.rank ++ codes "\n")) ++
+    ((codes "base" ++ (pairs_text c.base ++ codes "\n")) ++
+    ((codes "match" ++ (pairs_text c.mates ++ codes "\n")) ++ ws))))
+    (joined (row_lines (entries_line (codes "S")) 1 c.s) (row_lines (entries_line (codes "U")) 1 c.u)
+    (row_lines (entries_line (codes "P")) 1 c.p) (row_lines (columns_line (codes "T")) 1 c.t)
+    (row_lines block_line 1 c.blocks) (tail_line (codes "first") c.first) (tail_line (codes "last") c.last)
+    (codes "end\n"))
+    ∙ (λ i. shape_text c.shape ++ ((codes "rank" ++ (spaced c.rank ++ codes "\n")) ++
+    ((codes "base" ++ (pairs_text c.base ++ codes "\n")) ++
+    ((codes "match" ++ (pairs_text c.mates ++ codes "\n")) ++
+    (matrix-lines (codes "S") 1 c.s i ++ (matrix-lines (codes "U") 1 c.u i ++ (matrix-lines (codes "P") 1 c.p i ++
+    (pattern-lines (codes "T") 1 c.t i ++ (tail_line (codes "first") c.first ++
+    (blocks-lines 1 c.blocks i ++ (tail_line (codes "last") c.last ++ (codes "end\n" ++ []))))))))))))
+    ∙ regrouped (shape_text c.shape) (codes "rank") (spaced c.rank) (codes "\n") (codes "base") (pairs_text c.base)
+    (codes "match") (pairs_text c.mates) (matrix_text (codes "S") 1 c.s) (matrix_text (codes "U") 1 c.u)
+    (matrix_text (codes "P") 1 c.p) (pattern_text (codes "T") 1 c.t)
     (tail_line (codes "first") c.first) (blocks_text 1 c.blocks) (tail_line (codes "last") c.last) (codes "end\n")
 
-headed : (v k kind nl l size echo rest : List ℕ) → v ++ ((k ++ (kind ++ nl)) ++ ((l ++ (size ++ nl)) ++ ((echo ++ nl) ++ rest))) ≡ ((v ++ k) ++ kind ++ (nl ++ l) ++ size ++ nl ++ echo ++ nl) ++ rest
+headed : (v k kind nl l size echo rest : List ℕ) → v ++
+    ((k ++ (kind ++ nl)) ++ ((l ++ (size ++ nl)) ++ ((echo ++ nl) ++ rest))) ≡
+    ((v ++ k) ++ kind ++ (nl ++ l) ++ size ++ nl ++ echo ++ nl) ++ rest
 headed v k kind nl l size echo rest = simp append_assoc
 
 pub certificate-lines : (c : Certificate) → concat (certificate_lines c) ≡ certificate_text c
 certificate-lines c =
-    headed (codes "mixed-certificate 1\n") (codes "kind ") (kind_text c.kind) (codes "\n") (codes "length") (spaced (length c.echo)) c.echo (concat (contents_lines c.ccf))
+    headed (codes "mixed-certificate 1\n") (codes "kind ") (kind_text c.kind) (codes "\n") (codes "length")
+    (spaced (length c.echo)) c.echo (concat (contents_lines c.ccf))
     ∙ ap (λ ws. echo_text c.kind c.echo ++ ws) (contents-lines c.ccf)
 
 -- ---- the clauses of `read`
@@ -69,41 +87,53 @@ certificate-lines c =
 the-text : (c : Certificate) → concat (certificate_lines c) ++ [] ≡ certificate_text c
 the-text c = append-nil (concat (certificate_lines c)) ∙ certificate-lines c
 
-pub found_is : (modulus : ℕ) → modulus < 2 ^ 32 → (bytes : List ℕ) (x : Certificate × List ℕ) → Short bytes → certificate_at modulus 1 bytes ≡ Ok x → IsCertificate modulus x.0 × (bytes ≡ certificate_text x.0)
+pub found_is : (modulus : ℕ) → modulus < 2 ^ 32 → (bytes : List ℕ) (x : Certificate × List ℕ) → Short bytes →
+    certificate_at modulus 1 bytes ≡ Ok x → IsCertificate modulus x.0 × (bytes ≡ certificate_text x.0)
 found_is modulus small bytes x short e =
     let h = (whole-certificate modulus small).reads.takes 1 bytes x short e in
     (h.1, h.0 ∙ ap (λ ws. concat (certificate_lines x.0) ++ ws) h.2 ∙ the-text x.0)
 
-read-again : (modulus : ℕ) → modulus < 2 ^ 32 → (bytes : List ℕ) (c : Certificate) → Short bytes → IsCertificate modulus c → bytes ≡ certificate_text c → certificate_at modulus 1 bytes ≡ Ok (c, [])
+read-again : (modulus : ℕ) → modulus < 2 ^ 32 → (bytes : List ℕ) (c : Certificate) → Short bytes →
+    IsCertificate modulus c → bytes ≡ certificate_text c → certificate_at modulus 1 bytes ≡ Ok (c, [])
 read-again modulus small bytes c short is text =
     let whole : bytes ≡ concat (certificate_lines c) ++ [] = text ∙ sym (the-text c) in
     ap (certificate_at modulus 1) whole ∙ (whole-certificate modulus small).reads.again 1 c [] (subst Short whole short) is refl
 
-pub only_ok : (modulus : ℕ) → modulus < 2 ^ 32 → (bytes : List ℕ) (x : Certificate × List ℕ) (c : Certificate) → Short bytes → certificate_at modulus 1 bytes ≡ Ok x → IsCertificate modulus c → bytes ≡ certificate_text c → c ≡ x.0
+pub only_ok : (modulus : ℕ) → modulus < 2 ^ 32 → (bytes : List ℕ) (x : Certificate × List ℕ) (c : Certificate) →
+    Short bytes → certificate_at modulus 1 bytes ≡ Ok x → IsCertificate modulus c → bytes ≡ certificate_text c →
+    c ≡ x.0
 only_ok modulus small bytes x c short e is text = ap (λ y. y.0) (ok_is (c, []) x (sym (read-again modulus small bytes c short is text) ∙ e))
 
 -- reading gives one or the other
 differ : {Y : Type 0} (x : Certificate × List ℕ) (l : ℕ) → as_read (Ok x) ≡ Err l → Y
 differ x l h = (let f : ⊥ = cc in absurd f)
 
-pub only_err : (modulus : ℕ) → modulus < 2 ^ 32 → (bytes : List ℕ) (e : ReadCert) (c : Certificate) → Short bytes → Fails e (certificate_at modulus 1 bytes) → IsCertificate modulus c → bytes ≡ certificate_text c → Fails e (as_one c)
+pub only_err : (modulus : ℕ) → modulus < 2 ^ 32 → (bytes : List ℕ) (e : ReadCert) (c : Certificate) → Short bytes →
+    Fails e (certificate_at modulus 1 bytes) → IsCertificate modulus c → bytes ≡ certificate_text c →
+    Fails e (as_one c)
 only_err modulus small bytes errors.NoMemory c short failed is text = tt
 only_err modulus small bytes (errors.Refused l) c short failed is text = differ (c, []) l (sym (read-again modulus small bytes c short is text) ∙ failed)
 
-pub cause_is : (modulus : ℕ) → modulus < 2 ^ 32 → (bytes : List ℕ) (e : ReadCert) → Short bytes → Fails e (certificate_at modulus 1 bytes) → IsCause modulus e bytes
+pub cause_is : (modulus : ℕ) → modulus < 2 ^ 32 → (bytes : List ℕ) (e : ReadCert) → Short bytes →
+    Fails e (certificate_at modulus 1 bytes) → IsCause modulus e bytes
 cause_is modulus small bytes errors.NoMemory short failed = tt
-cause_is modulus small bytes (errors.Refused l) short failed = (let h = (whole-certificate modulus small).reads.fails 1 bytes l short failed in (h.0, omega (arith, h.1), h.2))
+cause_is modulus small bytes (errors.Refused l) short failed =
+    (let h = (whole-certificate modulus small).reads.fails 1 bytes l short failed in (h.0, omega (arith, h.1), h.2))
 
-pub contents_are : (modulus : ℕ) → modulus < 2 ^ 32 → (line : ℕ) (bytes : List ℕ) (x : Contents × List ℕ) → Short bytes → contents_at modulus line bytes ≡ Ok x → IsCcf modulus x.0
+pub contents_are : (modulus : ℕ) → modulus < 2 ^ 32 → (line : ℕ) (bytes : List ℕ) (x : Contents × List ℕ) →
+    Short bytes → contents_at modulus line bytes ≡ Ok x → IsCcf modulus x.0
 contents_are modulus small line bytes x short e = ((whole-contents modulus small).reads.takes line bytes x short e).1
 
 -- ---- one text, one certificate
 
-pub one_certificate : (modulus : ℕ) → modulus < 2 ^ 32 → (a b : Certificate) → IsCertificate modulus a → IsCertificate modulus b → Short (certificate_text b) → certificate_text a ≡ certificate_text b → a ≡ b
+pub one_certificate : (modulus : ℕ) → modulus < 2 ^ 32 → (a b : Certificate) → IsCertificate modulus a →
+    IsCertificate modulus b → Short (certificate_text b) → certificate_text a ≡ certificate_text b → a ≡ b
 one_certificate modulus small a b one two short same =
-    ap (λ y. y.0) (ok_is (a, []) (b, []) (sym (read-again modulus small (certificate_text b) a short one (sym same)) ∙ read-again modulus small (certificate_text b) b short two refl))
+    ap (λ y. y.0) (ok_is (a, []) (b, []) (sym (read-again modulus small (certificate_text b) a short one (sym same))
+    ∙ read-again modulus small (certificate_text b) b short two refl))
 
-pub no_more : (modulus : ℕ) → modulus < 2 ^ 32 → (a b : Certificate) (more : List ℕ) → IsCertificate modulus a → IsCertificate modulus b → Short (certificate_text b) → certificate_text a ++ more ≡ certificate_text b → more ≡ []
+pub no_more : (modulus : ℕ) → modulus < 2 ^ 32 → (a b : Certificate) (more : List ℕ) → IsCertificate modulus a →
+    IsCertificate modulus b → Short (certificate_text b) → certificate_text a ++ more ≡ certificate_text b → more ≡ []
 no_more modulus small a b [] one two short same = refl
 no_more modulus small a b (byte ∷ more) one two short same =
     let whole : certificate_text b ≡ concat (certificate_lines a) ++ (byte ∷ more) = sym same ∙ ap (λ ws. ws ++ (byte ∷ more)) (sym (certificate-lines a)) in

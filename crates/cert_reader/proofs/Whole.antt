@@ -1,6 +1,7 @@
 -- The whole of a certificate.
 use Rattle.std.proofs.lemmas.List.{length-replicate}
-use Rattle.std.proofs.Common.{replicate, ◌≡◌, ℕ, zero, suc, ◌+◌, ◌^◌, ◌<◌, ◌≤◌, List, [], ◌∷◌, ◌++◌, length, get_or, Result, refl, sym, ap, subst, ◌∙◌, length-append, arith}
+use Rattle.std.proofs.Common.{replicate, ◌≡◌, ℕ, zero, suc, ◌+◌, ◌^◌, ◌<◌, ◌≤◌, List, [], ◌∷◌, ◌++◌, length, get_or}
+use Rattle.std.proofs.Common.{Result, refl, sym, ap, subst, ◌∙◌, length-append, arith}
 use Rattle.std.specs.Prelude.{codes, decimal}
 use Rattle.std.specs.List.{concat}
 use Rattle.std.proofs.lemmas.List.Elements.{All-from_recursion, recursion_from_All}
@@ -16,9 +17,11 @@ use Rattle.cert_text.specs.declared.part.CcfBlock.{CcfBlock}
 use Rattle.cert_reader.specs.Limits.{certificate_limit}
 use Rattle.cert_reader.specs.CertLines.{row_lines, contents_lines, certificate_lines, IsCertificate}
 use Rattle.cert_reader.specs.LineReading.{version_at, kind_at, echo_at, shape_at, pairs_line_at, entries_line_at, columns_line_at, tail_at}
-use Rattle.cert_reader.specs.CertReading.{then_at, rows_at, all_blocks_at, parts_at, matrices_at, pieces_at, Matrices, Pieces, size_at, rank_at, contents_from, contents_at, certificate_at}
+use Rattle.cert_reader.specs.CertReading.{then_at, rows_at, all_blocks_at, parts_at, matrices_at, pieces_at, Matrices}
+use Rattle.cert_reader.specs.CertReading.{Pieces, size_at, rank_at, contents_from, contents_at, certificate_at}
 use Rattle.cert_reader.proofs.Spells.{Spells, Any, Spells-text}
-use Rattle.cert_reader.proofs.LineKinds.{Spells-kind, Spells-count, Spells-echo, Spells-shape, Spells-pairs_line, Spells-entries_line, Spells-columns_line, Spells-tail}
+use Rattle.cert_reader.proofs.LineKinds.{Spells-kind, Spells-count, Spells-echo, Spells-shape, Spells-pairs_line}
+use Rattle.cert_reader.proofs.LineKinds.{Spells-entries_line, Spells-columns_line, Spells-tail}
 use Rattle.cert_reader.proofs.Lines.{Reads, Reads-pair, Reads-map, Reads-line}
 use Rattle.cert_reader.proofs.Rows.{Reads-same, AreRows, rows-some, Reads-rows, rows-to, rows-from, row_lines-count}
 use Rattle.cert_reader.proofs.Blocks.{IsEmpty, AreBlocks, AreParts, parts_lines, Reads-blocks}
@@ -40,7 +43,8 @@ Whole-pair : {A B : Type 0} {FA : A → Type 0} {FB : A → B → Type 0} {la : 
     Reads Any Any FA la p → (a : A) → FA a → ((a : A) → FA a → length (la a) ≡ n) → ((a : A) → FA a → Whole (FB a) (lb a) (q a)) →
     Whole (λ (x : A × B). FA x.0 × FB x.0 x.1) (λ x. la x.0 ++ lb x.0 x.1) (then_at n p q)
 Whole-pair {A} {B} {FA} {FB} {la} {lb} n p q first a fit count second = record {
-  reads = Reads-pair {OC = Short} {OB = Short} n p q first (λ a fit. (second a fit).reads) count (λ a fit. (second a fit).some) (λ a rest fit short. shorter (concat (la a)) rest short);
+  reads = Reads-pair {OC = Short} {OB = Short} n p q first (λ a fit. (second a fit).reads) count
+      (λ a fit. (second a fit).some) (λ a rest fit short. shorter (concat (la a)) rest short);
   some = (let b = (second a fit).some in ((a, b.0), (fit, b.1)));
 }
 
@@ -51,26 +55,41 @@ whole-blocks : (shape : Shape) → IsShape shape → Whole (AreParts shape 0) (p
 whole-blocks shape is = record {
   reads = record {
     takes = λ line bytes x short e. (Reads-blocks shape (suc (length bytes)) 0 is (omega (arith, short))).takes line bytes x (omega arith) e;
-    again = λ line x rest short fits ending. (Reads-blocks shape (suc (length (concat (parts_lines 1 x) ++ rest))) 0 is (omega (arith, short))).again line x rest (omega arith) fits ending;
-    stops = λ line x rest short fits ending. (Reads-blocks shape (suc (length (concat (parts_lines 1 x) ++ rest))) 0 is (omega (arith, short))).stops line x rest (omega arith) fits ending;
+    again = λ line x rest short fits ending. (Reads-blocks shape
+        (suc (length (concat (parts_lines 1 x) ++ rest))) 0 is (omega (arith, short))).again line x rest
+        (omega arith) fits ending;
+    stops = λ line x rest short fits ending. (Reads-blocks shape
+        (suc (length (concat (parts_lines 1 x) ++ rest))) 0 is (omega (arith, short))).stops line x rest
+        (omega arith) fits ending;
     fails = λ line bytes l short e. (Reads-blocks shape (suc (length bytes)) 0 is (omega (arith, short))).fails line bytes l (omega arith) e;
   };
   some = (([], no_part), (tt, no_part-is shape));
 }
 
-whole-parts : (shape : Shape) → IsShape shape → Whole (λ (x : CcfPart × (List CcfBlock × CcfPart)). IsPart shape x.0 × AreParts shape 0 x.1) (λ x. (tail_line (codes "first") x.0 ∷ []) ++ parts_lines 1 x.1) (parts_at shape)
+whole-parts : (shape : Shape) → IsShape shape → Whole (λ (x : CcfPart × (List CcfBlock × CcfPart)). IsPart shape x.0
+    × AreParts shape 0 x.1) (λ x. (tail_line (codes "first") x.0 ∷ []) ++ parts_lines 1 x.1) (parts_at shape)
 whole-parts shape is = Whole-pair 1 (tail_at (codes "first") shape) (λ first. all_blocks_at shape)
-    (Reads-line (tail_at (codes "first") shape) no_part (no_part-is shape) (Spells-tail (codes "first") shape is)) no_part (no_part-is shape) (λ a fit. refl) (λ a fit. whole-blocks shape is)
+    (Reads-line (tail_at (codes "first") shape) no_part (no_part-is shape)
+    (Spells-tail (codes "first") shape is)) no_part (no_part-is shape) (λ a fit. refl)
+    (λ a fit. whole-blocks shape is)
 
-Whole-rows : {A B : Type 0} {F : A → Type 0} {FB : B → Type 0} {lb : B → List (List ℕ)} (text : ℕ → A → List ℕ) (row : ℕ → ℕ → List ℕ → Result (A × List ℕ) ℕ) (a : A) → F a → ((number : ℕ) → Spells Any F (text number) (row number)) →
-    (count : ℕ) (q : ℕ → List ℕ → Result (B × List ℕ) ℕ) → Whole FB lb q → Whole (λ (x : List A × B). AreRows F count x.0 × FB x.1) (λ x. row_lines text 1 x.0 ++ lb x.1) (then_at count (rows_at row count 1) (λ xs. q))
+Whole-rows : {A B : Type 0} {F : A → Type 0} {FB : B → Type 0} {lb : B → List (List ℕ)} (text : ℕ → A → List ℕ)
+    (row : ℕ → ℕ → List ℕ → Result (A × List ℕ) ℕ) (a : A) → F a →
+    ((number : ℕ) → Spells Any F (text number) (row number)) →
+    (count : ℕ) (q : ℕ → List ℕ → Result (B × List ℕ) ℕ) → Whole FB lb q →
+    Whole (λ (x : List A × B). AreRows F count x.0 × FB x.1) (λ x. row_lines text 1 x.0 ++ lb x.1)
+    (then_at count (rows_at row count 1) (λ xs. q))
 Whole-rows {A} {B} {F} {FB} {lb} text row a fit spells count q whole =
-    (let none = rows-some F count a fit in Whole-pair {FB = λ xs. FB} {lb = λ xs. lb} count (rows_at row count 1) (λ xs. q) (Reads-rows text row a fit spells count 1) none.0 none.1 (λ xs are. rows-count F text count xs are) (λ xs are. whole))
+    (let none = rows-some F count a fit in Whole-pair {FB = λ xs. FB} {lb = λ xs. lb} count (rows_at row count 1)
+    (λ xs. q) (Reads-rows text row a fit spells count 1) none.0 none.1
+    (λ xs are. rows-count F text count xs are) (λ xs are. whole))
 
 -- the matrices and the parts
 abbrev AreMatrices : ℕ → Shape → Matrices → Type 0
 AreMatrices modulus shape x =
-    AreRows (AreEntries modulus shape.q_rows) shape.q_rows x.0 × (AreRows (AreEntries modulus shape.q_rows) shape.q_rows x.1.0 × (AreRows (AreEntries modulus shape.columns) shape.q_rows x.1.1.0 ×
+    AreRows (AreEntries modulus shape.q_rows) shape.q_rows x.0
+    × (AreRows (AreEntries modulus shape.q_rows) shape.q_rows x.1.0
+    × (AreRows (AreEntries modulus shape.columns) shape.q_rows x.1.1.0 ×
     (AreRows (AreRising shape.columns) shape.t_rows x.1.1.1.0 × (IsPart shape x.1.1.1.1.0 × AreParts shape 0 x.1.1.1.1.1))))
 
 abbrev matrices_lines : Matrices → List (List ℕ)
@@ -78,27 +97,39 @@ matrices_lines x =
     row_lines (entries_line (codes "S")) 1 x.0 ++ (row_lines (entries_line (codes "U")) 1 x.1.0 ++ (row_lines (entries_line (codes "P")) 1 x.1.1.0 ++
     (row_lines (columns_line (codes "T")) 1 x.1.1.1.0 ++ ((tail_line (codes "first") x.1.1.1.1.0 ∷ []) ++ parts_lines 1 x.1.1.1.1.1))))
 
-whole-matrices : (modulus : ℕ) → modulus < 2 ^ 32 → (shape : Shape) → IsShape shape → Whole (AreMatrices modulus shape) matrices_lines (matrices_at modulus shape)
+whole-matrices : (modulus : ℕ) → modulus < 2 ^ 32 → (shape : Shape) → IsShape shape →
+    Whole (AreMatrices modulus shape) matrices_lines (matrices_at modulus shape)
 whole-matrices modulus small shape is =
     let q : shape.q_rows < 10 ^ 10 = omega (arith, is.q_rows) in
     let n : shape.columns < 10 ^ 10 = omega (arith, is.columns) in
-    Whole-rows (entries_line (codes "S")) (entries_line_at modulus (codes "S") shape.q_rows) [] (no-entries modulus shape.q_rows) (λ number. Spells-entries_line modulus (codes "S") shape.q_rows number small q) shape.q_rows _
-    (Whole-rows (entries_line (codes "U")) (entries_line_at modulus (codes "U") shape.q_rows) [] (no-entries modulus shape.q_rows) (λ number. Spells-entries_line modulus (codes "U") shape.q_rows number small q) shape.q_rows _
-    (Whole-rows (entries_line (codes "P")) (entries_line_at modulus (codes "P") shape.columns) [] (no-entries modulus shape.columns) (λ number. Spells-entries_line modulus (codes "P") shape.columns number small n) shape.q_rows _
-    (Whole-rows (columns_line (codes "T")) (columns_line_at (codes "T") shape.columns) [] (no-numbers shape.columns) (λ number. Spells-columns_line (codes "T") shape.columns number n) shape.t_rows _
+    Whole-rows (entries_line (codes "S")) (entries_line_at modulus (codes "S") shape.q_rows) []
+    (no-entries modulus shape.q_rows) (λ number. Spells-entries_line modulus
+    (codes "S") shape.q_rows number small q) shape.q_rows _
+    (Whole-rows (entries_line (codes "U")) (entries_line_at modulus (codes "U") shape.q_rows) []
+    (no-entries modulus shape.q_rows) (λ number. Spells-entries_line modulus
+    (codes "U") shape.q_rows number small q) shape.q_rows _
+    (Whole-rows (entries_line (codes "P")) (entries_line_at modulus (codes "P") shape.columns) []
+    (no-entries modulus shape.columns) (λ number. Spells-entries_line modulus
+    (codes "P") shape.columns number small n) shape.q_rows _
+    (Whole-rows (columns_line (codes "T")) (columns_line_at (codes "T") shape.columns) [] (no-numbers shape.columns)
+    (λ number. Spells-columns_line (codes "T") shape.columns number n) shape.t_rows _
     (whole-parts shape is))))
 
-Whole-line : {A B : Type 0} {F : A → Type 0} {FB : B → Type 0} {text : A → List ℕ} {lb : B → List (List ℕ)} (p : ℕ → List ℕ → Result (A × List ℕ) ℕ) (a : A) → F a → Spells Any F text p →
+Whole-line : {A B : Type 0} {F : A → Type 0} {FB : B → Type 0} {text : A → List ℕ} {lb : B → List (List ℕ)} (p : ℕ →
+    List ℕ → Result (A × List ℕ) ℕ) (a : A) → F a → Spells Any F text p →
     (q : ℕ → List ℕ → Result (B × List ℕ) ℕ) → Whole FB lb q → Whole (λ (x : A × B). F x.0 × FB x.1) (λ x. (text x.0 ∷ []) ++ lb x.1) (then_at 1 p (λ x. q))
 Whole-line {A} {B} {F} {FB} {text} {lb} p a fit spells q whole =
     Whole-pair {FB = λ x. FB} {lb = λ x. lb} 1 p (λ x. q) (Reads-line p a fit spells) a fit (λ x fits. refl) (λ x fits. whole)
 
 abbrev ArePieces : ℕ → Shape → Pieces → Type 0
-ArePieces modulus shape x = (x.0 ≤ column_limit) × (ArePairs shape.q_rows shape.columns x.1.0 × (ArePairs shape.t_rows shape.columns x.1.1.0 × AreMatrices modulus shape x.1.1.1))
+ArePieces modulus shape x = (x.0 ≤ column_limit) × (ArePairs shape.q_rows shape.columns x.1.0
+    × (ArePairs shape.t_rows shape.columns x.1.1.0 × AreMatrices modulus shape x.1.1.1))
 
 abbrev pieces_lines : Pieces → List (List ℕ)
 pieces_lines x =
-    ((codes "rank " ++ (decimal x.0 ++ codes "\n")) ∷ []) ++ (((codes "base" ++ (pairs_text x.1.0 ++ codes "\n")) ∷ []) ++ (((codes "match" ++ (pairs_text x.1.1.0 ++ codes "\n")) ∷ []) ++ matrices_lines x.1.1.1))
+    ((codes "rank " ++ (decimal x.0 ++ codes "\n")) ∷ []) ++
+    (((codes "base" ++ (pairs_text x.1.0 ++ codes "\n")) ∷ []) ++
+    (((codes "match" ++ (pairs_text x.1.1.0 ++ codes "\n")) ∷ []) ++ matrices_lines x.1.1.1))
 
 whole-pieces : (modulus : ℕ) → modulus < 2 ^ 32 → (shape : Shape) → IsShape shape → Whole (ArePieces modulus shape) pieces_lines (pieces_at modulus shape)
 whole-pieces modulus small shape is =
@@ -106,18 +137,24 @@ whole-pieces modulus small shape is =
     let t : shape.t_rows < 10 ^ 10 = omega (arith, is.t_rows) in
     let n : shape.columns < 10 ^ 10 = omega (arith, is.columns) in
     Whole-line rank_at 0 (omega arith) (Spells-count (codes "rank ") column_limit (omega arith)) _
-    (Whole-line (pairs_line_at (codes "base") shape.q_rows shape.columns) [] (no-pairs shape.q_rows shape.columns) (Spells-pairs_line (codes "base") shape.q_rows shape.columns q n) _
-    (Whole-line (pairs_line_at (codes "match") shape.t_rows shape.columns) [] (no-pairs shape.t_rows shape.columns) (Spells-pairs_line (codes "match") shape.t_rows shape.columns t n) _
+    (Whole-line (pairs_line_at (codes "base") shape.q_rows shape.columns) [] (no-pairs shape.q_rows shape.columns)
+    (Spells-pairs_line (codes "base") shape.q_rows shape.columns q n) _
+    (Whole-line (pairs_line_at (codes "match") shape.t_rows shape.columns) [] (no-pairs shape.t_rows shape.columns)
+    (Spells-pairs_line (codes "match") shape.t_rows shape.columns t n) _
     (whole-matrices modulus small shape is)))
 
-whole-both : (modulus : ℕ) → modulus < 2 ^ 32 → Whole (λ (x : Shape × Pieces). IsShape x.0 × ArePieces modulus x.0 x.1) (λ x. (shape_text x.0 ∷ []) ++ pieces_lines x.1) (then_at 1 shape_at (pieces_at modulus))
-whole-both modulus small = Whole-pair {FB = ArePieces modulus} {lb = λ shape. pieces_lines} 1 shape_at (pieces_at modulus) (Reads-line shape_at no_shape no_shape-is Spells-shape)
+whole-both : (modulus : ℕ) → modulus < 2 ^ 32 → Whole (λ (x : Shape × Pieces). IsShape x.0
+    × ArePieces modulus x.0 x.1) (λ x. (shape_text x.0 ∷ []) ++ pieces_lines x.1)
+    (then_at 1 shape_at (pieces_at modulus))
+whole-both modulus small = Whole-pair {FB = ArePieces modulus} {lb = λ shape. pieces_lines} 1 shape_at
+    (pieces_at modulus) (Reads-line shape_at no_shape no_shape-is Spells-shape)
     no_shape no_shape-is (λ shape is. refl) (whole-pieces modulus small)
 
 -- ---- the conditions of the contents
 
 matrix-to : (modulus m n : ℕ) (rows : List (List (ℕ × ℕ))) → AreRows (AreEntries modulus n) m rows → IsMatrix modulus m n rows
-matrix-to modulus m n rows are = (let h = rows-to (AreEntries modulus n) m rows are in record { count = h.0; entries = All-from_recursion (AreEntries modulus n) rows h.1 })
+matrix-to modulus m n rows are = (let h = rows-to (AreEntries modulus n) m rows are in
+    record { count = h.0; entries = All-from_recursion (AreEntries modulus n) rows h.1 })
 
 matrix-from : (modulus m n : ℕ) (rows : List (List (ℕ × ℕ))) → IsMatrix modulus m n rows → AreRows (AreEntries modulus n) m rows
 matrix-from modulus m n rows is = rows-from (AreEntries modulus n) m rows is.count (recursion_from_All (AreEntries modulus n) rows is.entries)
@@ -128,23 +165,32 @@ pattern-to m n rows are = (let h = rows-to (AreRising n) m rows are in record { 
 pattern-from : (m n : ℕ) (rows : List (List ℕ)) → IsPattern m n rows → AreRows (AreRising n) m rows
 pattern-from m n rows is = rows-from (AreRising n) m rows is.count (recursion_from_All (AreRising n) rows is.columns)
 
-blocks-to : (shape : Shape) (j : ℕ) (blocks : List CcfBlock) → AreBlocks shape j blocks → (k : ℕ) (d : CcfBlock) → k < length blocks → IsBlock shape (j + k) (get_or blocks k d)
+blocks-to : (shape : Shape) (j : ℕ) (blocks : List CcfBlock) → AreBlocks shape j blocks → (k : ℕ) (d : CcfBlock) →
+    k < length blocks → IsBlock shape (j + k) (get_or blocks k d)
 blocks-to shape j [] are k d less = absurd (omega (arith, less))
 blocks-to shape j (b ∷ bs) are zero d less = subst (λ i. IsBlock shape i b) (let e : j ≡ j + 0 = omega arith in e) are.0
-blocks-to shape j (b ∷ bs) are (suc k) d less = subst (λ i. IsBlock shape i (get_or bs k d)) (let e : j + 1 + k ≡ j + suc k = omega arith in e) (blocks-to shape (j + 1) bs are.1 k d (omega (arith, less)))
+blocks-to shape j (b ∷ bs) are (suc k) d less = subst (λ i. IsBlock shape i (get_or bs k d))
+    (let e : j + 1 + k ≡ j + suc k = omega arith in e) (blocks-to shape (j + 1) bs are.1 k d (omega (arith, less)))
 
-blocks-from : (shape : Shape) (j : ℕ) (blocks : List CcfBlock) → ((k : ℕ) (d : CcfBlock) → k < length blocks → IsBlock shape (j + k) (get_or blocks k d)) → AreBlocks shape j blocks
+blocks-from : (shape : Shape) (j : ℕ) (blocks : List CcfBlock) → ((k : ℕ) (d : CcfBlock) → k < length blocks →
+    IsBlock shape (j + k) (get_or blocks k d)) → AreBlocks shape j blocks
 blocks-from shape j [] each = tt
 blocks-from shape j (b ∷ bs) each = (
   subst (λ i. IsBlock shape i b) (let e : j + 0 ≡ j = omega arith in e) (each 0 b (omega arith)),
-  blocks-from shape (j + 1) bs (λ k d less. subst (λ i. IsBlock shape i (get_or bs k d)) (let e : j + suc k ≡ j + 1 + k = omega arith in e) (each (suc k) d (omega (arith, less)))),
+  blocks-from shape (j + 1) bs (λ k d less. subst (λ i. IsBlock shape i (get_or bs k d))
+      (let e : j + suc k ≡ j + 1 + k = omega arith in e) (each (suc k) d (omega (arith, less)))),
 )
 
-blocks-at-0 : (shape : Shape) (blocks : List CcfBlock) → AreBlocks shape 0 blocks → (k : ℕ) (d : CcfBlock) → k < length blocks → IsBlock shape k (get_or blocks k d)
-blocks-at-0 shape blocks are k d less = subst (λ i. IsBlock shape i (get_or blocks k d)) (let e : 0 + k ≡ k = omega arith in e) (blocks-to shape 0 blocks are k d less)
+blocks-at-0 : (shape : Shape) (blocks : List CcfBlock) → AreBlocks shape 0 blocks → (k : ℕ) (d : CcfBlock) →
+    k < length blocks → IsBlock shape k (get_or blocks k d)
+blocks-at-0 shape blocks are k d less = subst (λ i. IsBlock shape i (get_or blocks k d)) (let e : 0 + k ≡ k =
+    omega arith in e) (blocks-to shape 0 blocks are k d less)
 
-blocks-of-0 : (shape : Shape) (blocks : List CcfBlock) → ((k : ℕ) (d : CcfBlock) → k < length blocks → IsBlock shape k (get_or blocks k d)) → AreBlocks shape 0 blocks
-blocks-of-0 shape blocks each = blocks-from shape 0 blocks (λ k d less. subst (λ i. IsBlock shape i (get_or blocks k d)) (let e : k ≡ 0 + k = omega arith in e) (each k d less))
+blocks-of-0 : (shape : Shape) (blocks : List CcfBlock) → ((k : ℕ) (d : CcfBlock) → k < length blocks →
+    IsBlock shape k (get_or blocks k d)) → AreBlocks shape 0 blocks
+blocks-of-0 shape blocks each = blocks-from shape 0 blocks
+    (λ k d less. subst (λ i. IsBlock shape i (get_or blocks k d)) (let e : k ≡ 0 + k = omega arith in e)
+    (each k d less))
 
 pieces_of : Contents → Shape × Pieces
 pieces_of c = (c.shape, (c.rank, (c.base, (c.mates, (c.s, (c.u, (c.p, (c.t, (c.first, (c.blocks, c.last))))))))))
@@ -164,7 +210,8 @@ is-ccf modulus x shape pieces = record {
   last = pieces.1.1.1.1.1.1.1.1.1;
 }
 
-are-pieces : (modulus : ℕ) (c : Contents) → IsCcf modulus c → ArePieces modulus c.shape (c.rank, (c.base, (c.mates, (c.s, (c.u, (c.p, (c.t, (c.first, (c.blocks, c.last)))))))))
+are-pieces : (modulus : ℕ) (c : Contents) → IsCcf modulus c →
+    ArePieces modulus c.shape (c.rank, (c.base, (c.mates, (c.s, (c.u, (c.p, (c.t, (c.first, (c.blocks, c.last)))))))))
 are-pieces modulus c is = (
   is.rank,
   (
@@ -190,7 +237,9 @@ unfolding contents_at pieces_of
 whole-contents modulus small =
     let both = whole-both modulus small in
     record {
-      reads = Reads-same (Reads-map {G = IsCcf modulus} (then_at 1 shape_at (pieces_at modulus)) contents_from pieces_of both.reads (λ x fits. (is-ccf modulus x fits.0 fits.1, refl)) (λ c is. ((is.shape, are-pieces modulus c is), refl)))
+      reads = Reads-same (Reads-map {G = IsCcf modulus}
+          (then_at 1 shape_at (pieces_at modulus)) contents_from pieces_of both.reads
+          (λ x fits. (is-ccf modulus x fits.0 fits.1, refl)) (λ c is. ((is.shape, are-pieces modulus c is), refl)))
           (λ c is. (is, refl)) (λ c is. is);
       some = (contents_from both.some.0, is-ccf modulus both.some.0 both.some.1.0 both.some.1.1);
     }
@@ -200,16 +249,25 @@ whole-contents modulus small =
 abbrev Parted : Type 0
 Parted = Unit {0} × (Kind × (ℕ × (List ℕ × Contents)))
 
-whole-sized : (modulus : ℕ) → modulus < 2 ^ 32 → Whole (λ (x : ℕ × (List ℕ × Contents)). (x.0 ≤ input_limit) × ((length x.1.0 ≡ x.0) × IsCcf modulus x.1.1)) (λ x. ((codes "length " ++ (decimal x.0 ++ codes "\n")) ∷ []) ++ (((x.1.0 ++ codes "\n") ∷ []) ++ contents_lines x.1.1))
+whole-sized : (modulus : ℕ) → modulus < 2 ^ 32 → Whole (λ (x : ℕ × (List ℕ × Contents)). (x.0 ≤ input_limit)
+    × ((length x.1.0 ≡ x.0) × IsCcf modulus x.1.1)) (λ x. ((codes "length " ++ (decimal x.0 ++ codes "\n")) ∷ []) ++
+    (((x.1.0 ++ codes "\n") ∷ []) ++ contents_lines x.1.1))
     (then_at 1 size_at (λ size. then_at 1 (echo_at size) (λ echo. contents_at modulus)))
-whole-sized modulus small = Whole-pair {FA = λ n. n ≤ input_limit} {FB = λ size (y : List ℕ × Contents). (length y.0 ≡ size) × IsCcf modulus y.1} {lb = λ size y. ((y.0 ++ codes "\n") ∷ []) ++ contents_lines y.1} 1 size_at (λ size. then_at 1 (echo_at size) (λ echo. contents_at modulus))
+whole-sized modulus small = Whole-pair {FA = λ n. n ≤ input_limit} {FB = λ size (y : List ℕ × Contents).
+    (length y.0 ≡ size) × IsCcf modulus y.1} {lb = λ size y.
+    ((y.0 ++ codes "\n") ∷ []) ++ contents_lines y.1} 1 size_at
+    (λ size. then_at 1 (echo_at size) (λ echo. contents_at modulus))
     (Reads-line size_at 0 (omega arith) (Spells-count (codes "length ") input_limit (omega arith))) 0 (omega arith) (λ size fit. refl)
     (λ size fit. Whole-line (echo_at size) (replicate size 0) (length-replicate size 0) (Spells-echo size) (contents_at modulus) (whole-contents modulus small))
 
-whole-parted : (modulus : ℕ) → modulus < 2 ^ 32 → Whole (λ (x : Parted). Unit {0} × (Unit {0} × ((x.1.1.0 ≤ input_limit) × ((length x.1.1.1.0 ≡ x.1.1.0) × IsCcf modulus x.1.1.1.1))))
-    (λ x. (codes "mixed-certificate 1\n" ∷ []) ++ (((codes "kind " ++ (kind_text x.1.0 ++ codes "\n")) ∷ []) ++ (((codes "length " ++ (decimal x.1.1.0 ++ codes "\n")) ∷ []) ++ (((x.1.1.1.0 ++ codes "\n") ∷ []) ++ contents_lines x.1.1.1.1))))
+whole-parted : (modulus : ℕ) → modulus < 2 ^ 32 → Whole (λ (x : Parted). Unit {0}
+    × (Unit {0} × ((x.1.1.0 ≤ input_limit) × ((length x.1.1.1.0 ≡ x.1.1.0) × IsCcf modulus x.1.1.1.1))))
+    (λ x. (codes "mixed-certificate 1\n" ∷ []) ++ (((codes "kind " ++ (kind_text x.1.0 ++ codes "\n")) ∷ []) ++
+    (((codes "length " ++ (decimal x.1.1.0 ++ codes "\n")) ∷ []) ++
+    (((x.1.1.1.0 ++ codes "\n") ∷ []) ++ contents_lines x.1.1.1.1))))
     (then_at 1 version_at (λ version. then_at 1 kind_at (λ kind. then_at 1 size_at (λ size. then_at 1 (echo_at size) (λ echo. contents_at modulus)))))
-whole-parted modulus small = Whole-line version_at tt tt (Spells-text (codes "mixed-certificate 1\n")) _ (Whole-line kind_at Matrix tt Spells-kind _ (whole-sized modulus small))
+whole-parted modulus small = Whole-line version_at tt tt (Spells-text (codes "mixed-certificate 1\n")) _
+    (Whole-line kind_at Matrix tt Spells-kind _ (whole-sized modulus small))
 
 parted : Certificate → Parted
 parted c = (tt, (c.kind, (length c.echo, (c.echo, c.ccf))))
@@ -220,10 +278,26 @@ whole-certificate modulus small =
     let whole = whole-parted modulus small in
     let x = whole.some in
     record {
-      reads = Reads-same (Reads-map {G = IsCertificate modulus} (then_at 1 version_at (λ version. then_at 1 kind_at (λ kind. then_at 1 size_at (λ size. then_at 1 (echo_at size) (λ echo. contents_at modulus)))))
+      reads = Reads-same (Reads-map {G = IsCertificate modulus}
+          (then_at 1 version_at (λ version. then_at 1 kind_at
+          (λ kind. then_at 1 size_at (λ size. then_at 1 (echo_at size) (λ echo. contents_at modulus)))))
           (λ x. record { kind = x.1.0; echo = x.1.1.1.0; ccf = x.1.1.1.1 }) parted whole.reads
-          (λ x fits. (record { echo = subst (λ n. n ≤ input_limit) (sym fits.1.1.1.0) fits.1.1.0; ccf = fits.1.1.1.1 }, ap (λ n. (tt {0}, (x.1.0, (n, (x.1.1.1.0, x.1.1.1.1))))) fits.1.1.1.0))
+          (λ x fits. (
+            record {
+              echo = subst (λ n. n ≤ input_limit) (sym fits.1.1.1.0) fits.1.1.0;
+              ccf =
+                  fits.1.1.1.1;
+            },
+            ap (λ n. (tt {0}, (x.1.0, (n, (x.1.1.1.0, x.1.1.1.1))))) fits.1.1.1.0,
+          ))
           (λ c is. ((tt, (tt, (is.echo, (refl, is.ccf)))), refl)))
           (λ c is. (is, refl)) (λ c is. is);
-      some = (record { kind = x.0.1.0; echo = x.0.1.1.1.0; ccf = x.0.1.1.1.1 }, record { echo = subst (λ n. n ≤ input_limit) (sym x.1.1.1.1.0) x.1.1.1.0; ccf = x.1.1.1.1.1 });
+      some = (
+        record { kind = x.0.1.0; echo = x.0.1.1.1.0; ccf = x.0.1.1.1.1 },
+        record {
+          echo =
+              subst (λ n. n ≤ input_limit) (sym x.1.1.1.1.0) x.1.1.1.0;
+          ccf = x.1.1.1.1.1;
+        },
+      );
     }

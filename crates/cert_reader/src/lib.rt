@@ -12,6 +12,3 @@ mod tables;
 
 pub use fault::ReadCert;
 pub use reading::{CERTIFICATE_LIMIT, read};
-
-#[cfg(test)]
-mod tests;

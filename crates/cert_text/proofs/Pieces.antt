@@ -2,7 +2,8 @@
 use Rattle.std.proofs.Common.{◌≡◌, ℕ, ◌+◌, ◌<◌, List, ◌++◌, length, get_or, drop, ap}
 use Rattle.text_writer.proofs.Putting.{drop_next}
 use Rattle.cert_text.specs.Contents.{numbered, numbered_rows}
-use Rattle.cert_text.specs.Texts.{item, lettered, spaced, pairs_text, entries_text, numbers_text, letters_text, entries_line, columns_line, block_line, matrix_text, pattern_text, blocks_text}
+use Rattle.cert_text.specs.Texts.{item, lettered, spaced, pairs_text, entries_text, numbers_text, letters_text}
+use Rattle.cert_text.specs.Texts.{entries_line, columns_line, block_line, matrix_text, pattern_text, blocks_text}
 use Rattle.cert_text.specs.declared.part.CcfBlock.{CcfBlock}
 
 pub pairs_left : (pairs : List (ℕ × ℕ)) (i : ℕ) (d : ℕ × ℕ) → i < length pairs →

@@ -1,5 +1,6 @@
 -- The rules of printed parts, taken together and one by one.
-use Rattle.std.proofs.Common.{◌≡◌, ℕ, zero, suc, ◌+◌, ◌-◌, ◌<◌, ◌≤◌, Bool, true, false, cond, eqb, inl, inr, List, [], ◌∷◌, ◌++◌, length, map, get_or, refl, sym, subst, ◌∙◌, arith}
+use Rattle.std.proofs.Common.{◌≡◌, ℕ, zero, suc, ◌+◌, ◌-◌, ◌<◌, ◌≤◌, Bool, true, false, cond, eqb, inl, inr, List, []}
+use Rattle.std.proofs.Common.{◌∷◌, ◌++◌, length, map, get_or, refl, sym, subst, ◌∙◌, arith}
 use Rattle.std.specs.List.{All}
 use Rattle.std.proofs.lemmas.List.{get_or-map, get_or_past, get_or_append_left, length-map, length-append}
 use Rattle.std.proofs.lemmas.List.Elements.{All-head, All-tail}
@@ -50,10 +51,13 @@ no_block = record { part = record { columns = []; q_rows = []; t_rows = [] }; lo
 pub lower-before : (p : ℕ) (c : Contents) → IsCcf p c → (k l : ℕ) → lower_of c l k ≡ true → (k < l) × (l < length c.blocks)
 lower-before p c is k l h = elim (lt_cases l (length c.blocks)) [
   | inl low ↦
-      let same : get_or (map (λ (block : CcfBlock). block.lower) c.blocks) l [] ≡ (get_or c.blocks l no_block).lower = get_or-map (λ (block : CcfBlock). block.lower) c.blocks l no_block [] low in
+      let same : get_or (map (λ (block : CcfBlock). block.lower) c.blocks) l [] ≡ (get_or c.blocks l no_block).lower =
+      get_or-map (λ (block : CcfBlock). block.lower) c.blocks l no_block [] low in
       (has-below l (get_or c.blocks l no_block).lower k ((is.blocks l no_block low).lower).below (subst (λ list. has list k ≡ true) same h), low)
   | inr high ↦
-      let same : get_or (map (λ (block : CcfBlock). block.lower) c.blocks) l [] ≡ [] = get_or_past (map (λ (block : CcfBlock). block.lower) c.blocks) l [] (subst (λ n. n ≤ l) (sym (length-map c.blocks (λ (block : CcfBlock). block.lower))) high) in
+      let same : get_or (map (λ (block : CcfBlock). block.lower) c.blocks) l [] ≡ [] =
+      get_or_past (map (λ (block : CcfBlock). block.lower) c.blocks) l []
+      (subst (λ n. n ≤ l) (sym (length-map c.blocks (λ (block : CcfBlock). block.lower))) high) in
       absurd (differ refl (subst (λ list. has list k ≡ true) same h))
 ]
 
@@ -72,28 +76,35 @@ held-step : (b : Bool) (list : List ℕ) (lists : List (List ℕ)) (x k : ℕ) �
 held-step true list lists x k e rest within h = (omega arith, e)
 held-step false list lists x k e rest within h = held-later list lists x k e rest within h
 
-held : (lists : List (List ℕ)) (x k : ℕ) → k < length lists → has (get_or lists k []) x ≡ true → (place_of lists x < length lists) × (has (get_or lists (place_of lists x) []) x ≡ true)
+held : (lists : List (List ℕ)) (x k : ℕ) → k < length lists → has (get_or lists k []) x ≡ true →
+    (place_of lists x < length lists) × (has (get_or lists (place_of lists x) []) x ≡ true)
 held [] x k within h = absurd (omega arith)
 held (list ∷ lists) x k within h = held-step (has list x) list lists x k refl (held lists x) within h
 
 -- a number stands at the place of the one list that holds it
-pub place-is : (n : ℕ) (lists : List (List ℕ)) → StandsOnce n lists → (x k : ℕ) → x < n → k < length lists → has (get_or lists k []) x ≡ true → place_of lists x ≡ k
+pub place-is : (n : ℕ) (lists : List (List ℕ)) → StandsOnce n lists → (x k : ℕ) → x < n → k < length lists →
+    has (get_or lists k []) x ≡ true → place_of lists x ≡ k
 place-is n lists once x k low within h = let at = held lists x k within h in once.one x (place_of lists x) k low at.0 within at.1 h
 
 -- the columns of block k
-block-columns : (c : Contents) (k : ℕ) → k < length c.blocks → (suc k < length (column_lists c)) × (get_or (column_lists c) (suc k) [] ≡ (get_or c.blocks k no_block).part.columns)
+block-columns : (c : Contents) (k : ℕ) → k < length c.blocks → (suc k < length (column_lists c))
+    × (get_or (column_lists c) (suc k) [] ≡ (get_or c.blocks k no_block).part.columns)
 block-columns c k within =
     let f : CcfBlock → List ℕ = λ block. block.part.columns in
     let long : length (map f c.blocks) ≡ length c.blocks = length-map c.blocks f in
-    let all : length (map f c.blocks ++ c.last.columns ∷ []) ≡ length (map f c.blocks) + 1 = length-append (map f c.blocks) (c.last.columns ∷ []) in
-    (omega (arith, long, all, within), get_or_append_left (map f c.blocks) (c.last.columns ∷ []) [] k (omega (arith, long, within)) ∙ get_or-map f c.blocks k no_block [] within)
+    let all : length (map f c.blocks ++ c.last.columns ∷ []) ≡ length (map f c.blocks) + 1 = length-append (map f c.blocks) (c.last.columns ∷ []) in (
+      omega (arith, long, all, within),
+      get_or_append_left (map f c.blocks) (c.last.columns ∷ []) [] k
+          (omega (arith, long, within)) ∙ get_or-map f c.blocks k no_block [] within,
+    )
 
 has-first : (xs : List ℕ) → 0 < length xs → has xs (get_or xs 0 0) ≡ true
 has-first [] some = absurd (omega arith)
 has-first (x ∷ xs) some = either-first (eqb x x) (has xs x) (eqb_from x x refl)
 
 -- each block has a column, which stands in it alone
-block-member : (p : ℕ) (M : MixedMatrix) (L : LayeredMatrix) (c : Contents) → IsCcf p c → HasShape M L c → StandsOnce L.columns (column_lists c) → (k : ℕ) → k < length c.blocks →
+block-member : (p : ℕ) (M : MixedMatrix) (L : LayeredMatrix) (c : Contents) → IsCcf p c → HasShape M L c →
+    StandsOnce L.columns (column_lists c) → (k : ℕ) → k < length c.blocks →
     (x : ℕ) × (x < L.columns) × ((parts_of c).column x ≡ suc k)
 block-member p M L c is sizes once k within =
     let block = is.blocks k no_block within in
@@ -103,12 +114,15 @@ block-member p M L c is sizes once k within =
     let at = block-columns c k within in
     (x, low, place-is L.columns (column_lists c) once x (suc k) low at.0 (subst (λ list. has list x ≡ true) (sym at.1) (has-first columns block.some)))
 
-in-block : (L : LayeredMatrix) (c : Contents) (x k : ℕ) → x < L.columns → (parts_of c).column x ≡ suc k → k < length c.blocks → IsInBlock L c x × (block_of (parts_of c) x ≡ k)
+in-block : (L : LayeredMatrix) (c : Contents) (x k : ℕ) → x < L.columns → (parts_of c).column x ≡ suc k →
+    k < length c.blocks → IsInBlock L c x × (block_of (parts_of c) x ≡ k)
 in-block L c x k low place within = (
   record {
     below = low;
     not_first = not_true (eqb ((parts_of c).column x) 0) (λ h. first-apart ((parts_of c).column x) k place (eqb_true ((parts_of c).column x) 0 h));
-    not_last = not_true (eqb ((parts_of c).column x) (length c.blocks + 1)) (λ h. last-apart ((parts_of c).column x) k (length c.blocks) place within (eqb_true ((parts_of c).column x) (length c.blocks + 1) h));
+    not_last = not_true (eqb ((parts_of c).column x) (length c.blocks + 1))
+        (λ h. last-apart ((parts_of c).column x) k (length c.blocks) place within
+        (eqb_true ((parts_of c).column x) (length c.blocks + 1) h));
   },
   before-is ((parts_of c).column x) k place,
 )
@@ -188,5 +202,6 @@ printed-rules p M L c K = record {
     parts : KeepsPartRules p L (tableau_of c) (parts_of c) (K.checked).below (lower_of c)
     parts = (K.checked).parts
 
-    rules : KeepsPlaces (leads_to p L (tableau_of c)) L.columns (is_free (tableau_of c)) (is_end p L (tableau_of c)) (in_first (parts_of c)) (in_last (parts_of c)) (block_of (parts_of c)) (length c.blocks) (lower_of c)
+    rules : KeepsPlaces (leads_to p L (tableau_of c)) L.columns (is_free (tableau_of c)) (is_end p L (tableau_of c))
+        (in_first (parts_of c)) (in_last (parts_of c)) (block_of (parts_of c)) (length c.blocks) (lower_of c)
     rules = parts.rules

@@ -37,9 +37,11 @@ symbol-at : (t : ℕ → ℕ → Bool) (i j k l : ℕ) → i ≡ k → j ≡ l �
 symbol-at t i j k l rows columns h = subst (λ y. t k y ≡ true) columns (subst (λ x. t x j ≡ true) rows h)
 
 -- the base columns are unit columns
-pub printed-base : (p : ℕ) (M : MixedMatrix) (L : LayeredMatrix) (c : Contents) → IsCcf p c → HasShape M L c → HasUnitColumns p L c → IsBase p (matrix_of c.p) L.q_rows L.columns (has_column c.base) (row_with c.base)
+pub printed-base : (p : ℕ) (M : MixedMatrix) (L : LayeredMatrix) (c : Contents) → IsCcf p c → HasShape M L c →
+    HasUnitColumns p L c → IsBase p (matrix_of c.p) L.q_rows L.columns (has_column c.base) (row_with c.base)
 printed-base p M L c is sizes units = record {
-  row_below = λ b bl h. let at = has-found c.base b h in subst (λ i. i < L.q_rows) at.3 (subst (λ m. (pair_at c.base at.0).0 < m) sizes.q_rows ((is.base).within at.0 (0, 0) at.1).0);
+  row_below = λ b bl h. let at = has-found c.base b h in subst (λ i. i < L.q_rows) at.3
+      (subst (λ m. (pair_at c.base at.0).0 < m) sizes.q_rows ((is.base).within at.0 (0, 0) at.1).0);
   one = λ b bl h. (unit b h).one;
   zero = λ b i bl h il other. (unit b h).zero i il other;
   distinct = λ a b al bl ha hb same.
@@ -50,12 +52,15 @@ printed-base p M L c is sizes units = record {
 }
   where
     unit : (b : ℕ) → has_column c.base b ≡ true → IsUnitColumn p L.q_rows (matrix_of c.p) (row_with c.base b) b
-    unit b h = let at = has-found c.base b h in unit-at p L.q_rows (matrix_of c.p) (pair_at c.base at.0).0 (pair_at c.base at.0).1 (row_with c.base b) b at.3 at.2 (units at.0 at.1)
+    unit b h = let at = has-found c.base b h in unit-at p L.q_rows (matrix_of c.p) (pair_at c.base at.0).0
+        (pair_at c.base at.0).1 (row_with c.base b) b at.3 at.2 (units at.0 at.1)
 
 -- the matched columns have rows of their own
-printed-matching : (p : ℕ) (M : MixedMatrix) (L : LayeredMatrix) (c : Contents) → IsCcf p c → KeepsPrintedRules p M L c → IsMatching L (has_column c.mates) (row_with c.mates)
+printed-matching : (p : ℕ) (M : MixedMatrix) (L : LayeredMatrix) (c : Contents) → IsCcf p c →
+    KeepsPrintedRules p M L c → IsMatching L (has_column c.mates) (row_with c.mates)
 printed-matching p M L c is K = record {
-  below = λ j jl h. let at = has-found c.mates j h in subst (λ i. i < L.t_rows) at.3 (subst (λ m. (pair_at c.mates at.0).0 < m) (K.shape).t_rows ((is.mates).within at.0 (0, 0) at.1).0);
+  below = λ j jl h. let at = has-found c.mates j h in subst (λ i. i < L.t_rows) at.3
+      (subst (λ m. (pair_at c.mates at.0).0 < m) (K.shape).t_rows ((is.mates).within at.0 (0, 0) at.1).0);
   symbol = λ j jl h. let at = has-found c.mates j h in
       symbol-at L.t (pair_at c.mates at.0).0 (pair_at c.mates at.0).1 (row_with c.mates j) j at.3 at.2 ((K.matching).symbols at.0 at.1);
   distinct = λ a b al bl ha hb same.
@@ -65,7 +70,8 @@ printed-matching p M L c is K = record {
       sym x.2 ∙ ap (λ k. (pair_at c.mates k).1) place ∙ y.2;
 }
 
-pub printed-tableau : (p : ℕ) (M : MixedMatrix) (L : LayeredMatrix) (c : Contents) → IsCcf p c → KeepsPrintedRules p M L c → IsTableau p L (matrix_of c.s) (matrix_of c.u) (tableau_of c)
+pub printed-tableau : (p : ℕ) (M : MixedMatrix) (L : LayeredMatrix) (c : Contents) → IsCcf p c →
+    KeepsPrintedRules p M L c → IsTableau p L (matrix_of c.s) (matrix_of c.u) (tableau_of c)
 printed-tableau p M L c is K = record {
   inverse = K.inverse;
   product = (K.product_is).q;
@@ -78,7 +84,9 @@ printed-tableau p M L c is K = record {
 }
 
 -- the size of the printed pair
-pub printed-size : (p : ℕ) (M : MixedMatrix) (L : LayeredMatrix) (c : Contents) → IsCcf p c → HasShape M L c → ColumnsDiffer c.base c.mates → pair_size L (has_column c.base) (has_column c.mates) ≡ length c.base + length c.mates
+pub printed-size : (p : ℕ) (M : MixedMatrix) (L : LayeredMatrix) (c : Contents) → IsCcf p c → HasShape M L c →
+    ColumnsDiffer c.base c.mates → pair_size L (has_column c.base)
+    (has_column c.mates) ≡ length c.base + length c.mates
 printed-size p M L c is sizes differ =
     let base : size_on (has_column c.base) L.columns ≡ length c.base = columns_counted L.columns c.base
     (λ k kl. subst (λ n. (pair_at c.base k).1 < n) sizes.columns ((is.base).within k (0, 0) kl).1) differ.in_base in
@@ -89,10 +97,13 @@ printed-size p M L c is sizes differ =
 printed-count : (rank n u s b m : ℕ) → rank + n ≡ u + (b + m) → n ≡ u + s → b + m ≡ rank + s
 printed-count rank n u s b m counted columns = omega arith
 
-printed-rank : (p : ℕ) → IsPrime p → 2 < p → (M : MixedMatrix) (L : LayeredMatrix) (O : Origins) → IsLayeredMatrixOf M L O → (c : Contents) → IsCcf p c → KeepsPrintedRules p M L c →
+printed-rank : (p : ℕ) → IsPrime p → 2 < p → (M : MixedMatrix) (L : LayeredMatrix) (O : Origins) →
+    IsLayeredMatrixOf M L O → (c : Contents) → IsCcf p c → KeepsPrintedRules p M L c →
     length c.base + length c.mates ≡ c.rank + O.split → IsStructuralRank p M c.rank
 printed-rank p prime big M L O lay c is K size = law-layering p prime M (gives_q M) (has_symbol M) L O lay big c.rank
-    (subst (λ r. IsLayeredRank p L r) (printed-size p M L c is K.shape (K.matching).differ ∙ size) (closed-rank p prime L (tableau_of c) tab (least_set p L (tableau_of c)) (least_set-closed p L (tableau_of c) clear)))
+    (subst (λ r. IsLayeredRank p L r) (printed-size p M L c is K.shape (K.matching).differ ∙ size)
+    (closed-rank p prime L (tableau_of c) tab (least_set p L (tableau_of c))
+    (least_set-closed p L (tableau_of c) clear)))
   where
     tab : HasTableau p L (tableau_of c)
     tab = tableau p prime L (matrix_of c.s) (matrix_of c.u) (tableau_of c) (printed-tableau p M L c is K)
@@ -100,9 +111,11 @@ printed-rank p prime big M L O lay c is K size = law-layering p prime M (gives_q
     clear : HasNoWalk p L (tableau_of c)
     clear = checked-clear p L (tableau_of c) (parts_of c) (K.checked).below (lower_of c) (K.checked).parts
 
-printed-pair : (p : ℕ) → IsPrime p → 2 < p → (M : MixedMatrix) (L : LayeredMatrix) (O : Origins) → IsLayeredMatrixOf M L O → (c : Contents) → IsCcf p c → KeepsPrintedRules p M L c → HasPairAndRank p M L O c
+printed-pair : (p : ℕ) → IsPrime p → 2 < p → (M : MixedMatrix) (L : LayeredMatrix) (O : Origins) →
+    IsLayeredMatrixOf M L O → (c : Contents) → IsCcf p c → KeepsPrintedRules p M L c → HasPairAndRank p M L O c
 printed-pair p prime big M L O lay c is K =
-    let size : length c.base + length c.mates ≡ c.rank + O.split = printed-count c.rank L.columns M.columns O.split (length c.base) (length c.mates) K.counted lay.columns in
+    let size : length c.base + length c.mates ≡ c.rank + O.split = printed-count c.rank L.columns M.columns O.split
+    (length c.base) (length c.mates) K.counted lay.columns in
     record {
       units = K.units;
       differ = (K.matching).differ;
@@ -127,8 +140,10 @@ printed-form p prime M L c is K = record {
   columns = K.columns;
   q_rows = (K.checked).q_rows;
   t_rows = (K.checked).t_rows;
-  form = checked-form p prime L (matrix_of c.s) (matrix_of c.u) (tableau_of c) (printed-tableau p M L c is K) (parts_of c) (K.checked).below (lower_of c) (K.checked).parts;
-  ordered = λ k l kl ll ne none. checked-ordered p prime L (matrix_of c.s) (matrix_of c.u) (tableau_of c) (printed-tableau p M L c is K) (parts_of c) (K.checked).below (lower_of c) (K.checked).parts k l kl ll ne
+  form = checked-form p prime L (matrix_of c.s) (matrix_of c.u) (tableau_of c) (printed-tableau p M L c is K)
+      (parts_of c) (K.checked).below (lower_of c) (K.checked).parts;
+  ordered = λ k l kl ll ne none. checked-ordered p prime L (matrix_of c.s) (matrix_of c.u) (tableau_of c)
+      (printed-tableau p M L c is K) (parts_of c) (K.checked).below (lower_of c) (K.checked).parts k l kl ll ne
       (λ h. none ((printed-order p M L c K k l kl ll).0 h));
 }
 
@@ -149,8 +164,10 @@ printed-listing : (p : ℕ) → IsPrime p → (M : MixedMatrix) (L : LayeredMatr
 printed-listing p prime M L c is K = record {
   parts = checked-canonical p prime L (tableau_of c) tab (parts_of c) (K.checked).below (lower_of c) (K.checked).parts;
   order = λ k l kl ll. (
-    λ chain. below-block p prime L (tableau_of c) tab (parts_of c) (K.checked).below (lower_of c) (K.checked).parts k l kl ll ((printed-order p M L c K k l kl ll).1 chain),
-    λ held. (printed-order p M L c K k l kl ll).0 (block-below p prime L (tableau_of c) tab (parts_of c) (K.checked).below (lower_of c) (K.checked).parts k l kl ll held),
+    λ chain. below-block p prime L (tableau_of c) tab (parts_of c) (K.checked).below (lower_of c)
+        (K.checked).parts k l kl ll ((printed-order p M L c K k l kl ll).1 chain),
+    λ held. (printed-order p M L c K k l kl ll).0 (block-below p prime L (tableau_of c) tab (parts_of c)
+        (K.checked).below (lower_of c) (K.checked).parts k l kl ll held),
   );
   lists = λ k l kl ll. (
     lower-block p prime L (tableau_of c) tab (parts_of c) (K.checked).below (lower_of c) (K.checked).parts k l kl ll,
@@ -161,7 +178,8 @@ printed-listing p prime M L c is K = record {
     tab : HasTableau p L (tableau_of c)
     tab = tableau p prime L (matrix_of c.s) (matrix_of c.u) (tableau_of c) (printed-tableau p M L c is K)
 
-pub rules-right : (p : ℕ) → IsPrime p → 2 < p → (M : MixedMatrix) (L : LayeredMatrix) (O : Origins) → IsLayeredMatrixOf M L O → (c : Contents) → IsCcf p c → KeepsPrintedRules p M L c → IsRightCcf p M L O c
+pub rules-right : (p : ℕ) → IsPrime p → 2 < p → (M : MixedMatrix) (L : LayeredMatrix) (O : Origins) →
+    IsLayeredMatrixOf M L O → (c : Contents) → IsCcf p c → KeepsPrintedRules p M L c → IsRightCcf p M L O c
 rules-right p prime big M L O lay c is K = record {
   shape = K.shape;
   transform = record { inverse = K.inverse; product_is = K.product_is };

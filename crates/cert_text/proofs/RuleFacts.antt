@@ -25,7 +25,8 @@ use Rattle.cert_text.proofs.PrintedRules.{KeepsPrintedRules, lower-before}
 use Rattle.cert_text.proofs.PairLists.{has-found}
 use Rattle.cert_text.proofs.RightFacts.{printed-base, printed-size}
 
-right-tableau : (p : ℕ) (M : MixedMatrix) (L : LayeredMatrix) (O : Origins) (c : Contents) → IsCcf p c → IsRightCcf p M L O c → IsTableau p L (matrix_of c.s) (matrix_of c.u) (tableau_of c)
+right-tableau : (p : ℕ) (M : MixedMatrix) (L : LayeredMatrix) (O : Origins) (c : Contents) → IsCcf p c →
+    IsRightCcf p M L O c → IsTableau p L (matrix_of c.s) (matrix_of c.u) (tableau_of c)
 right-tableau p M L O c is R = record {
   inverse = (R.transform).inverse;
   product = ((R.transform).product_is).q;
@@ -35,7 +36,8 @@ right-tableau p M L O c is R = record {
 }
 
 -- the item of a column is the one whose row stands with it
-right-symbols : (p : ℕ) (M : MixedMatrix) (L : LayeredMatrix) (O : Origins) (c : Contents) → IsCcf p c → IsRightCcf p M L O c → (k : ℕ) → k < length c.mates → L.t (pair_at c.mates k).0 (pair_at c.mates k).1 ≡ true
+right-symbols : (p : ℕ) (M : MixedMatrix) (L : LayeredMatrix) (O : Origins) (c : Contents) → IsCcf p c →
+    IsRightCcf p M L O c → (k : ℕ) → k < length c.mates → L.t (pair_at c.mates k).0 (pair_at c.mates k).1 ≡ true
 right-symbols p M L O c is R k kl =
     let j : ℕ = (pair_at c.mates k).1 in
     let member : has_column c.mates j ≡ true = some_below-holds (length c.mates) (λ i. eqb (pair_at c.mates i).1 j) k kl (eqb_from j j refl) in
@@ -46,7 +48,8 @@ right-symbols p M L O c is R k kl =
     subst (λ i. L.t i j ≡ true) row ((((R.pair_and_rank).pair).matching).symbol j low member)
 
 -- no pair is larger than the printed one
-right-best : (p : ℕ) → IsPrime p → 2 < p → (M : MixedMatrix) (L : LayeredMatrix) (O : Origins) → IsLayeredMatrixOf M L O → (c : Contents) → IsCcf p c → IsRightCcf p M L O c →
+right-best : (p : ℕ) → IsPrime p → 2 < p → (M : MixedMatrix) (L : LayeredMatrix) (O : Origins) →
+    IsLayeredMatrixOf M L O → (c : Contents) → IsCcf p c → IsRightCcf p M L O c →
     IsBest p L (has_column c.base) (has_column c.mates)
 right-best p prime big M L O lay c is R A B mate pair =
     go (rank_exists p prime (layered_value L (matching_values B mate)) (L.q_rows + L.t_rows) L.columns everything)
@@ -59,7 +62,8 @@ right-best p prime big M L O lay c is R A B mate pair =
 
     go : (s : ℕ) × IsRank p (layered_value L (matching_values B mate)) (L.q_rows + L.t_rows) L.columns everything s →
         pair_size L A B ≤ pair_size L (has_column c.base) (has_column c.mates)
-    go (s, S) = bound (pair_size L A B) s (c.rank + O.split) (pair_size L (has_column c.base) (has_column c.mates)) (pair-reached p prime L A B mate pair s S) (full.greatest (matching_values B mate) s S) size
+    go (s, S) = bound (pair_size L A B) s (c.rank + O.split) (pair_size L (has_column c.base) (has_column c.mates))
+        (pair-reached p prime L A B mate pair s S) (full.greatest (matching_values B mate) s S) size
       where
         bound : (x s r y : ℕ) → x ≤ s → s ≤ r → y ≡ r → x ≤ y
         bound x s r y one two same = omega arith
@@ -67,7 +71,8 @@ right-best p prime big M L O lay c is R A B mate pair =
 right-count : (rank n u s b m : ℕ) → b + m ≡ rank + s → n ≡ u + s → rank + n ≡ u + (b + m)
 right-count rank n u s b m size columns = omega arith
 
-pub right-rules : (p : ℕ) → IsPrime p → 2 < p → (M : MixedMatrix) (L : LayeredMatrix) (O : Origins) → IsLayeredMatrixOf M L O → (c : Contents) → IsCcf p c → IsRightCcf p M L O c → KeepsPrintedRules p M L c
+pub right-rules : (p : ℕ) → IsPrime p → 2 < p → (M : MixedMatrix) (L : LayeredMatrix) (O : Origins) →
+    IsLayeredMatrixOf M L O → (c : Contents) → IsCcf p c → IsRightCcf p M L O c → KeepsPrintedRules p M L c
 right-rules p prime big M L O lay c is R = record {
   shape = R.shape;
   inverse = (R.transform).inverse;

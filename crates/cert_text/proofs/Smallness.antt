@@ -7,7 +7,8 @@ use Rattle.cert_text.specs.Contents.{numbered, numbered_rows}
 use Rattle.cert_text.specs.declared.shape.Shape.{Shape}
 use Rattle.cert_text.specs.declared.part.CcfPart.{CcfPart}
 use Rattle.cert_text.specs.declared.part.CcfBlock.{CcfBlock}
-use Rattle.cert_text.specs.Ranges.{IsShape, AreRising, ArePairs, AreEntries, IsPart, IsBlock, AreSmall, AreSmallPairs, HasSmallKeys, IsSmallPart, IsSmallBlock, AreSmallBlocks}
+use Rattle.cert_text.specs.Ranges.{IsShape, AreRising, ArePairs, AreEntries, IsPart, IsBlock, AreSmall, AreSmallPairs}
+use Rattle.cert_text.specs.Ranges.{HasSmallKeys, IsSmallPart, IsSmallBlock, AreSmallBlocks}
 
 pub small_numbers : (n : ℕ) → n ≤ 8192 → (numbers : List ℕ) → AreRising n numbers → AreSmall numbers
 small_numbers n few numbers are = λ k d within. omega (arith, few, are.below k d within)
@@ -27,7 +28,8 @@ small_keys {T} number p n few entries are = λ i d inside.
 pub small_rows : {T : Type 0} (number : T → ℕ) (p n : ℕ) → n ≤ 8192 → (rows : List (List (ℕ × T))) →
     All (AreEntries p n) (numbered_rows number rows) → All HasSmallKeys rows
 small_rows {T} number p n few rows all = λ k d within.
-    let same : get_or (numbered_rows number rows) k (numbered number d) ≡ numbered number (get_or rows k d) = get_or-map (numbered number) rows k d (numbered number d) within in
+    let same : get_or (numbered_rows number rows) k (numbered number d) ≡ numbered number (get_or rows k d) =
+    get_or-map (numbered number) rows k d (numbered number d) within in
     small_keys number p n few (get_or rows k d)
     (subst (AreEntries p n) same (all k (numbered number d) (subst (λ m. k < m) (sym (length-map rows (numbered number))) within)))
 

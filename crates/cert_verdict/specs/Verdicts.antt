@@ -30,6 +30,13 @@ pub record IsAccepted (p : ℕ) (text : List ℕ) : Type 0 where
   pub text_is : text ≡ certificate_text certificate
   pub keeps : KeepsRules p certificate
 
+-- the text is that of this certificate, which keeps all rules, and its echo gives this model
+pub record IsAcceptedAs (p : ℕ) (text : List ℕ) (certificate : Certificate) (model : MixedModel) : Type 0 where
+  pub is : IsCertificate p certificate
+  pub text_is : text ≡ certificate_text certificate
+  pub gives : GivesModel p certificate.kind certificate.echo model
+  pub right : IsRightFor p (mixed_matrix_of model) certificate.ccf
+
 -- the text is that of a certificate, and this rule is the first that it breaks
 pub record IsRejectedBy (p : ℕ) (text : List ℕ) (rule : ℕ) : Type 0 where
   pub certificate : Certificate

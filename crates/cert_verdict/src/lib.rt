@@ -4,4 +4,4 @@
 mod judging;
 pub mod laws;
 
-pub use judging::{NotAccepted, judge};
+pub use judging::{Accepted, NotAccepted, accept, judge};

@@ -61,7 +61,8 @@ no_block : CcfBlock
 no_block = record { part = record { columns = []; q_rows = []; t_rows = [] }; lower = [] }
 
 lower-rises : (p : ℕ) (c : Contents) → IsCcf p c → (l : ℕ) → l < length c.blocks → AreRising l (get_or (lower_lists c) l [])
-lower-rises p c is l ll = subst (λ list. AreRising l list) (sym (get_or-map (λ (block : CcfBlock). block.lower) c.blocks l no_block [] ll)) (is.blocks l no_block ll).lower
+lower-rises p c is l ll = subst (λ list. AreRising l list)
+    (sym (get_or-map (λ (block : CcfBlock). block.lower) c.blocks l no_block [] ll)) (is.blocks l no_block ll).lower
 
 lower-long : (c : Contents) → length (lower_lists c) ≡ length c.blocks
 lower-long c = length-map c.blocks (λ (block : CcfBlock). block.lower)
@@ -84,7 +85,8 @@ lengths xs ys long each = same_lists (map f xs) (map f ys) (length-map xs f ∙ 
 minus : (a b x y : ℕ) → a + x ≡ b + y → x ≡ y → a ≡ b
 minus a b x y e f = omega arith
 
-module _ (p : ℕ) (prime : IsPrime p) (big : 2 < p) (M : MixedMatrix) (L K : LayeredMatrix) (O N : Origins) (lay : IsLayeredMatrixOf M L O) (other : IsLayeredMatrixOf M K N)
+module _ (p : ℕ) (prime : IsPrime p) (big : 2 < p) (M : MixedMatrix) (L K : LayeredMatrix) (O N : Origins)
+    (lay : IsLayeredMatrixOf M L O) (other : IsLayeredMatrixOf M K N)
     (c d : Contents) (is : IsCcf p c) (so : IsCcf p d) (R : IsRightCcf p M L O c) (Q : IsRightCcf p M K N d) where
   -- ---- one layered matrix
   same : AreSameLayers p L K
@@ -184,13 +186,16 @@ module _ (p : ℕ) (prime : IsPrime p) (big : 2 < p) (M : MixedMatrix) (L K : La
   q-long : (k : ℕ) → k < length (q_row_lists c) → length (get_or (q_row_lists c) k []) ≡ length (get_or (q_row_lists d) k [])
   q-long k kl =
       let other_long : k < length (q_row_lists d) = subst (λ n. k < n) (as-long (q_row_lists c) (q_row_lists d) (q_rows-long c) (q_rows-long d)) kl in
-      place-counted L.q_rows (q_row_lists c) (subst (λ n. All (AreRising n) (q_row_lists c)) (R.shape).q_rows (q_rows-rise p c is)) (R.block_triangular_form).q_rows k kl
+      place-counted L.q_rows (q_row_lists c) (subst (λ n. All (AreRising n) (q_row_lists c)) (R.shape).q_rows
+      (q_rows-rise p c is)) (R.block_triangular_form).q_rows k kl
       ∙ q-counted k (omega (arith, kl, q_rows-long c))
-      ∙ sym (place-counted L.q_rows (q_row_lists d) (subst (λ n. All (AreRising n) (q_row_lists d)) ((Q.shape).q_rows ∙ sym same.q_rows) (q_rows-rise p d so)) q_rows-once k other_long)
+      ∙ sym (place-counted L.q_rows (q_row_lists d) (subst (λ n. All (AreRising n) (q_row_lists d)) ((Q.shape).q_rows
+      ∙ sym same.q_rows) (q_rows-rise p d so)) q_rows-once k other_long)
 
   -- ---- the lower lists
   lists_of : (k l : ℕ) → k < length d.blocks → l < length d.blocks → (lower_of d l k ≡ true) ↔ IsLowerBlock p (with_entries L K.q K.t) (parts_of d) k l
-  lists_of = in_size (λ A. (k l : ℕ) → k < length d.blocks → l < length d.blocks → (lower_of d l k ≡ true) ↔ IsLowerBlock p A (parts_of d) k l) (Q.canonical_listing).lists
+  lists_of = in_size (λ A. (k l : ℕ) → k < length d.blocks → l < length d.blocks →
+      (lower_of d l k ≡ true) ↔ IsLowerBlock p A (parts_of d) k l) (Q.canonical_listing).lists
 
   lower-into : (k l : ℕ) → k < length c.blocks → l < length c.blocks → lower_of c l k ≡ true → lower_of d l k ≡ true
   lower-into k l kl ll h = (lists_of k l (subst (λ n. k < n) one.0 kl) (subst (λ n. l < n) one.0 ll)).1
@@ -203,7 +208,8 @@ module _ (p : ℕ) (prime : IsPrime p) (big : 2 < p) (M : MixedMatrix) (L K : La
       (same-lower p L K.q K.t into from (parts_of d) k l ((lists_of k l (subst (λ n. k < n) one.0 kl) (subst (λ n. l < n) one.0 ll)).0 h)))
 
   lower-one : (l : ℕ) → l < length c.blocks → get_or (lower_lists c) l [] ≡ get_or (lower_lists d) l []
-  lower-one l ll = same-lists l (get_or (lower_lists c) l []) (get_or (lower_lists d) l []) (lower-rises p c is l ll) (lower-rises p d so l (subst (λ n. l < n) one.0 ll))
+  lower-one l ll = same-lists l (get_or (lower_lists c) l []) (get_or (lower_lists d) l [])
+      (lower-rises p c is l ll) (lower-rises p d so l (subst (λ n. l < n) one.0 ll))
       (λ k kl h. lower-into k l (omega arith) ll h) (λ k kl h. lower-from k l (omega arith) ll h)
 
   pub agreed : Agree c d

@@ -56,7 +56,8 @@ module _ (of : CcfPart → List ℕ) (n : ℕ) (c : Contents) where
       let f : CcfBlock → List ℕ = λ block. of block.part in
       omega (arith, length-map c.blocks f, length-append (map f c.blocks) (of c.last ∷ []))
 
-  parts-rise : AreRising n (of c.first) → All (λ (block : CcfBlock). AreRising n (of block.part)) c.blocks → AreRising n (of c.last) → All (AreRising n) of_parts
+  parts-rise : AreRising n (of c.first) → All (λ (block : CcfBlock). AreRising n (of block.part)) c.blocks →
+      AreRising n (of c.last) → All (AreRising n) of_parts
   parts-rise first blocks last = All-cons (AreRising n) (of c.first) (map (λ (block : CcfBlock). of block.part) c.blocks ++ of c.last ∷ []) first
       (All-append (AreRising n) (map (λ (block : CcfBlock). of block.part) c.blocks) (of c.last ∷ [])
       (All-map (AreRising n) (λ (block : CcfBlock). of block.part) c.blocks blocks)

@@ -1,4 +1,5 @@
--- In a form the column parts alone tell the part of each T row: it is the first one in which the row has a symbol, or the last.
+-- In a form the column parts alone tell the part of each T row: it is the first one in which the row has a symbol, or
+-- the last.
 use Rattle.std.proofs.Common.{◌≡◌, ◌+◌, ◌<◌, ◌≤◌, ◌∙◌, ℕ, Bool, true, false, inl, inr, refl, ap, sym, subst, arith}
 use Rattle.residue_theory.proofs.SetLaws.{differ, lt_cases}
 use Rattle.mixed_matrices.specs.Arcs.{has_match}
@@ -15,14 +16,16 @@ pub record AreTold (L : LayeredMatrix) (G : Parts) : Type 0 where
   pub falls : (i j : ℕ) → i < L.t_rows → j < L.columns → L.t i j ≡ true → G.t_row i ≤ G.column j
   pub own : (i : ℕ) → i < L.t_rows → G.t_row i ≤ G.blocks → (j : ℕ) × (j < L.columns) × (L.t i j ≡ true) × (G.column j ≡ G.t_row i)
 
-module _ (p : ℕ) (L : LayeredMatrix) (S : ℕ → ℕ → ℕ) (F : Tableau) (G : Parts) (form : IsForm p L S G) (rows : HasRows L F G) (matching : IsMatching L F.matched F.mate) where
+module _ (p : ℕ) (L : LayeredMatrix) (S : ℕ → ℕ → ℕ) (F : Tableau) (G : Parts) (form : IsForm p L S G)
+    (rows : HasRows L F G) (matching : IsMatching L F.matched F.mate) where
   row-falls : (i j : ℕ) → i < L.t_rows → j < L.columns → L.t i j ≡ true → G.t_row i ≤ G.column j
   row-falls i j il jl h = elim (lt_cases (G.column j) (G.t_row i)) [
     | inl less ↦ absurd (differ (((form.1).empty (G.t_row i) (G.column j) less).t i j il jl refl refl) h)
     | inr le ↦ le
   ]
 
-  row-own : (i : ℕ) → i < L.t_rows → G.t_row i ≤ G.blocks → (b : Bool) → has_match L F i ≡ b → (j : ℕ) × (j < L.columns) × (L.t i j ≡ true) × (G.column j ≡ G.t_row i)
+  row-own : (i : ℕ) → i < L.t_rows → G.t_row i ≤ G.blocks → (b : Bool) → has_match L F i ≡ b → (j : ℕ)
+      × (j < L.columns) × (L.t i j ≡ true) × (G.column j ≡ G.t_row i)
   row-own i il early false none = absurd (omega (arith, rows.other_t i il none))
   row-own i il early true some =
       let at = match_found L F i some in
@@ -31,7 +34,8 @@ module _ (p : ℕ) (L : LayeredMatrix) (S : ℕ → ℕ → ℕ) (F : Tableau) (
   pub are-told : AreTold L G
   are-told = record { few = (form.1).t_rows; falls = row-falls; own = λ i il early. row-own i il early (has_match L F i) refl }
 
-module _ (L : LayeredMatrix) (G H : Parts) (one : AreTold L G) (two : AreTold L H) (blocks : G.blocks ≡ H.blocks) (same : (x : ℕ) → x < L.columns → G.column x ≡ H.column x) where
+module _ (L : LayeredMatrix) (G H : Parts) (one : AreTold L G) (two : AreTold L H) (blocks : G.blocks ≡ H.blocks)
+    (same : (x : ℕ) → x < L.columns → G.column x ≡ H.column x) where
   -- no later than the symbol in its part
   pub no-later : (i : ℕ) → i < L.t_rows → H.t_row i ≤ G.t_row i
   no-later i il = elim (lt_cases G.blocks (G.t_row i)) [

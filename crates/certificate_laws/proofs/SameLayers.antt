@@ -19,7 +19,8 @@ abbrev pub with_entries : LayeredMatrix → (ℕ → ℕ → ℕ) → (ℕ → �
 with_entries L q t = record { q_rows = L.q_rows; t_rows = L.t_rows; columns = L.columns; q = q; t = t }
 
 -- what holds of K holds of the entries of K in the sizes of L
-pub resized : (E : LayeredMatrix → Type 0) (L K : LayeredMatrix) → L.q_rows ≡ K.q_rows → L.t_rows ≡ K.t_rows → L.columns ≡ K.columns → E K → E (with_entries L K.q K.t)
+pub resized : (E : LayeredMatrix → Type 0) (L K : LayeredMatrix) → L.q_rows ≡ K.q_rows → L.t_rows ≡ K.t_rows →
+    L.columns ≡ K.columns → E K → E (with_entries L K.q K.t)
 resized E L K rows symbols columns h =
     subst (λ m. E (record { q_rows = m; t_rows = L.t_rows; columns = L.columns; q = K.q; t = K.t })) (sym rows)
     (subst (λ m. E (record { q_rows = K.q_rows; t_rows = m; columns = L.columns; q = K.q; t = K.t })) (sym symbols)
@@ -97,7 +98,8 @@ module _ (p : ℕ) (L : LayeredMatrix) (q : ℕ → ℕ → ℕ) (t : ℕ → �
     q_rows = refl;
     t_rows = refl;
     columns = refl;
-    q = λ i j il jl. cond-agree p (in_part G.q_row k i && in_part G.column k j) (product L.q_rows S q i j) (product L.q_rows S L.q i j) (product-same i j il jl);
+    q = λ i j il jl. cond-agree p (in_part G.q_row k i && in_part G.column k j) (product L.q_rows S q i j)
+        (product L.q_rows S L.q i j) (product-same i j il jl);
     t = λ i j il jl. ap (λ b. in_part G.t_row k i && in_part G.column k j && b) (symbols i j il jl);
   }
 

@@ -19,7 +19,7 @@ fn words_of(alloc: Global, words: &[&str]) -> Result<Vec<String>, Fail> {
 }
 
 /// That a run with these words on this input ends with this status and these notes; the sink that it wrote to.
-pub fn expect_run(
+pub(crate) fn expect_run(
     rt: &impl Abort,
     alloc: Global,
     words: &[&str],
@@ -38,14 +38,14 @@ pub fn expect_run(
 }
 
 /// That the text is that of a certificate, and accepted.
-pub fn expect_accepted(rt: &impl Abort, alloc: Global, text: &[u8]) -> Result<(), Fail> {
+pub(crate) fn expect_accepted(rt: &impl Abort, alloc: Global, text: &[u8]) -> Result<(), Fail> {
     let out = expect_run(rt, alloc, &["mixed", "check"], text, 0, b"")?;
     assert_eq!(rt; out.bytes(), b"accepted\n".as_slice());
     Ok(())
 }
 
 /// That the text is not accepted, with this status and this note.
-pub fn expect_refused(
+pub(crate) fn expect_refused(
     rt: &impl Abort,
     alloc: Global,
     text: &[u8],

@@ -11,10 +11,11 @@ use Rattle.std.proofs.lemmas.List.Elements.{All-push}
 use Rattle.residue_theory.specs.Sums.{sum_below}
 use Rattle.residue_theory.proofs.SumLaws.{nat_cases}
 use Rattle.linear_algebra.specs.Products.{identity, product}
-use Rattle.dense_q.specs.Rows.{plus_multiple, IsCombined}
+use Rattle.residue_field.specs.Rows.{plus_multiple}
+use Rattle.residue_field.proofs.RowLaws.{plus_multiple-at}
+use Rattle.dense_q.specs.Rows.{IsCombined}
 use Rattle.dense_q.specs.Storage.{IsStored}
 use Rattle.dense_q.specs.Tables.{Table, IsTableOf, IsProduct, height, entry}
-use Rattle.dense_q.proofs.RowLaws.{plus_multiple-at}
 use Rattle.dense_q.proofs.TableLaws.{numbers, numbers-row}
 
 pub pushed-count : {X : Type 0} (all more : List X) (row : X) (i : ℕ) → more ≡ all ++ row ∷ [] → length all ≡ i → length more ≡ i + 1

@@ -7,10 +7,12 @@ use Rattle.std.proofs.lemmas.List.Edits.{length-swap}
 use Rattle.std.proofs.lemmas.List.Elements.{All-map, All-set, All-from_all_within, AllWithin-upto}
 use Rattle.std.proofs.Math.Nat.{mod-mod}
 use Rattle.linear_algebra.specs.RowOperations.{IsRowAdded, IsRowScaled}
-use Rattle.dense_q.specs.Rows.{plus_multiple, multiple}
+use Rattle.residue_field.specs.Rows.{plus_multiple}
+use Rattle.residue_field.proofs.RowLaws.{plus_multiple-at}
+use Rattle.dense_q.specs.Rows.{multiple}
 use Rattle.dense_q.specs.Storage.{IsStored}
 use Rattle.dense_q.specs.Tables.{Table, IsMatrix, AreResidues, HasSameSize, height, row_at, entry, with_row}
-use Rattle.dense_q.proofs.RowLaws.{plus_multiple-at, multiple-at}
+use Rattle.dense_q.proofs.RowLaws.{multiple-at}
 
 module _ {A Z : Type 0} (number : A → ℕ) where
   -- the rows of numbers
@@ -56,6 +58,31 @@ module _ {A Z : Type 0} (number : A → ℕ) where
       ∙ numbers-with_items rows i taken old new _ same len (done
       ∙ ap (λ xs. plus_multiple p k xs (map number others)) (ap (λ xs. map number xs) (same ∙ ap (λ v. v.items) te) ∙ sym (numbers-row rows i row il e))
       ∙ ap (λ xs. plus_multiple p k (slice_index_or (numbers rows) i []) xs) (ap (λ xs. map number xs) other_same ∙ sym (numbers-row rows j source jl (se ∙ get_or-set_other rows i j hole source (λ q. apart (sym q))))))
+
+  -- row j of other rows is added to row i
+  pub numbers-plus_row : (p k : ℕ) (rows others : List (Vec A Z)) (i j : ℕ) (row source : Vec A Z)
+      (old new terms : List A) → i < length rows → j < length others →
+      row ≡ slice_index_or rows i row → source ≡ slice_index_or others j source → old ≡ row.items →
+      terms ≡ source.items → length new ≡ length old →
+      map number new ≡ plus_multiple p k (map number old) (map number terms) →
+      numbers (slice_set rows i (with_items row new))
+      ≡ slice_set (numbers rows) i
+      (plus_multiple p k (slice_index_or (numbers rows) i []) (slice_index_or (numbers others) j []))
+  numbers-plus_row p k rows others i j row source old new terms il jl e se same other_same len done =
+      numbers-with_items rows i row old new _ same len (done
+      ∙ ap (λ xs. plus_multiple p k xs (map number terms))
+      (ap (λ xs. map number xs) same ∙ sym (numbers-row rows i row il e))
+      ∙ ap (λ xs. plus_multiple p k (slice_index_or (numbers rows) i []) xs)
+      (ap (λ xs. map number xs) other_same ∙ sym (numbers-row others j source jl se)))
+
+  -- and copied to row i
+  pub numbers-copied : (rows others : List (Vec A Z)) (i j : ℕ) (now source : Vec A Z) (terms : List A) →
+      j < length others → source ≡ slice_index_or others j source → terms ≡ source.items → now.items ≡ terms →
+      numbers (slice_set rows i now) ≡ slice_set (numbers rows) i (slice_index_or (numbers others) j [])
+  numbers-copied rows others i j now source terms jl se other_same done =
+      map-set (λ r. map number r.items) rows i now
+      ∙ ap (λ r. slice_set (numbers rows) i r)
+      (ap (λ xs. map number xs) (done ∙ other_same) ∙ sym (numbers-row others j source jl se))
 
 -- ---- rows in each other's place
 pub map-swap : {A B : Type 0} (f : A → B) (xs : List A) (i j : ℕ) → i < length xs → j < length xs → map f (swap xs i j) ≡ swap (map f xs) i j
@@ -107,6 +134,26 @@ module _ (p k : ℕ) (old : Table) (t : ℕ) (good : IsMatrix old) (tl : t < hei
 
       others : (i j : ℕ) → i < height old → j < old.width → i ≢ t → entry (with_row old t (multiple p k (row_at old t))) i j % p ≡ entry old i j % p
       others i j il jl ne = ap (λ r. slice_index r j % p) (get_or-set_other old.rows t i (multiple p k (row_at old t)) [] ne)
+
+-- ---- a row in the place of another
+pub with_row-other : (old now : Table) (t : ℕ) (r : List ℕ) → now ≡ with_row old t r →
+    (i j : ℕ) → i ≢ t → entry now i j ≡ entry old i j
+with_row-other old now t r e i j ne =
+    ap (λ (m : Table). entry m i j) e ∙ ap (λ xs. slice_index xs j) (get_or-set_other old.rows t i r [] ne)
+
+pub with_row-same : (old now : Table) (t : ℕ) (r : List ℕ) → t < height old → now ≡ with_row old t r →
+    (j : ℕ) → entry now t j ≡ slice_index r j
+with_row-same old now t r tl e j =
+    ap (λ (m : Table). entry m t j) e ∙ ap (λ xs. slice_index xs j) (get_or-set_same old.rows t r [] tl)
+
+pub plus_row-same : (p k : ℕ) (old other now : Table) (t s : ℕ) → IsMatrix old → IsMatrix other →
+    t < height old → s < height other → other.width ≡ old.width →
+    now ≡ with_row old t (plus_multiple p k (row_at old t) (row_at other s)) →
+    (j : ℕ) → j < old.width → entry now t j ≡ (entry old t j + k * entry other s j) % p
+plus_row-same p k old other now t s good whole tl sl width e j jl =
+    with_row-same old now t _ tl e j
+    ∙ plus_multiple-at p k (row_at old t) (row_at other s) j
+    (good.full t [] tl ∙ sym width ∙ sym (whole.full s [] sl)) (omega (arith, good.full t [] tl))
 
 -- rows have residues, if the numbers of the values of each row seen are below p, and all rows are seen
 pub residues-told : {R X : Type 0} (items : R → List X) (number : X → ℕ) (p : ℕ) (rows seen : List R) (n : ℕ) → seen ≡ rows → length seen ≤ n → AllWithin (λ row. All (λ value. number value < p) (items row)) seen 0 n →

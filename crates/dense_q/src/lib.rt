@@ -6,6 +6,3 @@ mod rows;
 
 pub use matrix::Mat;
 pub use out_of_memory::NoMemory;
-
-#[cfg(test)]
-mod tests;

@@ -1,10 +1,11 @@
 //! Dense matrices over a field.
 
-ghost use Rattle.std.specs.Prelude.{◌≡◌, ℕ, ◌<◌, ◌≤◌, ◌≢◌, map, length, IfOk, OnOk, OnErr};
+ghost use Rattle.std.specs.Prelude.{◌≡◌, ℕ, ◌+◌, ◌*◌, ◌%◌, ◌<◌, ◌≤◌, ◌≢◌, map, length, IfOk, OnOk, OnErr};
 ghost use Rattle.limits.specs.Limits.{column_limit};
 ghost use Rattle.linear_algebra.specs.Products.{identity};
 ghost use Rattle.linear_algebra.specs.RowOperations.{IsRowAdded, IsRowScaled};
-ghost use Rattle.dense_q.specs.Rows.{plus_multiple, multiple};
+ghost use Rattle.residue_field.specs.Rows.{plus_multiple};
+ghost use Rattle.dense_q.specs.Rows.{multiple};
 ghost use Rattle.dense_q.specs.Tables.{Table, IsMatrix, AreResidues, HasSameSize, IsTableOf, IsProduct, height, row_at, entry, zero_table, with_row, with_entry, with_rows_swapped, with_last_row};
 
 use crate::rows;
@@ -200,7 +201,35 @@ impl<F: Field> Mat<F> {
     {
         let empty = Vec::new(*self.rows.allocator());
         let mut target = mem::replace(&mut self.rows[i], empty);
-        rows::add_multiple(&mut target, &self.rows[j], c);
+        F::add_scaled(&mut target, &self.rows[j], c);
         self.rows[i] = target;
+    }
+
+    /// Adds c times row j of another matrix, which is as wide, to row i.
+    pub fn add_row_of(&mut self, i: usize, other: &Mat<F>, j: usize, c: F)
+        requires target { i < height self.old }
+        requires source { j < height other.now }
+        requires width { other.now.width ≡ self.old.width }
+        ensures row { self.new
+            ≡ with_row self.old i (plus_multiple F.modulus (F.number c) (row_at self.old i) (row_at other.now j)) }
+        ensures size { HasSameSize self.new self.old }
+        ensures changed { (k : ℕ) → k < self.old.width →
+            entry self.new i k ≡ (entry self.old i k + F.number c * entry other.now j k) % F.modulus }
+        ensures others { (t k : ℕ) → t ≢ i → entry self.new t k ≡ entry self.old t k }
+    {
+        F::add_scaled(&mut self.rows[i], &other.rows[j], c);
+    }
+
+    /// Copies row j of another matrix, which is as wide, into row i.
+    pub fn copy_row_of(&mut self, i: usize, other: &Mat<F>, j: usize)
+        requires target { i < height self.old }
+        requires source { j < height other.now }
+        requires width { other.now.width ≡ self.old.width }
+        ensures row { self.new ≡ with_row self.old i (row_at other.now j) }
+        ensures size { HasSameSize self.new self.old }
+        ensures changed { (k : ℕ) → entry self.new i k ≡ entry other.now j k }
+        ensures others { (t k : ℕ) → t ≢ i → entry self.new t k ≡ entry self.old t k }
+    {
+        self.rows[i].copy_from_slice(&other.rows[j]);
     }
 }

@@ -2,24 +2,10 @@
 
 ghost use Rattle.std.specs.Prelude.{◌≡◌, ℕ, ◌<◌, ◌≤◌, map, length, replicate, vec_len, slice_index, slice_index_or, IfOk};
 ghost use Rattle.std.specs.List.{All};
-ghost use Rattle.dense_q.specs.Rows.{plus_multiple, multiple, IsCombined};
+ghost use Rattle.dense_q.specs.Rows.{multiple, IsCombined};
 
 use residue_field::Field;
 use std::alloc::{AllocError, Global};
-
-// Adds `factor` times `source` to `target`.
-pub(crate) fn add_multiple<F: Field>(target: &mut [F], source: &[F], factor: F)
-    requires { length target.old ≡ length source.now }
-    ensures { map F.number target.new ≡ plus_multiple F.modulus (F.number factor) (map F.number target.old)
-        (map F.number source.now) }
-{
-    let mut terms = source.iter();
-    for x in target.iter_mut() {
-        if let Some(y) = terms.next() {
-            *x = x.add(factor.mul(*y));
-        }
-    }
-}
 
 pub(crate) fn multiply<F: Field>(row: &mut [F], factor: F)
     ensures { map F.number row.new ≡ multiple F.modulus (F.number factor) (map F.number row.old) }
@@ -53,7 +39,7 @@ pub(crate) fn combination<F: Field>(
 {
     let mut sum = zero_row(alloc, columns)?;
     for (row, coefficient) in rows.iter().zip(coefficients) {
-        add_multiple(&mut sum, row, *coefficient);
+        F::add_scaled(&mut sum, row, *coefficient);
     }
     Ok(sum)
 }

@@ -19,10 +19,12 @@ on_refused P Q (Refused refused) follows said = follows refused said
 on_refused P Q OutOfMemory follows said = tt
 
 -- the same error
-pub same-fault : {V : Type 0} (Q : Fault → Type 0) (result : Result V Fault) (fault : Fault) → IsErrAnd result (λ given. given ≡ fault) → Q fault → IfErr result Q
+pub same-fault : {V : Type 0} (Q : Fault → Type 0) (result : Result V Fault) (fault : Fault) →
+    IsErrAnd result (λ given. given ≡ fault) → Q fault → IfErr result Q
 same-fault Q (Ok value) fault failed said = tt
 same-fault Q (Err given) fault failed said = subst Q (sym failed) said
 
-pub same-error : {V : Type 0} (Q : ReadModel → Type 0) (result : Result V ReadModel) (error : ReadModel) → IsErrAnd result (λ given. given ≡ error) → Q error → IfErr result Q
+pub same-error : {V : Type 0} (Q : ReadModel → Type 0) (result : Result V ReadModel) (error : ReadModel) →
+    IsErrAnd result (λ given. given ≡ error) → Q error → IfErr result Q
 same-error Q (Ok value) error failed said = tt
 same-error Q (Err given) error failed said = subst Q (sym failed) said

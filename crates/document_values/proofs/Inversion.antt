@@ -20,7 +20,8 @@ pub broken : {A B E : Type 0} (first : Result A E) (next : A → Result B E) (wh
 broken first next why breaks = ap (λ given. given >>= next) breaks
 
 -- a chain that gives something
-pub chain-Ok : {A B E : Type 0} (first : Result A E) (next : A → Result B E) (value : B) → (first >>= next) ≡ Ok value → (a : A) × (first ≡ Ok a) × (next a ≡ Ok value)
+pub chain-Ok : {A B E : Type 0} (first : Result A E) (next : A → Result B E) (value : B) →
+    (first >>= next) ≡ Ok value → (a : A) × (first ≡ Ok a) × (next a ≡ Ok value)
 chain-Ok (Ok a) next value kept = (a, refl, kept)
 chain-Ok (Err e) next value kept = let f : ⊥ = cc in absurd f
 
@@ -33,9 +34,11 @@ not-true false e = refl
 not-true true e = let f : ⊥ = cc in absurd f
 
 -- a new name
-pub new_name-Ok : (names : List (List ℕ)) (datum : Data) (name : List ℕ) → new_name names datum ≡ Ok name → (is_short_name name ≡ true) × (has_name names name ≡ false)
+pub new_name-Ok : (names : List (List ℕ)) (datum : Data) (name : List ℕ) → new_name names datum ≡ Ok name →
+    (is_short_name name ≡ true) × (has_name names name ≡ false)
 new_name-Ok names datum name kept =
-    let (second, first, last) = chain-Ok (text_of datum >>= (λ name. keeping (is_short_name name) BadName name)) (λ name. keeping (not (has_name names name)) Twice name) name kept in
+    let (second, first, last) = chain-Ok (text_of datum >>= (λ name. keeping (is_short_name name) BadName name))
+    (λ name. keeping (not (has_name names name)) Twice name) name kept in
     let (text, told, good) = chain-Ok (text_of datum) (λ name. keeping (is_short_name name) BadName name) second first in
     let short = keeping-Ok (is_short_name text) BadName text second good in
     let new = keeping-Ok (not (has_name names second)) Twice second name last in (
@@ -44,9 +47,12 @@ new_name-Ok names datum name kept =
     )
 
 -- a declared one
-pub declared_name-Ok : (declared before : List (List ℕ)) (datum : Data) (name : List ℕ) → declared_name declared before datum ≡ Ok name → (has_name declared name ≡ true) × (has_name before name ≡ false)
+pub declared_name-Ok : (declared before : List (List ℕ)) (datum : Data) (name : List ℕ) →
+    declared_name declared before datum ≡ Ok name → (has_name declared name ≡ true) × (has_name before name ≡ false)
 declared_name-Ok declared before datum name kept =
-    let (second, first, last) = chain-Ok (text_of datum >>= (λ name. keeping (has_name declared name) Undeclared name)) (λ name. keeping (not (has_name before name)) Twice name) name kept in
+    let (second, first, last) = chain-Ok (text_of datum >>=
+    (λ name. keeping (has_name declared name) Undeclared name))
+    (λ name. keeping (not (has_name before name)) Twice name) name kept in
     let (text, told, good) = chain-Ok (text_of datum) (λ name. keeping (has_name declared name) Undeclared name) second first in
     let there = keeping-Ok (has_name declared text) Undeclared text second good in
     let new = keeping-Ok (not (has_name before second)) Twice second name last in (
@@ -55,19 +61,23 @@ declared_name-Ok declared before datum name kept =
     )
 
 -- declared names, one after another
-declared-found : (declared before found : List (List ℕ)) (items : List Data) (names : List (List ℕ)) → each (λ found. declared_name declared (before ++ found)) found items ≡ Ok names
-    → AllByRecursion (λ name. has_name declared name ≡ true) found → Differ (before ++ found) → AllByRecursion (λ name. has_name declared name ≡ true) names × Differ (before ++ names)
+declared-found : (declared before found : List (List ℕ)) (items : List Data) (names : List (List ℕ)) →
+    each (λ found. declared_name declared (before ++ found)) found items ≡ Ok names
+    → AllByRecursion (λ name. has_name declared name ≡ true) found → Differ (before ++ found) →
+    AllByRecursion (λ name. has_name declared name ≡ true) names × Differ (before ++ names)
 declared-found declared before found [] names kept there differ =
     let same : found ≡ names = cc in
     (subst (AllByRecursion (λ name. has_name declared name ≡ true)) same there, subst (λ names. Differ (before ++ names)) same differ)
 declared-found declared before found (datum ∷ items) names kept there differ =
-    let (name, first, last) = chain-Ok (declared_name declared (before ++ found) datum) (λ name. each (λ found. declared_name declared (before ++ found)) (found ++ name ∷ []) items) names kept in
+    let (name, first, last) = chain-Ok (declared_name declared (before ++ found) datum)
+    (λ name. each (λ found. declared_name declared (before ++ found)) (found ++ name ∷ []) items) names kept in
     let is = declared_name-Ok declared (before ++ found) datum name first in
     declared-found declared before (found ++ name ∷ []) items names last
     (all-append (λ name. has_name declared name ≡ true) found (name ∷ []) there (is.0, tt))
     (subst Differ (append_assoc before found (name ∷ [])) (differ-last (before ++ found) name differ is.1))
 
-pub declared_names-Ok : (declared before : List (List ℕ)) (items : List Data) (names : List (List ℕ)) → Differ before → declared_names declared before items ≡ Ok names
+pub declared_names-Ok : (declared before : List (List ℕ)) (items : List Data) (names : List (List ℕ)) → Differ before →
+    declared_names declared before items ≡ Ok names
     → AllByRecursion (λ name. has_name declared name ≡ true) names × Differ (before ++ names)
 declared_names-Ok declared before items names differ kept =
     declared-found declared before [] items names kept tt (subst Differ (sym (append-nil before)) differ)

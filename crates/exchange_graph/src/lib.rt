@@ -12,6 +12,3 @@ pub use arcs::Arcs;
 pub use out_of_memory::NoMemory;
 pub use search::Search;
 pub use steps::Steps;
-
-#[cfg(test)]
-mod tests;

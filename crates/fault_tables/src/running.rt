@@ -11,28 +11,28 @@ const ROOM: usize = 100_000;
 
 /// What a run gets.
 #[derive(Clone, Copy)]
-pub struct Streams<'a> {
-    pub words: &'a [&'a str],
-    pub input: &'a [u8],
+pub(crate) struct Streams<'a> {
+    pub(crate) words: &'a [&'a str],
+    pub(crate) input: &'a [u8],
     /// The most bytes that the source gives in one call, and that `out` takes in one.
-    pub step: usize,
-    pub most: usize,
+    pub(crate) step: usize,
+    pub(crate) most: usize,
     /// The calls of the source, of `out` and of `notes` that fail.
-    pub source_fails: &'a [u64],
-    pub out_fails: &'a [u64],
-    pub notes_fail: &'a [u64],
+    pub(crate) source_fails: &'a [u64],
+    pub(crate) out_fails: &'a [u64],
+    pub(crate) notes_fail: &'a [u64],
 }
 
 /// What a run leaves.
 #[derive(Drop)]
-pub struct Left {
-    pub status: u8,
-    pub out: MemSink,
-    pub notes: MemSink,
+pub(crate) struct Left {
+    pub(crate) status: u8,
+    pub(crate) out: MemSink,
+    pub(crate) notes: MemSink,
 }
 
 /// Streams with ample room and no failing call.
-pub fn calm<'a>(words: &'a [&'a str], input: &'a [u8]) -> Streams<'a> {
+pub(crate) fn calm<'a>(words: &'a [&'a str], input: &'a [u8]) -> Streams<'a> {
     Streams {
         words,
         input,
@@ -45,7 +45,7 @@ pub fn calm<'a>(words: &'a [&'a str], input: &'a [u8]) -> Streams<'a> {
 }
 
 /// Runs over these streams.
-pub fn run_over(alloc: Global, streams: &Streams) -> Result<Left, Fail> {
+pub(crate) fn run_over(alloc: Global, streams: &Streams) -> Result<Left, Fail> {
     let mut words = Vec::new(alloc);
     for word in streams.words {
         words.push(String::from_str(alloc, word)?)?;
@@ -67,7 +67,7 @@ pub fn run_over(alloc: Global, streams: &Streams) -> Result<Left, Fail> {
 }
 
 /// That a run ended with this status, wrote this whole text, and noted this.
-pub fn expect_left(
+pub(crate) fn expect_left(
     rt: &impl Abort,
     left: &Left,
     status: u8,

@@ -51,7 +51,8 @@ empty_document = refl
 pub nothing-given : (p : ℕ) (model : MixedModel) → GivesModel p [] model → (model.equations ≡ []) × (model.unknowns ≡ [])
 nothing-given p model gives =
     let documents = one_document [] no_members gives.document empty_document gives.parsed in
-    let sheets : sheet_without_units One [] [] ≡ gives.sheet = one_sheet p no_members gives.document (sheet_without_units One [] []) gives.sheet documents refl gives.kept in (
+    let sheets : sheet_without_units One [] [] ≡ gives.sheet = one_sheet p no_members gives.document
+    (sheet_without_units One [] []) gives.sheet documents refl gives.kept in (
       (gives.given).equations_are ∙ sym (ap (λ (sheet : Sheet). sheet.system.equations) sheets),
       (gives.given).unknowns_are ∙ sym (ap (λ (sheet : Sheet). sheet.system.unknowns) sheets),
     )

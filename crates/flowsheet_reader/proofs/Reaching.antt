@@ -1,5 +1,7 @@
 -- Flowsheets that the items of a document make: they are sound, and grow by a unit.
-use Rattle.std.proofs.Common.{◌≡◌, ℕ, ◌+◌, ◌<◌, ◌≤◌, ◌^◌, Bool, true, false, ◌&&◌, List, [], ◌∷◌, ◌++◌, length, Result, Ok, Err, refl, sym, ap, subst, ◌∙◌, arith, length-append, leb, leb-true, ◌⊎◌, inl, inr}
+use Rattle.std.proofs.Common.{◌≡◌, ℕ, ◌+◌, ◌<◌, ◌≤◌, ◌^◌, Bool, true, false, ◌&&◌, List, [], ◌∷◌, ◌++◌, length}
+use Rattle.std.proofs.Common.{Result, Ok, Err, refl, sym, ap, subst, ◌∙◌, arith, length-append, leb, leb-true, ◌⊎◌}
+use Rattle.std.proofs.Common.{inl, inr}
 use Rattle.std.specs.List.{AllByRecursion}
 use Rattle.std.proofs.lemmas.Bool.{le-leb, lt-leb}
 use Rattle.std.proofs.lemmas.List.{length-map}
@@ -38,38 +40,52 @@ at-Ok place (Err why) value kept = let f : ⊥ = cc in absurd f
 abbrev GivesNew : (List (List ℕ) → Data → Result (List ℕ) Refusal) → Type 0
 GivesNew one = (found : List (List ℕ)) (datum : Data) (name : List ℕ) → one found datum ≡ Ok name → new_name found datum ≡ Ok name
 
-named : (one : List (List ℕ) → Data → Result (List ℕ) Refusal) → GivesNew one → (found : List (List ℕ)) (items : List Data) (names : List (List ℕ)) → each one found items ≡ Ok names → AllByRecursion IsShort found → Differ found → AllByRecursion IsShort names × Differ names
+named : (one : List (List ℕ) → Data → Result (List ℕ) Refusal) → GivesNew one →
+    (found : List (List ℕ)) (items : List Data) (names : List (List ℕ)) → each one found items ≡ Ok names →
+    AllByRecursion IsShort found → Differ found → AllByRecursion IsShort names × Differ names
 named one new found [] names kept short differ =
     let same : found ≡ names = cc in
     (subst (AllByRecursion IsShort) same short, subst Differ same differ)
 named one new found (datum ∷ items) names kept short differ =
     let (name, first, last) = chain-Ok (one found datum) (λ name. each one (found ++ name ∷ []) items) names kept in
     let is = new_name-Ok found datum name (new found datum name first) in
-    named one new (found ++ name ∷ []) items names last (all-append IsShort found (name ∷ []) short (short-name name is.0, tt)) (differ-last found name differ is.1)
+    named one new (found ++ name ∷ []) items names last (all-append IsShort found (name ∷ []) short
+    (short-name name is.0, tt)) (differ-last found name differ is.1)
 
 component-new : GivesNew component_in
 component-new found datum name kept = at-Ok (Place.Component (length found + 1)) (new_name found datum) name kept
 
-new_stream-new : (components found : List (List ℕ)) (datum : Data) (name : List ℕ) → new_stream components found datum ≡ Ok name → (new_name found datum ≡ Ok name) × (length (flows components (found ++ name ∷ [])) ≤ 4096)
+new_stream-new : (components found : List (List ℕ)) (datum : Data) (name : List ℕ) →
+    new_stream components found datum ≡ Ok name → (new_name found datum ≡ Ok name)
+    × (length (flows components (found ++ name ∷ [])) ≤ 4096)
 new_stream-new components found datum name kept =
-    let (given, first, last) = chain-Ok (new_name found datum) (λ name. keeping (leb (length (flows components (found ++ name ∷ []))) 4096) TooMany name) name kept in
-    let is = keeping-Ok (leb (length (flows components (found ++ given ∷ []))) 4096) TooMany given name last in
-    (first ∙ ap Ok is.1, leb-true (length (flows components (found ++ name ∷ []))) 4096 (sym (ap (λ n. leb (length (flows components (found ++ n ∷ []))) 4096) is.1) ∙ is.0))
+    let (given, first, last) = chain-Ok (new_name found datum)
+    (λ name. keeping (leb (length (flows components (found ++ name ∷ []))) 4096) TooMany name) name kept in
+    let is = keeping-Ok (leb (length (flows components (found ++ given ∷ []))) 4096) TooMany given name last in (
+      first ∙ ap Ok is.1,
+      leb-true (length (flows components (found ++ name ∷ []))) 4096
+          (sym (ap (λ n. leb (length (flows components (found ++ n ∷ []))) 4096) is.1) ∙ is.0),
+    )
 
 stream-new : (components : List (List ℕ)) → GivesNew (stream_in components)
-stream-new components found datum name kept = (new_stream-new components found datum name (at-Ok (Place.Stream (length found + 1)) (new_stream components found datum) name kept)).0
+stream-new components found datum name kept = (new_stream-new components found datum name
+    (at-Ok (Place.Stream (length found + 1)) (new_stream components found datum) name kept)).0
 
 -- for the flows of streams that were read there is room
-streams-few : (components found : List (List ℕ)) (items : List Data) (names : List (List ℕ)) → each (stream_in components) found items ≡ Ok names → length (flows components found) ≤ 4096 → length (flows components names) ≤ 4096
+streams-few : (components found : List (List ℕ)) (items : List Data) (names : List (List ℕ)) →
+    each (stream_in components) found items ≡ Ok names → length (flows components found) ≤ 4096 →
+    length (flows components names) ≤ 4096
 streams-few components found [] names kept few = let same : found ≡ names = cc in subst (λ names. length (flows components names) ≤ 4096) same few
 streams-few components found (datum ∷ items) names kept few =
     let (name, first, last) = chain-Ok (stream_in components found datum) (λ name. each (stream_in components) (found ++ name ∷ []) items) names kept in
-    streams-few components (found ++ name ∷ []) items names last (new_stream-new components found datum name (at-Ok (Place.Stream (length found + 1)) (new_stream components found datum) name first)).1
+    streams-few components (found ++ name ∷ []) items names last (new_stream-new components found datum name
+    (at-Ok (Place.Stream (length found + 1)) (new_stream components found datum) name first)).1
 
 pub listed-few : (components streams : List (List ℕ)) → AreListed components streams → length (flows components streams) ≤ 4096
 listed-few components streams listed = streams-few components [] listed.stream_items streams listed.streams_are (omega arith)
 
-pub listed-sound : (version : Version) (components streams : List (List ℕ)) → AreListed components streams → IsSound (sheet_without_units version components streams)
+pub listed-sound : (version : Version) (components streams : List (List ℕ)) → AreListed components streams →
+    IsSound (sheet_without_units version components streams)
 listed-sound version components streams listed =
     let first = named component_in component-new [] listed.component_items components listed.components_are tt tt in
     let second = named (stream_in components) (stream-new components) [] listed.stream_items streams listed.streams_are tt tt in
@@ -79,7 +95,8 @@ listed-sound version components streams listed =
 room-few : (sheet : Sheet) (unit : List ℕ) (part : UnitPart) → has_room (with_unit sheet unit part).system ≡ true → length part.equations < 2 ^ 64
 room-few sheet unit part room = by (leb (length (sheet.system.equations ++ names_of part.equations)) 4096) refl room
   where
-    by : (b : Bool) → leb (length (sheet.system.equations ++ names_of part.equations)) 4096 ≡ b → (b && leb (length (sheet.system.unknowns ++ part.unknowns)) 4096) ≡ true → length part.equations < 2 ^ 64
+    by : (b : Bool) → leb (length (sheet.system.equations ++ names_of part.equations)) 4096 ≡ b →
+        (b && leb (length (sheet.system.unknowns ++ part.unknowns)) 4096) ≡ true → length part.equations < 2 ^ 64
     by false e none = let f : ⊥ = cc in absurd f
     by true e fits =
         let few = leb-true (length (sheet.system.equations ++ names_of part.equations)) 4096 e in
@@ -97,14 +114,18 @@ units-sound : (p : ℕ) (sheet final : Sheet) (items : List Data) → 2 < p → 
 units-sound p sheet final [] odd sound kept = let same : sheet ≡ final = cc in subst IsSound same sound
 units-sound p sheet final (datum ∷ items) odd sound kept =
     let (next, first, last) = chain-Ok (unit_at p sheet datum) (λ next. units_in p next items) final kept in
-    units-sound p next final items odd (add-sound p sheet next datum odd sound (at-Ok (UnitPlace (length sheet.units + 1)) (add_unit p sheet datum) next first)) last
+    units-sound p next final items odd (add-sound p sheet next datum odd sound
+    (at-Ok (UnitPlace (length sheet.units + 1)) (add_unit p sheet datum) next first)) last
 
 pub reached-sound : (p : ℕ) (sheet : Sheet) → 2 < p → IsReached p sheet → IsSound sheet
 reached-sound p sheet odd reached =
-    units-sound p (sheet_without_units sheet.version sheet.components sheet.streams) sheet reached.unit_items odd (listed-sound sheet.version sheet.components sheet.streams reached.listed) reached.units
+    units-sound p (sheet_without_units sheet.version sheet.components sheet.streams) sheet reached.unit_items odd
+    (listed-sound sheet.version sheet.components sheet.streams reached.listed) reached.units
 
 -- one unit after others
-units-append : (p : ℕ) (sheet final next : Sheet) (items : List Data) (datum : Data) → units_in p sheet items ≡ Ok final → unit_at p final datum ≡ Ok next → units_in p sheet (items ++ datum ∷ []) ≡ Ok next
+units-append : (p : ℕ) (sheet final next : Sheet) (items : List Data) (datum : Data) →
+    units_in p sheet items ≡ Ok final → unit_at p final datum ≡ Ok next →
+    units_in p sheet (items ++ datum ∷ []) ≡ Ok next
 units-append p sheet final next [] datum kept more =
     let same : sheet ≡ final = cc in
     ap (λ given. given >>= (λ next. units_in p next [])) (ap (λ sheet. unit_at p sheet datum) same ∙ more)
@@ -142,14 +163,21 @@ module _ (p : ℕ) (odd : 2 < p) (kept : KeptSheet) (sheet : Sheet) (keeps : Kee
       (subst (λ names. IsNewPart p sheet.system.equations names part) (sym keeps.model.unknowns_are) (new-part p sheet unit part sound is-part.0 is-part.1))
 
   -- there is no room for it
-  pub unit-full : (4096 < length (kept.model.equations ++ names_of part.equations)) ⊎ (4096 < length (kept.model.unknowns ++ part.unknowns)) → add_unit p sheet datum ≡ Err TooMany
+  pub unit-full : (4096 < length (kept.model.equations ++ names_of part.equations)) ⊎
+      (4096 < length (kept.model.unknowns ++ part.unknowns)) → add_unit p sheet datum ≡ Err TooMany
   unit-full over =
       then (unit_in p (scope_of sheet) datum) (extended sheet) (unit, part) told
       ∙ ap (λ b. keeping b TooMany (with_unit sheet unit part)) (no-room over)
     where
-      no-room : (4096 < length (kept.model.equations ++ names_of part.equations)) ⊎ (4096 < length (kept.model.unknowns ++ part.unknowns)) → has_room (with_unit sheet unit part).system ≡ false
-      no-room (inl many) = ap (λ b. b && leb (length (sheet.system.unknowns ++ part.unknowns)) 4096) (lt-leb (length (sheet.system.equations ++ names_of part.equations)) 4096 (subst (λ names. 4096 < length (names ++ names_of part.equations)) keeps.model.equations_are many))
-      no-room (inr many) = (λ i. leb (length (sheet.system.equations ++ names_of part.equations)) 4096 && lt-leb (length (sheet.system.unknowns ++ part.unknowns)) 4096 (subst (λ names. 4096 < length (names ++ part.unknowns)) keeps.model.unknowns_are many) i) ∙ and-false (leb (length (sheet.system.equations ++ names_of part.equations)) 4096)
+      no-room : (4096 < length (kept.model.equations ++ names_of part.equations)) ⊎
+          (4096 < length (kept.model.unknowns ++ part.unknowns)) → has_room (with_unit sheet unit part).system ≡ false
+      no-room (inl many) = ap (λ b. b && leb (length (sheet.system.unknowns ++ part.unknowns)) 4096)
+          (lt-leb (length (sheet.system.equations ++ names_of part.equations)) 4096
+          (subst (λ names. 4096 < length (names ++ names_of part.equations)) keeps.model.equations_are many))
+      no-room (inr many) = (λ i. leb (length (sheet.system.equations ++ names_of part.equations)) 4096 && lt-leb
+          (length (sheet.system.unknowns ++ part.unknowns)) 4096
+          (subst (λ names. 4096 < length (names ++ part.unknowns)) keeps.model.unknowns_are many) i)
+          ∙ and-false (leb (length (sheet.system.equations ++ names_of part.equations)) 4096)
         where
           and-false : (b : Bool) → (b && false) ≡ false
           and-false true = refl
@@ -157,11 +185,14 @@ module _ (p : ℕ) (odd : 2 < p) (kept : KeptSheet) (sheet : Sheet) (keeps : Kee
 
   -- or it is added
   module _ (new : KeptSheet) (model : IsModelOf p (together sheet.system (system_of part)) new.model)
-      (version : new.version ≡ kept.version) (components : new.components ≡ kept.components) (streams : new.streams ≡ kept.streams) (units : new.units ≡ kept.units ++ unit ∷ []) where
+      (version : new.version ≡ kept.version) (components : new.components ≡ kept.components)
+      (streams : new.streams ≡ kept.streams) (units : new.units ≡ kept.units ++ unit ∷ []) where
     has-room : has_room (with_unit sheet unit part).system ≡ true
     has-room = (λ i.
-        le-leb (length (sheet.system.equations ++ names_of part.equations)) 4096 (subst (λ names. length names ≤ 4096) model.equations_are model.is_model.equations.few) i
-        && le-leb (length (sheet.system.unknowns ++ part.unknowns)) 4096 (subst (λ names. length names ≤ 4096) model.unknowns_are model.is_model.unknowns.few) i)
+        le-leb (length (sheet.system.equations ++ names_of part.equations)) 4096
+        (subst (λ names. length names ≤ 4096) model.equations_are model.is_model.equations.few) i
+        && le-leb (length (sheet.system.unknowns ++ part.unknowns)) 4096
+        (subst (λ names. length names ≤ 4096) model.unknowns_are model.is_model.unknowns.few) i)
 
     pub unit-added : add_unit p sheet datum ≡ Ok (with_unit sheet unit part)
     unit-added =
@@ -178,7 +209,8 @@ module _ (p : ℕ) (odd : 2 < p) (kept : KeptSheet) (sheet : Sheet) (keeps : Kee
       reached = record {
         listed = keeps.reached.listed;
         unit_items = keeps.reached.unit_items ++ datum ∷ [];
-        units = units-append p (sheet_without_units sheet.version sheet.components sheet.streams) sheet (with_unit sheet unit part) keeps.reached.unit_items datum keeps.reached.units
+        units = units-append p (sheet_without_units sheet.version sheet.components sheet.streams) sheet
+            (with_unit sheet unit part) keeps.reached.unit_items datum keeps.reached.units
             (ap (at (UnitPlace (length sheet.units + 1))) unit-added);
       };
     }

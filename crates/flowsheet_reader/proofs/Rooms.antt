@@ -1,5 +1,6 @@
 -- Room for the flows of a stream more.
-use Rattle.std.proofs.Common.{◌≡◌, ℕ, suc, ◌+◌, ◌*◌, ◌/◌, ◌<◌, ◌≤◌, true, false, List, [], ◌∷◌, ◌++◌, length, map, Ok, Err, sym, ap, ◌∙◌, arith, length-append, leb}
+use Rattle.std.proofs.Common.{◌≡◌, ℕ, suc, ◌+◌, ◌*◌, ◌/◌, ◌<◌, ◌≤◌, true, false, List, [], ◌∷◌, ◌++◌, length, map, Ok}
+use Rattle.std.proofs.Common.{Err, sym, ap, ◌∙◌, arith, length-append, leb}
 use Rattle.std.proofs.Math.Nat.{div-lt_iff_lt-mul, le-div_iff_mul-le}
 use Rattle.std.proofs.lemmas.Bool.{le-leb, lt-leb}
 use Rattle.std.proofs.lemmas.List.{length-map}
@@ -30,13 +31,15 @@ module _ (components found : List (List ℕ)) (name : List ℕ) (n : ℕ) (count
   pub full-stream : (datum : Data) → new_name found datum ≡ Ok name → 4096 / n < length components → new_stream components found datum ≡ Err TooMany
   full-stream datum kept more =
       let many : 4096 < length components * n = (div-lt_iff_lt-mul {k = n} {x = 4096} {y = length components} (omega (arith, count))).0 more in
-      let over : leb (length (flows components (found ++ name ∷ []))) 4096 ≡ false = lt-leb (length (flows components (found ++ name ∷ []))) 4096 (omega (arith, many, all-length)) in
+      let over : leb (length (flows components (found ++ name ∷ []))) 4096 ≡ false =
+      lt-leb (length (flows components (found ++ name ∷ []))) 4096 (omega (arith, many, all-length)) in
       then (new_name found datum) (λ name. keeping (leb (length (flows components (found ++ name ∷ []))) 4096) TooMany name) name kept
       ∙ ap (λ b. keeping b TooMany name) over
 
   pub roomy-stream : (datum : Data) → new_name found datum ≡ Ok name → length components ≤ 4096 / n → new_stream components found datum ≡ Ok name
   roomy-stream datum kept few =
       let fits : length components * n ≤ 4096 = (le-div_iff_mul-le {k = n} {x = length components} {y = 4096} (omega (arith, count))).0 few in
-      let within : leb (length (flows components (found ++ name ∷ []))) 4096 ≡ true = le-leb (length (flows components (found ++ name ∷ []))) 4096 (omega (arith, fits, all-length)) in
+      let within : leb (length (flows components (found ++ name ∷ []))) 4096 ≡ true =
+      le-leb (length (flows components (found ++ name ∷ []))) 4096 (omega (arith, fits, all-length)) in
       then (new_name found datum) (λ name. keeping (leb (length (flows components (found ++ name ∷ []))) 4096) TooMany name) name kept
       ∙ ap (λ b. keeping b TooMany name) within

@@ -44,7 +44,8 @@ none-same name (other ∷ names) all = by (bytes_eq name other) refl (none-same 
     by false e rest = rw e rest
 
 -- units that were named and one that was not
-other-unit : (units : List (List ℕ)) (unit name other : List ℕ) → has_name units unit ≡ false → has_name units (unit_of name) ≡ true → unit_of other ≡ unit → name ≡ other → ⊥
+other-unit : (units : List (List ℕ)) (unit name other : List ℕ) → has_name units unit ≡ false →
+    has_name units (unit_of name) ≡ true → unit_of other ≡ unit → name ≡ other → ⊥
 other-unit units unit name other new old is same =
     let both : true ≡ false = sym old ∙ ap (λ n. has_name units (unit_of n)) same ∙ ap (has_name units) is ∙ new in cc
 
@@ -58,24 +59,33 @@ module _ (p : ℕ) (sheet : Sheet) (unit : List ℕ) (part : UnitPart) (sound : 
   all-unknowns = ap (λ names. names ++ part.unknowns) sound.unknowns_are ∙ append_assoc (flows sheet.components sheet.streams) sound.own part.unknowns
 
   named : AllByRecursion (λ name. unit_of name ≡ unit) (names_of part.equations)
-  named = all-map (λ equation. unit_of equation.name ≡ unit) (λ name. unit_of name ≡ unit) (λ equation. equation.name) part.equations (λ equation told. told) is.names.owned
+  named = all-map (λ equation. unit_of equation.name ≡ unit) (λ name. unit_of name ≡ unit)
+      (λ equation. equation.name) part.equations (λ equation told. told) is.names.owned
 
   all-equations-differ : Differ (sheet.system.equations ++ names_of part.equations)
   all-equations-differ =
       differ-append sheet.system.equations (names_of part.equations) sound.equations_differ is.names.differ
       (all-weaker (λ name. has_name sheet.units (unit_of name) ≡ true) (λ name. has_name (names_of part.equations) name ≡ false) sheet.system.equations
-      (λ name old. none-same name (names_of part.equations) (all-weaker (λ other. unit_of other ≡ unit) (λ other. name ≡ other → ⊥) (names_of part.equations) (λ other told. other-unit sheet.units unit name other new old told) named)) sound.equation_units)
+      (λ name old. none-same name (names_of part.equations) (all-weaker (λ other. unit_of other ≡ unit)
+      (λ other. name ≡ other → ⊥) (names_of part.equations)
+      (λ other told. other-unit sheet.units unit name other new old told) named)) sound.equation_units)
 
   flows-new : AllByRecursion (λ name. has_name part.unknowns name ≡ false) (flows sheet.components sheet.streams)
   flows-new =
-      all-flat_map (λ stream. has_name sheet.streams stream ≡ true) (λ name. has_name part.unknowns name ≡ false) (λ stream. map (flow stream) sheet.components) sheet.streams
-      (λ stream there. all-map (λ component. has_name sheet.components component ≡ true) (λ name. has_name part.unknowns name ≡ false) (flow stream) sheet.components
-      (λ component among. none-same (flow stream component) part.unknowns (all-weaker (λ other. bytes_eq (word_of other) (codes "f") ≡ false) (λ other. flow stream component ≡ other → ⊥) part.unknowns (λ other none. other-word (flow stream component) other (flow-word stream component) none) is.words)) (all-own sheet.components)) (all-own sheet.streams)
+      all-flat_map (λ stream. has_name sheet.streams stream ≡ true) (λ name. has_name part.unknowns name ≡ false)
+      (λ stream. map (flow stream) sheet.components) sheet.streams
+      (λ stream there. all-map (λ component. has_name sheet.components component ≡ true)
+      (λ name. has_name part.unknowns name ≡ false) (flow stream) sheet.components
+      (λ component among. none-same (flow stream component) part.unknowns
+      (all-weaker (λ other. bytes_eq (word_of other) (codes "f") ≡ false) (λ other. flow stream component ≡ other →
+      ⊥) part.unknowns (λ other none. other-word (flow stream component) other
+      (flow-word stream component) none) is.words)) (all-own sheet.components)) (all-own sheet.streams)
 
   own-new : AllByRecursion (λ name. has_name part.unknowns name ≡ false) sound.own
   own-new =
       all-weaker (λ name. has_name sheet.units (unit_of name) ≡ true) (λ name. has_name part.unknowns name ≡ false) sound.own
-      (λ name old. none-same name part.unknowns (all-weaker (λ other. unit_of other ≡ unit) (λ other. name ≡ other → ⊥) part.unknowns (λ other told. other-unit sheet.units unit name other new old told) is.units)) sound.own_units
+      (λ name old. none-same name part.unknowns (all-weaker (λ other. unit_of other ≡ unit) (λ other. name ≡ other →
+      ⊥) part.unknowns (λ other told. other-unit sheet.units unit name other new old told) is.units)) sound.own_units
 
   all-unknowns-differ : Differ (sheet.system.unknowns ++ part.unknowns)
   all-unknowns-differ =
@@ -86,33 +96,62 @@ module _ (p : ℕ) (sheet : Sheet) (unit : List ℕ) (part : UnitPart) (sound : 
   -- so the unit's part may be added
   pub new-part : IsNewPart p sheet.system.equations sheet.system.unknowns part
   new-part = record {
-    equation_labels = all_at (λ equation. IsTrue (is_label equation.name)) part.equations (all-weaker (λ equation. IsSpelled equation.name 96) (λ equation. IsTrue (is_label equation.name)) part.equations (λ equation spelled. spelled-label equation.name spelled) is.names.spelled);
-    unknown_labels = all_at (λ name. IsTrue (is_label name)) part.unknowns (all-weaker (λ name. IsSpelled name 96) (λ name. IsTrue (is_label name)) part.unknowns (λ name spelled. spelled-label name spelled) is.spelled);
+    equation_labels = all_at (λ equation. IsTrue (is_label equation.name)) part.equations
+        (all-weaker (λ equation. IsSpelled equation.name 96)
+        (λ equation. IsTrue (is_label equation.name)) part.equations
+        (λ equation spelled. spelled-label equation.name spelled) is.names.spelled);
+    unknown_labels = all_at (λ name. IsTrue (is_label name)) part.unknowns (all-weaker (λ name. IsSpelled name 96)
+        (λ name. IsTrue (is_label name)) part.unknowns (λ name spelled. spelled-label name spelled) is.spelled);
     equations_distinct = differ-distinct (sheet.system.equations ++ names_of part.equations) all-equations-differ;
     unknowns_distinct = differ-distinct (sheet.system.unknowns ++ part.unknowns) all-unknowns-differ;
     summands = subst (λ names. All (λ equation. AreSummands p names equation.summands) part.equations) (sym all-unknowns)
         (all_at (λ equation. AreSummands p (flows sheet.components sheet.streams ++ (sound.own ++ part.unknowns)) equation.summands) part.equations
-        (all-weaker (λ equation. Stand p (flows sheet.components sheet.streams ++ (sound.own ++ part.unknowns)) equation.summands) (λ equation. AreSummands p (flows sheet.components sheet.streams ++ (sound.own ++ part.unknowns)) equation.summands) part.equations
+        (all-weaker (λ equation. Stand p (flows sheet.components sheet.streams ++
+        (sound.own ++ part.unknowns)) equation.summands)
+        (λ equation. AreSummands p (flows sheet.components sheet.streams ++
+        (sound.own ++ part.unknowns)) equation.summands) part.equations
         (λ equation stand. stand-summands p (flows sheet.components sheet.streams ++ (sound.own ++ part.unknowns)) equation.summands stand) is.stand));
   }
 
   -- each new term stands at an equation and an unknown that are there
   old-placed : AllByRecursion (IsPlaced (sheet.system.equations ++ names_of part.equations) (sheet.system.unknowns ++ part.unknowns)) sheet.system.terms
   old-placed =
-      all-weaker (IsPlaced sheet.system.equations sheet.system.unknowns) (IsPlaced (sheet.system.equations ++ names_of part.equations) (sheet.system.unknowns ++ part.unknowns)) sheet.system.terms
-      (λ term at. record { equation = has-left sheet.system.equations (names_of part.equations) term.equation at.equation; unknown = has-left sheet.system.unknowns part.unknowns term.unknown at.unknown })
+      all-weaker (IsPlaced sheet.system.equations sheet.system.unknowns)
+      (IsPlaced (sheet.system.equations ++ names_of part.equations)
+      (sheet.system.unknowns ++ part.unknowns)) sheet.system.terms
+      (λ term at. record {
+        equation = has-left sheet.system.equations
+            (names_of part.equations) term.equation at.equation;
+        unknown =
+            has-left sheet.system.unknowns part.unknowns term.unknown at.unknown;
+      })
       (at_all (IsPlaced sheet.system.equations sheet.system.unknowns) sheet.system.terms sound.placed)
 
-  terms-placed : (equation : UnitEquation) → has_name (names_of part.equations) equation.name ≡ true → Stand p (flows sheet.components sheet.streams ++ (sound.own ++ part.unknowns)) equation.summands → AllByRecursion (IsPlaced (sheet.system.equations ++ names_of part.equations) (sheet.system.unknowns ++ part.unknowns)) (terms_of equation)
+  terms-placed : (equation : UnitEquation) → has_name (names_of part.equations) equation.name ≡ true →
+      Stand p (flows sheet.components sheet.streams ++ (sound.own ++ part.unknowns)) equation.summands →
+      AllByRecursion (IsPlaced (sheet.system.equations ++ names_of part.equations)
+      (sheet.system.unknowns ++ part.unknowns)) (terms_of equation)
   terms-placed equation there stand =
-      all-map (λ summand. has_name (flows sheet.components sheet.streams ++ (sound.own ++ part.unknowns)) summand.unknown ≡ true) (IsPlaced (sheet.system.equations ++ names_of part.equations) (sheet.system.unknowns ++ part.unknowns))
+      all-map (λ summand. has_name (flows sheet.components sheet.streams ++
+      (sound.own ++ part.unknowns)) summand.unknown ≡ true)
+      (IsPlaced (sheet.system.equations ++ names_of part.equations) (sheet.system.unknowns ++ part.unknowns))
       (λ summand. record { equation = equation.name; unknown = summand.unknown; constant = summand.constant; symbol = summand.symbol }) equation.summands
-      (λ summand at. record { equation = has-right sheet.system.equations (names_of part.equations) equation.name there; unknown = ap (λ names. has_name names summand.unknown) all-unknowns ∙ at }) stand.there
+      (λ summand at. record {
+        equation = has-right sheet.system.equations
+            (names_of part.equations) equation.name there;
+        unknown =
+            ap (λ names. has_name names summand.unknown) all-unknowns ∙ at;
+      }) stand.there
 
   own-named : (equations : List UnitEquation) → AllByRecursion (λ equation. has_name (names_of equations) equation.name ≡ true) equations
   own-named [] = tt
-  own-named (equation ∷ equations) =
-      (has-self (names_of equations) equation.name equation.name refl, all-weaker (λ other. has_name (names_of equations) other.name ≡ true) (λ other. has_name (names_of (equation ∷ equations)) other.name ≡ true) equations (λ other there. has-more (names_of equations) equation.name other.name there) (own-named equations))
+  own-named (equation ∷ equations) = (
+    has-self (names_of equations) equation.name equation.name refl,
+    all-weaker
+        (λ other. has_name (names_of equations) other.name ≡ true)
+        (λ other. has_name (names_of (equation ∷ equations)) other.name ≡ true) equations
+        (λ other there. has-more (names_of equations) equation.name other.name there) (own-named equations),
+  )
 
   pub sound-more : IsSound (with_unit sheet unit part)
   sound-more = record {
@@ -123,22 +162,39 @@ module _ (p : ℕ) (sheet : Sheet) (unit : List ℕ) (part : UnitPart) (sound : 
     own = sound.own ++ part.unknowns;
     unknowns_are = all-unknowns;
     own_units = all-append (λ name. has_name (sheet.units ++ unit ∷ []) (unit_of name) ≡ true) sound.own part.unknowns
-        (all-weaker (λ name. has_name sheet.units (unit_of name) ≡ true) (λ name. has_name (sheet.units ++ unit ∷ []) (unit_of name) ≡ true) sound.own (λ name old. has-left sheet.units (unit ∷ []) (unit_of name) old) sound.own_units)
-        (all-weaker (λ name. unit_of name ≡ unit) (λ name. has_name (sheet.units ++ unit ∷ []) (unit_of name) ≡ true) part.unknowns (λ name told. has-right sheet.units (unit ∷ []) (unit_of name) (has-self [] unit (unit_of name) told)) is.units);
+        (all-weaker (λ name. has_name sheet.units (unit_of name) ≡ true)
+        (λ name. has_name (sheet.units ++ unit ∷ []) (unit_of name) ≡ true) sound.own
+        (λ name old. has-left sheet.units (unit ∷ []) (unit_of name) old) sound.own_units)
+        (all-weaker (λ name. unit_of name ≡ unit) (λ name. has_name (sheet.units ++ unit ∷ [])
+        (unit_of name) ≡ true) part.unknowns (λ name told. has-right sheet.units (unit ∷ []) (unit_of name)
+        (has-self [] unit (unit_of name) told)) is.units);
     unknowns_differ = all-unknowns-differ;
     equation_units = all-append (λ name. has_name (sheet.units ++ unit ∷ []) (unit_of name) ≡ true) sheet.system.equations (names_of part.equations)
-        (all-weaker (λ name. has_name sheet.units (unit_of name) ≡ true) (λ name. has_name (sheet.units ++ unit ∷ []) (unit_of name) ≡ true) sheet.system.equations (λ name old. has-left sheet.units (unit ∷ []) (unit_of name) old) sound.equation_units)
-        (all-weaker (λ name. unit_of name ≡ unit) (λ name. has_name (sheet.units ++ unit ∷ []) (unit_of name) ≡ true) (names_of part.equations) (λ name told. has-right sheet.units (unit ∷ []) (unit_of name) (has-self [] unit (unit_of name) told)) named);
+        (all-weaker (λ name. has_name sheet.units (unit_of name) ≡ true)
+        (λ name. has_name (sheet.units ++ unit ∷ []) (unit_of name) ≡ true) sheet.system.equations
+        (λ name old. has-left sheet.units (unit ∷ []) (unit_of name) old) sound.equation_units)
+        (all-weaker (λ name. unit_of name ≡ unit) (λ name. has_name (sheet.units ++ unit ∷ [])
+        (unit_of name) ≡ true) (names_of part.equations) (λ name told. has-right sheet.units (unit ∷ [])
+        (unit_of name) (has-self [] unit (unit_of name) told)) named);
     equations_differ = all-equations-differ;
-    placed = all_at (IsPlaced (sheet.system.equations ++ names_of part.equations) (sheet.system.unknowns ++ part.unknowns)) (sheet.system.terms ++ flat_map terms_of part.equations)
-        (all-append (IsPlaced (sheet.system.equations ++ names_of part.equations) (sheet.system.unknowns ++ part.unknowns)) sheet.system.terms (flat_map terms_of part.equations) old-placed
-        (all-flat_map (λ equation. (has_name (names_of part.equations) equation.name ≡ true) × Stand p (flows sheet.components sheet.streams ++ (sound.own ++ part.unknowns)) equation.summands) (IsPlaced (sheet.system.equations ++ names_of part.equations) (sheet.system.unknowns ++ part.unknowns)) terms_of part.equations
+    placed = all_at (IsPlaced (sheet.system.equations ++ names_of part.equations)
+        (sheet.system.unknowns ++ part.unknowns)) (sheet.system.terms ++ flat_map terms_of part.equations)
+        (all-append (IsPlaced (sheet.system.equations ++ names_of part.equations)
+        (sheet.system.unknowns ++ part.unknowns)) sheet.system.terms (flat_map terms_of part.equations) old-placed
+        (all-flat_map (λ equation. (has_name (names_of part.equations) equation.name ≡ true)
+        × Stand p (flows sheet.components sheet.streams ++ (sound.own ++ part.unknowns)) equation.summands)
+        (IsPlaced (sheet.system.equations ++ names_of part.equations)
+        (sheet.system.unknowns ++ part.unknowns)) terms_of part.equations
         (λ equation both. terms-placed equation both.0 both.1)
-        (all-both (λ equation. has_name (names_of part.equations) equation.name ≡ true) (λ equation. Stand p (flows sheet.components sheet.streams ++ (sound.own ++ part.unknowns)) equation.summands) part.equations (own-named part.equations) is.stand)));
+        (all-both (λ equation. has_name (names_of part.equations) equation.name ≡ true)
+        (λ equation. Stand p (flows sheet.components sheet.streams ++
+        (sound.own ++ part.unknowns)) equation.summands) part.equations (own-named part.equations) is.stand)));
   }
 
 -- a flowsheet without units
-pub sound-start : (version : Version) (components streams : List (List ℕ)) → AllByRecursion IsShort components → Differ components → AllByRecursion IsShort streams → Differ streams → IsSound (sheet_without_units version components streams)
+pub sound-start : (version : Version) (components streams : List (List ℕ)) → AllByRecursion IsShort components →
+    Differ components → AllByRecursion IsShort streams → Differ streams →
+    IsSound (sheet_without_units version components streams)
 sound-start version components streams good apart short differ = record {
   good = good;
   apart = apart;

@@ -32,8 +32,10 @@ use Rattle.flowsheet_reader.proofs.Reaching.{listed-sound}
 use Rattle.unit_equations.proofs.Spelled.{IsShort, spelled-label, spelled-more}
 
 -- a unit at its place
-pub grows-at : (p : ℕ) (old new : KeptSheet) (place : Place) (result : Result (Unit {0}) Fault) (final : Result (Unit {0}) ReadModel) (wanted : Sheet → Result Sheet Why) (here : Sheet → Result Sheet Refusal)
-    → final ≡ fault_at place result → ((sheet : Sheet) → Keeps p old sheet → here sheet ≡ at place (wanted sheet)) → OnOk result (Grows p old new wanted) → OnOk final (Grows p old new here)
+pub grows-at : (p : ℕ) (old new : KeptSheet) (place : Place) (result : Result (Unit {0}) Fault)
+    (final : Result (Unit {0}) ReadModel) (wanted : Sheet → Result Sheet Why) (here : Sheet → Result Sheet Refusal)
+    → final ≡ fault_at place result → ((sheet : Sheet) → Keeps p old sheet → here sheet ≡ at place (wanted sheet)) →
+    OnOk result (Grows p old new wanted) → OnOk final (Grows p old new here)
 grows-at p old new place (Ok done) final wanted here is same grows =
     subst (λ final. OnOk final (Grows p old new here)) (sym is) (λ sheet keeps.
     let (next, told, more) = grows sheet keeps in
@@ -42,7 +44,8 @@ grows-at p old new place (Err (Broken why)) final wanted here is same grows = su
 grows-at p old new place (Err NoMemory) final wanted here is same grows = subst (λ final. OnOk final (Grows p old new here)) (sym is) tt
 
 -- what a document lists
-pub listed-of : (document : Members) (components streams : List (List ℕ)) → components_of document ≡ Ok components → streams_of document components ≡ Ok streams → AreListed components streams
+pub listed-of : (document : Members) (components streams : List (List ℕ)) → components_of document ≡ Ok components →
+    streams_of document components ≡ Ok streams → AreListed components streams
 listed-of document components streams first second =
     let (items, told, last) = chain-Ok (at Place.Document (list_at_key (get_member (codes "components") document))) components_in components first in
     let (others, given, end) = chain-Ok (at Place.Document (list_at_key (get_member (codes "streams") document))) (streams_in components) streams second in
@@ -56,7 +59,9 @@ module _ (p : ℕ) (version : Version) (components streams : List (List ℕ)) (l
   flow-labels =
       let sound = listed-sound version components streams listed in
       all-flat_map IsShort (λ name. IsTrue (is_label name)) (λ stream. map (flow stream) components) streams
-      (λ stream s. all-map IsShort (λ name. IsTrue (is_label name)) (flow stream) components (λ component c. spelled-label (flow stream component) (spelled-more (flow stream component) 67 96 (own_for-spelled (codes "f") stream component f-word s c) (omega arith))) sound.good) sound.short
+      (λ stream s. all-map IsShort (λ name. IsTrue (is_label name)) (flow stream) components
+      (λ component c. spelled-label (flow stream component) (spelled-more (flow stream component) 67 96
+      (own_for-spelled (codes "f") stream component f-word s c) (omega arith))) sound.good) sound.short
 
   -- flows may be added to an empty model
   flows-new : IsNewPart p [] [] (record { unknowns = flows components streams; equations = [] })
@@ -68,7 +73,9 @@ module _ (p : ℕ) (version : Version) (components streams : List (List ℕ)) (l
     summands = all_at (λ equation. AreSummands p (flows components streams) equation.summands) [] tt;
   }
 
-  pub flows-part : (model : MixedModel) (names : List (List ℕ)) (made : List UnitEquation) → model ≡ empty_model → names ≡ flows components streams → made ≡ [] → IsNewPart p model.equations model.unknowns (record { unknowns = names; equations = made })
+  pub flows-part : (model : MixedModel) (names : List (List ℕ)) (made : List UnitEquation) → model ≡ empty_model →
+      names ≡ flows components streams → made ≡ [] → IsNewPart p model.equations model.unknowns
+      (record { unknowns = names; equations = made })
   flows-part model names made empty flows_are none =
       subst (λ (model : MixedModel). IsNewPart p model.equations model.unknowns (record { unknowns = names; equations = made })) (sym empty)
       (subst (λ names. IsNewPart p [] [] (record { unknowns = names; equations = made })) (sym flows_are)
@@ -84,20 +91,28 @@ module _ (p : ℕ) (version : Version) (components streams : List (List ℕ)) (l
     symbols_are = λ i j row column. absurd (omega (arith, row, ap (λ (model : MixedModel). length model.equations) empty));
   }
 
-  pub start-model : (model new : MixedModel) (names : List (List ℕ)) (made : List UnitEquation) → model ≡ empty_model → IsModel p model → names ≡ flows components streams → made ≡ []
-      → ((system : System) → ArePlaced system → IsModelOf p system model → IsModelOf p (together system (system_of (record { unknowns = names; equations = made }))) new)
+  pub start-model : (model new : MixedModel) (names : List (List ℕ)) (made : List UnitEquation) → model ≡ empty_model →
+      IsModel p model → names ≡ flows components streams → made ≡ []
+      → ((system : System) → ArePlaced system → IsModelOf p system model →
+      IsModelOf p (together system (system_of (record { unknowns = names; equations = made }))) new)
       → IsModelOf p (sheet_without_units version components streams).system new
   start-model model new names made empty is flows_are none added =
       subst (λ names. IsModelOf p (record { equations = []; unknowns = names; terms = [] }) new) flows_are
-      (subst (λ made. IsModelOf p (together (record { equations = []; unknowns = []; terms = [] }) (system_of (record { unknowns = names; equations = made }))) new) none
+      (subst (λ made. IsModelOf p (together (record { equations = []; unknowns = []; terms = [] })
+      (system_of (record { unknowns = names; equations = made }))) new) none
       (added (record { equations = []; unknowns = []; terms = [] }) (all_at (IsPlaced [] []) [] tt) (empty-model model empty is)))
 
 -- the list at a key, as a call gives it
-pub listed-Ok : (place : Place) (given : Result (Bor (List Value)) Why) (wanted : Result (List Data) Why) (items : Bor (List Value)) → Gives (λ items. map view items.now) given wanted → refused_at place given ≡ Ok items → at place wanted ≡ Ok (map view items.now)
-listed-Ok place (Ok other) wanted items gives is = let same : other ≡ items = cc in ap (at place) gives ∙ ap (λ (items : Bor (List Value)). Ok (map view items.now)) same
+pub listed-Ok : (place : Place) (given : Result (Bor (List Value)) Why) (wanted : Result (List Data) Why)
+    (items : Bor (List Value)) → Gives (λ items. map view items.now) given wanted → refused_at place given ≡ Ok items →
+    at place wanted ≡ Ok (map view items.now)
+listed-Ok place (Ok other) wanted items gives is = let same : other ≡ items = cc in ap (at place) gives
+    ∙ ap (λ (items : Bor (List Value)). Ok (map view items.now)) same
 listed-Ok place (Err why) wanted items gives is = let f : ⊥ = cc in absurd f
 
-pub listed-Err : (place : Place) (given : Result (Bor (List Value)) Why) (wanted : Result (List Data) Why) (error : ReadModel) → Gives (λ items. map view items.now) given wanted → refused_at place given ≡ Err error → OnRefused error (λ refused. at place wanted ≡ Err refused)
+pub listed-Err : (place : Place) (given : Result (Bor (List Value)) Why) (wanted : Result (List Data) Why)
+    (error : ReadModel) → Gives (λ items. map view items.now) given wanted → refused_at place given ≡ Err error →
+    OnRefused error (λ refused. at place wanted ≡ Err refused)
 listed-Err place (Ok other) wanted error gives is = let f : ⊥ = cc in absurd f
 listed-Err place (Err why) wanted error gives is =
     let same : Refused (record { place = place; why = why }) ≡ error = cc in

@@ -11,6 +11,3 @@ mod unit_keys;
 
 pub use flowsheet::{FlowsheetReader, read};
 pub use laws::{a_flowsheet_gives_one_model, a_flowsheet_has_one_refusal};
-
-#[cfg(test)]
-mod tests;

@@ -42,7 +42,8 @@ pub led-none : (list : List ℕ) (y : ℕ) (old : List (ℕ × ℕ)) → IsLed l
 led-none list y old = record { kept = λ a b h. h; new = λ k low apart. absurd (omega (arith, low)); only = λ a b h. inl h }
 
 -- an arc more
-pub led-put : (list : List ℕ) (y k x : ℕ) (old now : List (ℕ × ℕ)) → IsLed list y k old now → slice_index list k ≡ x → x ≢ y → IsLed list y (k + 1) old (now ++ (x, y) ∷ [])
+pub led-put : (list : List ℕ) (y k x : ℕ) (old now : List (ℕ × ℕ)) → IsLed list y k old now → slice_index list k ≡ x →
+    x ≢ y → IsLed list y (k + 1) old (now ++ (x, y) ∷ [])
 led-put list y k x old now led is apart = record {
   kept = λ a b h. pushed-old now x y a b (led.kept a b h);
   new = λ j low other. elim (nat_cases j k) [
@@ -76,7 +77,9 @@ pub rows-none : (rows : List (List ℕ)) (pairs old : List (ℕ × ℕ)) → Are
 rows-none rows pairs old = record { kept = λ a b h. h; new = λ j k low within apart. absurd (omega (arith, low)); only = λ a b h. inl h }
 
 -- a row more
-pub rows-more : (rows : List (List ℕ)) (pairs : List (ℕ × ℕ)) (n : ℕ) (old now more : List (ℕ × ℕ)) (list : List ℕ) (y : ℕ) → AreLed rows pairs n old now → list ≡ row_of rows (pair_at pairs n).0 → y ≡ (pair_at pairs n).1 → IsLed list y (length list) now more →
+pub rows-more : (rows : List (List ℕ)) (pairs : List (ℕ × ℕ)) (n : ℕ) (old now more : List (ℕ × ℕ)) (list : List ℕ)
+    (y : ℕ) → AreLed rows pairs n old now → list ≡ row_of rows (pair_at pairs n).0 → y ≡ (pair_at pairs n).1 →
+    IsLed list y (length list) now more →
     AreLed rows pairs (n + 1) old more
 rows-more rows pairs n old now more list y before row column led = go (subst (λ l. IsLed l y (length l) now more) row led)
   where
@@ -84,8 +87,13 @@ rows-more rows pairs n old now more list y before row column led = go (subst (λ
     go step = record {
       kept = λ a b h. step.kept a b (before.kept a b h);
       new = λ j k low within apart. elim (nat_cases j n) [
-        | inl same ↦ subst (λ i. k < length (row_of rows (pair_at pairs i).0) → slice_index (row_of rows (pair_at pairs i).0) k ≢ (pair_at pairs i).1 → arc_in more (slice_index (row_of rows (pair_at pairs i).0) k) (pair_at pairs i).1 ≡ true) (sym same)
-            (subst (λ v. k < length (row_of rows (pair_at pairs n).0) → slice_index (row_of rows (pair_at pairs n).0) k ≢ v → arc_in more (slice_index (row_of rows (pair_at pairs n).0) k) v ≡ true) column (step.new k)) within apart
+        | inl same ↦ subst (λ i. k < length (row_of rows (pair_at pairs i).0) →
+            slice_index (row_of rows (pair_at pairs i).0) k ≢ (pair_at pairs i).1 →
+            arc_in more (slice_index (row_of rows (pair_at pairs i).0) k) (pair_at pairs i).1 ≡ true) (sym same)
+            (subst (λ v. k < length (row_of rows (pair_at pairs n).0) →
+            slice_index (row_of rows (pair_at pairs n).0) k ≢ v →
+            arc_in more (slice_index (row_of rows (pair_at pairs n).0) k) v ≡ true) column
+            (step.new k)) within apart
         | inr less ↦ step.kept (slice_index (row_of rows (pair_at pairs j).0) k) (pair_at pairs j).1 (before.new j k (omega (arith, low, less)) within apart)
       ];
       only = λ a b h. elim (step.only a b h) [

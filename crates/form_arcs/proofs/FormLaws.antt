@@ -1,7 +1,11 @@
 -- Arcs, free columns and ends of a form, as its rows tell them and as a tableau does.
-use Rattle.std.proofs.Common.{◌≡◌, ◌≢◌, ℕ, zero, suc, ◌<◌, ◌≤◌, ◌%◌, ◌↔◌, Bool, true, false, ◌&&◌, ◌||◌, not, eqb, cond, List, [], ◌∷◌, length, map, slice_index, slice_index_or, inl, inr, refl, ap, sym, subst, ◌∙◌, arith}
+use Rattle.std.proofs.Common.{◌≡◌, ◌≢◌, ℕ, zero, suc, ◌<◌, ◌≤◌, ◌%◌, ◌↔◌, Bool, true, false, ◌&&◌, ◌||◌, not, eqb}
+use Rattle.std.proofs.Common.{cond, List, [], ◌∷◌, length, map, slice_index, slice_index_or, inl, inr, refl, ap, sym}
+use Rattle.std.proofs.Common.{subst, ◌∙◌, arith}
 use Rattle.std.specs.List.{All}
-use Rattle.residue_theory.proofs.SetLaws.{differ, not_true, both_true, both-first, both-second, either_cases, either-first, either-second, eqb_true, eqb_false, eqb_from, some_below-found, some_below-holds}
+use Rattle.residue_theory.proofs.SetLaws.{differ, not_true, both_true, both-first, both-second, either_cases}
+use Rattle.residue_theory.proofs.SetLaws.{either-first, either-second, eqb_true, eqb_false, eqb_from}
+use Rattle.residue_theory.proofs.SetLaws.{some_below-found, some_below-holds}
 use Rattle.std.proofs.Math.Nat.{mod-eq_of_lt, mod-le}
 use Rattle.std.proofs.lemmas.List.{get_or-map, length-map}
 use Rattle.std.proofs.lemmas.List.Elements.{All-head, All-tail}
@@ -45,7 +49,8 @@ has-entry [] x all h = absurd (differ refl h)
 has-entry (entry ∷ entries) x all h = go (eqb entry.0 x) refl (has-entry entries x (All-tail (λ (e : ℕ × ℕ). 0 < e.1) entry entries all))
   where
     go : (b : Bool) → eqb entry.0 x ≡ b → (has (keys_of entries) x ≡ true → entry_at entries x ≢ 0) → cond (eqb entry.0 x) entry.1 (entry_at entries x) ≢ 0
-    go true e rest = subst (λ b. cond b entry.1 (entry_at entries x) ≢ 0) (sym e) (λ zero. let more : 0 < entry.1 = All-head (λ (e : ℕ × ℕ). 0 < e.1) entry entries all in omega (arith, more, zero))
+    go true e rest = subst (λ b. cond b entry.1 (entry_at entries x) ≢ 0) (sym e) (λ zero. let more : 0 < entry.1 =
+        All-head (λ (e : ℕ × ℕ). 0 < e.1) entry entries all in omega (arith, more, zero))
     go false e rest = subst (λ b. cond b entry.1 (entry_at entries x) ≢ 0) (sym e) (rest (elim (either_cases (eqb entry.0 x) (has (keys_of entries) x) h) [
       | inl here ↦ absurd (differ e here)
       | inr later ↦ later
@@ -68,7 +73,8 @@ nonzero-both p v low = (
 )
 
 -- where a row of entries has a number that is not 0
-pub entries-test : (p n : ℕ) (entries : List (ℕ × ℕ)) (x : ℕ) → AreEntries p n entries → (not (eqb (entry_at entries x % p) 0) ≡ true) ↔ (has (keys_of entries) x ≡ true)
+pub entries-test : (p n : ℕ) (entries : List (ℕ × ℕ)) (x : ℕ) → AreEntries p n entries →
+    (not (eqb (entry_at entries x % p) 0) ≡ true) ↔ (has (keys_of entries) x ≡ true)
 entries-test p n entries x are =
     let test = nonzero-both p (entry_at entries x) (entry-below p entries x (λ k d kl. (are.within k d kl).2)) in (
       λ h. entry-has entries x (test.0 h),
@@ -85,12 +91,15 @@ module _ (rows : List (List ℕ)) (pairs : List (ℕ × ℕ)) (m n : ℕ) (are :
   column-below j jl = (are.within j (0, 0) jl).1
 
   pub column-has : (j : ℕ) → j < length pairs → has_column pairs (pair_at pairs j).1 ≡ true
-  column-has j jl = some_below-holds (length pairs) (λ k. eqb (pair_at pairs k).1 (pair_at pairs j).1) j jl (eqb_from (pair_at pairs j).1 (pair_at pairs j).1 refl)
+  column-has j jl = some_below-holds (length pairs) (λ k. eqb (pair_at pairs k).1 (pair_at pairs j).1) j jl
+      (eqb_from (pair_at pairs j).1 (pair_at pairs j).1 refl)
 
   row-is : (j : ℕ) → j < length pairs → row_with pairs (pair_at pairs j).1 ≡ (pair_at pairs j).0
   row-is j jl = go (found pairs (pair_at pairs j).1 j jl refl)
     where
-      go : ((l : ℕ) × (l < length pairs) × ((pair_at pairs l).1 ≡ (pair_at pairs j).1) × ((pair_at pairs l).0 ≡ row_with pairs (pair_at pairs j).1)) → row_with pairs (pair_at pairs j).1 ≡ (pair_at pairs j).0
+      go : ((l : ℕ) × (l < length pairs) × ((pair_at pairs l).1 ≡ (pair_at pairs j).1)
+          × ((pair_at pairs l).0 ≡ row_with pairs (pair_at pairs j).1)) → row_with pairs (pair_at pairs j).1 ≡
+          (pair_at pairs j).0
       go (l, ll, column, row) = sym row ∙ ap (λ k. (pair_at pairs k).0) (once l j ll jl column)
 
   pub leads-told : (a b : ℕ) → (has_column pairs b && at (row_with pairs b) a) ≡ true → Leads rows pairs a b
@@ -105,7 +114,9 @@ module _ (rows : List (List ℕ)) (pairs : List (ℕ × ℕ)) (m n : ℕ) (are :
   pub told-leads : (a b : ℕ) → Leads rows pairs a b → (has_column pairs b && at (row_with pairs b) a) ≡ true
   told-leads a b (j, k, jl, kl, column, is) =
       let there : at (pair_at pairs j).0 a ≡ true = (same (pair_at pairs j).0 a (row-below j jl)).1 (some-has (row_of rows (pair_at pairs j).0) k a kl is) in
-      let here : (has_column pairs (pair_at pairs j).1 && at (row_with pairs (pair_at pairs j).1) a) ≡ true = both_true (has_column pairs (pair_at pairs j).1) (at (row_with pairs (pair_at pairs j).1) a) (column-has j jl) (subst (λ i. at i a ≡ true) (sym (row-is j jl)) there) in
+      let here : (has_column pairs (pair_at pairs j).1 && at (row_with pairs (pair_at pairs j).1) a) ≡ true =
+      both_true (has_column pairs (pair_at pairs j).1) (at (row_with pairs (pair_at pairs j).1) a)
+      (column-has j jl) (subst (λ i. at i a ≡ true) (sym (row-is j jl)) there) in
       subst (λ y. (has_column pairs y && at (row_with pairs y) a) ≡ true) column here
 
   owned : ℕ → Bool
@@ -120,22 +131,34 @@ module _ (rows : List (List ℕ)) (pairs : List (ℕ × ℕ)) (m n : ℕ) (are :
   item-owned : (i j : ℕ) → j < length pairs → (pair_at pairs j).0 ≡ i → some_below n (λ y. has_column pairs y && eqb (row_with pairs y) i) ≡ true
   item-owned i j jl is =
       let y = (pair_at pairs j).1 in
-      some_below-holds n (λ y. has_column pairs y && eqb (row_with pairs y) i) y (column-below j jl) (both_true (has_column pairs y) (eqb (row_with pairs y) i) (column-has j jl) (eqb_from (row_with pairs y) i (row-is j jl ∙ is)))
+      some_below-holds n (λ y. has_column pairs y && eqb (row_with pairs y) i) y (column-below j jl)
+      (both_true (has_column pairs y) (eqb (row_with pairs y) i) (column-has j jl)
+      (eqb_from (row_with pairs y) i (row-is j jl ∙ is)))
 
-  pub ends-told : (x : ℕ) → m ≡ length rows → some_below m (λ i. at i x && not (some_below n (λ y. has_column pairs y && eqb (row_with pairs y) i))) ≡ true → Ends rows pairs x
+  pub ends-told : (x : ℕ) → m ≡ length rows → some_below m
+      (λ i. at i x && not (some_below n (λ y. has_column pairs y && eqb (row_with pairs y) i))) ≡ true →
+      Ends rows pairs x
   ends-told x size h =
       let i = some_below-found m (λ i. at i x && not (some_below n (λ y. has_column pairs y && eqb (row_with pairs y) i))) h in
       let there : at i.0 x ≡ true = both-first (at i.0 x) (not (some_below n (λ y. has_column pairs y && eqb (row_with pairs y) i.0))) i.2 in
-      let apart : some_below n (λ y. has_column pairs y && eqb (row_with pairs y) i.0) ≡ false = not-true (some_below n (λ y. has_column pairs y && eqb (row_with pairs y) i.0)) (both-second (at i.0 x) (not (some_below n (λ y. has_column pairs y && eqb (row_with pairs y) i.0))) i.2) in
+      let apart : some_below n (λ y. has_column pairs y && eqb (row_with pairs y) i.0) ≡ false =
+      not-true (some_below n (λ y. has_column pairs y && eqb (row_with pairs y) i.0))
+      (both-second (at i.0 x) (not (some_below n (λ y. has_column pairs y && eqb (row_with pairs y) i.0))) i.2) in
       let place = has-some (row_of rows i.0) x ((same i.0 x i.1).0 there) in
       (i.0, place.0, subst (λ k. i.0 < k) size i.1, (λ j jl is. differ apart (item-owned i.0 j jl is)), place.1, place.2)
 
-  pub told-ends : (x : ℕ) → m ≡ length rows → Ends rows pairs x → some_below m (λ i. at i x && not (some_below n (λ y. has_column pairs y && eqb (row_with pairs y) i))) ≡ true
+  pub told-ends : (x : ℕ) → m ≡ length rows → Ends rows pairs x →
+      some_below m (λ i. at i x && not (some_below n (λ y. has_column pairs y && eqb (row_with pairs y) i))) ≡ true
   told-ends x size (i, k, il, none, kl, is) =
       let low : i < m = subst (λ l. i < l) (sym size) il in
       let there : at i x ≡ true = (same i x low).1 (some-has (row_of rows i) k x kl is) in
-      let free : not (some_below n (λ y. has_column pairs y && eqb (row_with pairs y) i)) ≡ true = not-make (some_below n (λ y. has_column pairs y && eqb (row_with pairs y) i)) (not_true (some_below n (λ y. has_column pairs y && eqb (row_with pairs y) i)) (λ h. let item = owned-item i h in none item.0 item.1 item.2)) in
-      some_below-holds m (λ i. at i x && not (some_below n (λ y. has_column pairs y && eqb (row_with pairs y) i))) i low (both_true (at i x) (not (some_below n (λ y. has_column pairs y && eqb (row_with pairs y) i))) there free)
+      let free : not (some_below n (λ y. has_column pairs y && eqb (row_with pairs y) i)) ≡ true =
+      not-make (some_below n (λ y. has_column pairs y && eqb (row_with pairs y) i))
+      (not_true (some_below n (λ y. has_column pairs y && eqb (row_with pairs y) i))
+      (λ h. let item = owned-item i h in none item.0 item.1 item.2)) in
+      some_below-holds m (λ i. at i x && not (some_below n
+      (λ y. has_column pairs y && eqb (row_with pairs y) i))) i low
+      (both_true (at i x) (not (some_below n (λ y. has_column pairs y && eqb (row_with pairs y) i))) there free)
 
 pub column-item : (pairs : List (ℕ × ℕ)) (x : ℕ) → has_column pairs x ≡ true → (j : ℕ) × (j < length pairs) × ((pair_at pairs j).1 ≡ x)
 column-item pairs x h = let item = has-found pairs x h in (item.0, item.1, item.2)
@@ -177,23 +200,35 @@ module _ (p : ℕ) (c : Contents) (is : IsCcf p c) (apart : ColumnsDiffer c.base
     unfolding leads_to
     arcs-leads x y h =
         let other : x ≢ y = (A.only x y h).0 in
-        both_true (not (eqb x y)) ((has_column c.base y && not (eqb (matrix_of c.p (row_with c.base y) x % p) 0)) || (has_column c.mates y && pattern_of c.t (row_with c.mates y) x))
+        both_true (not (eqb x y)) ((has_column c.base y && not (eqb (matrix_of c.p (row_with c.base y) x % p) 0)) ||
+        (has_column c.mates y && pattern_of c.t (row_with c.mates y) x))
         (not-make (eqb x y) (not_true (eqb x y) (λ e. other (eqb_true x y e))))
         (elim ((A.only x y h).1) [
-          | inl base ↦ either-first (has_column c.base y && not (eqb (matrix_of c.p (row_with c.base y) x % p) 0)) (has_column c.mates y && pattern_of c.t (row_with c.mates y) x)
-              (told-leads (map keys_of c.p) c.base c.shape.q_rows c.shape.columns is.base (λ i x. not (eqb (matrix_of c.p i x % p) 0)) q-same apart.in_base x y base)
-          | inr mates ↦ either-second (has_column c.base y && not (eqb (matrix_of c.p (row_with c.base y) x % p) 0)) (has_column c.mates y && pattern_of c.t (row_with c.mates y) x)
+          | inl base ↦ either-first (has_column c.base y && not (eqb (matrix_of c.p (row_with c.base y) x % p) 0))
+              (has_column c.mates y && pattern_of c.t (row_with c.mates y) x)
+              (told-leads (map keys_of c.p) c.base c.shape.q_rows c.shape.columns is.base
+              (λ i x. not (eqb (matrix_of c.p i x % p) 0)) q-same apart.in_base x y base)
+          | inr mates ↦ either-second (has_column c.base y && not (eqb (matrix_of c.p (row_with c.base y) x % p) 0))
+              (has_column c.mates y && pattern_of c.t (row_with c.mates y) x)
               (told-leads c.t c.mates c.shape.t_rows c.shape.columns is.mates (pattern_of c.t) t-same apart.in_mates x y mates)
         ])
 
     leads-arcs : (x y : ℕ) → leads_to p (printed_rows c) (tableau_of c) x y ≡ true → arc_in arcs x y ≡ true
     unfolding leads_to
     leads-arcs x y h =
-        let rest : ((has_column c.base y && not (eqb (matrix_of c.p (row_with c.base y) x % p) 0)) || (has_column c.mates y && pattern_of c.t (row_with c.mates y) x)) ≡ true =
-        both-second (not (eqb x y)) ((has_column c.base y && not (eqb (matrix_of c.p (row_with c.base y) x % p) 0)) || (has_column c.mates y && pattern_of c.t (row_with c.mates y) x)) h in
-        let other : x ≢ y = eqb_false x y (not-true (eqb x y) (both-first (not (eqb x y)) ((has_column c.base y && not (eqb (matrix_of c.p (row_with c.base y) x % p) 0)) || (has_column c.mates y && pattern_of c.t (row_with c.mates y) x)) h)) in
-        elim (either_cases (has_column c.base y && not (eqb (matrix_of c.p (row_with c.base y) x % p) 0)) (has_column c.mates y && pattern_of c.t (row_with c.mates y) x) rest) [
-          | inl base ↦ A.base x y other (leads-told (map keys_of c.p) c.base c.shape.q_rows c.shape.columns is.base (λ i x. not (eqb (matrix_of c.p i x % p) 0)) q-same apart.in_base x y base)
+        let rest : ((has_column c.base y && not (eqb (matrix_of c.p (row_with c.base y) x % p) 0)) ||
+        (has_column c.mates y && pattern_of c.t (row_with c.mates y) x)) ≡ true =
+        both-second (not (eqb x y)) ((has_column c.base y && not
+        (eqb (matrix_of c.p (row_with c.base y) x % p) 0)) || (has_column c.mates y && pattern_of c.t
+        (row_with c.mates y) x)) h in
+        let other : x ≢ y = eqb_false x y (not-true (eqb x y)
+        (both-first (not (eqb x y)) ((has_column c.base y && not
+        (eqb (matrix_of c.p (row_with c.base y) x % p) 0)) || (has_column c.mates y && pattern_of c.t
+        (row_with c.mates y) x)) h)) in
+        elim (either_cases (has_column c.base y && not (eqb (matrix_of c.p (row_with c.base y) x % p) 0))
+        (has_column c.mates y && pattern_of c.t (row_with c.mates y) x) rest) [
+          | inl base ↦ A.base x y other (leads-told (map keys_of c.p) c.base c.shape.q_rows c.shape.columns is.base
+              (λ i x. not (eqb (matrix_of c.p i x % p) 0)) q-same apart.in_base x y base)
           | inr mates ↦ A.mates x y other (leads-told c.t c.mates c.shape.t_rows c.shape.columns is.mates (pattern_of c.t) t-same apart.in_mates x y mates)
         ]
 
@@ -201,10 +236,20 @@ module _ (p : ℕ) (c : Contents) (is : IsCcf p c) (apart : ColumnsDiffer c.base
     arcs-columns = arcs-within c.shape.columns arcs (λ a b h. elim ((A.only a b h).1) [ inl base ↦ q base | inr mates ↦ t mates ])
       where
         q : {a b : ℕ} → Leads (map keys_of c.p) c.base a b → (a < c.shape.columns) × (b < c.shape.columns)
-        q {a} {b} (j, k, jl, kl, column, at) = (q-below (pair_at c.base j).0 k a (is.base.within j (0, 0) jl).0 kl at, subst (λ v. v < c.shape.columns) column (is.base.within j (0, 0) jl).1)
+        q {a} {b} (j, k, jl, kl, column, at) = (
+          q-below (pair_at c.base j).0 k a
+              (is.base.within j (0, 0) jl).0 kl at,
+          subst (λ v. v < c.shape.columns) column
+              (is.base.within j (0, 0) jl).1,
+        )
 
         t : {a b : ℕ} → Leads c.t c.mates a b → (a < c.shape.columns) × (b < c.shape.columns)
-        t {a} {b} (j, k, jl, kl, column, at) = (t-below (pair_at c.mates j).0 k a (is.mates.within j (0, 0) jl).0 kl at, subst (λ v. v < c.shape.columns) column (is.mates.within j (0, 0) jl).1)
+        t {a} {b} (j, k, jl, kl, column, at) = (
+          t-below (pair_at c.mates j).0 k a
+              (is.mates.within j (0, 0) jl).0 kl at,
+          subst (λ v. v < c.shape.columns) column
+              (is.mates.within j (0, 0) jl).1,
+        )
 
     module _ (free ends : List Bool) (R : AreFreeFrom c free) (E : AreEndsFrom c ends) where
       free-told : (x : ℕ) → x < c.shape.columns → marked free x ≡ true → is_free (tableau_of c) x ≡ true
@@ -216,14 +261,18 @@ module _ (p : ℕ) (c : Contents) (is : IsCcf p c) (apart : ColumnsDiffer c.base
       told-free : (x : ℕ) → x < c.shape.columns → is_free (tableau_of c) x ≡ true → marked free x ≡ true
       unfolding is_free
       told-free x xl h = R.all x xl
-          (λ j jl at. differ (not-true (has_column c.base x) (both-first (not (has_column c.base x)) (not (has_column c.mates x)) h)) (item-column c.base x j jl at))
-          (λ j jl at. differ (not-true (has_column c.mates x) (both-second (not (has_column c.base x)) (not (has_column c.mates x)) h)) (item-column c.mates x j jl at))
+          (λ j jl at. differ (not-true (has_column c.base x) (both-first (not (has_column c.base x))
+          (not (has_column c.mates x)) h)) (item-column c.base x j jl at))
+          (λ j jl at. differ (not-true (has_column c.mates x) (both-second (not (has_column c.base x))
+          (not (has_column c.mates x)) h)) (item-column c.mates x j jl at))
 
       abbrev q_ends : ℕ → Bool
-      q_ends x = some_below c.shape.q_rows (λ i. not (eqb (matrix_of c.p i x % p) 0) && not (some_below c.shape.columns (λ y. has_column c.base y && eqb (row_with c.base y) i)))
+      q_ends x = some_below c.shape.q_rows (λ i. not (eqb (matrix_of c.p i x % p) 0) && not
+          (some_below c.shape.columns (λ y. has_column c.base y && eqb (row_with c.base y) i)))
 
       abbrev t_ends : ℕ → Bool
-      t_ends x = some_below c.shape.t_rows (λ i. pattern_of c.t i x && not (some_below c.shape.columns (λ y. has_column c.mates y && eqb (row_with c.mates y) i)))
+      t_ends x = some_below c.shape.t_rows (λ i. pattern_of c.t i x && not
+          (some_below c.shape.columns (λ y. has_column c.mates y && eqb (row_with c.mates y) i)))
 
       q-size : c.shape.q_rows ≡ length (map keys_of c.p)
       q-size = sym (length-map c.p keys_of ∙ is.p.count)
@@ -231,14 +280,19 @@ module _ (p : ℕ) (c : Contents) (is : IsCcf p c) (apart : ColumnsDiffer c.base
       ends-are : (x : ℕ) → marked ends x ≡ true → is_end p (printed_rows c) (tableau_of c) x ≡ true
       unfolding is_end has_base has_match
       ends-are x h = elim (E.only x h) [
-        | inl base ↦ either-first (q_ends x) (t_ends x) (told-ends (map keys_of c.p) c.base c.shape.q_rows c.shape.columns is.base (λ i x. not (eqb (matrix_of c.p i x % p) 0)) q-same apart.in_base x q-size base)
-        | inr mates ↦ either-second (q_ends x) (t_ends x) (told-ends c.t c.mates c.shape.t_rows c.shape.columns is.mates (pattern_of c.t) t-same apart.in_mates x (sym is.t.count) mates)
+        | inl base ↦ either-first (q_ends x) (t_ends x)
+            (told-ends (map keys_of c.p) c.base c.shape.q_rows c.shape.columns is.base
+            (λ i x. not (eqb (matrix_of c.p i x % p) 0)) q-same apart.in_base x q-size base)
+        | inr mates ↦ either-second (q_ends x) (t_ends x)
+            (told-ends c.t c.mates c.shape.t_rows c.shape.columns is.mates (pattern_of c.t) t-same apart.in_mates x
+            (sym is.t.count) mates)
       ]
 
       are-ends : (x : ℕ) → is_end p (printed_rows c) (tableau_of c) x ≡ true → marked ends x ≡ true
       unfolding is_end has_base has_match
       are-ends x h = elim (either_cases (q_ends x) (t_ends x) h) [
-        | inl base ↦ E.base x (ends-told (map keys_of c.p) c.base c.shape.q_rows c.shape.columns is.base (λ i x. not (eqb (matrix_of c.p i x % p) 0)) q-same apart.in_base x q-size base)
+        | inl base ↦ E.base x (ends-told (map keys_of c.p) c.base c.shape.q_rows c.shape.columns is.base
+            (λ i x. not (eqb (matrix_of c.p i x % p) 0)) q-same apart.in_base x q-size base)
         | inr mates ↦ E.mates x (ends-told c.t c.mates c.shape.t_rows c.shape.columns is.mates (pattern_of c.t) t-same apart.in_mates x (sym is.t.count) mates)
       ]
 

@@ -1,5 +1,6 @@
 -- What is gathered of a form, list by list.
-use Rattle.std.proofs.Common.{◌≡◌, ◌≢◌, ℕ, ◌<◌, ◌≤◌, ◌⊎◌, Bool, true, false, List, [], ◌∷◌, ◌++◌, length, map, replicate, take, slice_index, slice_index_or, inl, inr, refl, ap, sym, subst, ◌∙◌}
+use Rattle.std.proofs.Common.{◌≡◌, ◌≢◌, ℕ, ◌<◌, ◌≤◌, ◌⊎◌, Bool, true, false, List, [], ◌∷◌, ◌++◌, length, map}
+use Rattle.std.proofs.Common.{replicate, take, slice_index, slice_index_or, inl, inr, refl, ap, sym, subst, ◌∙◌}
 use Rattle.std.proofs.Math.Seq.{take-append_seam}
 use Rattle.std.proofs.lemmas.List.{get_or-map, get_or-replicate, get_or_past, length-map, length-replicate}
 use Rattle.residue_theory.proofs.SetLaws.{differ, not_true, lt_cases}
@@ -24,17 +25,22 @@ module _ {T : Type 0} (number : T → ℕ) where
 
   pub numbered-rows : (rows : List (List (ℕ × T))) → map keys_of (numbered_rows number rows) ≡ map keys_of rows
   numbered-rows [] = refl
-  numbered-rows (row ∷ rows) = ap (λ keys. keys ∷ map keys_of (numbered_rows number rows)) (numbered-keys row) ∙ ap (λ rest. keys_of row ∷ rest) (numbered-rows rows)
+  numbered-rows (row ∷ rows) = ap (λ keys. keys ∷ map keys_of (numbered_rows number rows)) (numbered-keys row)
+      ∙ ap (λ rest. keys_of row ∷ rest) (numbered-rows rows)
 
   -- the rows of keys of a slice that prints a matrix
-  pub keys-as : (slice rows : List (List (ℕ × T))) (printed : List (List (ℕ × ℕ))) → slice ≡ rows → numbered_rows number rows ≡ printed → map keys_of slice ≡ map keys_of printed
+  pub keys-as : (slice rows : List (List (ℕ × T))) (printed : List (List (ℕ × ℕ))) → slice ≡ rows →
+      numbered_rows number rows ≡ printed → map keys_of slice ≡ map keys_of printed
   keys-as slice rows printed same is = ap (map keys_of) same ∙ sym (numbered-rows rows) ∙ ap (map keys_of) is
 
-pub led-as : (rows keys : List (List ℕ)) (pairs items old none now : List (ℕ × ℕ)) → rows ≡ keys → pairs ≡ items → old ≡ none → AreLed rows pairs (length pairs) old now → AreLed keys items (length items) none now
+pub led-as : (rows keys : List (List ℕ)) (pairs items old none now : List (ℕ × ℕ)) → rows ≡ keys → pairs ≡ items →
+    old ≡ none → AreLed rows pairs (length pairs) old now → AreLed keys items (length items) none now
 led-as rows keys pairs items old none now same listed before led =
-    subst (λ r. AreLed r items (length items) none now) same (subst (λ l. AreLed rows l (length l) none now) listed (subst (λ o. AreLed rows pairs (length pairs) o now) before led))
+    subst (λ r. AreLed r items (length items) none now) same (subst (λ l. AreLed rows l (length l) none now) listed
+    (subst (λ o. AreLed rows pairs (length pairs) o now) before led))
 
-pub led-form : (c : Contents) (first arcs : List (ℕ × ℕ)) → AreLed (map keys_of c.p) c.base (length c.base) [] first → AreLed c.t c.mates (length c.mates) first arcs → AreArcsFrom c arcs
+pub led-form : (c : Contents) (first arcs : List (ℕ × ℕ)) → AreLed (map keys_of c.p) c.base (length c.base) [] first →
+    AreLed c.t c.mates (length c.mates) first arcs → AreArcsFrom c arcs
 led-form c first arcs one two = record {
   base = λ a b other leads. two.kept a b (base a b other leads);
   mates = mates;
@@ -42,19 +48,25 @@ led-form c first arcs one two = record {
 }
   where
     base : (a b : ℕ) → a ≢ b → Leads (map keys_of c.p) c.base a b → arc_in first a b ≡ true
-    base a b other (j, k, jl, kl, column, is) = subst (λ v. arc_in first v b ≡ true) is (subst (λ v. arc_in first (slice_index (row_of (map keys_of c.p) (pair_at c.base j).0) k) v ≡ true) column
+    base a b other (j, k, jl, kl, column, is) = subst (λ v. arc_in first v b ≡ true) is
+        (subst (λ v. arc_in first (slice_index (row_of (map keys_of c.p) (pair_at c.base j).0) k) v ≡ true) column
         (one.new j k jl kl (λ same. other (sym is ∙ same ∙ column))))
 
     mates : (a b : ℕ) → a ≢ b → Leads c.t c.mates a b → arc_in arcs a b ≡ true
-    mates a b other (j, k, jl, kl, column, is) = subst (λ v. arc_in arcs v b ≡ true) is (subst (λ v. arc_in arcs (slice_index (row_of c.t (pair_at c.mates j).0) k) v ≡ true) column
+    mates a b other (j, k, jl, kl, column, is) = subst (λ v. arc_in arcs v b ≡ true) is
+        (subst (λ v. arc_in arcs (slice_index (row_of c.t (pair_at c.mates j).0) k) v ≡ true) column
         (two.new j k jl kl (λ same. other (sym is ∙ same ∙ column))))
 
-    told : (a b : ℕ) → ((arc_in first a b ≡ true) ⊎ ((j k : ℕ) × (j < length c.mates) × (k < length (row_of c.t (pair_at c.mates j).0)) × ((pair_at c.mates j).1 ≡ b) × (a ≢ b) × (slice_index (row_of c.t (pair_at c.mates j).0) k ≡ a))) →
+    told : (a b : ℕ) → ((arc_in first a b ≡ true) ⊎ ((j k : ℕ) × (j < length c.mates)
+        × (k < length (row_of c.t (pair_at c.mates j).0)) × ((pair_at c.mates j).1 ≡ b) × (a ≢ b)
+        × (slice_index (row_of c.t (pair_at c.mates j).0) k ≡ a))) →
         (a ≢ b) × (Leads (map keys_of c.p) c.base a b ⊎ Leads c.t c.mates a b)
     told a b (inr (j, k, jl, kl, column, other, is)) = (other, inr (j, k, jl, kl, column, is))
     told a b (inl h) = go (one.only a b h)
       where
-        go : ((arc_in [] a b ≡ true) ⊎ ((j k : ℕ) × (j < length c.base) × (k < length (row_of (map keys_of c.p) (pair_at c.base j).0)) × ((pair_at c.base j).1 ≡ b) × (a ≢ b) × (slice_index (row_of (map keys_of c.p) (pair_at c.base j).0) k ≡ a))) →
+        go : ((arc_in [] a b ≡ true) ⊎ ((j k : ℕ) × (j < length c.base)
+            × (k < length (row_of (map keys_of c.p) (pair_at c.base j).0)) × ((pair_at c.base j).1 ≡ b) × (a ≢ b)
+            × (slice_index (row_of (map keys_of c.p) (pair_at c.base j).0) k ≡ a))) →
             (a ≢ b) × (Leads (map keys_of c.p) c.base a b ⊎ Leads c.t c.mates a b)
         go (inl none) = absurd (differ refl none)
         go (inr (j, k, jl, kl, column, other, is)) = (other, inl (j, k, jl, kl, column, is))
@@ -67,10 +79,12 @@ none-marked n x h = elim (lt_cases x n) [
 ]
 
 -- the first numbers of a list are marked alone
-pub marked-alone : (list : List ℕ) (m n : ℕ) (now : List Bool) (x : ℕ) → IsMarked list n (replicate m false) now → marked now x ≡ true → (k : ℕ) × (k < n) × (slice_index list k ≡ x)
+pub marked-alone : (list : List ℕ) (m n : ℕ) (now : List Bool) (x : ℕ) → IsMarked list n (replicate m false) now →
+    marked now x ≡ true → (k : ℕ) × (k < n) × (slice_index list k ≡ x)
 marked-alone list m n now x are h = elim (are.only x h) [ inl none ↦ absurd (none-marked m x none) | inr item ↦ item ]
 
-pub free-form : (c : Contents) (first taken free : List Bool) → IsMarked (columns_of c.base) (length c.base) (replicate c.shape.columns false) first → IsMarked (columns_of c.mates) (length c.mates) first taken →
+pub free-form : (c : Contents) (first taken free : List Bool) → IsMarked (columns_of c.base) (length c.base)
+    (replicate c.shape.columns false) first → IsMarked (columns_of c.mates) (length c.mates) first taken →
     AreOthers taken (length taken) free → AreFreeFrom c free
 free-form c first taken free one two others = record {
   count = others.count ∙ count;
@@ -86,13 +100,16 @@ free-form c first taken free one two others = record {
 
     never : (x : ℕ) → ((j : ℕ) → j < length c.base → (pair_at c.base j).1 ≡ x → ⊥) → ((j : ℕ) → j < length c.mates → (pair_at c.mates j).1 ≡ x → ⊥) →
         (marked first x ≡ true) ⊎ ((k : ℕ) × (k < length c.mates) × (slice_index (columns_of c.mates) k ≡ x)) → ⊥
-    never x base mates (inl h) = let item = marked-alone (columns_of c.base) c.shape.columns (length c.base) first x one h in base item.0 item.1 (sym (column-at c.base item.0 (0, 0) item.1) ∙ item.2)
+    never x base mates (inl h) = let item = marked-alone (columns_of c.base) c.shape.columns
+        (length c.base) first x one h in base item.0 item.1 (sym (column-at c.base item.0 (0, 0) item.1) ∙ item.2)
     never x base mates (inr (k, kl, at)) = mates k kl (sym (column-at c.mates k (0, 0) kl) ∙ at)
 
 -- what rows without an item hold is marked
-module _ (rows : List (List ℕ)) (pairs : List (ℕ × ℕ)) (owned : List Bool) (O : IsMarked (keys_of pairs) (length pairs) (replicate (length rows) false) owned) where
+module _ (rows : List (List ℕ)) (pairs : List (ℕ × ℕ)) (owned : List Bool)
+    (O : IsMarked (keys_of pairs) (length pairs) (replicate (length rows) false) owned) where
   none-owned : (i : ℕ) → ((j : ℕ) → j < length pairs → (pair_at pairs j).0 ≡ i → ⊥) → marked owned i ≡ false
-  none-owned i none = not_true (marked owned i) (λ h. let item = marked-alone (keys_of pairs) (length rows) (length pairs) owned i O h in absurd (none item.0 item.1 (sym (key-at pairs item.0 (0, 0) item.1) ∙ item.2)))
+  none-owned i none = not_true (marked owned i) (λ h. let item = marked-alone (keys_of pairs) (length rows)
+      (length pairs) owned i O h in absurd (none item.0 item.1 (sym (key-at pairs item.0 (0, 0) item.1) ∙ item.2)))
 
   owned-none : (i : ℕ) → marked owned i ≡ false → (j : ℕ) → j < length pairs → (pair_at pairs j).0 ≡ i → ⊥
   owned-none i clear j jl at = differ clear (subst (λ v. marked owned v ≡ true) (key-at pairs j (0, 0) jl ∙ at) (O.new j jl))
@@ -106,8 +123,11 @@ module _ (rows : List (List ℕ)) (pairs : List (ℕ × ℕ)) (owned : List Bool
     | inr (i, k, il, clear, kl, is) ↦ inr (i, k, il, owned-none i clear, kl, is)
   ]
 
-pub ends-form : (c : Contents) (q t first ends : List Bool) → IsMarked (keys_of c.base) (length c.base) (replicate (length (map keys_of c.p)) false) q → IsMarked (keys_of c.mates) (length c.mates) (replicate (length c.t) false) t →
-    AreMarked q (map keys_of c.p) (length (map keys_of c.p)) (replicate c.shape.columns false) first → AreMarked t c.t (length c.t) first ends → AreEndsFrom c ends
+pub ends-form : (c : Contents) (q t first ends : List Bool) → IsMarked (keys_of c.base) (length c.base)
+    (replicate (length (map keys_of c.p)) false) q → IsMarked (keys_of c.mates) (length c.mates)
+    (replicate (length c.t) false) t →
+    AreMarked q (map keys_of c.p) (length (map keys_of c.p)) (replicate c.shape.columns false) first →
+    AreMarked t c.t (length c.t) first ends → AreEndsFrom c ends
 ends-form c q t first ends Q T one two = record {
   count = two.count ∙ one.count ∙ length-replicate c.shape.columns false;
   base = λ x h. two.kept x (ends-marked (map keys_of c.p) c.base q Q (replicate c.shape.columns false) first x one h);
@@ -121,7 +141,8 @@ ends-form c q t first ends Q T one two = record {
   ];
 }
 
-pub marked-as : (list keys : List ℕ) (n m : ℕ) (old none now : List Bool) → list ≡ keys → n ≡ m → old ≡ none → IsMarked list n old now → IsMarked keys m none now
+pub marked-as : (list keys : List ℕ) (n m : ℕ) (old none now : List Bool) → list ≡ keys → n ≡ m → old ≡ none →
+    IsMarked list n old now → IsMarked keys m none now
 marked-as list keys n m old none now same count before are =
     subst (λ k. IsMarked k m none now) same (subst (λ l. IsMarked list l none now) count (subst (λ o. IsMarked list n o now) before are))
 
@@ -129,13 +150,18 @@ marked-as list keys n m old none now same count before are =
 pub back : (len : ℕ) (now old rest : List Bool) → len ≡ length old → length now ≡ length old → take len (now ++ rest) ≡ now
 back len now old rest long count = written-back len now rest (long ∙ sym count)
 
-pub rows-as : (taken q : List Bool) (rows keys : List (List ℕ)) (n m : ℕ) (old none now : List Bool) → taken ≡ q → rows ≡ keys → n ≡ m → old ≡ none → AreMarked taken rows n old now → AreMarked q keys m none now
+pub rows-as : (taken q : List Bool) (rows keys : List (List ℕ)) (n m : ℕ) (old none now : List Bool) → taken ≡ q →
+    rows ≡ keys → n ≡ m → old ≡ none → AreMarked taken rows n old now → AreMarked q keys m none now
 rows-as taken q rows keys n m old none now owned same count before are =
-    subst (λ t. AreMarked t keys m none now) owned (subst (λ k. AreMarked taken k m none now) same (subst (λ l. AreMarked taken rows l none now) count (subst (λ o. AreMarked taken rows n o now) before are)))
+    subst (λ t. AreMarked t keys m none now) owned (subst (λ k. AreMarked taken k m none now) same
+    (subst (λ l. AreMarked taken rows l none now) count (subst (λ o. AreMarked taken rows n o now) before are)))
 
 -- the columns of entries of a matrix, and of symbols of a pattern
-pub keys-low : {T : Type 0} (number : T → ℕ) (p m n l : ℕ) (slice rows : List (List (ℕ × T))) (printed : List (List (ℕ × ℕ))) → IsMatrix p m n printed → slice ≡ rows → numbered_rows number rows ≡ printed → n ≡ l →
-    (k : ℕ) (d : List (ℕ × T)) → k < length slice → (i : ℕ) (e : ℕ × T) → i < length (slice_index_or slice k d) → (slice_index_or (slice_index_or slice k d) i e).0 < l
+pub keys-low : {T : Type 0} (number : T → ℕ) (p m n l : ℕ) (slice rows : List (List (ℕ × T)))
+    (printed : List (List (ℕ × ℕ))) → IsMatrix p m n printed → slice ≡ rows → numbered_rows number rows ≡ printed →
+    n ≡ l →
+    (k : ℕ) (d : List (ℕ × T)) → k < length slice → (i : ℕ) (e : ℕ × T) → i < length (slice_index_or slice k d) →
+    (slice_index_or (slice_index_or slice k d) i e).0 < l
 keys-low {T} number p m n l slice rows printed matrix same is size k d kl i e il =
     let is' : numbered_rows number slice ≡ printed = ap (numbered_rows number) same ∙ is in
     let row : List (ℕ × T) = slice_index_or slice k d in
@@ -143,7 +169,9 @@ keys-low {T} number p m n l slice rows printed matrix same is size k d kl i e il
     let row-is : slice_index_or printed k [] ≡ numbered number row = sym (ap (λ r. slice_index_or r k []) is') ∙ get_or-map (numbered number) slice k d [] kl in
     let entries : AreEntries p n (numbered number row) = subst (AreEntries p n) row-is (matrix.entries k [] low) in
     let il' : i < length (numbered number row) = subst (λ h. i < h) (sym (length-map row (λ (item : ℕ × T). (item.0, number item.1)))) il in
-    let key : slice_index_or (numbered number row) i (0, 0) ≡ ((slice_index_or row i e).0, number (slice_index_or row i e).1) = get_or-map (λ (item : ℕ × T). (item.0, number item.1)) row i e (0, 0) il in
+    let key : slice_index_or (numbered number row) i (0, 0) ≡
+    ((slice_index_or row i e).0, number (slice_index_or row i e).1) =
+    get_or-map (λ (item : ℕ × T). (item.0, number item.1)) row i e (0, 0) il in
     subst (λ v. (slice_index_or row i e).0 < v) size (subst (λ (v : ℕ × ℕ). v.0 < n) key (entries.within i (0, 0) il').0)
 
 pub symbols-low : (m n l : ℕ) (slice rows : List (List ℕ)) → IsPattern m n rows → slice ≡ rows → n ≡ l →

@@ -1,5 +1,6 @@
 -- Marks of what stands in lists.
-use Rattle.std.proofs.Common.{◌≡◌, ℕ, ◌+◌, ◌<◌, Bool, true, false, List, length, map, slice_index, slice_index_or, slice_set, [], ap, inl, inr, sym, subst, ◌∙◌, arith}
+use Rattle.std.proofs.Common.{◌≡◌, ℕ, ◌+◌, ◌<◌, Bool, true, false, List, length, map, slice_index, slice_index_or}
+use Rattle.std.proofs.Common.{slice_set, [], ap, inl, inr, sym, subst, ◌∙◌, arith}
 use Rattle.std.proofs.lemmas.List.{get_or-map, get_or_default, get_or-set_same, get_or-set_other, length-map, length-set}
 use Rattle.residue_theory.proofs.SumLaws.{nat_cases}
 use Rattle.part_rules.specs.Listed.{marked}
@@ -12,7 +13,8 @@ pub key-at : {T : Type 0} → (items : List (ℕ × T)) (k : ℕ) (d : ℕ × T)
 key-at items k d low = get_or-map (λ item. item.0) items k d 0 low
 
 -- one number more
-pub mark-more : (list : List ℕ) (n x : ℕ) (old now : List Bool) → IsMarked list n old now → slice_index list n ≡ x → x < length old → IsMarked list (n + 1) old (slice_set now x true)
+pub mark-more : (list : List ℕ) (n x : ℕ) (old now : List Bool) → IsMarked list n old now → slice_index list n ≡ x →
+    x < length old → IsMarked list (n + 1) old (slice_set now x true)
 mark-more list n x old now before is low = record {
   count = length-set now x true ∙ before.count;
   kept = λ y h. set-kept y (before.kept y h);
@@ -38,14 +40,16 @@ mark-more list n x old now before is low = record {
       | inr other ↦ get_or-set_other now x y true false (λ e. other (sym e)) ∙ h
     ]
 
-pub key-given : {T : Type 0} → (items : List (ℕ × T)) (k : ℕ) (item : ℕ × T) → k < length items → item ≡ slice_index_or items k item → slice_index (keys_of items) k ≡ item.0
+pub key-given : {T : Type 0} → (items : List (ℕ × T)) (k : ℕ) (item : ℕ × T) → k < length items →
+    item ≡ slice_index_or items k item → slice_index (keys_of items) k ≡ item.0
 key-given items k item low is = key-at items k item low ∙ ap (λ e. e.0) (sym is)
 
 pub keys-count : {T : Type 0} → (items : List (ℕ × T)) → length (keys_of items) ≡ length items
 keys-count items = length-map items (λ item. item.0)
 
 -- the keys of a row are the row of keys
-pub keys-row : {T : Type 0} → (rows : List (List (ℕ × T))) (i : ℕ) (row d : List (ℕ × T)) → i < length rows → row ≡ slice_index_or rows i d → keys_of row ≡ row_of (map keys_of rows) i
+pub keys-row : {T : Type 0} → (rows : List (List (ℕ × T))) (i : ℕ) (row d : List (ℕ × T)) → i < length rows →
+    row ≡ slice_index_or rows i d → keys_of row ≡ row_of (map keys_of rows) i
 keys-row rows i row d low is = ap keys_of is ∙ sym (get_or-map keys_of rows i d [] low)
 
 pub row-given : (rows : List (List ℕ)) (i : ℕ) (row d : List ℕ) → i < length rows → row ≡ slice_index_or rows i d → row ≡ row_of rows i

@@ -24,7 +24,8 @@ unfolding is_end has_base has_match
 same-ends p q S M = refl
 
 -- what is a tableau for the kept entries is one for entries that agree with them
-pub entries-tableau : (p : ℕ) (q : ℕ → ℕ → ℕ) (S : State) (M : Matching) → AreEntries p S q → HasTableau p (layers_of S M) (tableau_of S M) → HasTableau p (layers q S M) (tableau_of S M)
+pub entries-tableau : (p : ℕ) (q : ℕ → ℕ → ℕ) (S : State) (M : Matching) → AreEntries p S q →
+    HasTableau p (layers_of S M) (tableau_of S M) → HasTableau p (layers q S M) (tableau_of S M)
 entries-tableau p q S M agree tableau = record {
   kernel = kernel-trans p S.rows S.columns q S.q S.p (kernel-sym p S.rows S.columns S.q q (kernel_of-agree p S.rows S.columns S.q q agree)) tableau.kernel;
   base = tableau.base;
@@ -32,7 +33,8 @@ entries-tableau p q S M agree tableau = record {
   apart = tableau.apart;
 }
 
-module _ (p : ℕ) (prime : IsPrime p) (S : State) (M : Matching) (kept : HasTableau p (layers_of S M) (tableau_of S M)) (clear : HasNoWalk p (layers_of S M) (tableau_of S M))
+module _ (p : ℕ) (prime : IsPrime p) (S : State) (M : Matching) (kept : HasTableau p (layers_of S M)
+    (tableau_of S M)) (clear : HasNoWalk p (layers_of S M) (tableau_of S M))
     (X : ℕ → Bool) (from_free : IsReachedFromFree p (layers_of S M) (tableau_of S M) X) (q : ℕ → ℕ → ℕ) (agree : AreEntries p S q) where
   abbrev L : LayeredMatrix
   L = layers q S M
@@ -62,5 +64,6 @@ module _ (p : ℕ) (prime : IsPrime p) (S : State) (M : Matching) (kept : HasTab
     minimisers = λ Y. (minimiser-closed p prime L F tableau (least_set p L F) closed Y, closed-minimiser p prime L F tableau Y);
     from_free = reached;
     minimiser = closed-minimiser p prime L F tableau X (reached-closed (leads_to p L F) L.columns (is_free F) (is_end p L F) no_walk X reached);
-    least = λ Y least j jl h. closed-from (leads_to p L F) L.columns (is_free F) (is_end p L F) Y (minimiser-closed p prime L F tableau (least_set p L F) closed Y least) j jl ((reached j jl).0 h);
+    least = λ Y least j jl h. closed-from (leads_to p L F) L.columns (is_free F) (is_end p L F) Y
+        (minimiser-closed p prime L F tableau (least_set p L F) closed Y least) j jl ((reached j jl).0 h);
   }

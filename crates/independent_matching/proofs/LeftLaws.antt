@@ -42,7 +42,8 @@ pub moved-rows : (M₀ M : Matching) (end : Row) (next : Option Row) → next �
 moved-rows M₀ M end next done rows row = (λ h. (rows row).0 (h, λ e. some_is_no_none (T row) (sym done ∙ e)), λ h. ((rows row).1 h).0)
 
 -- column v moves
-module _ (p : ℕ) (S S' : State) (M M' : Matching) (width : M.pattern.width ≡ S.columns) (same_width : M'.pattern.width ≡ M.pattern.width) (v : ℕ) (below : v < S.columns)
+module _ (p : ℕ) (S S' : State) (M M' : Matching) (width : M.pattern.width ≡ S.columns)
+    (same_width : M'.pattern.width ≡ M.pattern.width) (v : ℕ) (below : v < S.columns)
     (apart : S.base v ≡ true → is_matched M v ≡ true → ⊥) (taken : Row) (takes : Takes p (layers_of S M) (tableau_of S M) (tableau_of S' M') taken v) where
   abbrev next : Option Row
   next = row_had (tableau_of S M) v
@@ -70,7 +71,8 @@ module _ (p : ℕ) (S S' : State) (M M' : Matching) (width : M.pattern.width ≡
   not-next row loose e = let h = had-t (tableau_of S M) v row e in loose v v_here h.0 h.1
 
   -- where the others keep their rows
-  module _ (tests : (y : ℕ) → y < S.columns → y ≢ v → is_matched M' y ≡ is_matched M y) (mates : (y : ℕ) → y < S.columns → y ≢ v → mate_of M' y ≡ mate_of M y) (row : ℕ) where
+  module _ (tests : (y : ℕ) → y < S.columns → y ≢ v → is_matched M' y ≡ is_matched M y) (mates : (y : ℕ) →
+      y < S.columns → y ≢ v → mate_of M' y ≡ mate_of M y) (row : ℕ) where
     loose-was : HasNoMate M' row → next ≢ Some (T row) → HasNoMate M row
     loose-was loose ne y l m e = elim (nat_cases y v) [
       | inl q ↦ ne (next-row row (subst (λ k. is_matched M k ≡ true) q m) (subst (λ k. mate_of M k ≡ row) q e))

@@ -22,14 +22,16 @@ module _ (p : ℕ) (S S' : State) (M M' : Matching) (v : ℕ) (below : v < S.col
   same_columns = ap (λ (L : LayeredMatrix). L.columns) layers
 
   -- a mark that stays right, since the column has the same free Q rows
-  kept-mark : (by_q : List (Option ℕ)) (x : ℕ) → ((i : ℕ) → IsFreeQRow p S x i → IsFreeQRow p S' x i) → ((i : ℕ) → IsFreeQRow p S' x i → IsFreeQRow p S x i) → IsQMark p S by_q x → IsQMark p S' by_q x
+  kept-mark : (by_q : List (Option ℕ)) (x : ℕ) → ((i : ℕ) → IsFreeQRow p S x i → IsFreeQRow p S' x i) →
+      ((i : ℕ) → IsFreeQRow p S' x i → IsFreeQRow p S x i) → IsQMark p S by_q x → IsQMark p S' by_q x
   kept-mark by_q x to from mark = record {
     some = λ i e. to i (mark.some i e);
     none = λ e i E. mark.none e i (from i E);
   }
 
   -- no pivot, and all stays
-  pub mate-mark : TakesMate (layers_of S M) (tableau_of S M) (tableau_of S' M') row v → (by_q : List (Option ℕ)) (x : ℕ) → IsQMark p S by_q x → IsQMark p S' by_q x
+  pub mate-mark : TakesMate (layers_of S M) (tableau_of S M) (tableau_of S' M') row v →
+      (by_q : List (Option ℕ)) (x : ℕ) → IsQMark p S by_q x → IsQMark p S' by_q x
   mate-mark K by_q x = kept-mark by_q x
       (λ i E. record {
         below = subst (λ n. i < n) (sym same_rows) E.below;
@@ -74,7 +76,8 @@ module _ (p : ℕ) (S S' : State) (M M' : Matching) (v : ℕ) (below : v < S.col
           other : i ≢ row
           other q = E.bare v (subst (λ n. v < n) (sym same_columns) below) K.taken.member (K.taken.at_row ∙ sym q)
 
-    pub untouched-mark : (by_q : List (Option ℕ)) (touched : List Bool) → AreTouched p S touched row → (x : ℕ) → x < S.columns → members_of touched x ≡ false → IsQMark p S by_q x → IsQMark p S' by_q x
+    pub untouched-mark : (by_q : List (Option ℕ)) (touched : List Bool) → AreTouched p S touched row → (x : ℕ) →
+        x < S.columns → members_of touched x ≡ false → IsQMark p S by_q x → IsQMark p S' by_q x
     untouched-mark by_q touched A x l none mark = elim (zero_cases (S.p row x % p)) [
       | inl zero ↦ kept-mark by_q x (still-free x l zero) (was-free x l zero) mark
       | inr entry ↦ absurd (differ none (A x l entry))
@@ -95,7 +98,11 @@ module _ (S S' : State) (M M' : Matching) (layers : layers_of S' M' ≡ layers_o
       record {
         below = subst (λ n. i < n) (sym same_height) E.below;
         touching = same_touches i x ∙ E.touching;
-        loose = (rows i).1 (E.loose, λ e. differ (subst (λ k. touches M'.pattern k x ≡ false) (ap number e) (apart (ap in_q e))) (same_touches i x ∙ E.touching));
+        loose = (rows i).1 (
+          E.loose,
+          λ e. differ (subst (λ k. touches M'.pattern k x ≡ false) (ap number e)
+              (apart (ap in_q e))) (same_touches i x ∙ E.touching),
+        );
       },
     );
     none = λ h i E. mark.none h i (record {
@@ -111,7 +118,8 @@ same-q p S by_q now x e mark = record { some = λ i h. mark.some i (sym e ∙ h)
 -- ---- one column's marks change
 module _ (m now : Marks) (x : ℕ) (C : IsChangedAt m now x) (y : ℕ) (ne : y ≢ x) where
   pub other-end : IsEndMark m y → IsEndMark now y
-  other-end h = C.ends y ne ∙ h ∙ ap (λ t. t || is_some (row_at m.by_q.items y)) (sym (C.by_t y ne)) ∙ ap (λ o. members_of now.by_t.items y || is_some o) (sym (C.by_q y ne))
+  other-end h = C.ends y ne ∙ h ∙ ap (λ t. t || is_some (row_at m.by_q.items y)) (sym (C.by_t y ne))
+      ∙ ap (λ o. members_of now.by_t.items y || is_some o) (sym (C.by_q y ne))
 
   pub other-t : (M : Matching) → IsTMark M m.by_t.items y → IsTMark M now.by_t.items y
   other-t M mark = record {

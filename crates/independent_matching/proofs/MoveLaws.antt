@@ -1,5 +1,6 @@
 -- The moves along a walk, over a tableau and a matching.
-use Rattle.std.proofs.Common.{◌≡◌, ◌≢◌, ◌+◌, ◌%◌, ◌<◌, ◌≤◌, ◌∙◌, ℕ, zero, suc, Bool, true, false, not, ◌&&◌, ◌||◌, Option, Some, None, cond, inl, inr, refl, sym, ap, subst, arith}
+use Rattle.std.proofs.Common.{◌≡◌, ◌≢◌, ◌+◌, ◌%◌, ◌<◌, ◌≤◌, ◌∙◌, ℕ, zero, suc, Bool, true, false, not, ◌&&◌, ◌||◌}
+use Rattle.std.proofs.Common.{Option, Some, None, cond, inl, inr, refl, sym, ap, subst, arith}
 use Rattle.residue_theory.proofs.SetLaws.{differ}
 use Rattle.residue_theory.specs.Sums.{size_on}
 use Rattle.bipartite_matching.specs.Matchings.{Matching}
@@ -57,8 +58,13 @@ module _ (p : ℕ) (S₀ : State) (M₀ : Matching) (tableau : HasTableau p (lay
     width = refl;
     stage = subst (λ i. IsStage p L₀ F₀ R i F₀) (omega arith) (stage-start p L₀ F₀ R tableau W);
     none = λ e. absurd (omega arith);
-    some = λ j e. let here : j ≡ last = omega arith in
-        (end, refl, sym (ap (λ i. R.in_q i) here ∙ route-last_row F₀ at last (in_q end) (number end)), sym (ap (λ i. R.row i) here ∙ route-last_to F₀ at last (in_q end) (number end)));
+    some = λ j e. let here : j ≡ last = omega arith in (
+      end,
+      refl,
+      sym (ap (λ i. R.in_q i) here ∙ route-last_row F₀ at last (in_q end) (number end)),
+      sym
+          (ap (λ i. R.row i) here ∙ route-last_to F₀ at last (in_q end) (number end)),
+    );
   }
 
   module _ (S : State) (M : Matching) (next : Option Row) (row : Row) (left : ℕ) (V : IsMoving p S₀ M₀ R S M next left) (is : next ≡ Some row) where
@@ -81,7 +87,8 @@ module _ (p : ℕ) (S₀ : State) (M₀ : Matching) (tableau : HasTableau p (lay
       moving-below = W.below i i_le
 
       pub moving-apart : S.base (at i) ≡ true → (tableau_of S M).matched (at i) ≡ true → ⊥
-      moving-apart b m = differ (tableau.apart (at i) moving-below (sym (stage_now.same_base i (omega arith)) ∙ b)) (sym (stage_now.same_match i (omega arith)) ∙ m)
+      moving-apart b m = differ (tableau.apart (at i) moving-below (sym (stage_now.same_base i (omega arith)) ∙ b))
+          (sym (stage_now.same_match i (omega arith)) ∙ m)
 
       moving-columns : S.columns ≡ S₀.columns
       moving-columns = ap (λ (L : LayeredMatrix). L.columns) V.layers
@@ -139,13 +146,27 @@ module _ (p : ℕ) (S₀ : State) (M₀ : Matching) (tableau : HasTableau p (lay
 
             base_case : R.in_q j ≡ true → (r : Row) × (row_had (tableau_of S M) (at i) ≡ Some r) × (in_q r ≡ R.in_q j) × (number r ≡ R.row j)
             base_case q =
-                let held : (F₀.base (at i) ≡ true) × (F₀.row (at i) ≡ R.row j) = subst (λ k. (F₀.base (at k) ≡ true) × (F₀.row (at k) ≡ R.row j)) next_is (W.row_left j (omega (arith, i_le, e)) q) in
-                (Q (S.row (at i)), had-base (tableau_of S M) (at i) (stage_now.same_base i (omega arith) ∙ held.0), sym q, stage_now.same_row i (omega arith) held.0 ∙ held.1)
+                let held : (F₀.base (at i) ≡ true) × (F₀.row (at i) ≡ R.row j) = subst (λ k. (F₀.base (at k) ≡ true)
+                × (F₀.row (at k) ≡ R.row j)) next_is (W.row_left j (omega (arith, i_le, e)) q) in (
+                  Q (S.row (at i)),
+                  had-base (tableau_of S M) (at i) (stage_now.same_base i (omega arith)
+                      ∙ held.0),
+                  sym q,
+                  stage_now.same_row i (omega arith) held.0 ∙ held.1,
+                )
 
             mate_case : R.in_q j ≡ false → (r : Row) × (row_had (tableau_of S M) (at i) ≡ Some r) × (in_q r ≡ R.in_q j) × (number r ≡ R.row j)
             mate_case t =
-                let held : (F₀.matched (at i) ≡ true) × (F₀.mate (at i) ≡ R.row j) = subst (λ k. (F₀.matched (at k) ≡ true) × (F₀.mate (at k) ≡ R.row j)) next_is (W.mate_left j (omega (arith, i_le, e)) t) in
-                (T ((tableau_of S M).mate (at i)), had-mate (tableau_of S M) (at i) (stage_now.same_base i (omega arith) ∙ no_base held.0) (stage_now.same_match i (omega arith) ∙ held.0), sym t, stage_now.same_mate i (omega arith) held.0 ∙ held.1)
+                let held : (F₀.matched (at i) ≡ true) × (F₀.mate (at i) ≡ R.row j) =
+                subst (λ k. (F₀.matched (at k) ≡ true) × (F₀.mate (at k) ≡ R.row j)) next_is
+                (W.mate_left j (omega (arith, i_le, e)) t) in (
+                  T ((tableau_of S M).mate (at i)),
+                  had-mate (tableau_of S M) (at i)
+                      (stage_now.same_base i (omega arith) ∙ no_base held.0) (stage_now.same_match i (omega arith)
+                      ∙ held.0),
+                  sym t,
+                  stage_now.same_mate i (omega arith) held.0 ∙ held.1,
+                )
               where
                 no_base : F₀.matched (at i) ≡ true → F₀.base (at i) ≡ false
                 no_base m = elim (test_cases (F₀.base (at i))) [ inl b ↦ absurd (differ (tableau.apart (at i) moving-below b) m) | inr n ↦ n ]

@@ -1,5 +1,7 @@
 -- The next column that a column leads to.
-use Rattle.std.proofs.Common.{◌≡◌, ◌≢◌, ◌<◌, ◌≤◌, ◌∙◌, ◌⊎◌, ◌&&◌, ◌||◌, ℕ, Bool, true, false, not, eqb, List, length, Option, Some, None, IfSome, IfNone, is_some, unwrap_or, slice_index, inl, inr, refl, sym, ap, subst, arith}
+use Rattle.std.proofs.Common.{◌≡◌, ◌≢◌, ◌<◌, ◌≤◌, ◌∙◌, ◌⊎◌, ◌&&◌, ◌||◌, ℕ, Bool, true, false, not, eqb, List, length}
+use Rattle.std.proofs.Common.{Option, Some, None, IfSome, IfNone, is_some, unwrap_or, slice_index, inl, inr, refl}
+use Rattle.std.proofs.Common.{sym, ap, subst, arith}
 use Rattle.std.proofs.lemmas.Bool.Decides.{nat_tests}
 use Rattle.residue_theory.proofs.SetLaws.{both-first, both-second, both_true, differ, either-first, either-second, not_true}
 use Rattle.sparse_t.specs.Incidences.{touches, AreRowsOf}
@@ -23,18 +25,21 @@ module _ (x from end : ℕ) where
   read-some : (column : Option ℕ) (IsOne : ℕ → Type 0) → IfSome column IsOne → (y : ℕ) → column ≡ Some y → IsOne y
   read-some column IsOne some y e = subst (λ c. IfSome c IsOne) e some
 
-  read-none : (column : Option ℕ) (IsOne : ℕ → Type 0) → IfSome column IsOne → IfNone column ((y : ℕ) → IsOne y → ⊥) → ((y z : ℕ) → IsOne y → IsOne z → y ≡ z) → (y : ℕ) → IsOne y → column ≡ Some y
+  read-none : (column : Option ℕ) (IsOne : ℕ → Type 0) → IfSome column IsOne → IfNone column ((y : ℕ) → IsOne y → ⊥) →
+      ((y z : ℕ) → IsOne y → IsOne z → y ≡ z) → (y : ℕ) → IsOne y → column ≡ Some y
   read-none None IsOne some none one y h = absurd (none y h)
   read-none (Some z) IsOne some none one y h = ap Some (one z y some h)
 
-  module _ (column : Option ℕ) (IsOne : ℕ → Type 0) (some : IfSome column IsOne) (least now : ℕ) (step : (now ≡ least) ⊎ IsNearer (λ y. column ≡ Some y) x from least now) where
+  module _ (column : Option ℕ) (IsOne : ℕ → Type 0) (some : IfSome column IsOne) (least now : ℕ)
+      (step : (now ≡ least) ⊎ IsNearer (λ y. column ≡ Some y) x from least now) where
     next-less : now ≤ least
     next-less = elim step [ inl e ↦ omega (arith, e) | inr w ↦ omega (arith, w.before) ]
 
     pub next-within : least ≤ end → now ≤ end
     next-within le = omega (arith, next-less, le)
 
-    pub next-found : (arc : ℕ → Bool) → ((y : ℕ) → IsOne y → y ≢ x → arc y ≡ true) → (least < end → (from ≤ least) × (arc least ≡ true)) → now < end → (from ≤ now) × (arc now ≡ true)
+    pub next-found : (arc : ℕ → Bool) → ((y : ℕ) → IsOne y → y ≢ x → arc y ≡ true) →
+        (least < end → (from ≤ least) × (arc least ≡ true)) → now < end → (from ≤ now) × (arc now ≡ true)
     next-found arc hit found less = elim step [
       | inl e ↦ subst (λ y. (from ≤ y) × (arc y ≡ true)) (sym e) (found (omega (arith, e, less)))
       | inr w ↦ (w.from_on, hit now (read-some column IsOne some now w.one) w.other)
@@ -45,8 +50,15 @@ module _ (x from end : ℕ) where
     next-kept IsOther y none w = none (record { one = w.one; other = w.other; from_on = w.from_on; before = omega (arith, w.before, next-less) })
 
     -- and the row's own column is not
-    pub next-here : IfNone column ((y : ℕ) → IsOne y → ⊥) → ((y z : ℕ) → IsOne y → IsOne z → y ≡ z) → ((y : ℕ) → IsNearer (λ z. column ≡ Some z) x from now y → ⊥) → (y : ℕ) → IsNearer IsOne x from now y → ⊥
-    next-here missing one none y w = none y (record { one = read-none column IsOne some missing one y w.one; other = w.other; from_on = w.from_on; before = w.before })
+    pub next-here : IfNone column ((y : ℕ) → IsOne y → ⊥) → ((y z : ℕ) → IsOne y → IsOne z → y ≡ z) →
+        ((y : ℕ) → IsNearer (λ z. column ≡ Some z) x from now y → ⊥) → (y : ℕ) → IsNearer IsOne x from now y → ⊥
+    next-here missing one none y w = none y (record {
+      one = read-none column IsOne some missing one y w.one;
+      other =
+          w.other;
+      from_on = w.from_on;
+      before = w.before;
+    })
 
   -- after all rows
   module _ (arc : ℕ → Bool) (least : ℕ) (none : (y : ℕ) → arc y ≡ true → from ≤ y → y < least → ⊥) where
@@ -69,12 +81,23 @@ module _ (M : Matching) (matching : IsMatching M) (x : ℕ) (list : List ℕ) (r
       both_true (not (eqb x y)) (is_matched M y && touches M.pattern (mate_of M y) x) (other_test x y ne)
       (both_true (is_matched M y) (touches M.pattern (mate_of M y) x) m (subst (λ r. touches M.pattern r x ≡ true) (sym e) t))
 
-  pub t_arc-none : (from least : ℕ) → ((k y : ℕ) → k < length list → IsNearer (HasPair M (slice_index list k)) x from least y → ⊥) → (y : ℕ) → t_arc M x y ≡ true → from ≤ y → y < least → ⊥
+  pub t_arc-none : (from least : ℕ) → ((k y : ℕ) → k < length list →
+      IsNearer (HasPair M (slice_index list k)) x from least y → ⊥) → (y : ℕ) → t_arc M x y ≡ true → from ≤ y →
+      y < least → ⊥
   t_arc-none from least none y h f l =
-      let rest : (is_matched M y && touches M.pattern (mate_of M y) x) ≡ true = both-second (not (eqb x y)) (is_matched M y && touches M.pattern (mate_of M y) x) h in
+      let rest : (is_matched M y && touches M.pattern (mate_of M y) x) ≡ true = both-second (not (eqb x y))
+      (is_matched M y && touches M.pattern (mate_of M y) x) h in
       let pair : HasPair M (mate_of M y) y = matched-pair M y (both-first (is_matched M y) (touches M.pattern (mate_of M y) x) rest) in
-      let (k, kl, e) = has-member list (mate_of M y) (rows.exact (mate_of M y) (matching.row (mate_of M y) y pair) ∙ both-second (is_matched M y) (touches M.pattern (mate_of M y) x) rest) in
-      none k y kl (record { one = subst (λ r. HasPair M r y) (sym e) pair; other = other_tells x y (both-first (not (eqb x y)) (is_matched M y && touches M.pattern (mate_of M y) x) h); from_on = f; before = l })
+      let (k, kl, e) = has-member list (mate_of M y) (rows.exact (mate_of M y) (matching.row (mate_of M y) y pair)
+      ∙ both-second (is_matched M y) (touches M.pattern (mate_of M y) x) rest) in
+      none k y kl (record {
+        one = subst (λ r. HasPair M r y) (sym e) pair;
+        other =
+            other_tells x y (both-first (not (eqb x y)) (is_matched M y && touches M.pattern
+            (mate_of M y) x) h);
+        from_on = f;
+        before = l;
+      })
 
 -- ---- by both
 module _ (p : ℕ) (S : State) (M : Matching) (x from end : ℕ) where
@@ -95,7 +118,8 @@ module _ (p : ℕ) (S : State) (M : Matching) (x from end : ℕ) where
       neither a b e g = grind arith
 
   -- below the answer by T no column is led to by T
-  t-before : (in_t : Option ℕ) → IfNone in_t (HasNone (t_arc M x) from end) → IfSome in_t (IsLeast (t_arc M x) from end) → HasNone (t_arc M x) from (unwrap_or in_t end)
+  t-before : (in_t : Option ℕ) → IfNone in_t (HasNone (t_arc M x) from end) →
+      IfSome in_t (IsLeast (t_arc M x) from end) → HasNone (t_arc M x) from (unwrap_or in_t end)
   t-before None none some = none
   t-before (Some y) none some = some.none_before
 
@@ -107,7 +131,9 @@ module _ (p : ℕ) (S : State) (M : Matching) (x from end : ℕ) where
   absent None P e h = h
   absent (Some y) P e h = absurd (differ e refl)
 
-  module _ (in_t in_q : Option ℕ) (to : ℕ) (bound : to ≡ unwrap_or in_t end) (t_none : IfNone in_t (HasNone (t_arc M x) from end)) (t_some : IfSome in_t (IsLeast (t_arc M x) from end)) where
+  module _ (in_t in_q : Option ℕ) (to : ℕ) (bound : to ≡ unwrap_or in_t end)
+      (t_none : IfNone in_t (HasNone (t_arc M x) from end))
+      (t_some : IfSome in_t (IsLeast (t_arc M x) from end)) where
     t_before : HasNone (t_arc M x) from to
     t_before = subst (λ n. HasNone (t_arc M x) from n) (sym bound) (t-before in_t t_none t_some)
 

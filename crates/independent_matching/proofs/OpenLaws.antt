@@ -1,18 +1,20 @@
 -- An engine before its first search.
-use Rattle.std.proofs.Common.{◌≡◌, ◌<◌, ◌%◌, ◌≤◌, ◌∙◌, ◌⊎◌, ◌&&◌, ℕ, Bool, false, true, not, replicate, Option, None, inl, inr, refl, sym, ap, subst, is_some, slice_index_or, arith}
+use Rattle.std.proofs.Common.{◌≡◌, ◌<◌, ◌≤◌, ◌⊎◌, ◌&&◌, ℕ, Bool, false, true, not, replicate, Option, None}
+use Rattle.std.proofs.Common.{inl, inr, refl, sym, ap, subst, is_some, slice_index_or, arith}
 use Rattle.std.proofs.lemmas.List.{get_or-replicate, get_or_past, length-replicate}
+use Rattle.residue_theory.specs.Residues.{IsPrime}
 use Rattle.residue_theory.proofs.SetLaws.{differ, lt_cases}
 use Rattle.residue_theory.proofs.CountLaws.{size-zero}
 use Rattle.dense_q.specs.Tables.{height, entry}
 use Rattle.linear_algebra.specs.Kernels.{SameKernel}
-use Rattle.linear_algebra_laws.proofs.Kernels.{kernel_of-agree}
+use Rattle.linear_algebra_laws.proofs.Products.{product-kernel}
 use Rattle.sparse_t.specs.Incidences.{Incidence}
 use Rattle.bipartite_matching.specs.Matchings.{Matching, empty_matching}
-use Rattle.row_transform.specs.Tableaus.{State, IsOpened}
+use Rattle.row_transform.specs.Tableaus.{State, IsOpened, IsTableau}
 use Rattle.mixed_matrices.specs.Arcs.{is_free}
 use Rattle.mixed_matrices.specs.Tableaus.{HasTableau}
 use Rattle.mixed_model.specs.Layers.{Layers, layered_matrix_of}
-use Rattle.independent_matching.specs.Engines.{AreEntries, layers}
+use Rattle.independent_matching.specs.Engines.{AreEntries, IsBareOver, layers}
 use Rattle.independent_matching.specs.Sides.{is_matched, layers_of, size_of, tableau_of}
 
 pub empty-unmatched : (p : Incidence) (y : ℕ) → is_matched (empty_matching p) y ≡ false
@@ -53,15 +55,24 @@ module _ (p : ℕ) (S : State) (M : Matching) (no_base : (y : ℕ) → S.base y 
   pub open-size : 0 ≡ size_of S M
   open-size = omega (arith, size-zero S.base S.columns (λ j l. no_base j), size-zero (is_matched M) S.columns (λ j l. unmatched j))
 
--- a tableau before any row operation
-module _ (p m n : ℕ) (q : ℕ → ℕ → ℕ) (S : State) (opened : IsOpened p m n q S) where
-  pub opened-entries : AreEntries p S q
-  opened-entries i j il jl = opened.q_is i j (subst (λ r. i < r) opened.rows_are il) (subst (λ r. j < r) opened.columns_are jl)
+-- a tableau with no base column
+pub opened-over : (p m n : ℕ) (q : ℕ → ℕ → ℕ) (S : State) → IsOpened p m n q S → IsBareOver p m n q S
+opened-over p m n q S opened = record {
+  rows_are = opened.rows_are;
+  columns_are = opened.columns_are;
+  q_is = opened.q_is;
+  no_base = opened.no_base;
+}
 
-  pub opened-kernel : SameKernel p S.rows S.columns S.q S.p
-  opened-kernel = kernel_of-agree p S.rows S.columns S.q S.p (λ i j il jl. opened-entries i j il jl ∙ ap (λ a. a i j % p) (sym opened.p_is))
+pub over-entries : (p m n : ℕ) (q : ℕ → ℕ → ℕ) (S : State) → IsBareOver p m n q S → AreEntries p S q
+over-entries p m n q S over i j il jl =
+    over.q_is i j (subst (λ r. i < r) over.rows_are il) (subst (λ r. j < r) over.columns_are jl)
 
--- the matrix of a tableau before any row operation and of the matching of T
-pub opened-layers : (p : ℕ) (L : Layers) (S : State) (M : Matching) → IsOpened p (height L.q) L.q.width (entry L.q) S → M.pattern ≡ L.t →
-    layers (entry L.q) S M ≡ layered_matrix_of L
-opened-layers p L S M opened same = rw (opened.rows_are, opened.columns_are, same) refl
+pub tableau-kernel : (p : ℕ) (S : State) → IsPrime p → IsTableau p S → SameKernel p S.rows S.columns S.q S.p
+tableau-kernel p S prime tableau =
+    product-kernel p prime S.rows S.columns S.s S.u S.q S.p tableau.inverse tableau.product_is
+
+-- the matrix of such a tableau and of the matching of T
+pub over-layers : (p : ℕ) (L : Layers) (S : State) (M : Matching) →
+    IsBareOver p (height L.q) L.q.width (entry L.q) S → M.pattern ≡ L.t → layers (entry L.q) S M ≡ layered_matrix_of L
+over-layers p L S M over same = rw (over.rows_are, over.columns_are, same) refl

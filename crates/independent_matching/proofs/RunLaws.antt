@@ -29,7 +29,8 @@ run-smaller true n u v l t f = omega (arith, t refl, l)
 run-smaller false n u v l t f = omega (arith, f refl, l)
 
 -- a search that succeeds
-pub run-going : (n u v base k start before after : ℕ) → before + k ≤ start + u * n + u * u → after ≤ before + n + base + 1 → base ≤ u → v ≡ u + 1 → after + k ≤ start + v * n + v * v
+pub run-going : (n u v base k start before after : ℕ) → before + k ≤ start + u * n + u * u →
+    after ≤ before + n + base + 1 → base ≤ u → v ≡ u + 1 → after + k ≤ start + v * n + v * v
 run-going n u v base k start before after h s b e = subst (λ w. after + k ≤ start + w * n + w * w) (sym e) (omega (arith, h, s, b))
 
 -- the last one
@@ -53,7 +54,8 @@ pub looks-more : (u v n k more after : ℕ) → k ≤ u * n → after ≡ k + mo
 looks-more u v n k more after h a m e = subst (λ w. after ≤ w * n) (sym e) (omega (arith, h, a, m))
 
 -- a search that succeeds takes few pivots and few looks
-pub pivots-going : (s u v base start before after : ℕ) → before + s * s ≤ start + u * u → after ≤ before + base + 1 → base ≤ u → v ≡ u + 1 → after + s * s ≤ start + v * v
+pub pivots-going : (s u v base start before after : ℕ) → before + s * s ≤ start + u * u → after ≤ before + base + 1 →
+    base ≤ u → v ≡ u + 1 → after + s * s ≤ start + v * v
 pivots-going s u v base start before after h a b e = subst (λ w. after + s * s ≤ start + w * w) (sym e) (omega (arith, h, a, b))
 
 pub looks-going : (n s u v start before after : ℕ) → before + s * n ≤ start + u * n → after ≤ before + n → v ≡ u + 1 → after + s * n ≤ start + v * n
@@ -67,12 +69,16 @@ pub looks-none : (found : Found) (before : ℕ) → AreLooksSoFar found found be
 unfolding AreLooksSoFar
 looks-none found before = (0, omega arith, λ more. omega arith)
 
-pub looks-search : (found now next : Found) (before between after : ℕ) → AreLooksSoFar found now before between → AreLooksOfSearch now next between after → AreLooksSoFar found next before after
+pub looks-search : (found now next : Found) (before between after : ℕ) → AreLooksSoFar found now before between →
+    AreLooksOfSearch now next between after → AreLooksSoFar found next before after
 unfolding AreLooksSoFar
-looks-search found now next before between after (k, e, h) (inl (same, none)) = (k, omega (arith, none, e), λ more. ap (λ (f : Found). counted_on f.all_looks more) same ∙ h more)
-looks-search found now next before between after (k, e, h) (inr (all, some)) = (k + next.looks, omega (arith, some, e), λ more. omega (arith, all, h (next.looks + more)))
+looks-search found now next before between after (k, e, h) (inl (same, none)) =
+    (k, omega (arith, none, e), λ more. ap (λ (f : Found). counted_on f.all_looks more) same ∙ h more)
+looks-search found now next before between after (k, e, h) (inr (all, some)) =
+    (k + next.looks, omega (arith, some, e), λ more. omega (arith, all, h (next.looks + more)))
 
-pub looks-last : (found now next : Found) (before after last : ℕ) → AreLooksSoFar found now before after → next.all_looks ≡ counted_on now.all_looks last → AreLooksOfSearches found next before after last
+pub looks-last : (found now next : Found) (before after last : ℕ) → AreLooksSoFar found now before after →
+    next.all_looks ≡ counted_on now.all_looks last → AreLooksOfSearches found next before after last
 unfolding AreLooksSoFar
 looks-last found now next before after last (k, e, h) all = (k, e, all ∙ h last)
 
@@ -81,15 +87,18 @@ pub made-more : (b : Bool) (s u v made : ℕ) → made + s ≡ u + 0 → (IsTrue
 made-more true s u v made h t f = omega (arith, h, t refl)
 made-more false s u v made h t f = omega (arith, h, f refl)
 
-pub pivots-next : (b : Bool) (s u v base start before after : ℕ) → AreFewPivots s u start before → (IsTrue b → after ≤ before + base + 1) → base ≤ u → (IsTrue b → v ≡ u + 1) →
+pub pivots-next : (b : Bool) (s u v base start before after : ℕ) → AreFewPivots s u start before →
+    (IsTrue b → after ≤ before + base + 1) → base ≤ u → (IsTrue b → v ≡ u + 1) →
     (IsFalse b → after ≡ before) → (IsFalse b → v ≡ u) → AreFewPivots s v start after
 pivots-next true s u v base start before after h a l t kept f = pivots-going s u v base start before after h (a refl) l (t refl)
-pivots-next false s u v base start before after h a l t kept f = subst (λ w. AreFewPivots s w start after) (sym (f refl)) (subst (λ k. AreFewPivots s u start k) (sym (kept refl)) h)
+pivots-next false s u v base start before after h a l t kept f = subst (λ w. AreFewPivots s w start after)
+    (sym (f refl)) (subst (λ k. AreFewPivots s u start k) (sym (kept refl)) h)
 
 pub looks-next : (b : Bool) (n s u v start before after : ℕ) → AreFewLooks n s u start before → (IsTrue b → after ≤ before + n) → (IsTrue b → v ≡ u + 1) →
     (IsFalse b → after ≡ before) → (IsFalse b → v ≡ u) → AreFewLooks n s v start after
 looks-next true n s u v start before after h a t kept f = looks-going n s u v start before after h (a refl) (t refl)
-looks-next false n s u v start before after h a t kept f = subst (λ w. AreFewLooks n s w start after) (sym (f refl)) (subst (λ k. AreFewLooks n s u start k) (sym (kept refl)) h)
+looks-next false n s u v start before after h a t kept f = subst (λ w. AreFewLooks n s w start after) (sym (f refl))
+    (subst (λ k. AreFewLooks n s u start k) (sym (kept refl)) h)
 
 pub never : IsFalse true → ⊥
 never e = cc

@@ -52,7 +52,8 @@ module _ (p : ℕ) (S : State) (M : Matching) (width : M.pattern.width ≡ S.col
   end_told : (x : ℕ) → x < S.columns → is_end p L F x ≡ true → members_of ends x ≡ true
   end_told x l h = ends_tell x l ∙ h
 
-  shortest-told : (at : ℕ → ℕ) (k : ℕ) → IsShortest (leads_to p L F) n (members_of free) (members_of ends) at k → IsShortest (leads_to p L F) L.columns (is_free F) (is_end p L F) at k
+  shortest-told : (at : ℕ → ℕ) (k : ℕ) → IsShortest (leads_to p L F) n (members_of free) (members_of ends) at k →
+      IsShortest (leads_to p L F) L.columns (is_free F) (is_end p L F) at k
   shortest-told at k W = subst (λ m. IsShortest (leads_to p L F) m (is_free F) (is_end p L F) at k) same (record {
     fewer = W.fewer;
     begins = start (at 0) (low (at 0) (W.below 0 (omega arith))) W.begins;
@@ -67,7 +68,8 @@ module _ (p : ℕ) (S : State) (M : Matching) (width : M.pattern.width ≡ S.col
 
   pub search-route : HasTableau p L F → (at : ℕ → ℕ) (k x : ℕ) → IsShortest (leads_to p L F) n (members_of free) (members_of ends) at k → x ≡ at k →
       (row : Row) → IsFreeRow p L F x (in_q row) (number row) → IsRoute p L F (route F at k (in_q row) (number row))
-  search-route tableau at k x W e row E = shortest-route p L F tableau at k (shortest-told at k W) (in_q row) (number row) (subst (λ y. IsFreeRow p L F y (in_q row) (number row)) e E)
+  search-route tableau at k x W e row E = shortest-route p L F tableau at k (shortest-told at k W) (in_q row)
+      (number row) (subst (λ y. IsFreeRow p L F y (in_q row) (number row)) e E)
 
   from-told : (x : ℕ) → FromSome (leads_to p L F) n (members_of free) x → FromSome (leads_to p L F) n (is_free F) x
   from-told x (s, l, h, w) = (s, l, start s (low s l) h, w)
@@ -76,10 +78,12 @@ module _ (p : ℕ) (S : State) (M : Matching) (width : M.pattern.width ≡ S.col
   told-from x (s, l, h, w) = (s, l, started s (low s l) h, w)
 
   pub reached-told : (X : ℕ → Bool) → IsReachedSet (leads_to p L F) n (members_of free) X → IsReachedFromFree p L F X
-  reached-told X reached = subst (λ m. IsReachedSet (leads_to p L F) m (is_free F) X) same (λ y l. (λ h. from-told y ((reached y l).0 h), λ w. (reached y l).1 (told-from y w)))
+  reached-told X reached = subst (λ m. IsReachedSet (leads_to p L F) m (is_free F) X) same
+      (λ y l. (λ h. from-told y ((reached y l).0 h), λ w. (reached y l).1 (told-from y w)))
 
   pub no_walk-told : NoEndReached (leads_to p L F) n (members_of free) (members_of ends) → HasNoWalk p L F
-  no_walk-told none = subst (λ m. NoEndReached (leads_to p L F) m (is_free F) (is_end p L F)) same (λ e l h w. none e l (end_told e (low e l) h) (told-from e w))
+  no_walk-told none = subst (λ m. NoEndReached (leads_to p L F) m (is_free F) (is_end p L F)) same
+      (λ e l h w. none e l (end_told e (low e l) h) (told-from e w))
 
 -- what is read of a row that is there
 pub some-read : (o : Option Row) (row : Row) (P : Row → Type 0) → o ≡ Some row → IfSome o P → P row

@@ -17,7 +17,8 @@ use Rattle.bipartite_matching.proofs.MateLaws.{pair-matched}
 
 -- a row that no column had is free after a parting
 pub unlinked-free : (M K : Matching) (row : ℕ) → IsMatching M → ((r c : ℕ) → HasPair K r c → HasPair M r c) →
-    (n : ℕ) → M.pattern.width ≡ n → (J : ℕ → Bool) (mate : ℕ → ℕ) → ((c : ℕ) → HasPair M row c → (J c ≡ true) × (mate c ≡ row)) → HasNoBase n J mate row → IsRowFree K row
+    (n : ℕ) → M.pattern.width ≡ n → (J : ℕ → Bool) (mate : ℕ → ℕ) → ((c : ℕ) → HasPair M row c → (J c ≡ true)
+    × (mate c ≡ row)) → HasNoBase n J mate row → IsRowFree K row
 unlinked-free M K row matching kept n same J mate reads none col h =
     let old = kept row col h in
     none col (omega (arith, same, matching.column row col old)) (reads col old).0 (reads col old).1
@@ -47,18 +48,22 @@ module _ (p : ℕ) (S : State) (M : Matching) (x : ℕ) where
     free_t-row row E = record { of_q = λ e. absurd (differ refl e); of_t = λ _. (E.below, E.touching, λ y l. E.loose y (omega (arith, l, width))) }
 
     pub none-end : ((row : ℕ) → IsFreeTRow M x row → ⊥) → ((row : ℕ) → IsFreeQRow p S x row → ⊥) → false ≡ is_end p (layers_of S M) (tableau_of S M) x
-    none-end t_rows q_rows = sym (not_true (is_end p (layers_of S M) (tableau_of S M) x) (λ h. let (in_q, row, E) = end-free_row p (layers_of S M) (tableau_of S M) x h in refuted in_q row E))
+    none-end t_rows q_rows = sym (not_true (is_end p (layers_of S M) (tableau_of S M) x) (λ h. let (in_q, row, E) =
+        end-free_row p (layers_of S M) (tableau_of S M) x h in refuted in_q row E))
       where
         refuted : (in_q : Bool) (row : ℕ) → IsFreeRow p (layers_of S M) (tableau_of S M) x in_q row → ⊥
         refuted true row E = let (l, ne, bare) = E.of_q refl in q_rows row (record { below = l; entry = ne; bare = bare })
-        refuted false row E = let (l, t, none) = E.of_t refl in t_rows row (record { below = l; touching = t; loose = λ c cl. none c (omega (arith, cl, width)) })
+        refuted false row E = let (l, t, none) = E.of_t refl in
+            t_rows row (record { below = l; touching = t; loose = λ c cl. none c (omega (arith, cl, width)) })
 
     -- the marks tell the ends
-    pub mark-end : (m : Marks) → IsEndMark m x → IsTMark M m.by_t.items x → IsQMark p S m.by_q.items x → members_of m.ends.items x ≡ is_end p (layers_of S M) (tableau_of S M) x
+    pub mark-end : (m : Marks) → IsEndMark m x → IsTMark M m.by_t.items x → IsQMark p S m.by_q.items x →
+        members_of m.ends.items x ≡ is_end p (layers_of S M) (tableau_of S M) x
     mark-end m end t q = end ∙ go (members_of m.by_t.items x) (row_at m.by_q.items x) t.some t.none q.some q.none
       where
         go : (by_t : Bool) (by_q : Option ℕ) → (by_t ≡ true → (row : ℕ) × IsFreeTRow M x row) → (by_t ≡ false → (row : ℕ) → IsFreeTRow M x row → ⊥) →
-            ((row : ℕ) → by_q ≡ Some row → IsFreeQRow p S x row) → (by_q ≡ None → (row : ℕ) → IsFreeQRow p S x row → ⊥) → (by_t || is_some by_q) ≡ is_end p (layers_of S M) (tableau_of S M) x
+            ((row : ℕ) → by_q ≡ Some row → IsFreeQRow p S x row) → (by_q ≡ None → (row : ℕ) → IsFreeQRow p S x row →
+            ⊥) → (by_t || is_some by_q) ≡ is_end p (layers_of S M) (tableau_of S M) x
         go true by_q some none q_some q_none = let (row, E) = some refl in free-end false row (free_t-row row E)
         go false (Some row) some none q_some q_none = free-end true row (free_q-row row (q_some row refl))
         go false None some none q_some q_none = none-end (none refl) (q_none refl)

@@ -57,7 +57,9 @@ module _ (p : ℕ) (S : State) (M : Matching) (tableau : HasTableau p (layers_of
 
     pub one-rows : M.pattern.width ≡ S.columns → AreRowsLeft M M' row
     one-rows width = moved-rows M M' row (row_had (tableau_of S M) x) (after.none refl)
-        (move-rows p S S' M M' width (ap (λ m. m.width) pattern) x below (moving-apart p S M tableau at 0 row one-route S M (Some row) row 1 start refl 0 refl) row takes M row (moving-rows M row))
+        (move-rows p S S' M M' width (ap (λ m. m.width) pattern) x below
+        (moving-apart p S M tableau at 0 row one-route S M (Some row) row 1 start refl 0 refl) row takes M row
+        (moving-rows M row))
 
     pub one-size : size_of S' M' ≡ size_of S M + 1
     one-size = moving-size p S M tableau at 0 row one-route S' M' (row_had (tableau_of S M) x) 0 after (after.none refl)

@@ -1,5 +1,5 @@
 -- What callers see of an engine.
-use Rattle.std.specs.Prelude.{ℕ, ◌+◌, ◌*◌, ◌≤◌, ◌≡◌, ◌⊎◌, ◌↔◌, Bool}
+use Rattle.std.specs.Prelude.{ℕ, ◌+◌, ◌*◌, ◌≤◌, ◌≡◌, ◌⊎◌, ◌↔◌, Bool, false}
 use Rattle.residue_theory.specs.Sets.{IsWithin}
 use Rattle.linear_algebra.specs.Products.{Agree}
 use Rattle.bipartite_matching.specs.Matchings.{Matching}
@@ -31,6 +31,13 @@ layers q S M = record (layers_of S M) { q = q }
 -- the entries q are those that the tableau came from, modulo p
 abbrev pub AreEntries : ℕ → State → (ℕ → ℕ → ℕ) → Type 0
 AreEntries p S q = Agree p S.rows S.columns S.q q
+
+-- S is a tableau of the matrix q, with m rows and n columns, that has no base column
+pub record IsBareOver (p m n : ℕ) (q : ℕ → ℕ → ℕ) (S : State) : Type 0 where
+  pub rows_are : S.rows ≡ m
+  pub columns_are : S.columns ≡ n
+  pub q_is : Agree p m n S.q q
+  pub no_base : (y : ℕ) → S.base y ≡ false
 
 -- the pair is best, its size is the structural rank, the minimisers are the closed sets, and what is reached is the
 -- least one

@@ -2,7 +2,7 @@
 
 ghost use Rattle.std.specs.Prelude.{◌≡◌, ◌≤◌, ℕ, ◌+◌, ◌*◌, ◌<◌, ◌%◌, Bool, false, IfOk, IsTrue, IsFalse, is_some, Option};
 ghost use Rattle.residue_theory.specs.Sums.{size_on};
-ghost use Rattle.dense_q.specs.Tables.{entry};
+ghost use Rattle.dense_q.specs.Tables.{entry, height};
 ghost use Rattle.std.specs.Prelude.{IfSome, IfNone};
 ghost use Rattle.sparse_t.specs.Incidences.{row_count};
 ghost use Rattle.bipartite_matching.specs.Matchings.{HasPair, IsMatching, IsRowFree, mate_at};
@@ -11,7 +11,7 @@ ghost use Rattle.exchange_graph.specs.Results.{reached_of};
 ghost use Rattle.mixed_matrices.specs.Tableaus.{HasTableau};
 ghost use Rattle.mixed_model.specs.Layers.{layered_matrix_of};
 ghost use Rattle.exchange_graph.specs.Counts.{counted_on};
-ghost use Rattle.independent_matching.specs.Engines.{Standing, AreEntries, AreFewLooks, AreFewPivots, AreFewSteps};
+ghost use Rattle.independent_matching.specs.Engines.{Standing, AreEntries, AreFewLooks, AreFewPivots, AreFewSteps, IsBareOver};
 ghost use Rattle.independent_matching.specs.Engines.{AreLooksOfSearch, AreLooksOfSearches, IsSolved, layers};
 ghost use Rattle.independent_matching.specs.Sides.{layers_of, size_of, tableau_of};
 
@@ -58,7 +58,8 @@ impl<F: Field, T: Tableau<F>> Model for Engine<F, T> {
 }
 
 impl<F: Field, T: Tableau<F>> Engine<F, T> {
-    /// The empty pair of a layered matrix. It takes all the memory that the engine will use.
+    /// The empty pair of a layered matrix, over a tableau that this opens. It takes all the memory that the engine will
+    /// use.
     pub fn open(alloc: Global, l: &Layered<F>) -> Result<Self, NoMemory>
         ensures layers { IfOk result (λ e.
             layers (entry l.now.q) (T.state e.tableau) e.matching ≡ layered_matrix_of l.now) }
@@ -66,8 +67,24 @@ impl<F: Field, T: Tableau<F>> Engine<F, T> {
         ensures empty { IfOk result (λ e. size_of (T.state e.tableau) e.matching ≡ 0) }
         ensures none_told { IfOk result (λ e. (e.pivots ≡ 0) × (e.looks ≡ 0) × (e.searches ≡ 0)) }
     {
-        l.are_layers();
         let tableau = T::open(alloc, &l.q)?;
+        Engine::open_on(alloc, l, tableau)
+    }
+
+    /// The empty pair of a layered matrix, over a tableau of its Q that has no base column, whatever row operations it
+    /// has seen. It takes all the memory that the engine will use; where that is refused, the tableau is given up.
+    pub fn open_on(alloc: Global, l: &Layered<F>, tableau: T) -> Result<Self, NoMemory>
+        requires { IsBareOver F.modulus (height l.now.q) l.now.q.width (entry l.now.q) (T.state tableau) }
+        ensures layers { IfOk result (λ e.
+            layers (entry l.now.q) (T.state e.tableau) e.matching ≡ layered_matrix_of l.now) }
+        ensures entries { IfOk result (λ e. AreEntries F.modulus (T.state e.tableau) (entry l.now.q)) }
+        ensures empty { IfOk result (λ e. size_of (T.state e.tableau) e.matching ≡ 0) }
+        ensures none_told { IfOk result (λ e. (e.pivots ≡ 0) × (e.looks ≡ 0) × (e.searches ≡ 0)) }
+        ensures tableau { IfOk result (λ e. e.tableau ≡ tableau) }
+    {
+        l.are_layers();
+        // what it tells is a tableau
+        let _rows = tableau.rows();
         let mates = Match::open(alloc, &l.t)?;
         Ok(Engine {
             improver: Improver::open(alloc, tableau, mates)?,

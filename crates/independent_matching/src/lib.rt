@@ -11,6 +11,3 @@ mod row;
 pub use engine::Engine;
 pub use exchange_graph::{Arcs, Steps};
 pub use out_of_memory::NoMemory;
-
-#[cfg(test)]
-mod tests;

@@ -1,5 +1,7 @@
 -- What is read of the digits of a number.
-use Rattle.std.proofs.Common.{◌≡◌, ◌≢◌, ℕ, ◌+◌, ◌*◌, ◌^◌, ◌<◌, ◌≤◌, Bool, true, false, cond, List, [], ◌∷◌, ◌++◌, length, drop, Some, None, Result, Ok, refl, sym, ap, ◌∙◌, arith, rules, eqb, eqb-true, le-leb, length-append}
+use Rattle.std.proofs.Common.{◌≡◌, ◌≢◌, ℕ, ◌+◌, ◌*◌, ◌^◌, ◌<◌, ◌≤◌, Bool, true, false, cond, List, [], ◌∷◌, ◌++◌}
+use Rattle.std.proofs.Common.{length, drop, Some, None, Result, Ok, refl, sym, ap, ◌∙◌, arith, rules, eqb, eqb-true}
+use Rattle.std.proofs.Common.{le-leb, length-append}
 use Rattle.std.specs.Prelude.{nat_le}
 use Rattle.std.specs.Char.{is_ascii_digit, digit_value}
 use Rattle.std.specs.List.{list_all}
@@ -13,12 +15,14 @@ use Rattle.line_lexer.specs.Numbers.{is_numeral, numeral_of, decimal_of}
 digits : IsNumeralModel (λ text. list_all is_ascii_digit text ≡ true) (digits_value 10)
 digits = numerals_by_value (λ text. list_all is_ascii_digit text ≡ true) (search rules)
 
-parse-digits : {E : Type 0} (text : List ℕ) (read : Result ℕ E) → ParsesUnsigned 64 10 text read → list_all is_ascii_digit text ≡ true → 0 < length text → length text ≤ 18 → read ≡ Ok (digits_value 10 text)
+parse-digits : {E : Type 0} (text : List ℕ) (read : Result ℕ E) → ParsesUnsigned 64 10 text read →
+    list_all is_ascii_digit text ≡ true → 0 < length text → length text ≤ 18 → read ≡ Ok (digits_value 10 text)
 parse-digits text read parsed all some short =
     parse_gives digits 64 text read parsed all some (omega (arith, digits_value_short digits text 18 all short))
 
 -- a numeral is read
-pub parse-numeral : {E : Type 0} (text : List ℕ) (read : Result ℕ E) → ParsesUnsigned 64 10 text read → is_numeral text ≡ true → read ≡ Ok (digits_value 10 text)
+pub parse-numeral : {E : Type 0} (text : List ℕ) (read : Result ℕ E) → ParsesUnsigned 64 10 text read →
+    is_numeral text ≡ true → read ≡ Ok (digits_value 10 text)
 parse-numeral text read parsed numeral =
     let all : list_all is_ascii_digit text ≡ true = grind (arith, nat_tests) in
     let some : 0 < length text = grind (arith, nat_tests) in
@@ -54,7 +58,8 @@ digits_after n (byte ∷ text) =
     let more : 10 ^ length (byte ∷ text) ≡ 10 ^ length text * 10 = pow-suc 10 (length text) in
     here ∙ by (10 ^ length text) (10 ^ length (byte ∷ text)) (digits_value 10 text) (digits_value 10 (byte ∷ text)) more alone
   where
-    by : (power bigger rest whole : ℕ) → bigger ≡ power * 10 → whole ≡ (0 * 10 + digit_value byte) * power + rest → (n * 10 + digit_value byte) * power + rest ≡ n * bigger + whole
+    by : (power bigger rest whole : ℕ) → bigger ≡ power * 10 → whole ≡ (0 * 10 + digit_value byte) * power + rest →
+        (n * 10 + digit_value byte) * power + rest ≡ n * bigger + whole
     by power bigger rest whole e f = rw (e, f) (omega arith)
 
 digits_append : (front back : List ℕ) (n : ℕ) → digits_value_after 10 n (front ++ back) ≡ digits_value_after 10 (digits_value_after 10 n front) back
@@ -88,7 +93,9 @@ pub record Decimal (whole decimals : List ℕ) (front back power : ℕ) : Type 0
   pub small : front * power + back < 10 ^ 18
   pub is : decimal_of whole decimals ≡ Some (record { numerator = front * power + back; denominator = power })
 
-pub Decimal-of : (whole decimals : List ℕ) (front back power : ℕ) → numeral_of whole ≡ Some front → numeral_of decimals ≡ Some back → power ≡ 10 ^ length decimals → length whole + length decimals ≤ 18 → Decimal whole decimals front back power
+pub Decimal-of : (whole decimals : List ℕ) (front back power : ℕ) → numeral_of whole ≡ Some front →
+    numeral_of decimals ≡ Some back → power ≡ 10 ^ length decimals → length whole + length decimals ≤ 18 →
+    Decimal whole decimals front back power
 Decimal-of whole decimals front back power first second is_power short =
     let one = Numeral-Some whole front first in
     let two = Numeral-Some decimals back second in

@@ -1,5 +1,7 @@
 -- The first token of a text, and the others.
-use Rattle.std.proofs.Common.{◌≡◌, ℕ, ◌+◌, ◌<◌, Bool, true, false, not, ◌&&◌, List, [], ◌∷◌, length, take, drop, filter, cond, nat_lt, Some, None, position, lt-ltb, refl, sym, ap, ◌∙◌, arith, length-drop, length-take-le, one-add, add-zero, add_assoc}
+use Rattle.std.proofs.Common.{◌≡◌, ℕ, ◌+◌, ◌<◌, Bool, true, false, not, ◌&&◌, List, [], ◌∷◌, length, take, drop}
+use Rattle.std.proofs.Common.{filter, cond, nat_lt, Some, None, position, lt-ltb, refl, sym, ap, ◌∙◌, arith}
+use Rattle.std.proofs.Common.{length-drop, length-take-le, one-add, add-zero, add_assoc}
 use Rattle.std.specs.List.{position_or_len}
 use Rattle.std.specs.Str.{IsAscii, IsUtf8}
 use Rattle.std.specs.List.{list_all}
@@ -15,12 +17,20 @@ use Rattle.line_lexer.specs.Cuts.{CutsToken}
 use Rattle.line_lexer.specs.Tokens.{is_blank, is_comment_sign, is_text_byte, uncommented, parts_from, onto_first_part, has_bytes, tokens_from}
 
 -- blanks before a token only move its place
-pub tokens_after_blanks : (i : ℕ) (text : List ℕ) → tokens_from i text ≡ tokens_from (i + position_or_len (λ byte. not (is_blank byte)) text) (drop (position_or_len (λ byte. not (is_blank byte)) text) text)
+pub tokens_after_blanks : (i : ℕ) (text : List ℕ) → tokens_from i text ≡ tokens_from
+    (i + position_or_len (λ byte. not (is_blank byte)) text)
+    (drop (position_or_len (λ byte. not (is_blank byte)) text) text)
 tokens_after_blanks i [] = sym (ap (λ j. tokens_from j []) (add-zero i))
 tokens_after_blanks i (byte ∷ text) = by (is_blank byte) refl (tokens_after_blanks (i + 1) text)
   where
-    by : (b : Bool) → is_blank byte ≡ b → tokens_from (i + 1) text ≡ tokens_from (i + 1 + position_or_len (λ byte. not (is_blank byte)) text) (drop (position_or_len (λ byte. not (is_blank byte)) text) text) → tokens_from i (byte ∷ text) ≡ tokens_from (i + position_or_len (λ byte. not (is_blank byte)) (byte ∷ text)) (drop (position_or_len (λ byte. not (is_blank byte)) (byte ∷ text)) (byte ∷ text))
-    by true e rest = rw e (rest ∙ ap (λ j. tokens_from j (drop (position_or_len (λ byte. not (is_blank byte)) text) text)) (add_assoc i 1 (position_or_len (λ byte. not (is_blank byte)) text)) ∙ rw one-add refl)
+    by : (b : Bool) → is_blank byte ≡ b → tokens_from (i + 1) text ≡ tokens_from
+        (i + 1 + position_or_len (λ byte. not (is_blank byte)) text)
+        (drop (position_or_len (λ byte. not (is_blank byte)) text) text) → tokens_from i (byte ∷ text) ≡ tokens_from
+        (i + position_or_len (λ byte. not (is_blank byte)) (byte ∷ text))
+        (drop (position_or_len (λ byte. not (is_blank byte)) (byte ∷ text)) (byte ∷ text))
+    by true e rest = rw e (rest ∙ ap (λ j. tokens_from j
+        (drop (position_or_len (λ byte. not (is_blank byte)) text) text))
+        (add_assoc i 1 (position_or_len (λ byte. not (is_blank byte)) text)) ∙ rw one-add refl)
     by false e rest = rw (e, add-zero) (rw e refl)
 
 -- what the parts of a text are from a blank on
@@ -29,32 +39,53 @@ parts_after i [] = []
 parts_after i (byte ∷ bytes) = parts_from (i + 1) bytes
 
 -- the first part of a text ends at its first blank
-first_part : (i : ℕ) (text : List ℕ) → parts_from i text ≡ (i, take (position_or_len is_blank text) text) ∷ parts_after (i + position_or_len is_blank text) (drop (position_or_len is_blank text) text)
+first_part : (i : ℕ) (text : List ℕ) → parts_from i text ≡
+    (i, take (position_or_len is_blank text) text) ∷ parts_after (i + position_or_len is_blank text)
+    (drop (position_or_len is_blank text) text)
 unfolding parts_after
 first_part i [] = refl
 first_part i (byte ∷ text) = by (is_blank byte) refl (first_part (i + 1) text)
   where
-    by : (b : Bool) → is_blank byte ≡ b → parts_from (i + 1) text ≡ (i + 1, take (position_or_len is_blank text) text) ∷ parts_after (i + 1 + position_or_len is_blank text) (drop (position_or_len is_blank text) text) → parts_from i (byte ∷ text) ≡ (i, take (position_or_len is_blank (byte ∷ text)) (byte ∷ text)) ∷ parts_after (i + position_or_len is_blank (byte ∷ text)) (drop (position_or_len is_blank (byte ∷ text)) (byte ∷ text))
+    by : (b : Bool) → is_blank byte ≡ b → parts_from (i + 1) text ≡
+        (i + 1, take (position_or_len is_blank text) text) ∷ parts_after (i + 1 + position_or_len is_blank text)
+        (drop (position_or_len is_blank text) text) →
+        parts_from i (byte ∷ text) ≡ (i, take (position_or_len is_blank (byte ∷ text)) (byte ∷ text)) ∷ parts_after
+        (i + position_or_len is_blank (byte ∷ text)) (drop (position_or_len is_blank (byte ∷ text)) (byte ∷ text))
     by true e rest = rw e (ap (λ j. (i, []) ∷ parts_from (j + 1) text) (sym (add-zero i)))
-    by false e rest = rw e (ap (onto_first_part i byte) rest ∙ ap (λ j. (i, byte ∷ take (position_or_len is_blank text) text) ∷ parts_after j (drop (position_or_len is_blank text) text)) (add_assoc i 1 (position_or_len is_blank text)) ∙ rw one-add refl)
+    by false e rest = rw e (ap (onto_first_part i byte) rest
+        ∙ ap (λ j. (i, byte ∷ take (position_or_len is_blank text) text) ∷ parts_after j
+        (drop (position_or_len is_blank text) text)) (add_assoc i 1 (position_or_len is_blank text))
+        ∙ rw one-add refl)
 
 -- from the first blank on, an empty part is no token
-tokens_after_part : (i : ℕ) (text : List ℕ) → filter has_bytes (parts_after i (drop (position_or_len is_blank text) text)) ≡ tokens_from i (drop (position_or_len is_blank text) text)
+tokens_after_part : (i : ℕ) (text : List ℕ) → filter has_bytes
+    (parts_after i (drop (position_or_len is_blank text) text)) ≡ tokens_from i
+    (drop (position_or_len is_blank text) text)
 unfolding parts_after
 tokens_after_part i [] = refl
 tokens_after_part i (byte ∷ text) = by (is_blank byte) refl (tokens_after_part i text)
   where
-    by : (b : Bool) → is_blank byte ≡ b → filter has_bytes (parts_after i (drop (position_or_len is_blank text) text)) ≡ tokens_from i (drop (position_or_len is_blank text) text) → filter has_bytes (parts_after i (drop (position_or_len is_blank (byte ∷ text)) (byte ∷ text))) ≡ tokens_from i (drop (position_or_len is_blank (byte ∷ text)) (byte ∷ text))
+    by : (b : Bool) → is_blank byte ≡ b → filter has_bytes
+        (parts_after i (drop (position_or_len is_blank text) text)) ≡ tokens_from i
+        (drop (position_or_len is_blank text) text) →
+        filter has_bytes (parts_after i (drop (position_or_len is_blank (byte ∷ text))
+        (byte ∷ text))) ≡ tokens_from i (drop (position_or_len is_blank (byte ∷ text)) (byte ∷ text))
     by true e rest = rw e (rw e refl)
     by false e rest = rw (e, one-add) rest
 
 -- a text that begins with a token
-tokens_at_token : (i : ℕ) (text : List ℕ) → 0 < position_or_len is_blank text → tokens_from i text ≡ (i, take (position_or_len is_blank text) text) ∷ tokens_from (i + position_or_len is_blank text) (drop (position_or_len is_blank text) text)
+tokens_at_token : (i : ℕ) (text : List ℕ) → 0 < position_or_len is_blank text →
+    tokens_from i text ≡ (i, take (position_or_len is_blank text) text) ∷ tokens_from
+    (i + position_or_len is_blank text) (drop (position_or_len is_blank text) text)
 tokens_at_token i text some =
     let short = prefix_len-le-length (λ byte. not (is_blank byte)) text in
-    let token : nat_lt 0 (length (take (position_or_len is_blank text) text)) ≡ true = lt-ltb 0 _ (omega (arith, length-take-le (position_or_len is_blank text) text short)) in
+    let token : nat_lt 0 (length (take (position_or_len is_blank text) text)) ≡ true =
+    lt-ltb 0 _ (omega (arith, length-take-le (position_or_len is_blank text) text short)) in
     ap (filter has_bytes) (first_part i text)
-    ∙ ap (λ b. cond b ((i, take (position_or_len is_blank text) text) ∷ filter has_bytes (parts_after (i + position_or_len is_blank text) (drop (position_or_len is_blank text) text))) (filter has_bytes (parts_after (i + position_or_len is_blank text) (drop (position_or_len is_blank text) text)))) token
+    ∙ ap (λ b. cond b ((i, take (position_or_len is_blank text) text) ∷ filter has_bytes
+    (parts_after (i + position_or_len is_blank text) (drop (position_or_len is_blank text) text)))
+    (filter has_bytes (parts_after (i + position_or_len is_blank text)
+    (drop (position_or_len is_blank text) text)))) token
     ∙ ap (λ rest. (i, take (position_or_len is_blank text) text) ∷ rest) (tokens_after_part (i + position_or_len is_blank text) text)
 
 -- where no byte is of a token
@@ -63,7 +94,9 @@ tokens_from-None i text e =
     let whole = position_or_len-None (λ byte. not (is_blank byte)) text e in
     tokens_after_blanks i text ∙ ap (λ rest. tokens_from (i + position_or_len (λ byte. not (is_blank byte)) text) rest) (drop_of_length-le text (omega arith))
 
-pub CutsToken-Some : (text : List ℕ) (skipped n : ℕ) → IsAscii text → position (λ byte. not (is_blank byte)) text ≡ Some skipped → n ≡ position_or_len is_blank (drop skipped text) → CutsToken text skipped (take n (drop skipped text)) (drop n (drop skipped text))
+pub CutsToken-Some : (text : List ℕ) (skipped n : ℕ) → IsAscii text →
+    position (λ byte. not (is_blank byte)) text ≡ Some skipped → n ≡ position_or_len is_blank (drop skipped text) →
+    CutsToken text skipped (take n (drop skipped text)) (drop n (drop skipped text))
 CutsToken-Some text skipped n ascii found end =
     let at = position-Some (λ byte. not (is_blank byte)) text skipped 0 found in
     let more = prefix_len-drop_yes (λ byte. not (is_blank byte)) text skipped 0 at.0 at.1 in
@@ -96,7 +129,8 @@ pub IsAscii-from_text_bytes : (text : List ℕ) → list_all is_text_byte text �
 IsAscii-from_text_bytes [] h = IsAscii-nil
 IsAscii-from_text_bytes (byte ∷ text) h = by (is_text_byte byte) refl h (λ rest. IsAscii-from_text_bytes text rest)
   where
-    by : (b : Bool) → is_text_byte byte ≡ b → (b && list_all is_text_byte text) ≡ true → (list_all is_text_byte text ≡ true → IsAscii text) → IsAscii (byte ∷ text)
+    by : (b : Bool) → is_text_byte byte ≡ b → (b && list_all is_text_byte text) ≡ true →
+        (list_all is_text_byte text ≡ true → IsAscii text) → IsAscii (byte ∷ text)
     by true e rest more = IsAscii-cons byte text (text_byte_below byte e) (more rest)
     by false e rest more = let f : ⊥ = cc in absurd f
 

@@ -12,6 +12,3 @@ pub use line::{Line, first_line_feed, without_return};
 pub use names::{name, node, short_name};
 pub use numbers::{integer, number};
 pub use token::{Token, Tokens, is_blank};
-
-#[cfg(test)]
-mod tests;

@@ -1,5 +1,7 @@
 -- Lines of a text that goes on.
-use Rattle.std.proofs.Common.{◌≡◌, ℕ, suc, ◌+◌, ◌<◌, ◌≤◌, Bool, true, false, ◌||◌, List, [], ◌∷◌, ◌++◌, length, map, take, drop, get_or, position, Some, None, refl, sym, ap, ◌∙◌, arith, append_assoc, append-nil, length-append, one-add}
+use Rattle.std.proofs.Common.{◌≡◌, ℕ, suc, ◌+◌, ◌<◌, ◌≤◌, Bool, true, false, ◌||◌, List, [], ◌∷◌, ◌++◌, length, map}
+use Rattle.std.proofs.Common.{take, drop, get_or, position, Some, None, refl, sym, ap, ◌∙◌, arith, append_assoc}
+use Rattle.std.proofs.Common.{append-nil, length-append, one-add}
 use Rattle.std.specs.List.{onto_first, list_any, before_first}
 use Rattle.std.specs.Str.Lines.{strip_carriage_return}
 use Rattle.std.proofs.Math.Seq.{take-length, drop-cons}
@@ -54,14 +56,23 @@ cut-length (byte ∷ text) = by (is_line_feed byte) refl (cut-length text)
 pub cut-lines_within : (text : List ℕ) (lines : List (List ℕ)) (rest : List ℕ) → IsCut text lines rest → length lines ≤ length text
 cut-lines_within text lines rest cut =
     let whole = ap length (cut.whole []) in
-    omega (arith, whole, length-append lines (lines_of (rest ++ [])), length-map (cut_at_feeds (text ++ [])) strip_carriage_return, cut-length (text ++ []), ap length (append-nil text))
+    omega (
+      arith,
+      whole,
+      length-append lines (lines_of (rest ++ [])),
+      length-map
+          (cut_at_feeds (text ++ [])) strip_carriage_return,
+      cut-length (text ++ []),
+      ap length (append-nil text),
+    )
 
 -- nothing was fed
 pub cut-none : IsCut [] [] []
 cut-none = record { whole = λ more. refl; unended = refl }
 
 -- a part that ends no line
-pub cut-part : (text : List ℕ) (lines : List (List ℕ)) (rest part : List ℕ) → IsCut text lines rest → list_any is_line_feed part ≡ false → IsCut (text ++ part) lines (rest ++ part)
+pub cut-part : (text : List ℕ) (lines : List (List ℕ)) (rest part : List ℕ) → IsCut text lines rest →
+    list_any is_line_feed part ≡ false → IsCut (text ++ part) lines (rest ++ part)
 cut-part text lines rest part cut unended = record {
   whole = λ more.
       ap lines_of (append_assoc text part more) ∙ cut.whole (part ++ more)
@@ -70,7 +81,8 @@ cut-part text lines rest part cut unended = record {
 }
 
 -- a line feed
-pub cut-feed : (text : List ℕ) (lines : List (List ℕ)) (rest : List ℕ) → IsCut text lines rest → IsCut (text ++ 10 ∷ []) (lines ++ strip_carriage_return rest ∷ []) []
+pub cut-feed : (text : List ℕ) (lines : List (List ℕ)) (rest : List ℕ) → IsCut text lines rest →
+    IsCut (text ++ 10 ∷ []) (lines ++ strip_carriage_return rest ∷ []) []
 cut-feed text lines rest cut = record {
   whole = λ more.
       ap lines_of (append_assoc text (10 ∷ []) more) ∙ cut.whole (10 ∷ more)
@@ -88,7 +100,8 @@ feed-unended : (text : List ℕ) → list_any is_line_feed (before_first is_line
 feed-unended [] = refl
 feed-unended (byte ∷ text) = by (is_line_feed byte) refl (feed-unended text)
   where
-    by : (b : Bool) → is_line_feed byte ≡ b → list_any is_line_feed (before_first is_line_feed text) ≡ false → list_any is_line_feed (before_first is_line_feed (byte ∷ text)) ≡ false
+    by : (b : Bool) → is_line_feed byte ≡ b → list_any is_line_feed (before_first is_line_feed text) ≡ false →
+        list_any is_line_feed (before_first is_line_feed (byte ∷ text)) ≡ false
     by true e rest = rw e refl
     by false e rest = rw e (simp one-add (rw e rest))
 

@@ -17,7 +17,8 @@ pub record ReadsSame (rules : Rules) (line other : List ℕ) : Type 0 where
   pub clean : is_clean (content rules line) ≡ is_clean (content rules other)
   pub words : words_in rules line ≡ words_in rules other
 
-pub line_rule-same : (rules : Rules) (before : List (List (List ℕ))) (line other : List ℕ) → ReadsSame rules line other → line_rule rules before line ≡ line_rule rules before other
+pub line_rule-same : (rules : Rules) (before : List (List (List ℕ))) (line other : List ℕ) →
+    ReadsSame rules line other → line_rule rules before line ≡ line_rule rules before other
 line_rule-same rules before line other same =
     ap (λ b. if b then rules.words before (words_in rules line) else Some BadByte) same.clean
     ∙ ap (λ words. if is_clean (content rules other) then rules.words before words else Some BadByte) same.words
@@ -77,17 +78,23 @@ same-blanks rules line blanks = by (is_remark rules.remark line) refl
     }
 
 -- By what is kept of an ended line the same is read as by the line without a carriage return.
-pub ended-reads_same : (rules : Rules) (bytes : List ℕ) → ReadsSame rules (if is_commented rules bytes then kept_of rules bytes else strip_carriage_return (kept_of rules bytes)) (strip_carriage_return bytes)
+pub ended-reads_same : (rules : Rules) (bytes : List ℕ) →
+    ReadsSame rules (if is_commented rules bytes then kept_of rules bytes else strip_carriage_return
+    (kept_of rules bytes)) (strip_carriage_return bytes)
 ended-reads_same rules bytes = by (is_remark rules.remark bytes) refl
   where
     given : List ℕ
     given = if list_any is_comment_sign bytes then uncommented bytes else strip_carriage_return (uncommented bytes)
 
-    given-plain : is_remark rules.remark bytes ≡ false → (b : Bool) → is_remark rules.remark (if b then uncommented bytes else strip_carriage_return (uncommented bytes)) ≡ false
+    given-plain : is_remark rules.remark bytes ≡ false → (b : Bool) →
+        is_remark rules.remark (if b then uncommented bytes else strip_carriage_return (uncommented bytes)) ≡ false
     given-plain none true = uncommented-plain rules.remark bytes none
     given-plain none false = stripped-plain rules.remark (uncommented bytes) (uncommented-plain rules.remark bytes none)
 
-    by : (b : Bool) → is_remark rules.remark bytes ≡ b → ReadsSame rules (if b || list_any is_comment_sign bytes then uncommented (if b then [] else bytes) else strip_carriage_return (uncommented (if b then [] else bytes))) (strip_carriage_return bytes)
+    by : (b : Bool) → is_remark rules.remark bytes ≡ b →
+        ReadsSame rules (if b || list_any is_comment_sign bytes then uncommented
+        (if b then [] else bytes) else strip_carriage_return (uncommented (if b then [] else bytes)))
+        (strip_carriage_return bytes)
     by true some = elim (stripped-remark rules.remark bytes some) [
       | inl here ↦ same-remark rules (strip_carriage_return bytes) here
       | inr blanks ↦ same-blanks rules (strip_carriage_return bytes) blanks
@@ -99,8 +106,13 @@ ended-reads_same rules bytes = by (is_remark rules.remark bytes) refl
         )
 
 -- lines of which the same is kept
-pub stripped-same : (rules : Rules) (line bytes : List ℕ) → kept_of rules line ≡ kept_of rules bytes → is_commented rules line ≡ is_commented rules bytes → ReadsSame rules (strip_carriage_return line) (strip_carriage_return bytes)
-stripped-same rules line bytes same sign = same-trans rules (strip_carriage_return line) (given (is_commented rules bytes) (kept_of rules bytes)) (strip_carriage_return bytes) (same-sym rules (given (is_commented rules bytes) (kept_of rules bytes)) (strip_carriage_return line) by_bytes) (ended-reads_same rules bytes)
+pub stripped-same : (rules : Rules) (line bytes : List ℕ) → kept_of rules line ≡ kept_of rules bytes →
+    is_commented rules line ≡ is_commented rules bytes → ReadsSame rules (strip_carriage_return line)
+    (strip_carriage_return bytes)
+stripped-same rules line bytes same sign = same-trans rules (strip_carriage_return line)
+    (given (is_commented rules bytes) (kept_of rules bytes)) (strip_carriage_return bytes)
+    (same-sym rules (given (is_commented rules bytes) (kept_of rules bytes)) (strip_carriage_return line) by_bytes)
+    (ended-reads_same rules bytes)
   where
     given : Bool → List ℕ → List ℕ
     given commented kept = if commented then kept else strip_carriage_return kept
@@ -126,7 +138,8 @@ module _ (rules : Rules) (rest : List ℕ) (plain : is_commented rules rest ≡ 
       → (kept_of rules (rest ++ part) ≡ kept_of rules rest ++ uncommented part) × (is_commented rules (rest ++ part) ≡ list_any is_comment_sign part)
   kept-plain part none =
       let whole = remark-append rules.remark rest part no_remark ∙ none in (
-        ap uncommented (content-plain rules (rest ++ part) whole) ∙ uncommented-behind rest part no_sign ∙ ap (λ front. front ++ uncommented part) (sym kept-whole),
+        ap uncommented (content-plain rules (rest ++ part) whole) ∙ uncommented-behind rest part no_sign
+            ∙ ap (λ front. front ++ uncommented part) (sym kept-whole),
         rw (whole, list_any-append is_comment_sign rest part, no_sign) refl,
       )
 
@@ -148,10 +161,12 @@ sign-unblank line some = by (list_all is_blank line) refl
     by false here = here
 
 -- a part behind a comment
-pub kept-commented : (rules : Rules) (rest part : List ℕ) → is_commented rules rest ≡ true → (kept_of rules (rest ++ part) ≡ kept_of rules rest) × (is_commented rules (rest ++ part) ≡ true)
+pub kept-commented : (rules : Rules) (rest part : List ℕ) → is_commented rules rest ≡ true →
+    (kept_of rules (rest ++ part) ≡ kept_of rules rest) × (is_commented rules (rest ++ part) ≡ true)
 kept-commented rules rest part commented = by (is_remark rules.remark rest) refl commented
   where
-    by : (b : Bool) → is_remark rules.remark rest ≡ b → (b || list_any is_comment_sign rest) ≡ true → (kept_of rules (rest ++ part) ≡ kept_of rules rest) × (is_commented rules (rest ++ part) ≡ true)
+    by : (b : Bool) → is_remark rules.remark rest ≡ b → (b || list_any is_comment_sign rest) ≡ true →
+        (kept_of rules (rest ++ part) ≡ kept_of rules rest) × (is_commented rules (rest ++ part) ≡ true)
     by true some e =
         let whole = remark-more rules.remark rest part some in (
           ap uncommented (content-remark rules (rest ++ part) whole) ∙ sym (ap uncommented (content-remark rules rest some)),

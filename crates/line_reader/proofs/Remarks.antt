@@ -1,5 +1,6 @@
 -- Lines that are a comment as a whole.
-use Rattle.std.proofs.Common.{◌≡◌, ℕ, ◌-◌, ◌==◌, Bool, true, false, ◌&&◌, List, [], ◌∷◌, ◌++◌, length, take, drop, cond, slice_index, Option, Some, None, ◌⊎◌, inl, inr, refl, sym, ap, ◌∙◌}
+use Rattle.std.proofs.Common.{◌≡◌, ℕ, ◌-◌, ◌==◌, Bool, true, false, ◌&&◌, List, [], ◌∷◌, ◌++◌, length, take, drop}
+use Rattle.std.proofs.Common.{cond, slice_index, Option, Some, None, ◌⊎◌, inl, inr, refl, sym, ap, ◌∙◌}
 use Rattle.std.specs.List.{list_all}
 use Rattle.std.specs.Str.Lines.{strip_carriage_return}
 use Rattle.std.proofs.lemmas.List.{take-append-drop}
@@ -29,11 +30,14 @@ and_false true = refl
 and_false false = refl
 
 -- a line that goes on
-pub remark-append : (remark : Option ℕ) (front back : List ℕ) → is_remark remark front ≡ false → is_remark remark (front ++ back) ≡ (is_remark remark back && list_all is_blank front)
+pub remark-append : (remark : Option ℕ) (front back : List ℕ) → is_remark remark front ≡ false →
+    is_remark remark (front ++ back) ≡ (is_remark remark back && list_all is_blank front)
 remark-append remark [] back none = sym (and_true (is_remark remark back))
 remark-append remark (byte ∷ front) back none = by (is_blank byte) refl (λ rest. remark-append remark front back rest)
   where
-    by : (b : Bool) → is_blank byte ≡ b → (is_remark remark front ≡ false → is_remark remark (front ++ back) ≡ (is_remark remark back && list_all is_blank front)) → is_remark remark ((byte ∷ front) ++ back) ≡ (is_remark remark back && (b && list_all is_blank front))
+    by : (b : Bool) → is_blank byte ≡ b → (is_remark remark front ≡ false → is_remark remark (front ++ back) ≡
+        (is_remark remark back && list_all is_blank front)) → is_remark remark ((byte ∷ front) ++ back) ≡
+        (is_remark remark back && (b && list_all is_blank front))
     by true blank more = remark-blank remark byte (front ++ back) blank ∙ more (sym (remark-blank remark byte front blank) ∙ none)
     by false other more = remark-other remark byte (front ++ back) front other ∙ none ∙ sym (and_false (is_remark remark back))
 
@@ -41,12 +45,14 @@ pub remark-more : (remark : Option ℕ) (front back : List ℕ) → is_remark re
 remark-more remark [] back some = let both : false ≡ true = sym (remark-none remark) ∙ some in absurd cc
 remark-more remark (byte ∷ front) back some = by (is_blank byte) refl (λ rest. remark-more remark front back rest)
   where
-    by : (b : Bool) → is_blank byte ≡ b → (is_remark remark front ≡ true → is_remark remark (front ++ back) ≡ true) → is_remark remark ((byte ∷ front) ++ back) ≡ true
+    by : (b : Bool) → is_blank byte ≡ b → (is_remark remark front ≡ true → is_remark remark (front ++ back) ≡ true) →
+        is_remark remark ((byte ∷ front) ++ back) ≡ true
     by true blank more = remark-blank remark byte (front ++ back) blank ∙ more (sym (remark-blank remark byte front blank) ∙ some)
     by false other more = remark-other remark byte (front ++ back) front other ∙ some
 
 -- a line that ends earlier is a comment as a whole too, or has only blanks
-remark-front : (remark : Option ℕ) (front back : List ℕ) → is_remark remark (front ++ back) ≡ true → (is_remark remark front ≡ true) ⊎ (list_all is_blank front ≡ true)
+remark-front : (remark : Option ℕ) (front back : List ℕ) → is_remark remark (front ++ back) ≡ true →
+    (is_remark remark front ≡ true) ⊎ (list_all is_blank front ≡ true)
 remark-front remark [] back some = inr refl
 remark-front remark (byte ∷ front) back some = by (is_blank byte) refl (λ rest. remark-front remark front back rest)
   where
@@ -81,7 +87,8 @@ stripped-plain remark (byte ∷ line) none = by (slice_index (byte ∷ line) (le
     by true = take-plain remark (length (byte ∷ line) - 1) (byte ∷ line) none
     by false = none
 
-pub stripped-remark : (remark : Option ℕ) (line : List ℕ) → is_remark remark line ≡ true → (is_remark remark (strip_carriage_return line) ≡ true) ⊎ (list_all is_blank (strip_carriage_return line) ≡ true)
+pub stripped-remark : (remark : Option ℕ) (line : List ℕ) → is_remark remark line ≡ true →
+    (is_remark remark (strip_carriage_return line) ≡ true) ⊎ (list_all is_blank (strip_carriage_return line) ≡ true)
 stripped-remark remark [] some = inr refl
 stripped-remark remark (byte ∷ line) some = by (slice_index (byte ∷ line) (length (byte ∷ line) - 1) == 13)
   where
@@ -89,5 +96,6 @@ stripped-remark remark (byte ∷ line) some = by (slice_index (byte ∷ line) (l
     front = take (length (byte ∷ line) - 1) (byte ∷ line)
 
     by : (b : Bool) → (is_remark remark (cond b front (byte ∷ line)) ≡ true) ⊎ (list_all is_blank (cond b front (byte ∷ line)) ≡ true)
-    by true = remark-front remark front (drop (length (byte ∷ line) - 1) (byte ∷ line)) (ap (is_remark remark) (take-append-drop (length (byte ∷ line) - 1) (byte ∷ line)) ∙ some)
+    by true = remark-front remark front (drop (length (byte ∷ line) - 1) (byte ∷ line))
+        (ap (is_remark remark) (take-append-drop (length (byte ∷ line) - 1) (byte ∷ line)) ∙ some)
     by false = inl some

@@ -1,5 +1,6 @@
 -- Rules of lines that go on, and the first broken one.
-use Rattle.std.proofs.Common.{◌≡◌, ℕ, ◌<◌, List, [], ◌∷◌, ◌++◌, length, map, take, get_or, Option, Some, None, refl, sym, ap, subst, ◌∙◌, inl, inr, arith, below_more, length-append}
+use Rattle.std.proofs.Common.{◌≡◌, ℕ, ◌<◌, List, [], ◌∷◌, ◌++◌, length, map, take, get_or, Option, Some, None, refl}
+use Rattle.std.proofs.Common.{sym, ap, subst, ◌∙◌, inl, inr, arith, below_more, length-append}
 use Rattle.std.specs.Option.{option_or}
 use Rattle.std.proofs.Math.Seq.{take-append_seam, get_or-append_seam}
 use Rattle.std.proofs.lemmas.Bool.{cases_order}
@@ -37,7 +38,8 @@ rule_at-front rules lines more k within =
     ap (λ before. line_rule rules (map (words_in rules) before) (get_or (lines ++ more) k [])) (take-append-le k lines more (omega arith))
     ∙ ap (line_rule rules (map (words_in rules) (take k lines))) (get_or_append_left lines more [] k within)
 
-pub rule_at-here : (rules : Rules) (lines : List (List ℕ)) (line : List ℕ) (more : List (List ℕ)) → rule_at rules (lines ++ line ∷ more) (length lines) ≡ line_rule rules (map (words_in rules) lines) line
+pub rule_at-here : (rules : Rules) (lines : List (List ℕ)) (line : List ℕ) (more : List (List ℕ)) →
+    rule_at rules (lines ++ line ∷ more) (length lines) ≡ line_rule rules (map (words_in rules) lines) line
 rule_at-here rules lines line more =
     ap (λ before. line_rule rules (map (words_in rules) before) (get_or (lines ++ line ∷ more) (length lines) [])) (take-append_seam lines (line ∷ more))
     ∙ ap (line_rule rules (map (words_in rules) lines)) (get_or-append_seam lines line more [])
@@ -46,13 +48,18 @@ pub KeepBefore-front : (rules : Rules) (lines more : List (List ℕ)) → KeepBe
 KeepBefore-front rules lines more kept = λ k within. rule_at-front rules lines more k within ∙ kept k within
 
 -- one line more keeps the rules
-pub KeepBefore-more : (rules : Rules) (lines : List (List ℕ)) (line : List ℕ) → KeepBefore rules (length lines) lines → line_rule rules (map (words_in rules) lines) line ≡ None → KeepBefore rules (length (lines ++ line ∷ [])) (lines ++ line ∷ [])
+pub KeepBefore-more : (rules : Rules) (lines : List (List ℕ)) (line : List ℕ) → KeepBefore rules (length lines) lines →
+    line_rule rules (map (words_in rules) lines) line ≡ None → KeepBefore rules (length (lines ++ line ∷ []))
+    (lines ++ line ∷ [])
 KeepBefore-more rules lines line kept here =
     subst (λ n. KeepBefore rules n (lines ++ line ∷ [])) (sym (length-append lines (line ∷ [])))
-    (below_more (λ k. rule_at rules (lines ++ line ∷ []) k ≡ None) (length lines) (KeepBefore-front rules lines (line ∷ []) kept) (rule_at-here rules lines line [] ∙ here))
+    (below_more (λ k. rule_at rules (lines ++ line ∷ []) k ≡ None) (length lines)
+    (KeepBefore-front rules lines (line ∷ []) kept) (rule_at-here rules lines line [] ∙ here))
 
 -- or it breaks one
-pub first_broken-here : (rules : Rules) (text : List ℕ) (lines : List (List ℕ)) (line : List ℕ) (more : List (List ℕ)) (why : Why) → lines_of text ≡ lines ++ line ∷ more → KeepBefore rules (length lines) lines → line_rule rules (map (words_in rules) lines) line ≡ Some why → IsFirstBroken rules text (length lines) why
+pub first_broken-here : (rules : Rules) (text : List ℕ) (lines : List (List ℕ)) (line : List ℕ)
+    (more : List (List ℕ)) (why : Why) → lines_of text ≡ lines ++ line ∷ more → KeepBefore rules (length lines) lines →
+    line_rule rules (map (words_in rules) lines) line ≡ Some why → IsFirstBroken rules text (length lines) why
 first_broken-here rules text lines line more why whole kept here = record {
   within = omega (arith, ap length whole, length-append lines (line ∷ more));
   before = subst (KeepBefore rules (length lines)) (sym whole) (KeepBefore-front rules lines (line ∷ more) kept);

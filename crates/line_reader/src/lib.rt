@@ -9,6 +9,3 @@ mod remark;
 pub use format::LineFormat;
 pub use laws::a_text_has_one_first_broken_rule;
 pub use reader::LineReader;
-
-#[cfg(test)]
-mod tests;

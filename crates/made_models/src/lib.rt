@@ -10,6 +10,3 @@ mod tries;
 pub use laws::{draws_at_examples, entries_at_examples, there_is_one_made_model};
 pub use made::{SIZE_LIMIT, made_model};
 pub use out_of_memory::NoMemory;
-
-#[cfg(test)]
-mod tests;

@@ -1,5 +1,8 @@
--- How the model of some equations and unknowns grows: by an equation, by an unknown, and by an item of the last equation.
-use Rattle.std.proofs.Common.{◌≡◌, ◌≢◌, ℕ, ◌<◌, ◌≤◌, Bool, true, false, cond, ◌&&◌, List, [], ◌∷◌, ◌++◌, length, map, get_or, None, unwrap_or, refl, sym, ap, subst, ◌∙◌, arith, eqb, eqb-true, ⊎_elim, length-append}
+-- How the model of some equations and unknowns grows: by an equation, by an unknown, and by an item of the last
+-- equation.
+use Rattle.std.proofs.Common.{◌≡◌, ◌≢◌, ℕ, ◌<◌, ◌≤◌, Bool, true, false, cond, ◌&&◌, List, [], ◌∷◌, ◌++◌, length, map}
+use Rattle.std.proofs.Common.{get_or, None, unwrap_or, refl, sym, ap, subst, ◌∙◌, arith, eqb, eqb-true, ⊎_elim}
+use Rattle.std.proofs.Common.{length-append}
 use Rattle.std.specs.Str.{bytes_eq}
 use Rattle.std.proofs.lemmas.Bool.{cases_lt, eqb-false}
 use Rattle.std.proofs.lemmas.List.{map-append, get_or_append_left, get_or_push, length-map}
@@ -18,11 +21,15 @@ use Rattle.matrix_reader.proofs.SaidLaws.{Reading, constants, symbols, items_at-
 pub NamesOnly : List Equation → List (List ℕ) → Type 0
 NamesOnly list unknowns = (i : ℕ) (unknown : List ℕ) → has_name unknowns unknown ≡ false → has_name (map unknown_of (items_at list i)) unknown ≡ false
 
-pub NamesOnly-from : (list : List Equation) (unknowns : List (List ℕ)) → ((i : ℕ) (unknown : List ℕ) → has_name unknowns unknown ≡ false → has_name (map unknown_of (items_at list i)) unknown ≡ false) → NamesOnly list unknowns
+pub NamesOnly-from : (list : List Equation) (unknowns : List (List ℕ)) →
+    ((i : ℕ) (unknown : List ℕ) → has_name unknowns unknown ≡ false →
+    has_name (map unknown_of (items_at list i)) unknown ≡ false) → NamesOnly list unknowns
 unfolding NamesOnly
 NamesOnly-from list unknowns only = only
 
-pub NamesOnly-at : (list : List Equation) (unknowns : List (List ℕ)) → NamesOnly list unknowns → (i : ℕ) (unknown : List ℕ) → has_name unknowns unknown ≡ false → has_name (map unknown_of (items_at list i)) unknown ≡ false
+pub NamesOnly-at : (list : List Equation) (unknowns : List (List ℕ)) → NamesOnly list unknowns →
+    (i : ℕ) (unknown : List ℕ) → has_name unknowns unknown ≡ false →
+    has_name (map unknown_of (items_at list i)) unknown ≡ false
 unfolding NamesOnly
 NamesOnly-at list unknowns only = only
 
@@ -32,7 +39,9 @@ PlacesAre reading list model = (i j : ℕ) → i < length list → j < length mo
     → reading.tells (row_of model i) j ≡ reading.says (items_at list i) (get_or model.unknowns j [])
 
 -- a new equation, without items
-places-equation : {A : Type 0} (reading : Reading A) (list : List Equation) (model : MixedModel) (name : List ℕ) → length model.rows ≡ length list → PlacesAre reading list model → PlacesAre reading (list ++ record { name = name; items = [] } ∷ []) (with_equation model name)
+places-equation : {A : Type 0} (reading : Reading A) (list : List Equation) (model : MixedModel) (name : List ℕ) →
+    length model.rows ≡ length list → PlacesAre reading list model →
+    PlacesAre reading (list ++ record { name = name; items = [] } ∷ []) (with_equation model name)
 places-equation reading list model name counted places i j at col = ⊎_elim
     (λ before.
     ap (λ row. reading.tells row j) (get_or_append_left model.rows ([] ∷ []) [] i (omega (arith, counted)))
@@ -46,7 +55,9 @@ places-equation reading list model name counted places i j at col = ⊎_elim
     ∙ ap (λ items. reading.says items (get_or model.unknowns j [])) (sym (items_at-last list (record { name = name; items = [] }) i is_last)))
     (cases_lt i (length list))
 
-pub IsModelOf-equation : (p : ℕ) (list : List Equation) (unknowns : List (List ℕ)) (model : MixedModel) (name : List ℕ) → IsModelOf p list unknowns model → IsModel p (with_equation model name) → IsModelOf p (list ++ record { name = name; items = [] } ∷ []) unknowns (with_equation model name)
+pub IsModelOf-equation : (p : ℕ) (list : List Equation) (unknowns : List (List ℕ)) (model : MixedModel)
+    (name : List ℕ) → IsModelOf p list unknowns model → IsModel p (with_equation model name) →
+    IsModelOf p (list ++ record { name = name; items = [] } ∷ []) unknowns (with_equation model name)
 IsModelOf-equation p list unknowns model name gives is = record {
   is_model = is;
   equations_are = ap (λ names. names ++ name ∷ []) gives.equations_are ∙ sym (map-append (λ e. e.name) list (record { name = name; items = [] } ∷ []));
@@ -72,7 +83,9 @@ module _ (p : ℕ) (list : List Equation) (unknowns : List (List ℕ)) (name : L
       by false = get_or_append_left old.unknowns (name ∷ []) [] c before
 
   -- the old model tells of each unknown what the items say, of the new one too
-  said_before : {A : Type 0} (reading : Reading A) → PlacesAre reading list old → (i c : ℕ) → i < length list → c < length new.unknowns → reading.tells (row_of old i) c ≡ reading.says (items_at list i) (get_or new.unknowns c [])
+  said_before : {A : Type 0} (reading : Reading A) → PlacesAre reading list old → (i c : ℕ) → i < length list →
+      c < length new.unknowns → reading.tells (row_of old i) c ≡ reading.says (items_at list i)
+      (get_or new.unknowns c [])
   said_before reading places i c at col = ⊎_elim
       (λ before. places i c at before ∙ ap (reading.says (items_at list i)) (sym (stays c before)))
       (λ beyond. reading.empty (row_of old i) c (entry-beyond p old gives.is_model i c beyond) ∙ sym (by (has_name old.unknowns name) refl beyond))
@@ -115,18 +128,25 @@ module _ (p : ℕ) (list : List Equation) (unknowns : List (List ℕ)) (name : L
   with_item = record { name = name; items = items ++ item ∷ [] }
 
   -- before the item
-  said_now : {A : Type 0} (reading : Reading A) → PlacesAre reading (list ++ so_far ∷ []) old → (i c : ℕ) → i < length (list ++ so_far ∷ []) → c < length new.unknowns → reading.tells (row_of old i) c ≡ reading.says (items_at (list ++ so_far ∷ []) i) (get_or new.unknowns c [])
+  said_now : {A : Type 0} (reading : Reading A) → PlacesAre reading (list ++ so_far ∷ []) old → (i c : ℕ) →
+      i < length (list ++ so_far ∷ []) → c < length new.unknowns → reading.tells (row_of old i) c ≡ reading.says
+      (items_at (list ++ so_far ∷ []) i) (get_or new.unknowns c [])
   said_now reading places i c at col = said_before p (list ++ so_far ∷ []) unknowns (unknown_of item) old new gives only seen reading places i c at col
 
   -- after the item, where what it gives stands at its place
-  said_after : {A : Type 0} (reading : Reading A) → PlacesAre reading (list ++ so_far ∷ []) old → (i c : ℕ) → i < length (list ++ so_far ∷ []) → c < length new.unknowns
-      → cond (eqb (length list) i && eqb j c) (reading.gives item) (reading.tells (row_of old i) c) ≡ reading.says (items_at (list ++ with_item ∷ []) i) (get_or new.unknowns c [])
+  said_after : {A : Type 0} (reading : Reading A) → PlacesAre reading (list ++ so_far ∷ []) old → (i c : ℕ) →
+      i < length (list ++ so_far ∷ []) → c < length new.unknowns
+      → cond (eqb (length list) i && eqb j c) (reading.gives item) (reading.tells (row_of old i) c) ≡ reading.says
+      (items_at (list ++ with_item ∷ []) i) (get_or new.unknowns c [])
   said_after reading places i c at col = by (eqb (length list) i) refl (eqb j c) refl
     where
-      by : (a : Bool) → eqb (length list) i ≡ a → (b : Bool) → eqb j c ≡ b → cond (eqb (length list) i && eqb j c) (reading.gives item) (reading.tells (row_of old i) c) ≡ reading.says (items_at (list ++ with_item ∷ []) i) (get_or new.unknowns c [])
+      by : (a : Bool) → eqb (length list) i ≡ a → (b : Bool) → eqb j c ≡ b → cond (eqb (length list) i && eqb j c)
+          (reading.gives item) (reading.tells (row_of old i) c) ≡ reading.says (items_at (list ++ with_item ∷ []) i)
+          (get_or new.unknowns c [])
       by false p b q =
           let other : i < length list = omega (arith, eqb-false (length list) i p, length-append list (so_far ∷ [])) in
-          rw p (said_now reading places i c at col ∙ ap (λ said. reading.says said (get_or new.unknowns c [])) (items_at-before list so_far i other ∙ sym (items_at-before list with_item i other)))
+          rw p (said_now reading places i c at col ∙ ap (λ said. reading.says said (get_or new.unknowns c []))
+          (items_at-before list so_far i other ∙ sym (items_at-before list with_item i other)))
       by true p true q =
           let last : length list ≡ i = eqb-true (length list) i p in
           let here : get_or new.unknowns c [] ≡ unknown_of item = subst (λ k. get_or new.unknowns k [] ≡ unknown_of item) (eqb-true j c q) place in
@@ -166,7 +186,8 @@ module _ (p : ℕ) (list : List Equation) (unknowns : List (List ℕ)) (name : L
   }
 
   -- nothing stands at the place before
-  tells_nothing : {A : Type 0} (reading : Reading A) → PlacesAre reading (list ++ so_far ∷ []) old → reading.tells (row_of old (length list)) j ≡ reading.nothing
+  tells_nothing : {A : Type 0} (reading : Reading A) → PlacesAre reading (list ++ so_far ∷ []) old →
+      reading.tells (row_of old (length list)) j ≡ reading.nothing
   tells_nothing reading places =
       said_now reading places (length list) j (omega (arith, length-append list (so_far ∷ []))) within
       ∙ ap (λ said. reading.says said (get_or new.unknowns j [])) (items_at-last list so_far (length list) refl)

@@ -1,5 +1,6 @@
 -- What the items of a line say of an unknown.
-use Rattle.std.proofs.Common.{◌≡◌, ℕ, zero, suc, ◌+◌, ◌<◌, Bool, true, false, cond, ◌&&◌, ◌||◌, List, [], ◌∷◌, ◌++◌, length, map, fold, get_or, codes, None, unwrap_or, refl, sym, ap, ◌∙◌, arith}
+use Rattle.std.proofs.Common.{◌≡◌, ℕ, zero, suc, ◌+◌, ◌<◌, Bool, true, false, cond, ◌&&◌, ◌||◌, List, [], ◌∷◌, ◌++◌}
+use Rattle.std.proofs.Common.{length, map, fold, get_or, codes, None, unwrap_or, refl, sym, ap, ◌∙◌, arith}
 use Rattle.std.specs.List.{flat_map}
 use Rattle.std.specs.Str.{bytes_eq}
 use Rattle.std.proofs.lemmas.List.{map-append, get_or_append_left, get_or_push, length-map}
@@ -15,7 +16,9 @@ use Rattle.matrix_reader.specs.Models.{said_of, symbol_said, items_at}
 use Rattle.matrix_reader.proofs.SeenLaws.{has_name-unseen}
 
 -- one item more
-pub said_of-push : (p : ℕ) (items : List (List ℕ)) (item unknown : List ℕ) → said_of p (items ++ item ∷ []) unknown ≡ said_of p items unknown + cond (bytes_eq unknown (unknown_of item)) (item_constant p item) 0
+pub said_of-push : (p : ℕ) (items : List (List ℕ)) (item unknown : List ℕ) →
+    said_of p (items ++ item ∷ []) unknown ≡ said_of p items unknown + cond (bytes_eq unknown (unknown_of item))
+    (item_constant p item) 0
 said_of-push p items item unknown =
     sum_by-append (λ other. cond (bytes_eq unknown (unknown_of other)) (item_constant p other) 0) items (item ∷ [])
     ∙ ap (λ n. said_of p items unknown + n) (omega arith)
@@ -24,23 +27,32 @@ said_of-push p items item unknown =
 pub said_of-absent : (p : ℕ) (items : List (List ℕ)) (unknown : List ℕ) → has_name (map unknown_of items) unknown ≡ false → said_of p items unknown ≡ 0
 said_of-absent p items unknown absent = from items 0 absent
   where
-    from : (items : List (List ℕ)) (n : ℕ) → has_name (map unknown_of items) unknown ≡ false → fold (λ a item. a + cond (bytes_eq unknown (unknown_of item)) (item_constant p item) 0) n items ≡ n
+    from : (items : List (List ℕ)) (n : ℕ) → has_name (map unknown_of items) unknown ≡ false →
+        fold (λ a item. a + cond (bytes_eq unknown (unknown_of item)) (item_constant p item) 0) n items ≡ n
     from [] n absent = refl
     from (item ∷ items) n absent = by (bytes_eq unknown (unknown_of item)) refl absent (λ m rest. from items m rest)
       where
-        by : (b : Bool) → bytes_eq unknown (unknown_of item) ≡ b → (b || has_name (map unknown_of items) unknown) ≡ false → ((m : ℕ) → has_name (map unknown_of items) unknown ≡ false → fold (λ a item. a + cond (bytes_eq unknown (unknown_of item)) (item_constant p item) 0) m items ≡ m) → fold (λ a item. a + cond (bytes_eq unknown (unknown_of item)) (item_constant p item) 0) n (item ∷ items) ≡ n
+        by : (b : Bool) → bytes_eq unknown (unknown_of item) ≡ b →
+            (b || has_name (map unknown_of items) unknown) ≡ false →
+            ((m : ℕ) → has_name (map unknown_of items) unknown ≡ false →
+            fold (λ a item. a + cond (bytes_eq unknown (unknown_of item)) (item_constant p item) 0) m items ≡ m) →
+            fold (λ a item. a + cond (bytes_eq unknown (unknown_of item)) (item_constant p item) 0) n
+            (item ∷ items) ≡ n
         by true e none more = let f : ⊥ = cc in absurd f
         by false e none more = rw e (more (n + 0) none ∙ omega arith)
 
 -- one item more, and a symbol
-pub symbol_said-push : (items : List (List ℕ)) (item unknown : List ℕ) → symbol_said (items ++ item ∷ []) unknown ≡ (symbol_said items unknown || (bytes_eq unknown (unknown_of item) && item_symbol item || false))
+pub symbol_said-push : (items : List (List ℕ)) (item unknown : List ℕ) → symbol_said (items ++ item ∷ []) unknown ≡
+    (symbol_said items unknown || (bytes_eq unknown (unknown_of item) && item_symbol item || false))
 symbol_said-push items item unknown = list_any-append (λ other. bytes_eq unknown (unknown_of other) && item_symbol other) items (item ∷ [])
 
 pub symbol_said-absent : (items : List (List ℕ)) (unknown : List ℕ) → has_name (map unknown_of items) unknown ≡ false → symbol_said items unknown ≡ false
 symbol_said-absent [] unknown absent = refl
 symbol_said-absent (item ∷ items) unknown absent = by (bytes_eq unknown (unknown_of item)) refl absent (λ rest. symbol_said-absent items unknown rest)
   where
-    by : (b : Bool) → bytes_eq unknown (unknown_of item) ≡ b → (b || has_name (map unknown_of items) unknown) ≡ false → (has_name (map unknown_of items) unknown ≡ false → symbol_said items unknown ≡ false) → symbol_said (item ∷ items) unknown ≡ false
+    by : (b : Bool) → bytes_eq unknown (unknown_of item) ≡ b → (b || has_name (map unknown_of items) unknown) ≡ false →
+        (has_name (map unknown_of items) unknown ≡ false → symbol_said items unknown ≡ false) →
+        symbol_said (item ∷ items) unknown ≡ false
     by true e none more = let f : ⊥ = cc in absurd f
     by false e none more = rw e (more none)
 
@@ -53,8 +65,10 @@ pub record Reading (A : Type 0) : Type 0 where
   pub nothing : A
   pub empty : (row : List RowEntry) (j : ℕ) → entry_in row j ≡ None → tells row j ≡ nothing
   pub absent : (items : List (List ℕ)) (unknown : List ℕ) → has_name (map unknown_of items) unknown ≡ false → says items unknown ≡ nothing
-  pub named : (items : List (List ℕ)) (item : List ℕ) → has_name (map unknown_of items) (unknown_of item) ≡ false → says (items ++ item ∷ []) (unknown_of item) ≡ gives item
-  pub other : (items : List (List ℕ)) (item unknown : List ℕ) → bytes_eq unknown (unknown_of item) ≡ false → says (items ++ item ∷ []) unknown ≡ says items unknown
+  pub named : (items : List (List ℕ)) (item : List ℕ) → has_name (map unknown_of items) (unknown_of item) ≡ false →
+      says (items ++ item ∷ []) (unknown_of item) ≡ gives item
+  pub other : (items : List (List ℕ)) (item unknown : List ℕ) → bytes_eq unknown (unknown_of item) ≡ false →
+      says (items ++ item ∷ []) unknown ≡ says items unknown
 
 pub same_name : (item : List ℕ) → bytes_eq (unknown_of item) (unknown_of item) ≡ true
 same_name item = (bytes_eq-Decides (unknown_of item) (unknown_of item)).1 refl
@@ -106,7 +120,13 @@ items_at-last list equation i last =
 NamesNowhere : List (List (List ℕ)) → List ℕ → Type 0
 NamesNowhere lines unknown = (i : ℕ) → has_name (map unknown_of (items_at (equations_in lines) i)) unknown ≡ false
 
-names_nowhere-eq : (name : List ℕ) (items : List (List ℕ)) (lines : List (List (List ℕ))) (unknown : List ℕ) → has_name (map unknown_of items) unknown ≡ false → NamesNowhere lines unknown → (i : ℕ) → has_name (map unknown_of (items_at (record { name = name; items = items } ∷ equations_in lines) i)) unknown ≡ false
+names_nowhere-eq : (name : List ℕ) (items : List (List ℕ)) (lines : List (List (List ℕ))) (unknown : List ℕ) →
+    has_name (map unknown_of items) unknown ≡ false → NamesNowhere lines unknown → (i : ℕ) →
+    has_name (map unknown_of (items_at (record {
+      name = name;
+      items =
+          items;
+    } ∷ equations_in lines) i)) unknown ≡ false
 unfolding NamesNowhere
 names_nowhere-eq name items lines unknown none rest zero = none
 names_nowhere-eq name items lines unknown none rest (suc i) = rest i
@@ -119,13 +139,16 @@ or_false-second : (a b : Bool) → (a || b) ≡ false → b ≡ false
 or_false-second true b e = let f : ⊥ = cc in absurd f
 or_false-second false b e = e
 
-names_nowhere-line : (words : List (List ℕ)) (lines : List (List (List ℕ))) (unknown : List ℕ) → has_name (names_in words) unknown ≡ false → NamesNowhere lines unknown → NamesNowhere (words ∷ lines) unknown
+names_nowhere-line : (words : List (List ℕ)) (lines : List (List (List ℕ))) (unknown : List ℕ) →
+    has_name (names_in words) unknown ≡ false → NamesNowhere lines unknown → NamesNowhere (words ∷ lines) unknown
 unfolding NamesNowhere
 names_nowhere-line [] lines unknown none rest = rest
 names_nowhere-line (word ∷ []) lines unknown none rest = rest
 names_nowhere-line (word ∷ name ∷ items) lines unknown none rest = by (bytes_eq word (codes "eq")) refl none
   where
-    by : (b : Bool) → bytes_eq word (codes "eq") ≡ b → has_name (names_in (word ∷ name ∷ items)) unknown ≡ false → (i : ℕ) → has_name (map unknown_of (items_at (equations_in ((word ∷ name ∷ items) ∷ lines)) i)) unknown ≡ false
+    by : (b : Bool) → bytes_eq word (codes "eq") ≡ b → has_name (names_in (word ∷ name ∷ items)) unknown ≡ false →
+        (i : ℕ) → has_name (map unknown_of (items_at
+        (equations_in ((word ∷ name ∷ items) ∷ lines)) i)) unknown ≡ false
     by true e h i = rw e (names_nowhere-eq name items lines unknown (rw e at h) rest i)
     by false e h i = rw e (rest i)
 
@@ -134,8 +157,11 @@ unfolding NamesNowhere
 names_nowhere [] unknown none = λ i. refl
 names_nowhere (words ∷ lines) unknown none =
     let both = sym (list_any-append (bytes_eq unknown) (names_in words) (flat_map names_in lines)) ∙ none in
-    names_nowhere-line words lines unknown (or_false-first (has_name (names_in words) unknown) _ both) (names_nowhere lines unknown (or_false-second (has_name (names_in words) unknown) _ both))
+    names_nowhere-line words lines unknown (or_false-first (has_name (names_in words) unknown) _ both)
+    (names_nowhere lines unknown (or_false-second (has_name (names_in words) unknown) _ both))
 
-pub absent-unseen : (lines : List (List (List ℕ))) (unknown : List ℕ) (i : ℕ) → has_name (unknowns_in lines) unknown ≡ false → has_name (map unknown_of (items_at (equations_in lines) i)) unknown ≡ false
+pub absent-unseen : (lines : List (List (List ℕ))) (unknown : List ℕ) (i : ℕ) →
+    has_name (unknowns_in lines) unknown ≡ false → has_name
+    (map unknown_of (items_at (equations_in lines) i)) unknown ≡ false
 unfolding NamesNowhere
 absent-unseen lines unknown i unseen = names_nowhere lines unknown (has_name-unseen [] (flat_map names_in lines) unknown unseen) i

@@ -12,7 +12,8 @@ use Rattle.matrix_reader.specs.EquationLists.{equation_of, equations_in, names_i
 pub equations_in-push : (lines : List (List (List ℕ))) (words : List (List ℕ)) → equations_in (lines ++ words ∷ []) ≡ equations_in lines ++ equation_of words
 equations_in-push lines words = flat_map-append equation_of lines (words ∷ []) ∙ ap (λ more. equations_in lines ++ more) (append-nil (equation_of words))
 
-pub unknowns_in-push : (lines : List (List (List ℕ))) (words : List (List ℕ)) → unknowns_in (lines ++ words ∷ []) ≡ fold see (unknowns_in lines) (names_in words)
+pub unknowns_in-push : (lines : List (List (List ℕ))) (words : List (List ℕ)) →
+    unknowns_in (lines ++ words ∷ []) ≡ fold see (unknowns_in lines) (names_in words)
 unknowns_in-push lines words =
     ap (fold see []) (flat_map-append names_in lines (words ∷ []) ∙ ap (λ names. flat_map names_in lines ++ names) (append-nil (names_in words)))
     ∙ fold-append see [] (flat_map names_in lines) (names_in words)

@@ -1,5 +1,6 @@
 -- The value of an item: where it ends with a symbol, and the number before that.
-use Rattle.std.proofs.Common.{◌≡◌, ◌≢◌, ℕ, ◌-◌, Bool, true, false, cond, List, ◌++◌, length, take, drop, codes, Some, None, Result, Ok, Err, refl, sym, ap, ◌∙◌, arith, length-append}
+use Rattle.std.proofs.Common.{◌≡◌, ◌≢◌, ℕ, ◌-◌, Bool, true, false, cond, List, ◌++◌, length, take, drop, codes, Some}
+use Rattle.std.proofs.Common.{None, Result, Ok, Err, refl, sym, ap, ◌∙◌, arith, length-append}
 use Rattle.std.specs.Result.{result_err, result_unwrap_or}
 use Rattle.std.proofs.Math.Seq.{take-append_seam, drop-append_seam}
 use Rattle.std.proofs.lemmas.Bool.{false_from_ne_true}
@@ -72,5 +73,6 @@ module _ (p : ℕ) (value : List ℕ) (lone : is_symbol value ≡ false) where
   broken_alone why none is = rule_here value (Err why) (no_symbol value (adds_symbol_false value none)) is
 
 -- a symbol alone
-pub read_symbol : (p : ℕ) (value : List ℕ) (constant : ℕ) → is_symbol value ≡ true → constant ≡ 0 → (value_rule p value ≡ None) × (constant ≡ value_constant p value) × (true ≡ value_symbol value)
+pub read_symbol : (p : ℕ) (value : List ℕ) (constant : ℕ) → is_symbol value ≡ true → constant ≡ 0 →
+    (value_rule p value ≡ None) × (constant ≡ value_constant p value) × (true ≡ value_symbol value)
 read_symbol p value constant alone none = (rw alone refl, rw alone none, rw alone refl)

@@ -7,6 +7,3 @@ mod lattice;
 mod listing;
 
 pub use lattice::{Lattice, Part};
-
-#[cfg(test)]
-mod tests;

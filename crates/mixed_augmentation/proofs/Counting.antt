@@ -10,7 +10,8 @@ at_most_one : (b : Bool) → cond b 1 0 ≤ 1
 at_most_one b = grind arith
 
 -- a route has at most one pivot more than there are base columns
-pub route-pivots : (p : ℕ) (L : LayeredMatrix) (F : Tableau) (R : Route) → IsRoute p L F R → size_on R.in_q (suc R.last) ≤ size_on F.base L.columns + 1
+pub route-pivots : (p : ℕ) (L : LayeredMatrix) (F : Tableau) (R : Route) → IsRoute p L F R →
+    size_on R.in_q (suc R.last) ≤ size_on F.base L.columns + 1
 route-pivots p L F R W = omega (arith, at_most_one (R.in_q R.last), inner)
   where
     inner : size_on R.in_q R.last ≤ size_on F.base L.columns

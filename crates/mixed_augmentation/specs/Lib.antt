@@ -1,2 +1,5 @@
 pub mod Moves
 pub mod Laws
+pub mod Sealed
+pub mod SealedLaws
+pub mod Sweeps

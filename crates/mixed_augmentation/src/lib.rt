@@ -3,6 +3,8 @@
 #![tactic(auto)]
 
 ghost use Rattle.mixed_augmentation.specs.Laws.{EndsHaveAFreeRow, ShortestWalksAreRoutes, MovesBegin, MovesGoOn, MovesEndInALargerPair, RoutesHaveFewPivots};
+ghost use Rattle.mixed_augmentation.specs.Sweeps.{SweepsBegin, SweepsGoOn, SweepsEnd};
+ghost use Rattle.mixed_augmentation.specs.SealedLaws.{NothingIsSealed, SealedSetsHoldTheirRows, MovesLeaveSealedSets, SealedFreeColumnsEndTheSearch, SealedSetsGrow, RoutesMissSealedSets, RoutesLeaveSealedSets, SealedSetsStaySealed, ShortestWalksFromSomeAreRoutes, SearchesMayLeaveOutSealedSets};
 
 /// A column is an end exactly where it may take a row that no column has.
 pub fn ends_have_a_free_row()
@@ -33,4 +35,70 @@ pub fn moves_end_in_a_larger_pair()
 /// A walk takes at most as many pivots as there are base columns, and one more.
 pub fn routes_have_few_pivots()
     ensures { RoutesHaveFewPivots }
+{}
+
+/// The empty set is sealed.
+pub fn nothing_is_sealed()
+    ensures { NothingIsSealed }
+{}
+
+/// A column set is sealed exactly where each row that its columns may take is that of one of them.
+pub fn sealed_sets_hold_their_rows()
+    ensures { SealedSetsHoldTheirRows }
+{}
+
+/// A column outside that takes a row of no column inside leaves the columns of a sealed set as they are.
+pub fn moves_leave_sealed_sets()
+    ensures { MovesLeaveSealedSets }
+{}
+
+/// A sealed set that holds all free columns leaves no walk, and is the least minimiser where it holds no more than what
+/// is reached from them.
+pub fn sealed_free_columns_end_the_search()
+    ensures { SealedFreeColumnsEndTheSearch }
+{}
+
+/// A sealed set grows by what leads to it and to itself alone, and has no end.
+pub fn sealed_sets_grow()
+    ensures { SealedSetsGrow }
+{}
+
+/// No column of a walk that ends at an end is in a sealed set.
+pub fn routes_miss_sealed_sets()
+    ensures { RoutesMissSealedSets }
+{}
+
+/// An augmentation leaves the columns of every sealed set as they are.
+pub fn routes_leave_sealed_sets()
+    ensures { RoutesLeaveSealedSets }
+{}
+
+/// So they are sealed after it, with the same free columns, and what was reached from these.
+pub fn sealed_sets_stay_sealed()
+    ensures { SealedSetsStaySealed }
+{}
+
+/// A walk that is shortest from some free columns alone makes a route too.
+pub fn shortest_walks_from_some_are_routes()
+    ensures { ShortestWalksFromSomeAreRoutes }
+{}
+
+/// A search may leave out a sealed set. Where it finds no end, what it reached is sealed with that set.
+pub fn searches_may_leave_out_sealed_sets()
+    ensures { SearchesMayLeaveOutSealedSets }
+{}
+
+/// Before the first column nothing is left out.
+pub fn sweeps_begin()
+    ensures { SweepsBegin }
+{}
+
+/// A column is passed over, or no walk leads from it and what it reaches is left out; and all stays so where the pair grows.
+pub fn sweeps_go_on()
+    ensures { SweepsGoOn }
+{}
+
+/// After the last column there is no walk, and what is left out is the least minimiser.
+pub fn sweeps_end()
+    ensures { SweepsEnd }
 {}

@@ -1,5 +1,7 @@
 -- The origins of columns, put one after the other.
-use Rattle.std.proofs.Common.{◌≡◌, Bool, ℕ, zero, suc, ◌+◌, ◌<◌, ◌≤◌, List, [], ◌∷◌, ◌++◌, length, get_or, slice_index, Result, Ok, Err, Some, refl, sym, ap, subst, ◌∙◌, arith, ⊎_elim, length-append}
+use Rattle.std.proofs.Common.{◌≡◌, Bool, ℕ, zero, suc, ◌+◌, ◌<◌, ◌≤◌, List, [], ◌∷◌, ◌++◌, length, get_or}
+use Rattle.std.proofs.Common.{slice_index, Result, Ok, Err, Some, refl, sym, ap, subst, ◌∙◌, arith, ⊎_elim}
+use Rattle.std.proofs.Common.{length-append}
 use Rattle.std.specs.List.{slice_get, count_by}
 use Rattle.std.proofs.lemmas.List.Sums.{sum_by-append}
 use Rattle.mixed_model.specs.Layers.{is_split}
@@ -40,19 +42,23 @@ columns-unknown u split xs are = record {
   auxiliary = λ k at. absurd (omega (arith, at));
 }
 
-pub columns-split : (u : ℕ) (split : List ℕ) (n : ℕ) (xs : List Origin) → AreColumns u split n xs → AreColumns u split (n + 1) (xs ++ Split (slice_index split n) ∷ [])
+pub columns-split : (u : ℕ) (split : List ℕ) (n : ℕ) (xs : List Origin) → AreColumns u split n xs →
+    AreColumns u split (n + 1) (xs ++ Split (slice_index split n) ∷ [])
 columns-split u split n xs are = record {
   count = omega (arith, length-append xs (Split (slice_index split n) ∷ []), are.count);
   splits = count_by-append is_split xs (Split (slice_index split n) ∷ []) ∙ omega (arith, are.splits);
   unknown = λ j at. slice_get-push xs (Split (slice_index split n)) j (omega (arith, are.count)) ∙ are.unknown j at;
   auxiliary = λ k at. ⊎_elim
       (λ before. slice_get-push xs (Split (slice_index split n)) (u + k) (omega (arith, are.count, before)) ∙ are.auxiliary k before)
-      (λ last. let same : n ≡ k = omega (arith, last) in slice_get-pushed xs (Split (slice_index split n)) (u + k) (omega (arith, are.count, same)) ∙ ap (λ x. Some (Split (slice_index split x))) same)
+      (λ last. let same : n ≡ k = omega (arith, last) in slice_get-pushed xs (Split (slice_index split n)) (u + k)
+      (omega (arith, are.count, same)) ∙ ap (λ x. Some (Split (slice_index split x))) same)
       (cases_lt k n);
 }
 
 -- what a binary search finds
-pub found_place : (list : List ℕ) (number : ℕ) (r : Result ℕ ℕ) → IsStrictlyIncreasing list → IsBinarySearchResult (λ y. nat_cmp y number) list r → MatchOption (result_ok r) (IsAbsent list number) (λ place. StandsIn list number place)
+pub found_place : (list : List ℕ) (number : ℕ) (r : Result ℕ ℕ) → IsStrictlyIncreasing list →
+    IsBinarySearchResult (λ y. nat_cmp y number) list r → MatchOption (result_ok r) (IsAbsent list number)
+    (λ place. StandsIn list number place)
 found_place list number r up found = go r (searched list number r found rising)
   where
     rising : (i j : ℕ) → i ≤ j → j < length list → get_or list i 0 ≤ get_or list j 0
@@ -61,7 +67,9 @@ found_place list number r up found = go r (searched list number r found rising)
         (λ ge. let same : i ≡ j = omega arith in subst (λ v. get_or list v 0 ≤ get_or list j 0) (sym same) (omega arith))
         (cases_lt i j)
 
-    go : (r : Result ℕ ℕ) → MatchResult r (λ i. (i < length list) × (get_or list i 0 ≡ number)) (λ i. (i ≤ length list) × ((k : ℕ) → k < i → get_or list k 0 < number) × ((k : ℕ) → i ≤ k → k < length list → number < get_or list k 0)) →
+    go : (r : Result ℕ ℕ) → MatchResult r (λ i. (i < length list) × (get_or list i 0 ≡ number))
+        (λ i. (i ≤ length list) × ((k : ℕ) → k < i → get_or list k 0 < number) × ((k : ℕ) → i ≤ k → k < length list →
+        number < get_or list k 0)) →
         MatchOption (result_ok r) (IsAbsent list number) (λ place. StandsIn list number place)
     go (Ok i) (l, e) = record { within = l; item = e }
     go (Err i) (le, low, high) = λ k l q. ⊎_elim (λ less. omega (arith, low k less, q)) (λ ge. omega (arith, high k ge l, q)) (cases_lt k i)

@@ -1,5 +1,6 @@
 -- A row of a table that is filled place by place.
-use Rattle.std.proofs.Common.{◌≡◌, ℕ, ◌<◌, Bool, true, false, cond, eqb, List, [], length, get_or, set, get_or-set_same, get_or-set_other, length-set, refl, sym, ap, subst, ◌∙◌}
+use Rattle.std.proofs.Common.{◌≡◌, ℕ, ◌<◌, Bool, true, false, cond, eqb, List, [], length, get_or, set}
+use Rattle.std.proofs.Common.{get_or-set_same, get_or-set_other, length-set, refl, sym, ap, subst, ◌∙◌}
 use Rattle.std.proofs.lemmas.Bool.{eqb-false}
 use Rattle.std.proofs.Common.{eqb-true}
 use Rattle.std.proofs.lemmas.List.Elements.{All-get_or}
@@ -29,12 +30,15 @@ fills-same old now i at told fills same = record {
 }
 
 -- one entry of the row is put
-pub fills-next : (old now next : Table) (i j x : ℕ) (at told : ℕ → ℕ) → i < height old → j < length (row_at old i) → FillsRow old now i at → next ≡ with_entry now i j x → ((b : ℕ) → b < old.width → told b ≡ cond (eqb j b) x (at b)) → FillsRow old next i told
+pub fills-next : (old now next : Table) (i j x : ℕ) (at told : ℕ → ℕ) → i < height old → j < length (row_at old i) →
+    FillsRow old now i at → next ≡ with_entry now i j x →
+    ((b : ℕ) → b < old.width → told b ≡ cond (eqb j b) x (at b)) → FillsRow old next i told
 fills-next old now next i j x at told within inside fills is value = subst (λ t. FillsRow old t i told) (sym is) (record {
   size = record { height_same = length-set now.rows i (set (row_at now i) j x) ∙ fills.size.height_same; width_same = fills.size.width_same };
   long = ap length row_is ∙ length-set (row_at now i) j x ∙ fills.long;
   filled = λ b low. by b (eqb j b) refl (fills.filled b low) ∙ sym (value b low);
-  others = λ a b low other. ap (λ (row : List ℕ). get_or row b 0) (get_or-set_other now.rows i a (set (row_at now i) j x) [] other) ∙ fills.others a b low other;
+  others = λ a b low other. ap (λ (row : List ℕ). get_or row b 0)
+      (get_or-set_other now.rows i a (set (row_at now i) j x) [] other) ∙ fills.others a b low other;
 })
   where
     here : i < height now
@@ -46,6 +50,7 @@ fills-next old now next i j x at told within inside fills is value = subst (λ t
     by : (b : ℕ) (c : Bool) → eqb j b ≡ c → entry now i b ≡ at b → entry (with_entry now i j x) i b ≡ cond c x (at b)
     by b true e old_entry =
         ap (λ row. get_or row b 0) row_is
-        ∙ subst (λ k. get_or (set (row_at now i) j x) k 0 ≡ x) (eqb-true j b e) (get_or-set_same (row_at now i) j x 0 (subst (λ k. j < k) (sym fills.long) inside))
+        ∙ subst (λ k. get_or (set (row_at now i) j x) k 0 ≡ x) (eqb-true j b e)
+        (get_or-set_same (row_at now i) j x 0 (subst (λ k. j < k) (sym fills.long) inside))
     by b false e old_entry =
         ap (λ row. get_or row b 0) row_is ∙ get_or-set_other (row_at now i) j b x 0 (λ same. eqb-false j b e (sym same)) ∙ old_entry

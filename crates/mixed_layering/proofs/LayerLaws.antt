@@ -37,7 +37,8 @@ no_constant M i j at gives = by (has_constant M i) refl gives
 -- the rows of symbols, and any matrix that has the constants
 module _ (model : MixedModel) (of_q of_t split : List ℕ) (rows : AreRows (mixed_matrix_of model) (length model.equations) of_q of_t split)
     (m n : ℕ) (q : ℕ → ℕ → ℕ) (tall : m ≡ length of_q) (wide : n ≡ length model.unknowns + length split)
-    (q_is : (i j : ℕ) → i < length of_q → j < length model.unknowns + length split → q i j ≡ constant_place (mixed_matrix_of model) split (slice_index of_q i) j)
+    (q_is : (i j : ℕ) → i < length of_q → j < length model.unknowns + length split →
+    q i j ≡ constant_place (mixed_matrix_of model) split (slice_index of_q i) j)
     (t : Incidence) (t_is : AreRowsOfSymbols (mixed_matrix_of model) split of_t (length of_t) t) where
   pub layered-made : IsLayeredMatrixOf (mixed_matrix_of model)
       (record { q_rows = m; t_rows = length t.rows; columns = n; q = q; t = touches t })
@@ -51,20 +52,24 @@ module _ (model : MixedModel) (of_q of_t split : List ℕ) (rows : AreRows (mixe
     columns = wide;
     q = λ i j row column.
         q_is i j (omega (arith, row, tall)) (omega (arith, column))
-        ∙ told-unknown (length model.unknowns) ((mixed_matrix_of model).constant (slice_index of_q i)) (λ k. cond (eqb (slice_index of_q i) (slice_index split k)) 1 0) j column;
+        ∙ told-unknown (length model.unknowns) ((mixed_matrix_of model).constant (slice_index of_q i))
+        (λ k. cond (eqb (slice_index of_q i) (slice_index split k)) 1 0) j column;
     q_auxiliary = λ i k row column.
         q_is i (length model.unknowns + k) (omega (arith, row, tall)) (omega (arith, column))
-        ∙ told-auxiliary (length model.unknowns) ((mixed_matrix_of model).constant (slice_index of_q i)) (λ k. cond (eqb (slice_index of_q i) (slice_index split k)) 1 0) k;
+        ∙ told-auxiliary (length model.unknowns) ((mixed_matrix_of model).constant (slice_index of_q i))
+        (λ k. cond (eqb (slice_index of_q i) (slice_index split k)) 1 0) k;
     t = λ i j row column.
         t_is.touched i j (omega (arith, row, t_is.count)) (omega (arith, column, t_is.width))
-        ∙ told-unknown (length model.unknowns) ((mixed_matrix_of model).symbol (slice_index of_t i)) (λ k. eqb (slice_index of_t i) (slice_index split k)) j column;
+        ∙ told-unknown (length model.unknowns) ((mixed_matrix_of model).symbol (slice_index of_t i))
+        (λ k. eqb (slice_index of_t i) (slice_index split k)) j column;
     t_auxiliary = λ i k row column.
         t_is.touched i (length model.unknowns + k) (omega (arith, row, t_is.count)) (omega (arith, column, t_is.width))
         ∙ told-auxiliary (length model.unknowns) ((mixed_matrix_of model).symbol (slice_index of_t i)) (λ k. eqb (slice_index of_t i) (slice_index split k)) k;
   }
 
 module _ (model : MixedModel) (of_q of_t split : List ℕ) (rows : AreRows (mixed_matrix_of model) (length model.equations) of_q of_t split)
-    (q : Table) (q_is : IsTableOf (length of_q) (length model.unknowns + length split) (λ i j. constant_place (mixed_matrix_of model) split (slice_index of_q i) j) q)
+    (q : Table) (q_is : IsTableOf (length of_q) (length model.unknowns + length split)
+    (λ i j. constant_place (mixed_matrix_of model) split (slice_index of_q i) j) q)
     (t : Incidence) (t_is : AreRowsOfSymbols (mixed_matrix_of model) split of_t (length of_t) t)
     (origins : List Origin) (columns : AreColumns (length model.unknowns) split (length split) origins) where
   pub layers-made : AreLayersOf model (record { q = q; t = t; q_origins = of_q; t_origins = of_t; column_origins = origins })
@@ -78,13 +83,17 @@ module _ (model : MixedModel) (of_q of_t split : List ℕ) (rows : AreRows (mixe
 
 -- the same over slices of the lists
 pub layers-seen : (model : MixedModel) (of_q of_t split : List ℕ) → AreRows (mixed_matrix_of model) (length model.equations) of_q of_t split →
-    (q : Table) (t : Incidence) (origins : List Origin) (q_seen t_seen first second third : List ℕ) → q_seen ≡ of_q → t_seen ≡ of_t → first ≡ split → second ≡ split → third ≡ split →
+    (q : Table) (t : Incidence) (origins : List Origin) (q_seen t_seen first second third : List ℕ) → q_seen ≡ of_q →
+    t_seen ≡ of_t → first ≡ split → second ≡ split → third ≡ split →
     IsTableOf (length q_seen) (length model.unknowns + length first) (λ i j. constant_place (mixed_matrix_of model) first (slice_index q_seen i) j) q →
     AreRowsOfSymbols (mixed_matrix_of model) second t_seen (length t_seen) t → AreColumns (length model.unknowns) third (length third) origins →
     AreLayersOf model (record { q = q; t = t; q_origins = of_q; t_origins = of_t; column_origins = origins })
 layers-seen model of_q of_t split rows q t origins q_seen t_seen first second third q_same t_same at_first at_second at_third q_is t_is columns =
     layers-made model of_q of_t split rows
-    q (subst (λ list. IsTableOf (length list) (length model.unknowns + length split) (λ i j. constant_place (mixed_matrix_of model) split (slice_index list i) j) q) q_same
-    (subst (λ list. IsTableOf (length q_seen) (length model.unknowns + length list) (λ i j. constant_place (mixed_matrix_of model) list (slice_index q_seen i) j) q) at_first q_is))
-    t (subst (λ list. AreRowsOfSymbols (mixed_matrix_of model) split list (length list) t) t_same (subst (λ list. AreRowsOfSymbols (mixed_matrix_of model) list t_seen (length t_seen) t) at_second t_is))
+    q (subst (λ list. IsTableOf (length list) (length model.unknowns + length split)
+    (λ i j. constant_place (mixed_matrix_of model) split (slice_index list i) j) q) q_same
+    (subst (λ list. IsTableOf (length q_seen) (length model.unknowns + length list)
+    (λ i j. constant_place (mixed_matrix_of model) list (slice_index q_seen i) j) q) at_first q_is))
+    t (subst (λ list. AreRowsOfSymbols (mixed_matrix_of model) split list (length list) t) t_same
+    (subst (λ list. AreRowsOfSymbols (mixed_matrix_of model) list t_seen (length t_seen) t) at_second t_is))
     origins (subst (λ list. AreColumns (length model.unknowns) list (length list) origins) at_third columns)

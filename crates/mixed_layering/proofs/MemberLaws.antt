@@ -1,5 +1,6 @@
 -- Lists of the members of a set, by rising number.
-use Rattle.std.proofs.Common.{◌≡◌, ℕ, ◌+◌, ◌-◌, ◌<◌, ◌≤◌, Bool, true, false, List, [], ◌∷◌, ◌++◌, length, get_or, refl, sym, ap, subst, ◌∙◌, arith, ⊎_elim, add-one, length-append}
+use Rattle.std.proofs.Common.{◌≡◌, ℕ, ◌+◌, ◌-◌, ◌<◌, ◌≤◌, Bool, true, false, List, [], ◌∷◌, ◌++◌, length, get_or}
+use Rattle.std.proofs.Common.{refl, sym, ap, subst, ◌∙◌, arith, ⊎_elim, add-one, length-append}
 use Rattle.std.specs.List.Sorted.{IsStrictlyIncreasing}
 use Rattle.std.proofs.lemmas.Bool.{cases_lt}
 use Rattle.std.proofs.lemmas.List.{get_or_append_left}
@@ -23,7 +24,8 @@ module _ (A : ℕ → Bool) (i : ℕ) (list : List ℕ) (listed : AreListed A i 
   }
 
   -- what a fact of each item needs of the old ones and of the new one
-  each_item : (P : ℕ → ℕ → Type 0) → ((k : ℕ) → k < length list → P k (get_or list k 0)) → P (length list) i → (k : ℕ) → k < length (list ++ i ∷ []) → P k (get_or (list ++ i ∷ []) k 0)
+  each_item : (P : ℕ → ℕ → Type 0) → ((k : ℕ) → k < length list → P k (get_or list k 0)) → P (length list) i →
+      (k : ℕ) → k < length (list ++ i ∷ []) → P k (get_or (list ++ i ∷ []) k 0)
   each_item P old new k at = ⊎_elim
       (λ before. subst (P k) (sym (get_or_append_left list (i ∷ []) 0 k before)) (old k before))
       (λ last.
@@ -71,4 +73,13 @@ module _ (M : MixedMatrix) (n : ℕ) (of_q of_t of_z : List ℕ) (rows : AreRows
   t_equations-are = record { few = omega (arith, few, listed-few (has_symbol M) n of_t rows.symbols); below = rows.symbols.below }
 
   pub split-are : AreSplit n of_z
-  split-are = record { few = omega (arith, few, listed-few (both (gives_q M) (has_symbol M)) n of_z rows.split); rising = listed-rising (both (gives_q M) (has_symbol M)) n of_z rows.split }
+  split-are = record {
+    few = omega (
+      arith,
+      few,
+      listed-few
+          (both (gives_q M) (has_symbol M)) n of_z rows.split,
+    );
+    rising =
+        listed-rising (both (gives_q M) (has_symbol M)) n of_z rows.split;
+  }

@@ -1,5 +1,7 @@
 -- What one entry more tells of the places of a row.
-use Rattle.std.proofs.Common.{◌≡◌, ℕ, ◌<◌, ◌≤◌, Bool, true, false, cond, ◌||◌, eqb, eqb-true, List, [], ◌∷◌, ◌++◌, length, get_or, Some, None, nat_eq, refl, sym, ap, subst, ◌∙◌, arith, ⊎_elim, length-append}
+use Rattle.std.proofs.Common.{◌≡◌, ℕ, ◌<◌, ◌≤◌, Bool, true, false, cond, ◌||◌, eqb, eqb-true, List, [], ◌∷◌, ◌++◌}
+use Rattle.std.proofs.Common.{length, get_or, Some, None, nat_eq, refl, sym, ap, subst, ◌∙◌, arith, ⊎_elim}
+use Rattle.std.proofs.Common.{length-append}
 use Rattle.std.specs.Option.{unwrap_or}
 use Rattle.std.proofs.lemmas.Bool.{cases_lt}
 use Rattle.std.proofs.Math.Seq.{get_or-append_seam}
@@ -10,7 +12,8 @@ use Rattle.mixed_model.specs.Entries.{RowEntry}
 use Rattle.mixed_model.specs.Rows.{entry_in, constant_at_place, symbol_at_place, constant_in, symbol_in, IsRow, IsWithin}
 use Rattle.mixed_model.proofs.RowLaws.{entry_in-next, entry_in-lower}
 
-module _ (p : ℕ) (row : List RowEntry) (seen : List RowEntry) (entry : RowEntry) (rest : List RowEntry) (is_row : IsRow p row) (split : row ≡ seen ++ entry ∷ rest) where
+module _ (p : ℕ) (row : List RowEntry) (seen : List RowEntry) (entry : RowEntry) (rest : List RowEntry)
+    (is_row : IsRow p row) (split : row ≡ seen ++ entry ∷ rest) where
   rises : IsRow p (seen ++ entry ∷ rest)
   rises = subst (IsRow p) split is_row
 
@@ -26,7 +29,9 @@ module _ (p : ℕ) (row : List RowEntry) (seen : List RowEntry) (entry : RowEntr
   not_yet : (b : ℕ) → entry.column ≤ b → entry_in seen b ≡ None
   not_yet b at = entry_in-lower p 0 seen entry rest rises b at
 
-  pub constant-next : (c : ℕ) → entry.constant ≡ Some c → (b : ℕ) → unwrap_or (constant_in (seen ++ entry ∷ []) b) 0 ≡ cond (eqb entry.column b) c (unwrap_or (constant_in seen b) 0)
+  pub constant-next : (c : ℕ) → entry.constant ≡ Some c → (b : ℕ) →
+      unwrap_or (constant_in (seen ++ entry ∷ []) b) 0 ≡ cond (eqb entry.column b) c
+      (unwrap_or (constant_in seen b) 0)
   constant-next c is b = ap (λ x. unwrap_or (constant_at_place x) 0) (next_place b) ∙ by (eqb entry.column b)
     where
       by : (t : Bool) → unwrap_or (constant_at_place (cond t (Some entry) (entry_in seen b))) 0 ≡ cond t c (unwrap_or (constant_in seen b) 0)

@@ -1,12 +1,14 @@
 -- Where an equation stands among the split ones, and what that says of the auxiliary columns.
-use Rattle.std.proofs.Common.{◌≡◌, ℕ, ◌+◌, ◌-◌, ◌<◌, false, cond, eqb, ltb, ne_eqb, eq-eqb, List, length, slice_index, refl, sym, ap, subst, ◌∙◌, arith, ⊎_elim, lt-ltb}
+use Rattle.std.proofs.Common.{◌≡◌, ℕ, ◌+◌, ◌-◌, ◌<◌, false, cond, eqb, ltb, ne_eqb, eq-eqb, List, length, slice_index}
+use Rattle.std.proofs.Common.{refl, sym, ap, subst, ◌∙◌, arith, ⊎_elim, lt-ltb}
 use Rattle.std.specs.List.Sorted.{IsStrictlyIncreasing}
 use Rattle.std.proofs.lemmas.Bool.{cases_lt, le-ltb}
 use Rattle.sparse_t.proofs.ListLaws.{rises}
 use Rattle.mixed_layering.specs.Columns.{StandsIn, IsAbsent}
 
 -- the only place of an equation is its own
-pub own_place : (split : List ℕ) (equation place : ℕ) → IsStrictlyIncreasing split → StandsIn split equation place → (k : ℕ) → k < length split → eqb equation (slice_index split k) ≡ eqb place k
+pub own_place : (split : List ℕ) (equation place : ℕ) → IsStrictlyIncreasing split → StandsIn split equation place →
+    (k : ℕ) → k < length split → eqb equation (slice_index split k) ≡ eqb place k
 own_place split equation place rising stands k at = ⊎_elim
     (λ less.
     let up = rises split rising place k less at in
@@ -39,10 +41,12 @@ module _ {A : Type 0} (unknowns : ℕ) (first : ℕ → A) (auxiliary : ℕ → 
       rw past (ap auxiliary is)
 
   -- by cases on a column
-  pub by_column : (S : ℕ) (P : ℕ → A → Type 0) → ((j : ℕ) → j < unknowns → P j (first j)) → ((k : ℕ) → k < S → P (unknowns + k) (auxiliary k)) → (j : ℕ) → j < unknowns + S → P j (told j)
+  pub by_column : (S : ℕ) (P : ℕ → A → Type 0) → ((j : ℕ) → j < unknowns → P j (first j)) →
+      ((k : ℕ) → k < S → P (unknowns + k) (auxiliary k)) → (j : ℕ) → j < unknowns + S → P j (told j)
   by_column S P on_unknown on_auxiliary j at = ⊎_elim
       (λ low. subst (P j) (sym (told-unknown j low)) (on_unknown j low))
       (λ high.
       let is : unknowns + (j - unknowns) ≡ j = omega (arith, high) in
-      subst (λ c. P c (told c)) is (subst (P (unknowns + (j - unknowns))) (sym (told-auxiliary (j - unknowns))) (on_auxiliary (j - unknowns) (omega (arith, at, high)))))
+      subst (λ c. P c (told c)) is (subst (P (unknowns + (j - unknowns))) (sym (told-auxiliary (j - unknowns)))
+      (on_auxiliary (j - unknowns) (omega (arith, at, high)))))
       (cases_lt j unknowns)

@@ -12,6 +12,3 @@ pub use layering::layer;
 pub use members::{Rows, rows_of};
 pub use out_of_memory::NoMemory;
 pub use symbols::symbols_of;
-
-#[cfg(test)]
-mod tests;

@@ -1,5 +1,6 @@
 -- What an equation holds: constants, symbols, or both, read from its row.
-use Rattle.std.proofs.Common.{◌≡◌, ℕ, suc, ◌<◌, Bool, true, false, not, cond, ◌||◌, List, [], ◌∷◌, length, get_or, Option, Some, None, is_some, refl, sym, ap, ◌∙◌, arith, eqb, ne_eqb}
+use Rattle.std.proofs.Common.{◌≡◌, ℕ, suc, ◌<◌, Bool, true, false, not, cond, ◌||◌, List, [], ◌∷◌, length, get_or}
+use Rattle.std.proofs.Common.{Option, Some, None, is_some, refl, sym, ap, ◌∙◌, arith, eqb, ne_eqb}
 use Rattle.std.specs.List.{list_any}
 use Rattle.std.specs.Option.{unwrap_or}
 use Rattle.std.proofs.lemmas.List.Folds.{list_any_at}
@@ -12,11 +13,14 @@ use Rattle.mixed_model.specs.Models.{MixedModel, IsModel, row_of, mixed_matrix_o
 use Rattle.mixed_model.proofs.RowLaws.{entry_in-place, entry_in-filled}
 
 -- an entry that is found stands at a place
-stands_at : (row : List RowEntry) (column : ℕ) (entry : RowEntry) → entry_in row column ≡ Some entry → (k : ℕ) × (k < length row) × ((d : RowEntry) → get_or row k d ≡ entry)
+stands_at : (row : List RowEntry) (column : ℕ) (entry : RowEntry) → entry_in row column ≡ Some entry → (k : ℕ)
+    × (k < length row) × ((d : RowEntry) → get_or row k d ≡ entry)
 stands_at [] column entry at = let f : ⊥ = cc in absurd f
 stands_at (next ∷ row) column entry at = by (eqb next.column column) at (stands_at row column entry)
   where
-    by : (b : Bool) → cond b (Some next) (entry_in row column) ≡ Some entry → (entry_in row column ≡ Some entry → (k : ℕ) × (k < length row) × ((d : RowEntry) → get_or row k d ≡ entry)) → (k : ℕ) × (k < length (next ∷ row)) × ((d : RowEntry) → get_or (next ∷ row) k d ≡ entry)
+    by : (b : Bool) → cond b (Some next) (entry_in row column) ≡ Some entry →
+        (entry_in row column ≡ Some entry → (k : ℕ) × (k < length row) × ((d : RowEntry) → get_or row k d ≡ entry)) →
+        (k : ℕ) × (k < length (next ∷ row)) × ((d : RowEntry) → get_or (next ∷ row) k d ≡ entry)
     by true here rest = (0, omega arith, λ d. let same : next ≡ entry = cc in same)
     by false there rest = let later = rest there in (suc later.0, omega (arith, later.1), λ d. later.2 d)
 
@@ -25,12 +29,16 @@ passing : (P : RowEntry → Bool) (row : List RowEntry) → list_any P row ≡ t
 passing P [] any = let f : ⊥ = cc in absurd f
 passing P (next ∷ row) any = by (P next) refl any (passing P row)
   where
-    by : (b : Bool) → P next ≡ b → (b || list_any P row) ≡ true → (list_any P row ≡ true → (k : ℕ) × (k < length row) × ((d : RowEntry) → P (get_or row k d) ≡ true)) → (k : ℕ) × (k < length (next ∷ row)) × ((d : RowEntry) → P (get_or (next ∷ row) k d) ≡ true)
+    by : (b : Bool) → P next ≡ b → (b || list_any P row) ≡ true → (list_any P row ≡ true → (k : ℕ) × (k < length row)
+        × ((d : RowEntry) → P (get_or row k d) ≡ true)) → (k : ℕ) × (k < length (next ∷ row))
+        × ((d : RowEntry) → P (get_or (next ∷ row) k d) ≡ true)
     by true here yes_any rest = (0, omega arith, λ d. here)
     by false here later_any rest = let later = rest later_any in (suc later.0, omega (arith, later.1), λ d. later.2 d)
 
 -- a test of the places below the columns, and of the entries
-some_place : (p : ℕ) (P : RowEntry → Bool) (told : ℕ → Bool) (row : List RowEntry) (columns : ℕ) → IsRow p row → IsWithin columns row → ((j : ℕ) (entry : RowEntry) → entry_in row j ≡ Some entry → told j ≡ P entry) → ((j : ℕ) → entry_in row j ≡ None → told j ≡ false) → some_below columns told ≡ list_any P row
+some_place : (p : ℕ) (P : RowEntry → Bool) (told : ℕ → Bool) (row : List RowEntry) (columns : ℕ) → IsRow p row →
+    IsWithin columns row → ((j : ℕ) (entry : RowEntry) → entry_in row j ≡ Some entry → told j ≡ P entry) →
+    ((j : ℕ) → entry_in row j ≡ None → told j ≡ false) → some_below columns told ≡ list_any P row
 some_place p P told row columns rises within at_entry at_none = by (some_below columns told) refl (list_any P row) refl
   where
     found : some_below columns told ≡ true → list_any P row ≡ true
@@ -61,10 +69,13 @@ some_place p P told row columns rises within at_entry at_none = by (some_below c
     by false p false q = p ∙ sym q
 
 -- constants, of which none is 0
-some_constant : (p : ℕ) (row : List RowEntry) (columns : ℕ) → IsRow p row → IsWithin columns row → some_below columns (λ j. not (eqb (unwrap_or (constant_in row j) 0) 0)) ≡ list_any (λ entry. is_some entry.constant) row
+some_constant : (p : ℕ) (row : List RowEntry) (columns : ℕ) → IsRow p row → IsWithin columns row →
+    some_below columns (λ j. not (eqb (unwrap_or (constant_in row j) 0) 0)) ≡ list_any
+    (λ entry. is_some entry.constant) row
 some_constant p row columns rises within =
     some_place p (λ entry. is_some entry.constant) (λ j. not (eqb (unwrap_or (constant_in row j) 0) 0)) row columns rises within
-    (λ j entry at. ap (λ x. not (eqb (unwrap_or (constant_at_place x) 0) 0)) at ∙ by entry.constant (λ c e. (entry_in-filled p 0 row rises j entry at).positive c e))
+    (λ j entry at. ap (λ x. not (eqb (unwrap_or (constant_at_place x) 0) 0)) at
+    ∙ by entry.constant (λ c e. (entry_in-filled p 0 row rises j entry at).positive c e))
     (λ j at. ap (λ x. not (eqb (unwrap_or (constant_at_place x) 0) 0)) at)
   where
     by : (x : Option ℕ) → ((c : ℕ) → x ≡ Some c → 0 < c) → not (eqb (unwrap_or x 0) 0) ≡ is_some x
@@ -72,7 +83,8 @@ some_constant p row columns rises within =
     by (Some c) positive = let some = positive c refl in rw (ne_eqb c 0 (λ e. omega (arith, some, e))) refl
 
 -- symbols
-some_symbol : (p : ℕ) (row : List RowEntry) (columns : ℕ) → IsRow p row → IsWithin columns row → some_below columns (symbol_in row) ≡ list_any (λ entry. entry.symbol) row
+some_symbol : (p : ℕ) (row : List RowEntry) (columns : ℕ) → IsRow p row → IsWithin columns row →
+    some_below columns (symbol_in row) ≡ list_any (λ entry. entry.symbol) row
 some_symbol p row columns rises within =
     some_place p (λ entry. entry.symbol) (symbol_in row) row columns rises within
     (λ j entry at. ap symbol_at_place at) (λ j at. ap symbol_at_place at)

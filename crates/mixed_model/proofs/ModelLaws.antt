@@ -1,5 +1,8 @@
 -- What one changed row leaves of a model.
-use Rattle.std.proofs.Common.{◌≡◌, ◌≢◌, ℕ, ◌<◌, Bool, true, false, cond, ◌&&◌, ◌||◌, List, [], ◌∷◌, ◌++◌, ◌+◌, length, length-append, map, get_or, set, Some, refl, sym, ap, subst, ◌∙◌, arith, eqb, eqb-true, get_or-set_same, get_or-set_other, length-set, Vec, Option, None, unwrap_or, ⊎_elim, ◌≤◌}
+use Rattle.std.proofs.Common.{◌≡◌, ◌≢◌, ℕ, ◌<◌, Bool, true, false, cond, ◌&&◌, ◌||◌, List, [], ◌∷◌, ◌++◌, ◌+◌, length}
+use Rattle.std.proofs.Common.{length-append, map, get_or, set, Some, refl, sym, ap, subst, ◌∙◌, arith, eqb, eqb-true}
+use Rattle.std.proofs.Common.{get_or-set_same, get_or-set_other, length-set, Vec, Option, None, unwrap_or, ⊎_elim}
+use Rattle.std.proofs.Common.{◌≤◌}
 use Rattle.std.specs.Prelude.{All}
 use Rattle.std.proofs.lemmas.Bool.{cases_lt, eqb-false}
 use Rattle.std.proofs.Math.Seq.{map-set_same}
@@ -8,17 +11,24 @@ use Rattle.std.proofs.lemmas.List.Elements.{All-push, All-set}
 use Rattle.mixed_model.proofs.RowLaws.{entry_in-None, entry_in-filled, same_rows}
 use Rattle.mixed_model.specs.Entries.{RowEntry}
 use Rattle.mixed_model.specs.Names.{IsNameList}
-use Rattle.mixed_model.specs.Rows.{IsFilled, IsRow, IsWithin, entry_in, PutsConstant, PutsSymbol, ChangesRow, constant_in, symbol_in, constant_at_place, symbol_at_place}
+use Rattle.mixed_model.specs.Rows.{IsFilled, IsRow, IsWithin, entry_in, PutsConstant, PutsSymbol, ChangesRow}
+use Rattle.mixed_model.specs.Rows.{constant_in, symbol_in, constant_at_place, symbol_at_place}
 use Rattle.mixed_model.specs.Models.{MixedModel, IsModel, PutsAt, PutsSymbolAt, constant_at, constant_of, row_of, symbol_of}
 
 -- rows that are vectors
-pub rows_are_rows : {A : Type 0} (p : ℕ) (rows : List (Vec RowEntry A)) (columns : ℕ) → All (λ row. IsRow p row × IsWithin columns row) (map (λ row. row.items) rows) → All (λ row. IsRow p row.items) rows
+pub rows_are_rows : {A : Type 0} (p : ℕ) (rows : List (Vec RowEntry A)) (columns : ℕ) →
+    All (λ row. IsRow p row × IsWithin columns row) (map (λ row. row.items) rows) →
+    All (λ row. IsRow p row.items) rows
 rows_are_rows p rows columns all k d at =
     let within : k < length (map (λ row. row.items) rows) = omega (arith, length-map rows (λ row. row.items)) in
     subst (IsRow p) (get_or-map (λ row. row.items) rows k d [] at) (all k [] within).0
 
 -- a model whose row i is changed to a row
-IsModel-changed : (p : ℕ) (model : MixedModel) (rows : List (List RowEntry)) (i : ℕ) (Change : List RowEntry → List RowEntry → Type 0) → IsModel p model → i < length model.equations → (changes : ChangesRow Change i model.rows rows) → IsRow p changes.row → (IsWithin (length model.unknowns) (get_or model.rows i []) → IsWithin (length model.unknowns) changes.row) → IsModel p (record { equations = model.equations; unknowns = model.unknowns; rows = rows })
+IsModel-changed : (p : ℕ) (model : MixedModel) (rows : List (List RowEntry)) (i : ℕ) (Change : List RowEntry →
+    List RowEntry → Type 0) → IsModel p model → i < length model.equations →
+    (changes : ChangesRow Change i model.rows rows) → IsRow p changes.row →
+    (IsWithin (length model.unknowns) (get_or model.rows i []) → IsWithin (length model.unknowns) changes.row) →
+    IsModel p (record { equations = model.equations; unknowns = model.unknowns; rows = rows })
 IsModel-changed p model rows i Change is equation changes row within =
     let at = is.rows i [] (omega (arith, is.one_row_each)) in
     record {
@@ -31,7 +41,8 @@ IsModel-changed p model rows i Change is equation changes row within =
 
 -- a model with one more equation, and nothing in its row
 pub IsModel-with_row : {A : Type 0} (p : ℕ) (equations more_equations unknowns : List (List ℕ)) (rows more : List (Vec RowEntry A)) (row : Vec RowEntry A) →
-    IsModel p (record { equations = equations; unknowns = unknowns; rows = map (λ row. row.items) rows }) → IsNameList more_equations → length more_equations ≡ length equations + 1 →
+    IsModel p (record { equations = equations; unknowns = unknowns; rows = map (λ row. row.items) rows }) →
+    IsNameList more_equations → length more_equations ≡ length equations + 1 →
     more ≡ rows ++ row ∷ [] → row.items ≡ [] → IsModel p (record { equations = more_equations; unknowns = unknowns; rows = map (λ row. row.items) more })
 IsModel-with_row {A} p equations more_equations unknowns rows more row is names count pushed empty = record {
   equations = names;
@@ -47,7 +58,11 @@ IsModel-with_row {A} p equations more_equations unknowns rows more row is names 
         ∙ ap (λ items. map (λ (row : Vec RowEntry A). row.items) rows ++ items ∷ []) empty
 
 -- what is told of the places of each row, after one row is changed
-told_after : {A : Type 0} (tells : List RowEntry → ℕ → A) (rows : List (List RowEntry)) (i : ℕ) (row : List RowEntry) (told : ℕ → A → A) → i < length rows → ((c : ℕ) → tells row c ≡ told c (tells (get_or rows i []) c)) → (k c : ℕ) → tells (get_or (set rows i row) k []) c ≡ cond (eqb i k) (told c (tells (get_or rows k []) c)) (tells (get_or rows k []) c)
+told_after : {A : Type 0} (tells : List RowEntry → ℕ → A) (rows : List (List RowEntry)) (i : ℕ)
+    (row : List RowEntry) (told : ℕ → A → A) → i < length rows →
+    ((c : ℕ) → tells row c ≡ told c (tells (get_or rows i []) c)) → (k c : ℕ) →
+    tells (get_or (set rows i row) k []) c ≡ cond (eqb i k) (told c (tells (get_or rows k []) c))
+    (tells (get_or rows k []) c)
 told_after tells rows i row told within there k c = by (eqb i k) refl
   where
     by : (b : Bool) → eqb i k ≡ b → tells (get_or (set rows i row) k []) c ≡ cond b (told c (tells (get_or rows k []) c)) (tells (get_or rows k []) c)
@@ -59,7 +74,8 @@ told_after tells rows i row told within there k c = by (eqb i k) refl
         let other : k ≢ i = λ same. eqb-false i k e (sym same) in
         ap (λ row. tells row c) (get_or-set_other rows i k row [] other)
 
-module _ (p : ℕ) (model : MixedModel) (rows : List (List RowEntry)) (i j : ℕ) (is : IsModel p model) (equation : i < length model.equations) (unknown : j < length model.unknowns) where
+module _ (p : ℕ) (model : MixedModel) (rows : List (List RowEntry)) (i j : ℕ) (is : IsModel p model)
+    (equation : i < length model.equations) (unknown : j < length model.unknowns) where
   -- the model with these rows
   abbrev put : MixedModel
   put = record { equations = model.equations; unknowns = model.unknowns; rows = rows }
@@ -116,7 +132,9 @@ module _ (p : ℕ) (model : MixedModel) (rows : List (List RowEntry)) (i j : ℕ
   }
 
 -- one of several vectors is changed
-pub ChangesRow-set : {A : Type 0} (Change : List RowEntry → List RowEntry → Type 0) (rows : List (Vec RowEntry A)) (i : ℕ) (old new : Vec RowEntry A) → i < length rows → old ≡ get_or rows i old → Change old.items new.items → ChangesRow Change i (map (λ row. row.items) rows) (map (λ row. row.items) (set rows i new))
+pub ChangesRow-set : {A : Type 0} (Change : List RowEntry → List RowEntry → Type 0) (rows : List (Vec RowEntry A))
+    (i : ℕ) (old new : Vec RowEntry A) → i < length rows → old ≡ get_or rows i old → Change old.items new.items →
+    ChangesRow Change i (map (λ row. row.items) rows) (map (λ row. row.items) (set rows i new))
 ChangesRow-set Change rows i old new within is change = record {
   row = new.items;
   change = subst (λ row. Change row new.items) (ap (λ row. row.items) is ∙ sym (get_or-map (λ row. row.items) rows i old [] within)) change;
@@ -124,7 +142,9 @@ ChangesRow-set Change rows i old new within is change = record {
 }
 
 -- or keeps its items
-pub rows_kept : {A : Type 0} (rows : List (Vec RowEntry A)) (i : ℕ) (old new : Vec RowEntry A) → old ≡ get_or rows i old → new.items ≡ old.items → map (λ row. row.items) (set rows i new) ≡ map (λ row. row.items) rows
+pub rows_kept : {A : Type 0} (rows : List (Vec RowEntry A)) (i : ℕ) (old new : Vec RowEntry A) →
+    old ≡ get_or rows i old → new.items ≡ old.items → map (λ row. row.items) (set rows i new) ≡ map
+    (λ row. row.items) rows
 rows_kept rows i old new is same = map-set_same (λ row. row.items) rows i new old (same ∙ ap (λ row. row.items) is)
 
 -- nothing stands at a column past the unknowns
@@ -134,7 +154,10 @@ beyond_unknowns columns row j within beyond =
     (ap constant_at_place none, ap symbol_at_place none)
 
 -- models with the same names, constants and symbols are the same
-pub same_models : (p : ℕ) (a b : MixedModel) → IsModel p a → IsModel p b → a.equations ≡ b.equations → a.unknowns ≡ b.unknowns → ((i j : ℕ) → i < length a.equations → j < length a.unknowns → constant_of a i j ≡ constant_of b i j) → ((i j : ℕ) → i < length a.equations → j < length a.unknowns → symbol_of a i j ≡ symbol_of b i j) → a ≡ b
+pub same_models : (p : ℕ) (a b : MixedModel) → IsModel p a → IsModel p b → a.equations ≡ b.equations →
+    a.unknowns ≡ b.unknowns → ((i j : ℕ) → i < length a.equations → j < length a.unknowns →
+    constant_of a i j ≡ constant_of b i j) → ((i j : ℕ) → i < length a.equations → j < length a.unknowns →
+    symbol_of a i j ≡ symbol_of b i j) → a ≡ b
 same_models p a b is_a is_b equations unknowns constants symbols = λ i. record { equations = equations i; unknowns = unknowns i; rows = rows i }
   where
     rows : a.rows ≡ b.rows
@@ -180,7 +203,8 @@ constant_of-None p model is i j zero_there = by (entry_in (row_of model i) j) re
         (cases_lt i (length model.rows))
 
 -- constants are the same where they are, 0 for none
-pub same_constant : (p : ℕ) (a b : MixedModel) → IsModel p a → IsModel p b → (i j : ℕ) → constant_at a i j ≡ constant_at b i j → constant_of a i j ≡ constant_of b i j
+pub same_constant : (p : ℕ) (a b : MixedModel) → IsModel p a → IsModel p b → (i j : ℕ) →
+    constant_at a i j ≡ constant_at b i j → constant_of a i j ≡ constant_of b i j
 same_constant p a b is_a is_b i j same = by (constant_of a i j) refl (constant_of b i j) refl
   where
     by : (x : Option ℕ) → constant_of a i j ≡ x → (y : Option ℕ) → constant_of b i j ≡ y → constant_of a i j ≡ constant_of b i j
@@ -189,6 +213,9 @@ same_constant p a b is_a is_b i j same = by (constant_of a i j) refl (constant_o
     by (Some x) e (Some y) f = e ∙ ap Some (sym (ap (λ o. unwrap_or o 0) e) ∙ same ∙ ap (λ o. unwrap_or o 0) f) ∙ sym f
 
 -- models with the same names, and the same constants and symbols, are the same
-pub models_told : (p : ℕ) (a b : MixedModel) → IsModel p a → IsModel p b → a.equations ≡ b.equations → a.unknowns ≡ b.unknowns → ((i j : ℕ) → i < length a.equations → j < length a.unknowns → constant_at a i j ≡ constant_at b i j) → ((i j : ℕ) → i < length a.equations → j < length a.unknowns → symbol_of a i j ≡ symbol_of b i j) → a ≡ b
+pub models_told : (p : ℕ) (a b : MixedModel) → IsModel p a → IsModel p b → a.equations ≡ b.equations →
+    a.unknowns ≡ b.unknowns → ((i j : ℕ) → i < length a.equations → j < length a.unknowns →
+    constant_at a i j ≡ constant_at b i j) → ((i j : ℕ) → i < length a.equations → j < length a.unknowns →
+    symbol_of a i j ≡ symbol_of b i j) → a ≡ b
 models_told p a b is_a is_b equations unknowns constants symbols =
     same_models p a b is_a is_b equations unknowns (λ i j at col. same_constant p a b is_a is_b i j (constants i j at col)) symbols

@@ -1,5 +1,7 @@
 -- Lists of names, and a name that is added to one.
-use Rattle.std.proofs.Common.{◌≡◌, ◌≢◌, ℕ, ◌+◌, ◌<◌, ◌≤◌, nat_eq, ⊎_elim, Bool, IsTrue, true, false, not, ◌||◌, cond, List, [], ◌∷◌, ◌++◌, length, map, position, get_or, Result, Ok, Err, Some, None, refl, sym, ap, subst, ◌∙◌, arith, ltb, ltb-false, lt-ltb, le-ltb, length-append}
+use Rattle.std.proofs.Common.{◌≡◌, ◌≢◌, ℕ, ◌+◌, ◌<◌, ◌≤◌, nat_eq, ⊎_elim, Bool, IsTrue, true, false, not, ◌||◌, cond}
+use Rattle.std.proofs.Common.{List, [], ◌∷◌, ◌++◌, length, map, position, get_or, Result, Ok, Err, Some, None, refl}
+use Rattle.std.proofs.Common.{sym, ap, subst, ◌∙◌, arith, ltb, ltb-false, lt-ltb, le-ltb, length-append}
 use Rattle.std.specs.List.{IsDistinct, list_any, position_or_len}
 use Rattle.std.proofs.lemmas.List.Folds.{list_any_at, list_any_none}
 use Rattle.std.proofs.lemmas.List.Quantifiers.{position-Some}
@@ -33,7 +35,8 @@ position_map test f xs =
     λ i. cond (ltb (same i) (long i)) (Some (same i)) None
 
 -- where a name is found, and what that says
-pub has_name-Some : (names : List (List ℕ)) (name : List ℕ) (k : ℕ) → position (bytes_eq name) names ≡ Some k → (k < length names) × (get_or names k [] ≡ name) × (has_name names name ≡ true)
+pub has_name-Some : (names : List (List ℕ)) (name : List ℕ) (k : ℕ) → position (bytes_eq name) names ≡ Some k →
+    (k < length names) × (get_or names k [] ≡ name) × (has_name names name ≡ true)
 has_name-Some names name k found =
     let at = position-Some (bytes_eq name) names k [] found in
     (at.0, sym ((bytes_eq-Decides name (get_or names k [])).0 at.1), list_any_at (bytes_eq name) names k [] at.0 at.1)
@@ -62,7 +65,8 @@ pub ruleset appending_laws = (appending-TooMany, appending-Ok)
 pub adding-Twice : (names : List (List ℕ)) (name : List ℕ) → has_name names name ≡ true → adding names name ≡ Err Twice
 adding-Twice names name there = rw there refl
 
-pub adding-new : (names : List (List ℕ)) (name : List ℕ) → has_name names name ≡ false → (result : Result ℕ AddError) → AnswersAdd result (appending names) → AnswersAdd result (adding names name)
+pub adding-new : (names : List (List ℕ)) (name : List ℕ) → has_name names name ≡ false → (result : Result ℕ AddError) →
+    AnswersAdd result (appending names) → AnswersAdd result (adding names name)
 adding-new names name new result answer = rw new answer
 
 pub ruleset adding_laws = (adding-Twice, adding-new)
@@ -70,7 +74,8 @@ pub ruleset adding_laws = (adding-Twice, adding-new)
 pub seeing-found : (names : List (List ℕ)) (name : List ℕ) (place : ℕ) → position (bytes_eq name) names ≡ Some place → seeing names name ≡ Ok place
 seeing-found names name place found = ap (place_or_end names) found
 
-pub seeing-new : (names : List (List ℕ)) (name : List ℕ) → position (bytes_eq name) names ≡ None → (result : Result ℕ AddError) → AnswersAdd result (appending names) → AnswersAdd result (seeing names name)
+pub seeing-new : (names : List (List ℕ)) (name : List ℕ) → position (bytes_eq name) names ≡ None →
+    (result : Result ℕ AddError) → AnswersAdd result (appending names) → AnswersAdd result (seeing names name)
 seeing-new names name none result answer = subst (λ found. AnswersAdd result (place_or_end names found)) (sym none) answer
 
 pub see-found : (names : List (List ℕ)) (name : List ℕ) (place : ℕ) → position (bytes_eq name) names ≡ Some place → names ≡ see names name
@@ -85,7 +90,8 @@ pub no_names : IsNameList []
 unfolding IsDistinct
 no_names = record { labels = λ k d short. absurd (omega arith); few = omega arith; distinct = tt }
 
-pub IsNameList-push : (names : List (List ℕ)) (name : List ℕ) → IsNameList names → IsTrue (is_label name) → has_name names name ≡ false → length names < 4096 → IsNameList (names ++ name ∷ [])
+pub IsNameList-push : (names : List (List ℕ)) (name : List ℕ) → IsNameList names → IsTrue (is_label name) →
+    has_name names name ≡ false → length names < 4096 → IsNameList (names ++ name ∷ [])
 IsNameList-push names name all label new room = record {
   labels = All-push (λ name. IsTrue (is_label name)) names name all.labels label;
   few = omega (arith, length-append names (name ∷ []));
@@ -93,7 +99,9 @@ IsNameList-push names name all label new room = record {
 }
 
 -- a new text goes last
-pub map-insert_key : {A : Type 0} (keys : List (String A)) (text : String A) (name : List ℕ) → string_bytes text ≡ name → has_name (map string_bytes keys) name ≡ false → map string_bytes (insert_key string_eq keys text) ≡ map string_bytes keys ++ name ∷ []
+pub map-insert_key : {A : Type 0} (keys : List (String A)) (text : String A) (name : List ℕ) →
+    string_bytes text ≡ name → has_name (map string_bytes keys) name ≡ false →
+    map string_bytes (insert_key string_eq keys text) ≡ map string_bytes keys ++ name ∷ []
 map-insert_key keys text name bytes new =
     let absent : list_any (string_eq text) keys ≡ false =
     ap (λ t. list_any (λ key. bytes_eq t (string_bytes key)) keys) bytes ∙ sym (list_any_map (bytes_eq name) string_bytes keys) ∙ new in
@@ -106,7 +114,8 @@ pub bytes_eq-refl : (name : List ℕ) → bytes_eq name name ≡ true
 bytes_eq-refl name = (bytes_eq-Decides name name).1 refl
 
 -- names at different places differ
-pub names_apart : (names : List (List ℕ)) (i j : ℕ) → IsDistinct bytes_eq names → i ≢ j → i < length names → j < length names → bytes_eq (get_or names i []) (get_or names j []) ≡ false
+pub names_apart : (names : List (List ℕ)) (i j : ℕ) → IsDistinct bytes_eq names → i ≢ j → i < length names →
+    j < length names → bytes_eq (get_or names i []) (get_or names j []) ≡ false
 names_apart names i j distinct differs here there = ⊎_elim
     (λ less. apart_from_distinct bytes_eq names i j [] distinct less there)
     (λ more.
@@ -118,7 +127,8 @@ names_apart names i j distinct differs here there = ⊎_elim
     (cases_lt i j)
 
 -- a name stands at one place of names that differ
-pub stands_once : (names : List (List ℕ)) (name : List ℕ) (i k : ℕ) → IsDistinct bytes_eq names → i < length names → k < length names → get_or names i [] ≡ name → bytes_eq (get_or names k []) name ≡ nat_eq i k
+pub stands_once : (names : List (List ℕ)) (name : List ℕ) (i k : ℕ) → IsDistinct bytes_eq names → i < length names →
+    k < length names → get_or names i [] ≡ name → bytes_eq (get_or names k []) name ≡ nat_eq i k
 stands_once names name i k distinct within also here = by (nat_eq i k) refl
   where
     by : (b : Bool) → nat_eq i k ≡ b → bytes_eq (get_or names k []) name ≡ b

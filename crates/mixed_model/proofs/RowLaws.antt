@@ -1,5 +1,7 @@
 -- Rows: what stands at a column, and what an entry put at one leaves.
-use Rattle.std.proofs.Common.{◌≡◌, ◌≢◌, ℕ, zero, suc, ◌+◌, ◌-◌, ◌<◌, ◌≤◌, Bool, true, false, cond, ◌||◌, List, [], ◌∷◌, ◌++◌, length, get_or, set, length-append, Option, Some, None, is_some, Result, Ok, Err, refl, sym, ap, subst, ◌∙◌, arith, eqb, ne_eqb, eq-eqb, eqb-true, ⊎_elim}
+use Rattle.std.proofs.Common.{◌≡◌, ◌≢◌, ℕ, zero, suc, ◌+◌, ◌-◌, ◌<◌, ◌≤◌, Bool, true, false, cond, ◌||◌, List, []}
+use Rattle.std.proofs.Common.{◌∷◌, ◌++◌, length, get_or, set, length-append, Option, Some, None, is_some, Result, Ok}
+use Rattle.std.proofs.Common.{Err, refl, sym, ap, subst, ◌∙◌, arith, eqb, ne_eqb, eq-eqb, eqb-true, ⊎_elim}
 use Rattle.std.specs.Prelude.{MatchResult}
 use Rattle.std.specs.Cmp.{ranks}
 use Rattle.std.specs.List.{AllWithin, insert}
@@ -10,34 +12,43 @@ use Rattle.std.proofs.lemmas.Bool.Decides.{nat_tests}
 use Rattle.std.proofs.lemmas.List.Elements.{All-set}
 use Rattle.std.proofs.Math.Seq.{get_or-append_seam}
 use Rattle.mixed_model.specs.Entries.{RowEntry}
-use Rattle.mixed_model.specs.Rows.{entry_in, constant_at_place, symbol_at_place, constant_in, symbol_in, IsFilled, RisesFrom, IsRow, IsWithin, FitsBetween, StandsAt, PutsEntry, PutsConstant, PutsSymbol, putting, putting_symbol}
+use Rattle.mixed_model.specs.Rows.{entry_in, constant_at_place, symbol_at_place, constant_in, symbol_in, IsFilled}
+use Rattle.mixed_model.specs.Rows.{RisesFrom, IsRow, IsWithin, FitsBetween, StandsAt, PutsEntry, PutsConstant}
+use Rattle.mixed_model.specs.Rows.{PutsSymbol, putting, putting_symbol}
 use Rattle.mixed_model.specs.declared.errors.AddError.TheVariants.{Twice}
 
 -- a column that no entry has
-pub entry_in-None : (row : List RowEntry) (column : ℕ) → ((i : ℕ) (d : RowEntry) → i < length row → (get_or row i d).column ≢ column) → entry_in row column ≡ None
+pub entry_in-None : (row : List RowEntry) (column : ℕ) → ((i : ℕ) (d : RowEntry) → i < length row →
+    (get_or row i d).column ≢ column) → entry_in row column ≡ None
 entry_in-None [] column absent = refl
 entry_in-None (entry ∷ row) column absent =
     rw (ne_eqb entry.column column (absent 0 entry (omega arith)))
     (entry_in-None row column (λ i d at. absent (suc i) d (omega arith)))
 
 -- an entry before the changed one hides nothing of it
-past_first : (first entry : RowEntry) (column : ℕ) (new old : List RowEntry) → first.column < entry.column → entry_in new column ≡ cond (eqb entry.column column) (Some entry) (entry_in old column) → entry_in (first ∷ new) column ≡ cond (eqb entry.column column) (Some entry) (entry_in (first ∷ old) column)
+past_first : (first entry : RowEntry) (column : ℕ) (new old : List RowEntry) → first.column < entry.column →
+    entry_in new column ≡ cond (eqb entry.column column) (Some entry) (entry_in old column) →
+    entry_in (first ∷ new) column ≡ cond (eqb entry.column column) (Some entry) (entry_in (first ∷ old) column)
 past_first first entry column new old lower rest = by (eqb first.column column) refl (eqb entry.column column) refl
   where
-    by : (a : Bool) → eqb first.column column ≡ a → (b : Bool) → eqb entry.column column ≡ b → entry_in (first ∷ new) column ≡ cond (eqb entry.column column) (Some entry) (entry_in (first ∷ old) column)
+    by : (a : Bool) → eqb first.column column ≡ a → (b : Bool) → eqb entry.column column ≡ b →
+        entry_in (first ∷ new) column ≡ cond (eqb entry.column column) (Some entry) (entry_in (first ∷ old) column)
     by true p true q = absurd (omega (arith, lower, eqb-true first.column column p, eqb-true entry.column column q))
     by true p false q = rw (p, q) refl
     by false p b q = rw p rest
 
 -- an entry put after lower columns
-entry_in-insert : (row : List RowEntry) (place : ℕ) (entry : RowEntry) (column : ℕ) → place ≤ length row → AllWithin (λ other. other.column < entry.column) row 0 place → entry_in (insert row place entry) column ≡ cond (eqb entry.column column) (Some entry) (entry_in row column)
+entry_in-insert : (row : List RowEntry) (place : ℕ) (entry : RowEntry) (column : ℕ) → place ≤ length row →
+    AllWithin (λ other. other.column < entry.column) row 0 place → entry_in (insert row place entry) column ≡ cond
+    (eqb entry.column column) (Some entry) (entry_in row column)
 entry_in-insert row zero entry column within before = refl
 entry_in-insert [] (suc place) entry column within before = absurd (omega arith)
 entry_in-insert (first ∷ row) (suc place) entry column within before =
     past_first first entry column (insert row place entry) row (before 0 first (omega arith) (omega arith))
     (entry_in-insert row place entry column (omega arith) (λ k d low high. before (suc k) d (omega arith) (omega arith)))
 
-IsWithin-insert : (columns : ℕ) (row : List RowEntry) (place : ℕ) (entry : RowEntry) → IsWithin columns row → entry.column < columns → IsWithin columns (insert row place entry)
+IsWithin-insert : (columns : ℕ) (row : List RowEntry) (place : ℕ) (entry : RowEntry) → IsWithin columns row →
+    entry.column < columns → IsWithin columns (insert row place entry)
 IsWithin-insert columns row zero entry within at = λ k d short. by k d short
   where
     by : (k : ℕ) (d : RowEntry) → k < length (entry ∷ row) → (get_or (entry ∷ row) k d).column < columns
@@ -48,9 +59,11 @@ IsWithin-insert columns [] (suc place) entry within at = λ k d short. by k d sh
     by : (k : ℕ) (d : RowEntry) → k < length (entry ∷ []) → (get_or (entry ∷ []) k d).column < columns
     by zero d short = at
     by (suc k) d short = absurd (omega arith)
-IsWithin-insert columns (next ∷ row) (suc place) entry within at = λ k d short. by k d short (IsWithin-insert columns row place entry (λ k d short. within (suc k) d (omega arith)) at)
+IsWithin-insert columns (next ∷ row) (suc place) entry within at = λ k d short. by k d short
+    (IsWithin-insert columns row place entry (λ k d short. within (suc k) d (omega arith)) at)
   where
-    by : (k : ℕ) (d : RowEntry) → k < length (next ∷ insert row place entry) → IsWithin columns (insert row place entry) → (get_or (next ∷ insert row place entry) k d).column < columns
+    by : (k : ℕ) (d : RowEntry) → k < length (next ∷ insert row place entry) →
+        IsWithin columns (insert row place entry) → (get_or (next ∷ insert row place entry) k d).column < columns
     by zero d short rest = within 0 d (omega arith)
     by (suc k) d short rest = rest k d (omega arith)
 
@@ -71,7 +84,8 @@ entry_in-column : (row : List RowEntry) (column : ℕ) (entry : RowEntry) → en
 entry_in-column [] column entry at = let f : ⊥ = cc in absurd f
 entry_in-column (next ∷ row) column entry at = by (eqb next.column column) refl at (λ rest. entry_in-column row column entry rest)
   where
-    by : (b : Bool) → eqb next.column column ≡ b → cond b (Some next) (entry_in row column) ≡ Some entry → (entry_in row column ≡ Some entry → entry.column ≡ column) → entry.column ≡ column
+    by : (b : Bool) → eqb next.column column ≡ b → cond b (Some next) (entry_in row column) ≡ Some entry →
+        (entry_in row column ≡ Some entry → entry.column ≡ column) → entry.column ≡ column
     by true e here rest = let same : next ≡ entry = cc in ap (λ (x : RowEntry). x.column) (sym same) ∙ eqb-true next.column column e
     by false e there rest = rest there
 
@@ -99,7 +113,8 @@ module _ (p : ℕ) where
       omega (arith, rises.0, later)
 
   -- columns rise
-  rises_between : (first : ℕ) (row : List RowEntry) → RisesFrom p first row → (i k : ℕ) (d : RowEntry) → i < k → k < length row → (get_or row i d).column < (get_or row k d).column
+  rises_between : (first : ℕ) (row : List RowEntry) → RisesFrom p first row → (i k : ℕ) (d : RowEntry) → i < k →
+      k < length row → (get_or row i d).column < (get_or row k d).column
   rises_between first [] rises i k d less at = absurd (omega arith)
   rises_between first (entry ∷ row) rises i zero d less at = absurd (omega arith)
   rises_between first (entry ∷ row) rises zero (suc k) d less at =
@@ -111,11 +126,13 @@ module _ (p : ℕ) where
   before_seam : (lower : ℕ) (xs : List RowEntry) (entry : RowEntry) (rest : List RowEntry) → RisesFrom p (lower + 1) (xs ++ entry ∷ rest) → lower < entry.column
   before_seam lower xs entry rest rises =
       let at = rises_from (lower + 1) (xs ++ entry ∷ rest) rises (length xs) entry (omega (arith, length-append xs (entry ∷ rest))) in
-      let is : (get_or (xs ++ entry ∷ rest) (length xs) entry).column ≡ entry.column = ap (λ (x : RowEntry). x.column) (get_or-append_seam xs entry rest entry) in
+      let is : (get_or (xs ++ entry ∷ rest) (length xs) entry).column ≡ entry.column =
+      ap (λ (x : RowEntry). x.column) (get_or-append_seam xs entry rest entry) in
       omega (arith, at, is)
 
   -- what stands at a place is the entry at its column
-  pub entry_in-place : (first : ℕ) (row : List RowEntry) → RisesFrom p first row → (column place : ℕ) (d : RowEntry) → place < length row → (get_or row place d).column ≡ column → entry_in row column ≡ Some (get_or row place d)
+  pub entry_in-place : (first : ℕ) (row : List RowEntry) → RisesFrom p first row → (column place : ℕ) (d : RowEntry) →
+      place < length row → (get_or row place d).column ≡ column → entry_in row column ≡ Some (get_or row place d)
   entry_in-place first [] rises column place d at same = absurd (omega arith)
   entry_in-place first (entry ∷ row) rises column zero d at same = rw (eq-eqb entry.column column same) refl
   entry_in-place first (entry ∷ row) rises column (suc place) d at same =
@@ -124,25 +141,32 @@ module _ (p : ℕ) where
       rw (ne_eqb entry.column column differs) (entry_in-place (entry.column + 1) row rises.2 column place d (omega arith) same)
 
   -- the part of a row before an entry has nothing from its column on
-  pub entry_in-lower : (first : ℕ) (xs : List RowEntry) (entry : RowEntry) (rest : List RowEntry) → RisesFrom p first (xs ++ entry ∷ rest) → (column : ℕ) → entry.column ≤ column → entry_in xs column ≡ None
+  pub entry_in-lower : (first : ℕ) (xs : List RowEntry) (entry : RowEntry) (rest : List RowEntry) →
+      RisesFrom p first (xs ++ entry ∷ rest) → (column : ℕ) → entry.column ≤ column → entry_in xs column ≡ None
   entry_in-lower first [] entry rest rises column at = refl
   entry_in-lower first (x ∷ xs) entry rest rises column at =
       let lower = before_seam x.column xs entry rest rises.2 in
       rw (ne_eqb x.column column (λ e. omega (arith, lower, e, at))) (entry_in-lower (x.column + 1) xs entry rest rises.2 column at)
 
   -- an entry behind lower ones
-  pub entry_in-next : (first : ℕ) (xs : List RowEntry) (entry : RowEntry) (rest : List RowEntry) (column : ℕ) → RisesFrom p first (xs ++ entry ∷ rest) → entry_in (xs ++ entry ∷ []) column ≡ cond (eqb entry.column column) (Some entry) (entry_in xs column)
+  pub entry_in-next : (first : ℕ) (xs : List RowEntry) (entry : RowEntry) (rest : List RowEntry) (column : ℕ) →
+      RisesFrom p first (xs ++ entry ∷ rest) → entry_in (xs ++ entry ∷ []) column ≡ cond (eqb entry.column column)
+      (Some entry) (entry_in xs column)
   entry_in-next first [] entry rest column rises = refl
   entry_in-next first (x ∷ xs) entry rest column rises =
       past_first x entry column (xs ++ entry ∷ []) xs (before_seam x.column xs entry rest rises.2)
       (entry_in-next (x.column + 1) xs entry rest column rises.2)
 
   -- an entry put in the place of another
-  entry_in-set : (first : ℕ) (row : List RowEntry) → RisesFrom p first row → (place : ℕ) (entry : RowEntry) (column : ℕ) → place < length row → (get_or row place entry).column ≡ entry.column → entry_in (set row place entry) column ≡ cond (eqb entry.column column) (Some entry) (entry_in row column)
+  entry_in-set : (first : ℕ) (row : List RowEntry) → RisesFrom p first row → (place : ℕ) (entry : RowEntry)
+      (column : ℕ) → place < length row → (get_or row place entry).column ≡ entry.column →
+      entry_in (set row place entry) column ≡ cond (eqb entry.column column) (Some entry) (entry_in row column)
   entry_in-set first [] rises place entry column within same = absurd (omega arith)
   entry_in-set first (next ∷ row) rises zero entry column within same = by (eqb entry.column column) refl
     where
-      by : (b : Bool) → eqb entry.column column ≡ b → cond (eqb entry.column column) (Some entry) (entry_in row column) ≡ cond (eqb entry.column column) (Some entry) (cond (eqb next.column column) (Some next) (entry_in row column))
+      by : (b : Bool) → eqb entry.column column ≡ b → cond (eqb entry.column column) (Some entry)
+          (entry_in row column) ≡ cond (eqb entry.column column) (Some entry)
+          (cond (eqb next.column column) (Some next) (entry_in row column))
       by true p = rw p refl
       by false p = rw (p, ap (λ c. eqb c column) same ∙ p) refl
   entry_in-set first (next ∷ row) rises (suc place) entry column within same =
@@ -151,7 +175,11 @@ module _ (p : ℕ) where
       (entry_in-set (next.column + 1) row rises.2 place entry column (omega arith) same)
 
   -- and before higher ones
-  RisesFrom-insert : (first : ℕ) (row : List RowEntry) (place : ℕ) (entry : RowEntry) → RisesFrom p first row → first ≤ entry.column → IsFilled p entry → place ≤ length row → AllWithin (λ other. other.column < entry.column) row 0 place → AllWithin (λ other. entry.column < other.column) row place (length row) → RisesFrom p first (insert row place entry)
+  RisesFrom-insert : (first : ℕ) (row : List RowEntry) (place : ℕ) (entry : RowEntry) → RisesFrom p first row →
+      first ≤ entry.column → IsFilled p entry → place ≤ length row →
+      AllWithin (λ other. other.column < entry.column) row 0 place →
+      AllWithin (λ other. entry.column < other.column) row place (length row) →
+      RisesFrom p first (insert row place entry)
   RisesFrom-insert first [] zero entry rises above filled within before after = (above, filled, tt)
   RisesFrom-insert first (next ∷ row) zero entry rises above filled within before after =
       let higher = after 0 next (omega arith) (omega arith) in
@@ -166,7 +194,9 @@ module _ (p : ℕ) where
             (λ k d low high. after (suc k) d (omega arith) (omega arith)),
       )
 
-  RisesFrom-set : (first : ℕ) (row : List RowEntry) (place : ℕ) (entry : RowEntry) → RisesFrom p first row → IsFilled p entry → place < length row → (get_or row place entry).column ≡ entry.column → RisesFrom p first (set row place entry)
+  RisesFrom-set : (first : ℕ) (row : List RowEntry) (place : ℕ) (entry : RowEntry) → RisesFrom p first row →
+      IsFilled p entry → place < length row → (get_or row place entry).column ≡ entry.column →
+      RisesFrom p first (set row place entry)
   RisesFrom-set first [] place entry rises filled within same = absurd (omega arith)
   RisesFrom-set first (next ∷ row) zero entry rises filled within same =
       (subst (λ c. first ≤ c) same rises.0, filled, subst (λ c. RisesFrom p (c + 1) row) same rises.2)
@@ -174,7 +204,8 @@ module _ (p : ℕ) where
       (rises.0, rises.1, RisesFrom-set (next.column + 1) row place entry rises.2 filled (omega arith) same)
 
   -- an entry put where it belongs
-  PutsEntry-insert : (row : List RowEntry) (place : ℕ) (entry : RowEntry) → IsRow p row → IsFilled p entry → FitsBetween row place entry.column → PutsEntry p row (insert row place entry) entry
+  PutsEntry-insert : (row : List RowEntry) (place : ℕ) (entry : RowEntry) → IsRow p row → IsFilled p entry →
+      FitsBetween row place entry.column → PutsEntry p row (insert row place entry) entry
   PutsEntry-insert row place entry rises filled fits = record {
     entries = λ column. entry_in-insert row place entry column fits.within fits.before;
     row = RisesFrom-insert 0 row place entry rises (omega arith) filled fits.within fits.before fits.after;
@@ -182,7 +213,8 @@ module _ (p : ℕ) where
   }
 
   -- an entry put where one stands
-  PutsEntry-set : (row : List RowEntry) (place : ℕ) (entry : RowEntry) → IsRow p row → IsFilled p entry → StandsAt row place entry.column → PutsEntry p row (set row place entry) entry
+  PutsEntry-set : (row : List RowEntry) (place : ℕ) (entry : RowEntry) → IsRow p row → IsFilled p entry →
+      StandsAt row place entry.column → PutsEntry p row (set row place entry) entry
   PutsEntry-set row place entry rises filled stands = record {
     entries = λ column. entry_in-set 0 row rises place entry column stands.within (stands.column_is entry);
     row = RisesFrom-set 0 row place entry rises filled stands.within (stands.column_is entry);
@@ -190,7 +222,9 @@ module _ (p : ℕ) where
   }
 
   -- an entry that has the constant, and the symbol that was there
-  puts_constant : (old new : List RowEntry) (entry : RowEntry) (constant : ℕ) → entry.constant ≡ Some constant → entry.symbol ≡ symbol_in old entry.column → PutsEntry p old new entry → PutsConstant p entry.column constant old new
+  puts_constant : (old new : List RowEntry) (entry : RowEntry) (constant : ℕ) → entry.constant ≡ Some constant →
+      entry.symbol ≡ symbol_in old entry.column → PutsEntry p old new entry →
+      PutsConstant p entry.column constant old new
   puts_constant old new entry constant is same puts = record {
     constants = λ other. ap constant_at_place (puts.entries other) ∙ constant_there other (eqb entry.column other);
     symbols = λ other. ap symbol_at_place (puts.entries other) ∙ symbol_there other (eqb entry.column other) refl;
@@ -207,7 +241,8 @@ module _ (p : ℕ) where
       symbol_there other false e = refl
 
   -- an entry that has a symbol, and the constant that was there
-  puts_symbol : (old new : List RowEntry) (entry : RowEntry) → entry.symbol ≡ true → entry.constant ≡ constant_in old entry.column → PutsEntry p old new entry → PutsSymbol p entry.column old new
+  puts_symbol : (old new : List RowEntry) (entry : RowEntry) → entry.symbol ≡ true →
+      entry.constant ≡ constant_in old entry.column → PutsEntry p old new entry → PutsSymbol p entry.column old new
   puts_symbol old new entry is same puts = record {
     constants = λ other. ap constant_at_place (puts.entries other) ∙ constant_there other (eqb entry.column other) refl;
     symbols = λ other. ap symbol_at_place (puts.entries other) ∙ symbol_there other (eqb entry.column other);
@@ -215,7 +250,8 @@ module _ (p : ℕ) where
     within = puts.within;
   }
     where
-      constant_there : (other : ℕ) (b : Bool) → eqb entry.column other ≡ b → constant_at_place (cond b (Some entry) (entry_in old other)) ≡ constant_in old other
+      constant_there : (other : ℕ) (b : Bool) → eqb entry.column other ≡ b →
+          constant_at_place (cond b (Some entry) (entry_in old other)) ≡ constant_in old other
       constant_there other true e = same ∙ ap (constant_in old) (eqb-true entry.column other e)
       constant_there other false e = refl
 
@@ -224,7 +260,9 @@ module _ (p : ℕ) where
       symbol_there other false = refl
 
   -- a row whose last column is lower
-  pub fits_at_end : (row : List RowEntry) (column : ℕ) → IsRow p row → ((d : RowEntry) → 0 < length row → (get_or row (length row - 1) d).column < column) → (entry_in row column ≡ None) × FitsBetween row (length row) column
+  pub fits_at_end : (row : List RowEntry) (column : ℕ) → IsRow p row →
+      ((d : RowEntry) → 0 < length row → (get_or row (length row - 1) d).column < column) →
+      (entry_in row column ≡ None) × FitsBetween row (length row) column
   fits_at_end row column rises last = (absent_between row (length row) column fits, fits)
     where
       fits : FitsBetween row (length row) column
@@ -238,7 +276,10 @@ module _ (p : ℕ) where
       }
 
   -- what a binary search found
-  pub found_place : (row : List RowEntry) (column : ℕ) (found : Result ℕ ℕ) → IsRow p row → IsSearchInRange found (length row) → IsBinarySearchResult (λ entry. nat_cmp entry.column column) row found → MatchResult found (λ place. StandsAt row place column) (λ place. (entry_in row column ≡ None) × FitsBetween row place column)
+  pub found_place : (row : List RowEntry) (column : ℕ) (found : Result ℕ ℕ) → IsRow p row →
+      IsSearchInRange found (length row) → IsBinarySearchResult (λ entry. nat_cmp entry.column column) row found →
+      MatchResult found (λ place. StandsAt row place column) (λ place. (entry_in row column ≡ None)
+      × FitsBetween row place column)
   found_place row column (Ok place) rises within at = record {
     within = within;
     column_is = column_is;
@@ -246,24 +287,33 @@ module _ (p : ℕ) where
   }
     where
       column_is : (d : RowEntry) → (get_or row place d).column ≡ column
-      column_is d = subst (λ o. MatchOrdering o ((get_or row place d).column < column) ((get_or row place d).column ≡ column) (column < (get_or row place d).column)) (at d) (ranks (get_or row place d).column column)
+      column_is d = subst (λ o. MatchOrdering o ((get_or row place d).column < column)
+          ((get_or row place d).column ≡ column) (column < (get_or row place d).column)) (at d)
+          (ranks (get_or row place d).column column)
   found_place row column (Err place) rises within at = (absent_between row place column fits, fits)
     where
       ordered : IsNonDecreasingBy (λ entry. ordering_index (nat_cmp entry.column column)) row
       ordered i j d le short = ⊎_elim
-          (λ less. let rise = rises_between 0 row rises i j d less short in index_rises (get_or row i d).column (get_or row j d).column column (omega (arith, rise)))
-          (λ same. let e : i ≡ j = omega arith in index_rises (get_or row i d).column (get_or row j d).column column (subst (λ k. (get_or row i d).column ≤ (get_or row k d).column) e (omega arith)))
+          (λ less. let rise = rises_between 0 row rises i j d less short in index_rises (get_or row i d).column
+          (get_or row j d).column column (omega (arith, rise)))
+          (λ same. let e : i ≡ j = omega arith in index_rises (get_or row i d).column (get_or row j d).column column
+          (subst (λ k. (get_or row i d).column ≤ (get_or row k d).column) e (omega arith)))
           (cases_lt i j)
 
       fits : FitsBetween row place column
       fits = record {
         within = within;
-        before = λ k d low high. subst (λ o. MatchOrdering o ((get_or row k d).column < column) ((get_or row k d).column ≡ column) (column < (get_or row k d).column)) ((at ordered).0 k d low high) (ranks (get_or row k d).column column);
-        after = λ k d low high. subst (λ o. MatchOrdering o ((get_or row k d).column < column) ((get_or row k d).column ≡ column) (column < (get_or row k d).column)) ((at ordered).1 k d low high) (ranks (get_or row k d).column column);
+        before = λ k d low high. subst (λ o. MatchOrdering o ((get_or row k d).column < column)
+            ((get_or row k d).column ≡ column) (column < (get_or row k d).column)) ((at ordered).0 k d low high)
+            (ranks (get_or row k d).column column);
+        after = λ k d low high. subst (λ o. MatchOrdering o ((get_or row k d).column < column)
+            ((get_or row k d).column ≡ column) (column < (get_or row k d).column)) ((at ordered).1 k d low high)
+            (ranks (get_or row k d).column column);
       }
 
   -- what stands in a row is filled
-  pub entry_in-filled : (first : ℕ) (row : List RowEntry) → RisesFrom p first row → (column : ℕ) (entry : RowEntry) → entry_in row column ≡ Some entry → IsFilled p entry
+  pub entry_in-filled : (first : ℕ) (row : List RowEntry) → RisesFrom p first row → (column : ℕ) (entry : RowEntry) →
+      entry_in row column ≡ Some entry → IsFilled p entry
   entry_in-filled first [] rises column entry at = let f : ⊥ = cc in absurd f
   entry_in-filled first (next ∷ row) rises column entry at =
       by (eqb next.column column) at (λ rest. entry_in-filled (next.column + 1) row rises.2 column entry rest)
@@ -288,7 +338,8 @@ module _ (p : ℕ) where
       entry_in-None row column (λ i d at same. let from = rises_from first row rises i d at in omega (arith, from, same))
 
   -- rows with the same entries are the same
-  same_entries : (first second : ℕ) (a b : List RowEntry) → RisesFrom p first a → RisesFrom p second b → ((column : ℕ) → entry_in a column ≡ entry_in b column) → a ≡ b
+  same_entries : (first second : ℕ) (a b : List RowEntry) → RisesFrom p first a → RisesFrom p second b →
+      ((column : ℕ) → entry_in a column ≡ entry_in b column) → a ≡ b
   same_entries first second [] [] up vp same = refl
   same_entries first second [] (e ∷ b) up vp same =
       let there : None ≡ Some e = same e.column ∙ rw (eq-eqb e.column e.column refl) refl in
@@ -333,11 +384,15 @@ module _ (p : ℕ) where
       cc
 
   -- rows with the same constants and symbols are the same
-  pub same_rows : (a b : List RowEntry) → IsRow p a → IsRow p b → ((column : ℕ) → constant_in a column ≡ constant_in b column) → ((column : ℕ) → symbol_in a column ≡ symbol_in b column) → a ≡ b
+  pub same_rows : (a b : List RowEntry) → IsRow p a → IsRow p b →
+      ((column : ℕ) → constant_in a column ≡ constant_in b column) →
+      ((column : ℕ) → symbol_in a column ≡ symbol_in b column) → a ≡ b
   same_rows a b up vp constants symbols =
       same_entries 0 0 a b up vp (λ column. by column (entry_in a column) refl (entry_in b column) refl (constants column) (symbols column))
     where
-      by : (column : ℕ) (x : Option RowEntry) → entry_in a column ≡ x → (y : Option RowEntry) → entry_in b column ≡ y → constant_at_place x ≡ constant_at_place y → symbol_at_place x ≡ symbol_at_place y → entry_in a column ≡ entry_in b column
+      by : (column : ℕ) (x : Option RowEntry) → entry_in a column ≡ x → (y : Option RowEntry) → entry_in b column ≡ y →
+          constant_at_place x ≡ constant_at_place y → symbol_at_place x ≡ symbol_at_place y →
+          entry_in a column ≡ entry_in b column
       by column None p None q constant symbol = p ∙ sym q
       by column None p (Some e) q constant symbol = absurd (unlike_none e (entry_in-filled 0 b vp column e q) constant symbol)
       by column (Some d) p None q constant symbol = absurd (unlike_none d (entry_in-filled 0 a up column d p) (sym constant) (sym symbol))
@@ -346,14 +401,16 @@ module _ (p : ℕ) where
           p ∙ (λ i. Some (record { column = same i; constant = constant i; symbol = symbol i })) ∙ sym q
 
   -- an entry with a residue other than 0, and one with a symbol
-  filled_by_constant : (column constant : ℕ) (symbol : Bool) → 0 < constant → constant < p → IsFilled p (record { column = column; constant = Some constant; symbol = symbol })
+  filled_by_constant : (column constant : ℕ) (symbol : Bool) → 0 < constant → constant < p →
+      IsFilled p (record { column = column; constant = Some constant; symbol = symbol })
   filled_by_constant column constant symbol some small = record {
     some = refl;
     positive = λ c e. let same : constant ≡ c = cc in subst (λ x. 0 < x) same some;
     residue = λ c e. let same : constant ≡ c = cc in subst (λ x. x < p) same small;
   }
 
-  filled_by_symbol : (column : ℕ) (constant : Option ℕ) → ((c : ℕ) → constant ≡ Some c → (0 < c) × (c < p)) → IsFilled p (record { column = column; constant = constant; symbol = true })
+  filled_by_symbol : (column : ℕ) (constant : Option ℕ) → ((c : ℕ) → constant ≡ Some c → (0 < c) × (c < p)) →
+      IsFilled p (record { column = column; constant = constant; symbol = true })
   filled_by_symbol column constant residue = record {
     some = by constant;
     positive = λ c e. (residue c e).0;
@@ -365,7 +422,10 @@ module _ (p : ℕ) where
       by (Some c) = refl
 
   -- a constant put beside what stands at the column, and one put where nothing stands
-  pub place_takes_constant : (row : List RowEntry) (place column constant : ℕ) (entry : RowEntry) → IsRow p row → 0 < constant → constant < p → StandsAt row place column → entry ≡ get_or row place entry → PutsConstant p column constant row (set row place (record { column = entry.column; constant = Some constant; symbol = entry.symbol }))
+  pub place_takes_constant : (row : List RowEntry) (place column constant : ℕ) (entry : RowEntry) → IsRow p row →
+      0 < constant → constant < p → StandsAt row place column → entry ≡ get_or row place entry →
+      PutsConstant p column constant row (set row place
+      (record { column = entry.column; constant = Some constant; symbol = entry.symbol }))
   place_takes_constant row place column constant entry rises some small stands is =
       subst (λ c. PutsConstant p c constant row (set row place new)) at
       (puts_constant row (set row place new) new constant refl symbol
@@ -380,7 +440,9 @@ module _ (p : ℕ) where
       symbol : entry.symbol ≡ symbol_in row entry.column
       symbol = ap (λ (x : RowEntry). x.symbol) is ∙ sym (ap symbol_at_place (stands.found entry)) ∙ ap (symbol_in row) (sym at)
 
-  pub gap_takes_constant : (row : List RowEntry) (place column constant : ℕ) → IsRow p row → 0 < constant → constant < p → entry_in row column ≡ None → FitsBetween row place column → PutsConstant p column constant row (insert row place (record { column = column; constant = Some constant; symbol = false }))
+  pub gap_takes_constant : (row : List RowEntry) (place column constant : ℕ) → IsRow p row → 0 < constant →
+      constant < p → entry_in row column ≡ None → FitsBetween row place column → PutsConstant p column constant row
+      (insert row place (record { column = column; constant = Some constant; symbol = false }))
   gap_takes_constant row place column constant rises some small absent fits =
       puts_constant row (insert row place new) new constant refl (sym (ap symbol_at_place absent))
       (PutsEntry-insert row place new rises (filled_by_constant column constant false some small) fits)
@@ -389,7 +451,14 @@ module _ (p : ℕ) where
       new = record { column = column; constant = Some constant; symbol = false }
 
   -- a symbol put beside what stands at the column, and one put where nothing stands
-  pub place_takes_symbol : (row : List RowEntry) (place column : ℕ) (entry : RowEntry) → IsRow p row → StandsAt row place column → entry ≡ get_or row place entry → PutsSymbol p column row (set row place (record { column = entry.column; constant = entry.constant; symbol = true }))
+  pub place_takes_symbol : (row : List RowEntry) (place column : ℕ) (entry : RowEntry) → IsRow p row →
+      StandsAt row place column → entry ≡ get_or row place entry →
+      PutsSymbol p column row (set row place (record {
+        column = entry.column;
+        constant = entry.constant;
+        symbol =
+            true;
+      }))
   place_takes_symbol row place column entry rises stands is =
       subst (λ c. PutsSymbol p c row (set row place new)) at
       (puts_symbol row (set row place new) new refl constant
@@ -406,7 +475,9 @@ module _ (p : ℕ) where
       constant : entry.constant ≡ constant_in row entry.column
       constant = ap (λ (x : RowEntry). x.constant) is ∙ sym (ap constant_at_place (stands.found entry)) ∙ ap (constant_in row) (sym at)
 
-  pub gap_takes_symbol : (row : List RowEntry) (place column : ℕ) → IsRow p row → entry_in row column ≡ None → FitsBetween row place column → PutsSymbol p column row (insert row place (record { column = column; constant = None; symbol = true }))
+  pub gap_takes_symbol : (row : List RowEntry) (place column : ℕ) → IsRow p row → entry_in row column ≡ None →
+      FitsBetween row place column → PutsSymbol p column row
+      (insert row place (record { column = column; constant = None; symbol = true }))
   gap_takes_symbol row place column rises absent fits =
       puts_symbol row (insert row place new) new refl (sym (ap constant_at_place absent))
       (PutsEntry-insert row place new rises (filled_by_symbol column None (λ c e. absurd cc)) fits)

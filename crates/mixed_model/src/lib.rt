@@ -17,6 +17,3 @@ pub use names::{Names, is_label};
 pub use origin::Origin;
 pub use out_of_memory::NoMemory;
 pub use refusals::{Place, ReadModel, Refused, Why};
-
-#[cfg(test)]
-mod tests;

@@ -1,5 +1,7 @@
 -- The rules of a device by itself, one by one.
-use Rattle.std.proofs.Common.{◌≡◌, ℕ, ◌+◌, ◌-◌, ◌<◌, ◌≤◌, Bool, true, false, ◌&&◌, List, [], Bor, All, length, take, drop, length-drop, subst, leb-true, if◌then◌else◌, get_or, refl, sym, ap, ◌∙◌, arith, Some, None, nat_eq, nat_le}
+use Rattle.std.proofs.Common.{◌≡◌, ℕ, ◌+◌, ◌-◌, ◌<◌, ◌≤◌, Bool, true, false, ◌&&◌, List, [], Bor, All, length, take}
+use Rattle.std.proofs.Common.{drop, length-drop, subst, leb-true, if◌then◌else◌, get_or, refl, sym, ap, ◌∙◌, arith}
+use Rattle.std.proofs.Common.{Some, None, nat_eq, nat_le}
 use Rattle.std.specs.List.{list_all, drop-map}
 use Rattle.std.specs.Option.{option_or}
 use Rattle.std.proofs.lemmas.List.{take-map, length-map, length-take-le}
@@ -46,23 +48,32 @@ nodes_good kind words = list_all is_node (take (nodes_wanted kind) (drop 1 words
 abbrev pub source_good : DeviceKind → List (List ℕ) → Bool
 source_good kind words = keeps_source_name kind (if has_source kind then word_after_nodes kind words else [])
 
-bad_name : (p : ℕ) (kind : DeviceKind) (words : List (List ℕ)) → shape_rule kind words ≡ None → (name_good words && nodes_good kind words && source_good kind words) ≡ false → own_rule p kind words ≡ Some BadName
+bad_name : (p : ℕ) (kind : DeviceKind) (words : List (List ℕ)) → shape_rule kind words ≡ None →
+    (name_good words && nodes_good kind words && source_good kind words) ≡ false →
+    own_rule p kind words ≡ Some BadName
 bad_name p kind words shape bad =
     first_kept (shape_rule kind words) (option_or (name_rule (device_of p kind words)) (number_rule p kind (word_after_nodes kind words))) shape
     ∙ first_broken (name_rule (device_of p kind words)) (number_rule p kind (word_after_nodes kind words)) BadName
     (unless_false (name_good words && nodes_good kind words && source_good kind words) BadName bad)
 
-pub bad_first : (p : ℕ) (kind : DeviceKind) (words : List (List ℕ)) → shape_rule kind words ≡ None → name_good words ≡ false → own_rule p kind words ≡ Some BadName
+pub bad_first : (p : ℕ) (kind : DeviceKind) (words : List (List ℕ)) → shape_rule kind words ≡ None →
+    name_good words ≡ false → own_rule p kind words ≡ Some BadName
 bad_first p kind words shape bad = bad_name p kind words shape (first_fails (name_good words) (nodes_good kind words) (source_good kind words) bad)
 
-pub bad_node : (p : ℕ) (kind : DeviceKind) (words : List (List ℕ)) → shape_rule kind words ≡ None → name_good words ≡ true → nodes_good kind words ≡ false → own_rule p kind words ≡ Some BadName
+pub bad_node : (p : ℕ) (kind : DeviceKind) (words : List (List ℕ)) → shape_rule kind words ≡ None →
+    name_good words ≡ true → nodes_good kind words ≡ false → own_rule p kind words ≡ Some BadName
 bad_node p kind words shape good bad = bad_name p kind words shape (second_fails (name_good words) (nodes_good kind words) (source_good kind words) good bad)
 
-pub bad_source : (p : ℕ) (kind : DeviceKind) (words : List (List ℕ)) → shape_rule kind words ≡ None → name_good words ≡ true → nodes_good kind words ≡ true → source_good kind words ≡ false → own_rule p kind words ≡ Some BadName
-bad_source p kind words shape good nodes bad = bad_name p kind words shape (third_fails (name_good words) (nodes_good kind words) (source_good kind words) good nodes bad)
+pub bad_source : (p : ℕ) (kind : DeviceKind) (words : List (List ℕ)) → shape_rule kind words ≡ None →
+    name_good words ≡ true → nodes_good kind words ≡ true → source_good kind words ≡ false →
+    own_rule p kind words ≡ Some BadName
+bad_source p kind words shape good nodes bad = bad_name p kind words shape
+    (third_fails (name_good words) (nodes_good kind words) (source_good kind words) good nodes bad)
 
 -- with good names the rule of the number is left
-pub number_left : (p : ℕ) (kind : DeviceKind) (words : List (List ℕ)) → shape_rule kind words ≡ None → name_good words ≡ true → nodes_good kind words ≡ true → source_good kind words ≡ true → own_rule p kind words ≡ number_rule p kind (word_after_nodes kind words)
+pub number_left : (p : ℕ) (kind : DeviceKind) (words : List (List ℕ)) → shape_rule kind words ≡ None →
+    name_good words ≡ true → nodes_good kind words ≡ true → source_good kind words ≡ true →
+    own_rule p kind words ≡ number_rule p kind (word_after_nodes kind words)
 number_left p kind words shape good nodes source =
     first_kept (shape_rule kind words) (option_or (name_rule (device_of p kind words)) (number_rule p kind (word_after_nodes kind words))) shape
     ∙ first_kept (name_rule (device_of p kind words)) (number_rule p kind (word_after_nodes kind words))
@@ -77,9 +88,12 @@ nodes_taken texts m n same =
     ∙ ap (take n) (sym (drop-map (λ (text : Bor (List ℕ)). text.now) 1 texts))
 
 -- words of the right number keep the rule of shape
-pub shape_kept : (kind : DeviceKind) (texts : List (Bor (List ℕ))) → true ≡ (if is_directive kind then nat_eq (length texts) (words_wanted kind) else nat_le (words_wanted kind) (length texts)) → shape_rule kind (bytes_of texts) ≡ None
+pub shape_kept : (kind : DeviceKind) (texts : List (Bor (List ℕ))) →
+    true ≡ (if is_directive kind then nat_eq (length texts) (words_wanted kind) else nat_le (words_wanted kind)
+    (length texts)) → shape_rule kind (bytes_of texts) ≡ None
 shape_kept kind texts fits =
-    ap (λ n. unless (if is_directive kind then nat_eq n (words_wanted kind) else nat_le (words_wanted kind) n) BadShape) (length-map texts (λ (text : Bor (List ℕ)). text.now))
+    ap (λ n. unless (if is_directive kind then nat_eq n (words_wanted kind) else nat_le
+    (words_wanted kind) n) BadShape) (length-map texts (λ (text : Bor (List ℕ)). text.now))
     ∙ unless_true (if is_directive kind then nat_eq (length texts) (words_wanted kind) else nat_le (words_wanted kind) (length texts)) BadShape (sym fits)
 
 -- devices are the same where their parts are
@@ -91,18 +105,24 @@ words_enough : (directive : Bool) (count wanted : ℕ) → true ≡ (if directiv
 words_enough true count wanted fits = let same : count ≡ wanted = eqb-true count wanted (sym fits) in omega arith
 words_enough false count wanted fits = leb-true wanted count (sym fits)
 
-nodes_enough : (kind : DeviceKind) (texts : List (Bor (List ℕ))) → true ≡ (if is_directive kind then nat_eq (length texts) (words_wanted kind) else nat_le (words_wanted kind) (length texts)) → length (take (nodes_wanted kind) (drop 1 (bytes_of texts))) ≡ nodes_wanted kind
+nodes_enough : (kind : DeviceKind) (texts : List (Bor (List ℕ))) →
+    true ≡ (if is_directive kind then nat_eq (length texts) (words_wanted kind) else nat_le (words_wanted kind)
+    (length texts)) → length (take (nodes_wanted kind) (drop 1 (bytes_of texts))) ≡ nodes_wanted kind
 nodes_enough kind texts fits =
     let enough = words_enough (is_directive kind) (length texts) (words_wanted kind) fits in
     let all = length-map texts (λ (text : Bor (List ℕ)). text.now) in
     length-take-le (nodes_wanted kind) (drop 1 (bytes_of texts)) (omega (arith, enough, all, length-drop 1 (bytes_of texts)))
 
 -- a device keeps what the rules say
-pub device_kept : (p : ℕ) (kind : DeviceKind) (texts : List (Bor (List ℕ))) (device : Device) → true ≡ (if is_directive kind then nat_eq (length texts) (words_wanted kind) else nat_le (words_wanted kind) (length texts))
-    → name_good (bytes_of texts) ≡ true → nodes_good kind (bytes_of texts) ≡ true → device ≡ device_of p kind (bytes_of texts) → device.number < p → IsDevice p device
+pub device_kept : (p : ℕ) (kind : DeviceKind) (texts : List (Bor (List ℕ))) (device : Device) →
+    true ≡ (if is_directive kind then nat_eq (length texts) (words_wanted kind) else nat_le (words_wanted kind)
+    (length texts))
+    → name_good (bytes_of texts) ≡ true → nodes_good kind (bytes_of texts) ≡ true →
+    device ≡ device_of p kind (bytes_of texts) → device.number < p → IsDevice p device
 device_kept p kind texts device fits name nodes same small = record {
   name = ap (λ (d : Device). is_name d.name) same ∙ name;
-  nodes = subst (λ (d : Device). All (λ node. is_node node ≡ true) d.nodes) (sym same) (AllPass-from_list_all is_node (take (nodes_wanted kind) (drop 1 (bytes_of texts))) nodes);
+  nodes = subst (λ (d : Device). All (λ node. is_node node ≡ true) d.nodes) (sym same)
+      (AllPass-from_list_all is_node (take (nodes_wanted kind) (drop 1 (bytes_of texts))) nodes);
   nodes_wanted = ap (λ (d : Device). length d.nodes) same ∙ nodes_enough kind texts fits ∙ ap (λ (d : Device). nodes_wanted d.kind) (sym same);
   number = small;
 }

@@ -1,5 +1,7 @@
 -- The first words of a line tell its device.
-use Rattle.std.proofs.Common.{◌≡◌, ℕ, ◌+◌, ◌-◌, ◌<◌, ◌≤◌, Bool, true, false, List, [], ◌∷◌, length, take, drop, min, Option, Some, None, refl, ap, ◌∙◌, arith, cond, nat_eq, nat_le, length-take, get_or-take}
+use Rattle.std.proofs.Common.{◌≡◌, ℕ, ◌+◌, ◌-◌, ◌<◌, ◌≤◌, Bool, true, false, List, [], ◌∷◌, length, take, drop, min}
+use Rattle.std.proofs.Common.{Option, Some, None, refl, ap, ◌∙◌, arith, cond, nat_eq, nat_le, length-take}
+use Rattle.std.proofs.Common.{get_or-take}
 use Rattle.std.specs.Option.{option_map, option_or, option_to_list}
 use Rattle.std.specs.Result.{result_unwrap_or}
 use Rattle.std.proofs.lemmas.List.{drop-take, take-take}
@@ -7,8 +9,11 @@ use Rattle.std.proofs.lemmas.Bool.Decides.{nat_tests}
 use Rattle.refusals.specs.declared.Why.TheVariants.{BadShape}
 use Rattle.line_lexer.specs.Numbers.{number_of}
 use Rattle.netlist_reader.specs.declared.kind.DeviceKind.{DeviceKind}
-use Rattle.netlist_reader.specs.declared.kind.DeviceKind.TheVariants.{Passive, Voltage, Current, VoltageByVoltage, CurrentByVoltage, CurrentByCurrent, VoltageByCurrent, Opamp, Transformer, Gyrator}
-use Rattle.netlist_reader.specs.Devices.{device_in, device_of, from_name, has_number, has_source, is_directive, kind_of, nodes_wanted, word_after_nodes, words_wanted}
+use Rattle.netlist_reader.specs.declared.kind.DeviceKind.TheVariants.{Passive, Voltage, Current, VoltageByVoltage}
+use Rattle.netlist_reader.specs.declared.kind.DeviceKind.TheVariants.{CurrentByVoltage, CurrentByCurrent}
+use Rattle.netlist_reader.specs.declared.kind.DeviceKind.TheVariants.{VoltageByCurrent, Opamp, Transformer, Gyrator}
+use Rattle.netlist_reader.specs.Devices.{device_in, device_of, from_name, has_number, has_source, is_directive}
+use Rattle.netlist_reader.specs.Devices.{kind_of, nodes_wanted, word_after_nodes, words_wanted}
 use Rattle.netlist_reader.specs.Rules.{name_rule, number_rule, shape_rule, unless}
 use Rattle.netlist_reader.specs.ReaderStates.{own_kind_rule, own_line_rule, own_rule}
 use Rattle.netlist_reader.proofs.DeviceSteps.{same_device}
@@ -48,7 +53,8 @@ cut_shape : (kind : DeviceKind) (n : ℕ) (words : List (List ℕ)) → 6 < n �
 cut_shape kind n words long =
     let few = few_wanted kind in
     ap (λ count. unless (cond (is_directive kind) (nat_eq count (words_wanted kind)) (nat_le (words_wanted kind) count)) BadShape) (length-take n words)
-    ∙ (λ i. unless (cond (is_directive kind) (cut_eq n (length words) (words_wanted kind) (omega (arith, few)) i) (cut_le n (length words) (words_wanted kind) (omega (arith, few)) i)) BadShape)
+    ∙ (λ i. unless (cond (is_directive kind) (cut_eq n (length words) (words_wanted kind) (omega (arith, few)) i)
+    (cut_le n (length words) (words_wanted kind) (omega (arith, few)) i)) BadShape)
 
 cut_after : (kind : DeviceKind) (n : ℕ) (words : List (List ℕ)) → 6 < n → word_after_nodes kind (take n words) ≡ word_after_nodes kind words
 cut_after kind n words long = get_or-take n words (1 + nodes_wanted kind) [] (omega (arith, few_nodes kind))
@@ -67,14 +73,19 @@ cut_device p kind n words long =
 
 cut_rule : (p : ℕ) (kind : DeviceKind) (n : ℕ) (words : List (List ℕ)) → 6 < n → own_rule p kind (take n words) ≡ own_rule p kind words
 cut_rule p kind n words long =
-    λ i. option_or (cut_shape kind n words long i) (option_or (name_rule (cut_device p kind n words long i)) (number_rule p kind (cut_after kind n words long i)))
+    λ i. option_or (cut_shape kind n words long i) (option_or (name_rule (cut_device p kind n words long i))
+    (number_rule p kind (cut_after kind n words long i)))
 
 -- from the name on
-cut_rule-from : (p : ℕ) (kind : DeviceKind) (directive : Bool) (word : List ℕ) (words : List (List ℕ)) → own_rule p kind (cond directive (take 7 words) (word ∷ take 7 words)) ≡ own_rule p kind (cond directive words (word ∷ words))
+cut_rule-from : (p : ℕ) (kind : DeviceKind) (directive : Bool) (word : List ℕ) (words : List (List ℕ)) →
+    own_rule p kind (cond directive (take 7 words) (word ∷ take 7 words)) ≡ own_rule p kind
+    (cond directive words (word ∷ words))
 cut_rule-from p kind true word words = cut_rule p kind 7 words (omega arith)
 cut_rule-from p kind false word words = cut_rule p kind 8 (word ∷ words) (omega arith)
 
-cut_device-from : (p : ℕ) (kind : DeviceKind) (directive : Bool) (word : List ℕ) (words : List (List ℕ)) → device_of p kind (cond directive (take 7 words) (word ∷ take 7 words)) ≡ device_of p kind (cond directive words (word ∷ words))
+cut_device-from : (p : ℕ) (kind : DeviceKind) (directive : Bool) (word : List ℕ) (words : List (List ℕ)) →
+    device_of p kind (cond directive (take 7 words) (word ∷ take 7 words)) ≡ device_of p kind
+    (cond directive words (word ∷ words))
 cut_device-from p kind true word words = cut_device p kind 7 words (omega arith)
 cut_device-from p kind false word words = cut_device p kind 8 (word ∷ words) (omega arith)
 
@@ -90,6 +101,8 @@ pub kept-device : (p : ℕ) (words : List (List ℕ)) → device_in p (take 8 wo
 kept-device p [] = refl
 kept-device p (word ∷ words) = by (kind_of word)
   where
-    by : (kind : Option DeviceKind) → option_to_list (option_map (λ kind. device_of p kind (from_name kind (word ∷ take 7 words))) kind) ≡ option_to_list (option_map (λ kind. device_of p kind (from_name kind (word ∷ words))) kind)
+    by : (kind : Option DeviceKind) → option_to_list
+        (option_map (λ kind. device_of p kind (from_name kind (word ∷ take 7 words))) kind) ≡ option_to_list
+        (option_map (λ kind. device_of p kind (from_name kind (word ∷ words))) kind)
     by None = refl
     by (Some kind) = ap (λ device. device ∷ []) (cut_device-from p kind (is_directive kind) word words)

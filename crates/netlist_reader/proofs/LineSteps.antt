@@ -13,7 +13,8 @@ use Rattle.line_reader.proofs.Faults.{fault_answers, on_broken}
 use Rattle.netlist_reader.proofs.KeptWords.{kept-device, kept-rule}
 
 -- a line that breaks a rule of its own
-pub read-fault : (p line : ℕ) (old new : Parts) (all kept : List (List ℕ)) (fault other : Fault) → kept ≡ take 8 all → fault ≡ other → OnBroken other (λ why. own_line_rule p kept ≡ Some why) → ReadsLine p line old new all (Err fault)
+pub read-fault : (p line : ℕ) (old new : Parts) (all kept : List (List ℕ)) (fault other : Fault) → kept ≡ take 8 all →
+    fault ≡ other → OnBroken other (λ why. own_line_rule p kept ≡ Some why) → ReadsLine p line old new all (Err fault)
 read-fault p line old new all kept fault other first same said =
     let rule = own_line_rule p all in
     let next = here_rule old.devices (device_in p all) in
@@ -22,7 +23,9 @@ read-fault p line old new all kept fault other first same said =
     (λ why broken. first_broken rule next why (sym (kept-rule p all) ∙ ap (own_line_rule p) (sym first) ∙ broken)) said)
 
 -- or whose device is put last
-pub read-added : (p line : ℕ) (old new : Parts) (all kept : List (List ℕ)) (device : Device) (result : Result (Unit {0}) Fault) → kept ≡ take 8 all → own_line_rule p kept ≡ None → device ∷ [] ≡ device_in p kept → AddsDevice line old new device result → ReadsLine p line old new all result
+pub read-added : (p line : ℕ) (old new : Parts) (all kept : List (List ℕ)) (device : Device)
+    (result : Result (Unit {0}) Fault) → kept ≡ take 8 all → own_line_rule p kept ≡ None →
+    device ∷ [] ≡ device_in p kept → AddsDevice line old new device result → ReadsLine p line old new all result
 read-added p line old new all kept device result first good here adds =
     let rule : own_line_rule p all ≡ None = sym (kept-rule p all) ∙ ap (own_line_rule p) (sym first) ∙ good in
     let devices : device_in p all ≡ device ∷ [] = sym (kept-device p all) ∙ ap (device_in p) (sym first) ∙ sym here in

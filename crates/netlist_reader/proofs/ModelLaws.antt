@@ -21,7 +21,8 @@ same_why : (o : Option Why) (v w : Why) → o ≡ Some v → o ≡ Some w → v 
 same_why o v w first second = let both : Some v ≡ Some w = sym first ∙ second in let told : v ≡ w = cc in told
 
 -- refusals are the same at one line for one reason
-same_line : (a b : Refused) (m n : ℕ) (v w : Why) → a ≡ record { place = Line (m + 1); why = v } → b ≡ record { place = Line (n + 1); why = w } → m ≡ n → v ≡ w → a ≡ b
+same_line : (a b : Refused) (m n : ℕ) (v w : Why) → a ≡ record { place = Line (m + 1); why = v } →
+    b ≡ record { place = Line (n + 1); why = w } → m ≡ n → v ≡ w → a ≡ b
 same_line a b m n v w is_a is_b line why = is_a ∙ (λ i. record { place = Line (line i + 1); why = why i }) ∙ sym is_b
 
 same_document : (a b : Refused) (v w : Why) → a ≡ record { place = Document; why = v } → b ≡ record { place = Document; why = w } → v ≡ w → a ≡ b

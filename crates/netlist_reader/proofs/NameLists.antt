@@ -5,11 +5,14 @@ use Rattle.mixed_model.specs.Names.{IsNameList}
 use Rattle.line_lexer.specs.Names.{is_node}
 use Rattle.term_model.specs.Terms.{dotted}
 use Rattle.term_model.proofs.Labels.{is_good, node-part, name-part}
-use Rattle.term_model.proofs.Lists.{all-append, all-flat_map, all-filter, all-see, Differ, differ-append, differ-see, differ-distinct, distinct-differ, all_at, at_all}
+use Rattle.term_model.proofs.Lists.{all-append, all-flat_map, all-filter, all-see, Differ, differ-append, differ-see}
+use Rattle.term_model.proofs.Lists.{differ-distinct, distinct-differ, all_at, at_all}
 use Rattle.term_model.proofs.DottedNames.{MayStand, dotted-apart, dotted-differ, dotted-labels}
 use Rattle.term_model.proofs.OwnNames.{own-differ, own-labels}
 use Rattle.netlist_reader.specs.declared.kind.DeviceKind.{DeviceKind}
-use Rattle.netlist_reader.specs.declared.kind.DeviceKind.TheVariants.{Passive, Voltage, Current, VoltageByVoltage, CurrentByVoltage, CurrentByCurrent, VoltageByCurrent, Opamp, Transformer, Gyrator}
+use Rattle.netlist_reader.specs.declared.kind.DeviceKind.TheVariants.{Passive, Voltage, Current, VoltageByVoltage}
+use Rattle.netlist_reader.specs.declared.kind.DeviceKind.TheVariants.{CurrentByVoltage, CurrentByCurrent}
+use Rattle.netlist_reader.specs.declared.kind.DeviceKind.TheVariants.{VoltageByCurrent, Opamp, Transformer, Gyrator}
 use Rattle.netlist_reader.specs.Devices.{Device, device_names, is_ground, nodes_of}
 use Rattle.netlist_reader.specs.Terms.{equation_words, unknown_words, own_names, equations_of, unknowns_of}
 use Rattle.netlist_reader.specs.Circuits.{IsDevice, IsCircuit, Parts}
@@ -50,14 +53,16 @@ pub equations-distinct : (devices : List Device) → Differ (device_names device
 equations-distinct devices differ =
     differ-append (map (dotted (codes "kcl")) (nodes_of devices)) (own_names equation_words devices)
     (dotted-differ (codes "kcl") (λ name. refl) (nodes_of devices) (nodes-distinct devices))
-    (own-differ (λ (device : Device). device.name) (λ (device : Device). equation_words device.kind) (λ device. equations-dotted device.kind) (λ device. equations-differ device.kind device.name) devices differ)
+    (own-differ (λ (device : Device). device.name) (λ (device : Device). equation_words device.kind)
+    (λ device. equations-dotted device.kind) (λ device. equations-differ device.kind device.name) devices differ)
     (dotted-apart (codes "kcl") (own_names equation_words devices) (kcl-apart devices) (nodes_of devices))
 
 pub unknowns-distinct : (devices : List Device) → Differ (device_names devices) → Differ (unknowns_of devices)
 unknowns-distinct devices differ =
     differ-append (map (dotted (codes "u")) (nodes_of devices)) (own_names unknown_words devices)
     (dotted-differ (codes "u") (λ name. refl) (nodes_of devices) (nodes-distinct devices))
-    (own-differ (λ (device : Device). device.name) (λ (device : Device). unknown_words device.kind) (λ device. unknowns-dotted device.kind) (λ device. unknowns-differ device.kind device.name) devices differ)
+    (own-differ (λ (device : Device). device.name) (λ (device : Device). unknown_words device.kind)
+    (λ device. unknowns-dotted device.kind) (λ device. unknowns-differ device.kind device.name) devices differ)
     (dotted-apart (codes "u") (own_names unknown_words devices) (u-apart devices) (nodes_of devices))
 
 -- the words are good
@@ -89,9 +94,11 @@ nodes-good : (p : ℕ) (devices : List Device) → AllByRecursion (IsDevice p) d
 nodes-good p devices all =
     all-see (λ node. is_node node ≡ true) [] (filter (λ node. not (is_ground node)) (flat_map (λ device. device.nodes) devices)) tt
     (all-filter (λ node. is_node node ≡ true) (λ node. not (is_ground node)) (flat_map (λ device. device.nodes) devices)
-    (all-flat_map (IsDevice p) (λ node. is_node node ≡ true) (λ device. device.nodes) devices (λ device is. at_all (λ node. is_node node ≡ true) device.nodes is.nodes) all))
+    (all-flat_map (IsDevice p) (λ node. is_node node ≡ true) (λ device. device.nodes) devices
+    (λ device is. at_all (λ node. is_node node ≡ true) device.nodes is.nodes) all))
 
-node-label : (word : List ℕ) → is_good word ≡ true → (p : ℕ) (devices : List Device) → AllByRecursion (IsDevice p) devices → AllByRecursion MayStand (map (dotted word) (nodes_of devices))
+node-label : (word : List ℕ) → is_good word ≡ true → (p : ℕ) (devices : List Device) →
+    AllByRecursion (IsDevice p) devices → AllByRecursion MayStand (map (dotted word) (nodes_of devices))
 node-label word good p devices all =
     dotted-labels word good (λ node. is_node node ≡ true) node-part (nodes_of devices) (nodes-good p devices all)
 
@@ -102,7 +109,9 @@ equations-listed p parts is =
     record {
       labels = all_at MayStand (equations_of devices)
           (all-append MayStand (map (dotted (codes "kcl")) (nodes_of devices)) (own_names equation_words devices)
-          (node-label (codes "kcl") refl p devices all) (own-labels (IsDevice p) (λ (device : Device). device.name) (λ (device : Device). equation_words device.kind) (λ device. equations-good device.kind) (λ device is. name-part device.name is.name) devices all));
+          (node-label (codes "kcl") refl p devices all) (own-labels (IsDevice p) (λ (device : Device). device.name)
+          (λ (device : Device). equation_words device.kind) (λ device. equations-good device.kind)
+          (λ device is. name-part device.name is.name) devices all));
       few = is.few_equations;
       distinct = differ-distinct (equations_of devices) (equations-distinct devices (distinct-differ (device_names devices) is.distinct));
     }
@@ -114,7 +123,9 @@ unknowns-listed p parts is =
     record {
       labels = all_at MayStand (unknowns_of devices)
           (all-append MayStand (map (dotted (codes "u")) (nodes_of devices)) (own_names unknown_words devices)
-          (node-label (codes "u") refl p devices all) (own-labels (IsDevice p) (λ (device : Device). device.name) (λ (device : Device). unknown_words device.kind) (λ device. unknowns-good device.kind) (λ device is. name-part device.name is.name) devices all));
+          (node-label (codes "u") refl p devices all) (own-labels (IsDevice p) (λ (device : Device). device.name)
+          (λ (device : Device). unknown_words device.kind) (λ device. unknowns-good device.kind)
+          (λ device is. name-part device.name is.name) devices all));
       few = is.few_unknowns;
       distinct = differ-distinct (unknowns_of devices) (unknowns-distinct devices (distinct-differ (device_names devices) is.distinct));
     }

@@ -5,7 +5,9 @@ use Rattle.term_model.specs.Terms.{dotted}
 use Rattle.term_model.proofs.DottedNames.{Apart, Dotted}
 use Rattle.term_model.proofs.OwnNames.{own-apart}
 use Rattle.netlist_reader.specs.declared.kind.DeviceKind.{DeviceKind}
-use Rattle.netlist_reader.specs.declared.kind.DeviceKind.TheVariants.{Passive, Voltage, Current, VoltageByVoltage, CurrentByVoltage, CurrentByCurrent, VoltageByCurrent, Opamp, Transformer, Gyrator}
+use Rattle.netlist_reader.specs.declared.kind.DeviceKind.TheVariants.{Passive, Voltage, Current, VoltageByVoltage}
+use Rattle.netlist_reader.specs.declared.kind.DeviceKind.TheVariants.{CurrentByVoltage, CurrentByCurrent}
+use Rattle.netlist_reader.specs.declared.kind.DeviceKind.TheVariants.{VoltageByCurrent, Opamp, Transformer, Gyrator}
 use Rattle.netlist_reader.specs.Devices.{Device}
 use Rattle.netlist_reader.specs.Terms.{equation_words, unknown_words, own_names}
 
@@ -58,7 +60,10 @@ unknowns-apart Transformer = ((λ n. refl), ((λ n. refl), ((λ n. refl), ((λ n
 unknowns-apart Gyrator = ((λ n. refl), ((λ n. refl), ((λ n. refl), ((λ n. refl), tt))))
 
 pub kcl-apart : (devices : List Device) (node : List ℕ) → has_name (own_names equation_words devices) (dotted (codes "kcl") node) ≡ false
-kcl-apart devices node = own-apart (λ (device : Device). device.name) (λ (device : Device). equation_words device.kind) (codes "kcl") (λ device. equations-apart device.kind) devices (dotted (codes "kcl") node) refl
+kcl-apart devices node = own-apart (λ (device : Device). device.name)
+    (λ (device : Device). equation_words device.kind) (codes "kcl") (λ device. equations-apart device.kind) devices
+    (dotted (codes "kcl") node) refl
 
 pub u-apart : (devices : List Device) (node : List ℕ) → has_name (own_names unknown_words devices) (dotted (codes "u") node) ≡ false
-u-apart devices node = own-apart (λ (device : Device). device.name) (λ (device : Device). unknown_words device.kind) (codes "u") (λ device. unknowns-apart device.kind) devices (dotted (codes "u") node) refl
+u-apart devices node = own-apart (λ (device : Device). device.name) (λ (device : Device). unknown_words device.kind)
+    (codes "u") (λ device. unknowns-apart device.kind) devices (dotted (codes "u") node) refl

@@ -1,5 +1,7 @@
 -- Nodes that are put last one by one.
-use Rattle.std.proofs.Common.{◌≡◌, ℕ, ◌+◌, ◌<◌, ◌≤◌, Bool, true, false, List, [], ◌∷◌, ◌++◌, length, take, drop, get_or, position, Option, Some, None, Ok, Err, refl, sym, ap, ◌∙◌, arith, length-append, cond, ltb, ltb-false, not}
+use Rattle.std.proofs.Common.{◌≡◌, ℕ, ◌+◌, ◌<◌, ◌≤◌, Bool, true, false, List, [], ◌∷◌, ◌++◌, length, take, drop}
+use Rattle.std.proofs.Common.{get_or, position, Option, Some, None, Ok, Err, refl, sym, ap, ◌∙◌, arith, length-append}
+use Rattle.std.proofs.Common.{cond, ltb, ltb-false, not}
 use Rattle.std.specs.List.{filter, flat_map, fold}
 use Rattle.std.specs.Str.{bytes_eq}
 use Rattle.std.proofs.lemmas.List.{append-nil, take-append-drop, take_more}
@@ -40,18 +42,23 @@ see_nodes-longer seen [] = omega arith
 see_nodes-longer seen (node ∷ nodes) = omega (arith, see_node-longer seen node, see_nodes-longer (see_node seen node) nodes)
 
 -- one node more is seen
-pub see_more : (seen nodes : List (List ℕ)) (i : ℕ) → i < length nodes → see_nodes seen (take (i + 1) nodes) ≡ see_node (see_nodes seen (take i nodes)) (get_or nodes i [])
+pub see_more : (seen nodes : List (List ℕ)) (i : ℕ) → i < length nodes →
+    see_nodes seen (take (i + 1) nodes) ≡ see_node (see_nodes seen (take i nodes)) (get_or nodes i [])
 see_more seen nodes i at =
     ap (see_nodes seen) (take_more nodes i [] at) ∙ fold-append see_node seen (take i nodes) (get_or nodes i [] ∷ [])
 
 -- all nodes are no fewer than the first ones
 pub see_all : (seen nodes : List (List ℕ)) (i : ℕ) → length (see_nodes seen (take i nodes)) ≤ length (see_nodes seen nodes)
 see_all seen nodes i =
-    let whole : see_nodes (see_nodes seen (take i nodes)) (drop i nodes) ≡ see_nodes seen nodes = sym (fold-append see_node seen (take i nodes) (drop i nodes)) ∙ ap (see_nodes seen) (take-append-drop i nodes) in
+    let whole : see_nodes (see_nodes seen (take i nodes)) (drop i nodes) ≡ see_nodes seen nodes =
+    sym (fold-append see_node seen (take i nodes) (drop i nodes))
+    ∙ ap (see_nodes seen) (take-append-drop i nodes) in
     omega (arith, see_nodes-longer (see_nodes seen (take i nodes)) (drop i nodes), ap length whole)
 
 -- a node that can't be seen is one too many
-pub node_fault : (seen : List (List ℕ)) (node : List ℕ) (error : AddError) → is_ground node ≡ false → AnswersAdd {T = ℕ} (Err error) (seeing seen node) → OnBroken (fault_of error) (λ why. (why ≡ IsFull) × (4096 < length (see_node seen node)))
+pub node_fault : (seen : List (List ℕ)) (node : List ℕ) (error : AddError) → is_ground node ≡ false →
+    AnswersAdd {T = ℕ} (Err error) (seeing seen node) → OnBroken (fault_of error) (λ why. (why ≡ IsFull)
+    × (4096 < length (see_node seen node)))
 node_fault seen node NoMemory other answer = tt
 node_fault seen node Twice other answer = absurd (by (position (bytes_eq node) seen) answer)
   where
@@ -64,7 +71,8 @@ node_fault seen node Twice other answer = absurd (by (position (bytes_eq node) s
     by None e = last (ltb (length seen) 4096) e
 node_fault seen node TooMany other answer = by (position (bytes_eq node) seen) refl answer
   where
-    last : (b : Bool) → ltb (length seen) 4096 ≡ b → cond b (Ok (length seen)) (Err TooMany) ≡ Err TooMany → has_name seen node ≡ false → (IsFull ≡ IsFull) × (4096 < length (see_node seen node))
+    last : (b : Bool) → ltb (length seen) 4096 ≡ b → cond b (Ok (length seen)) (Err TooMany) ≡ Err TooMany →
+        has_name seen node ≡ false → (IsFull ≡ IsFull) × (4096 < length (see_node seen node))
     last true e answer new = absurd cc
     last false e answer new =
         let full = ltb-false (length seen) 4096 e in
@@ -81,14 +89,17 @@ seen_others seen [] = refl
 seen_others seen (node ∷ nodes) = by (is_ground node) (λ more. seen_others more nodes)
   where
     by : (b : Bool) → ((more : List (List ℕ)) → fold see more (filter (λ node. not (is_ground node)) nodes) ≡ see_nodes more nodes)
-        → fold see seen (cond (not b) (node ∷ filter (λ node. not (is_ground node)) nodes) (filter (λ node. not (is_ground node)) nodes)) ≡ see_nodes (cond b seen (see seen node)) nodes
+        → fold see seen (cond (not b) (node ∷ filter (λ node. not (is_ground node)) nodes)
+        (filter (λ node. not (is_ground node)) nodes)) ≡ see_nodes (cond b seen (see seen node)) nodes
     by true rest = rest seen
     by false rest = rest (see seen node)
 
 pub nodes_of-push : (devices : List Device) (device : Device) → nodes_of (devices ++ device ∷ []) ≡ see_nodes (nodes_of devices) device.nodes
 nodes_of-push devices device =
     let all = flat_map (λ (d : Device). d.nodes) devices in
-    ap (λ nodes. fold see [] (filter (λ node. not (is_ground node)) nodes)) (flat_map-append (λ (d : Device). d.nodes) devices (device ∷ []) ∙ ap (λ more. all ++ more) (append-nil device.nodes))
+    ap (λ nodes. fold see [] (filter (λ node. not (is_ground node)) nodes))
+    (flat_map-append (λ (d : Device). d.nodes) devices (device ∷ [])
+    ∙ ap (λ more. all ++ more) (append-nil device.nodes))
     ∙ ap (fold see []) (filter-append (λ node. not (is_ground node)) all device.nodes)
     ∙ fold-append see [] (filter (λ node. not (is_ground node)) all) (filter (λ node. not (is_ground node)) device.nodes)
     ∙ seen_others (nodes_of devices) device.nodes

@@ -1,5 +1,6 @@
 -- Terms that say the same.
-use Rattle.std.proofs.Common.{◌≡◌, ℕ, ◌+◌, ◌-◌, ◌%◌, ◌<◌, Bool, true, false, cond, ◌&&◌, ◌||◌, List, [], ◌∷◌, ◌++◌, codes, nat_eq, get_or, refl, sym, ap, subst, ◌∙◌, arith}
+use Rattle.std.proofs.Common.{◌≡◌, ℕ, ◌+◌, ◌-◌, ◌%◌, ◌<◌, Bool, true, false, cond, ◌&&◌, ◌||◌, List, [], ◌∷◌, ◌++◌}
+use Rattle.std.proofs.Common.{codes, nat_eq, get_or, refl, sym, ap, subst, ◌∙◌, arith}
 use Rattle.std.specs.Str.{bytes_eq}
 use Rattle.std.proofs.lemmas.Bool.{eqb-true}
 use Rattle.std.proofs.lemmas.Grind.{flat_map-append}
@@ -12,10 +13,13 @@ use Rattle.term_model.specs.Putting.{Says}
 use Rattle.term_model.specs.Terms.{Term, stands_at, constant, dotted}
 use Rattle.term_model.proofs.Sames.{AreSame, same, same-append, same-then, same-swap, cancels}
 use Rattle.netlist_reader.specs.declared.kind.DeviceKind.{DeviceKind}
-use Rattle.netlist_reader.specs.declared.kind.DeviceKind.TheVariants.{Passive, Voltage, Current, VoltageByVoltage, CurrentByVoltage, CurrentByCurrent, VoltageByCurrent, Opamp, Transformer, Gyrator}
+use Rattle.netlist_reader.specs.declared.kind.DeviceKind.TheVariants.{Passive, Voltage, Current, VoltageByVoltage}
+use Rattle.netlist_reader.specs.declared.kind.DeviceKind.TheVariants.{CurrentByVoltage, CurrentByCurrent}
+use Rattle.netlist_reader.specs.declared.kind.DeviceKind.TheVariants.{VoltageByCurrent, Opamp, Transformer, Gyrator}
 use Rattle.netlist_reader.specs.Devices.{Device, is_ground, ground}
 use Rattle.netlist_reader.specs.Terms.{own, node, difference, flow, voltage_is, branch_between, branch, two_branches, control, proportion, terms_by, terms_of}
-use Rattle.netlist_reader.specs.Putting.{put_constant, put_difference, put_flow, put_voltage, put_branch_between, put_branch, put_two_branches, put_control, put_ratio, put_by}
+use Rattle.netlist_reader.specs.Putting.{put_constant, put_difference, put_flow, put_voltage, put_branch_between}
+use Rattle.netlist_reader.specs.Putting.{put_branch, put_two_branches, put_control, put_ratio, put_by}
 
 nothing_more : (n : ℕ) → 0 + n ≡ n
 nothing_more n = omega arith
@@ -61,7 +65,8 @@ same-difference p e plus minus big = by (bytes_eq plus minus) refl
 same-flow : (p : ℕ) (current plus minus : List ℕ) → 2 < p → AreSame p (put_flow p current plus minus) (flow p current plus minus)
 same-flow p current plus minus big = by (bytes_eq plus minus) refl
   where
-    at : (g : Bool) → AreSame p [] (cond g [] (constant (dotted (codes "kcl") plus) current 1 ∷ []) ++ cond g [] (constant (dotted (codes "kcl") plus) current (p - 1) ∷ []))
+    at : (g : Bool) → AreSame p [] (cond g [] (constant (dotted (codes "kcl") plus) current 1 ∷ []) ++ cond g []
+        (constant (dotted (codes "kcl") plus) current (p - 1) ∷ []))
     at true = same p []
     at false = cancels p (dotted (codes "kcl") plus) current big
 
@@ -71,26 +76,36 @@ same-flow p current plus minus big = by (bytes_eq plus minus) refl
 
 module _ (p : ℕ) (d : Device) (big : 2 < p) (small : d.number < p) where
   same-voltage : (e v plus minus : List ℕ) → AreSame p (put_voltage p e v plus minus) (voltage_is p e v plus minus)
-  same-voltage e v plus minus = same-append p (constant e v 1 ∷ []) (constant e v 1 ∷ []) (put_difference p e minus plus) (difference p e minus plus) (same p (constant e v 1 ∷ [])) (same-difference p e minus plus big)
+  same-voltage e v plus minus = same-append p (constant e v 1 ∷ []) (constant e v 1 ∷ [])
+      (put_difference p e minus plus) (difference p e minus plus) (same p (constant e v 1 ∷ []))
+      (same-difference p e minus plus big)
 
   same-between : (kvl v i plus minus : List ℕ) → AreSame p (put_branch_between p d kvl v i plus minus) (branch_between p d kvl v i plus minus)
-  same-between kvl v i plus minus = same-append p (put_voltage p (own d kvl) (own d v) plus minus) (voltage_is p (own d kvl) (own d v) plus minus) (put_flow p (own d i) plus minus) (flow p (own d i) plus minus) (same-voltage (own d kvl) (own d v) plus minus) (same-flow p (own d i) plus minus big)
+  same-between kvl v i plus minus = same-append p (put_voltage p (own d kvl) (own d v) plus minus)
+      (voltage_is p (own d kvl) (own d v) plus minus) (put_flow p (own d i) plus minus)
+      (flow p (own d i) plus minus) (same-voltage (own d kvl) (own d v) plus minus)
+      (same-flow p (own d i) plus minus big)
 
   same-branch : AreSame p (put_branch p d) (branch p d)
   same-branch = same-between (codes "kvl") (codes "v") (codes "i") (node d 0) (node d 1)
 
   same-branches : AreSame p (put_two_branches p d) (two_branches p d)
   same-branches = same-append p
-      (put_branch_between p d (codes "kvla") (codes "va") (codes "ia") (node d 0) (node d 1)) (branch_between p d (codes "kvla") (codes "va") (codes "ia") (node d 0) (node d 1))
-      (put_branch_between p d (codes "kvlb") (codes "vb") (codes "ib") (node d 2) (node d 3)) (branch_between p d (codes "kvlb") (codes "vb") (codes "ib") (node d 2) (node d 3))
-      (same-between (codes "kvla") (codes "va") (codes "ia") (node d 0) (node d 1)) (same-between (codes "kvlb") (codes "vb") (codes "ib") (node d 2) (node d 3))
+      (put_branch_between p d (codes "kvla") (codes "va") (codes "ia") (node d 0) (node d 1))
+      (branch_between p d (codes "kvla") (codes "va") (codes "ia") (node d 0) (node d 1))
+      (put_branch_between p d (codes "kvlb") (codes "vb") (codes "ib") (node d 2) (node d 3))
+      (branch_between p d (codes "kvlb") (codes "vb") (codes "ib") (node d 2) (node d 3))
+      (same-between (codes "kvla") (codes "va") (codes "ia") (node d 0) (node d 1))
+      (same-between (codes "kvlb") (codes "vb") (codes "ib") (node d 2) (node d 3))
 
   same-control : AreSame p (put_control p d) (control p d)
   same-control = same-voltage (own d (codes "ctl")) (own d (codes "w")) (node d 2) (node d 3)
 
   -- lawa and lawb: the number, and what is the number less than 0
   same-ratio : (a b x y : List ℕ) → AreSame p (put_ratio p d a b x y)
-      (constant (own d (codes "lawa")) (own d a) 1 ∷ constant (own d (codes "lawa")) (own d b) (p - d.number) ∷ constant (own d (codes "lawb")) (own d x) d.number ∷ constant (own d (codes "lawb")) (own d y) 1 ∷ [])
+      (constant (own d (codes "lawa")) (own d a) 1 ∷ constant (own d (codes "lawa")) (own d b)
+      (p - d.number) ∷ constant (own d (codes "lawb")) (own d x) d.number ∷ constant (own d (codes "lawb"))
+      (own d y) 1 ∷ [])
   same-ratio a b x y =
       let first : List Term = constant (own d (codes "lawa")) (own d a) 1 ∷ [] in
       let last : List Term = constant (own d (codes "lawb")) (own d y) 1 ∷ [] in
@@ -113,21 +128,35 @@ module _ (p : ℕ) (d : Device) (big : 2 < p) (small : d.number < p) where
   same-device Passive = after (put_branch p d) (branch p d) (proportion d (own d (codes "v")) (own d (codes "i"))) same-branch
   same-device Voltage = after (put_branch p d) (branch p d) (constant (own d (codes "law")) (own d (codes "v")) 1 ∷ []) same-branch
   same-device Current = after (put_branch p d) (branch p d) (constant (own d (codes "law")) (own d (codes "i")) 1 ∷ []) same-branch
-  same-device VoltageByVoltage = after (put_branch p d ++ put_control p d) (branch p d ++ control p d) (proportion d (own d (codes "v")) (own d (codes "w"))) (same-append p (put_branch p d) (branch p d) (put_control p d) (control p d) same-branch same-control)
-  same-device CurrentByVoltage = after (put_branch p d ++ put_control p d) (branch p d ++ control p d) (proportion d (own d (codes "i")) (own d (codes "w"))) (same-append p (put_branch p d) (branch p d) (put_control p d) (control p d) same-branch same-control)
+  same-device VoltageByVoltage = after (put_branch p d ++ put_control p d) (branch p d ++ control p d)
+      (proportion d (own d (codes "v")) (own d (codes "w"))) (same-append p (put_branch p d) (branch p d)
+      (put_control p d) (control p d) same-branch same-control)
+  same-device CurrentByVoltage = after (put_branch p d ++ put_control p d) (branch p d ++ control p d)
+      (proportion d (own d (codes "i")) (own d (codes "w"))) (same-append p (put_branch p d) (branch p d)
+      (put_control p d) (control p d) same-branch same-control)
   same-device CurrentByCurrent = after (put_branch p d) (branch p d) (proportion d (own d (codes "i")) (dotted (codes "i") d.source)) same-branch
   same-device VoltageByCurrent = after (put_branch p d) (branch p d) (proportion d (own d (codes "v")) (dotted (codes "i") d.source)) same-branch
-  same-device Opamp = same-append p (put_flow p (own d (codes "i")) (node d 2) ground) (flow p (own d (codes "i")) (node d 2) ground) (put_difference p (own d (codes "law")) (node d 0) (node d 1)) (difference p (own d (codes "law")) (node d 0) (node d 1)) (same-flow p (own d (codes "i")) (node d 2) ground big) (same-difference p (own d (codes "law")) (node d 0) (node d 1) big)
-  same-device Transformer = same-append p (put_two_branches p d) (two_branches p d) (put_ratio p d (codes "va") (codes "vb") (codes "ia") (codes "ib")) _ same-branches (same-ratio (codes "va") (codes "vb") (codes "ia") (codes "ib"))
-  same-device Gyrator = same-append p (put_two_branches p d) (two_branches p d) (put_ratio p d (codes "va") (codes "ib") (codes "ia") (codes "vb")) _ same-branches
+  same-device Opamp = same-append p (put_flow p (own d (codes "i")) (node d 2) ground)
+      (flow p (own d (codes "i")) (node d 2) ground) (put_difference p (own d (codes "law")) (node d 0) (node d 1))
+      (difference p (own d (codes "law")) (node d 0) (node d 1))
+      (same-flow p (own d (codes "i")) (node d 2) ground big) (same-difference p (own d (codes "law")) (node d 0)
+      (node d 1) big)
+  same-device Transformer = same-append p (put_two_branches p d) (two_branches p d)
+      (put_ratio p d (codes "va") (codes "vb") (codes "ia") (codes "ib")) _ same-branches
+      (same-ratio (codes "va") (codes "vb") (codes "ia") (codes "ib"))
+  same-device Gyrator = same-append p (put_two_branches p d) (two_branches p d)
+      (put_ratio p d (codes "va") (codes "ib") (codes "ia") (codes "vb")) _ same-branches
       (same-then p (put_ratio p d (codes "va") (codes "ib") (codes "ia") (codes "vb")) _ _ (same-ratio (codes "va") (codes "ib") (codes "ia") (codes "vb"))
-      (same-append p (constant (own d (codes "lawa")) (own d (codes "va")) 1 ∷ constant (own d (codes "lawa")) (own d (codes "ib")) (p - d.number) ∷ []) _ _ _ (same p _)
+      (same-append p (constant (own d (codes "lawa")) (own d (codes "va")) 1 ∷ constant (own d (codes "lawa"))
+      (own d (codes "ib")) (p - d.number) ∷ []) _ _ _ (same p _)
       (same-swap p (constant (own d (codes "lawb")) (own d (codes "ia")) d.number ∷ []) (constant (own d (codes "lawb")) (own d (codes "vb")) 1 ∷ []))))
 
   -- a model that says what was put of one device more says what that device says
-  pub says_device : (earlier : List Device) (model : MixedModel) → Says p (terms_of p earlier ++ put_by p d.kind d) model → Says p (terms_of p (earlier ++ d ∷ [])) model
+  pub says_device : (earlier : List Device) (model : MixedModel) →
+      Says p (terms_of p earlier ++ put_by p d.kind d) model → Says p (terms_of p (earlier ++ d ∷ [])) model
   says_device earlier model says =
-      let told = same-append p (terms_of p earlier) (terms_of p earlier) (put_by p d.kind d) (terms_by p d.kind d) (same p (terms_of p earlier)) (same-device d.kind) in
+      let told = same-append p (terms_of p earlier) (terms_of p earlier) (put_by p d.kind d) (terms_by p d.kind d)
+      (same p (terms_of p earlier)) (same-device d.kind) in
       let one : terms_of p (earlier ++ d ∷ []) ≡ terms_of p earlier ++ terms_by p d.kind d =
       flat_map-append (λ (device : Device). terms_by p device.kind device) earlier (d ∷ [])
       ∙ ap (λ last. terms_of p earlier ++ last) (flat_map-cons (λ (device : Device). terms_by p device.kind device) d [] ∙ append-nil (terms_by p d.kind d)) in

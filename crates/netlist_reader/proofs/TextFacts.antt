@@ -1,5 +1,6 @@
 -- Worked texts: refusals, and a model.
-use Rattle.std.proofs.Common.{◌≡◌, ℕ, zero, suc, cond, ◌<◌, Bool, true, false, eqb, List, [], ◌∷◌, length, All, Option, Some, None, unwrap_or, codes, refl, sym, ap, ◌∙◌, arith, get_or, inl, inr}
+use Rattle.std.proofs.Common.{◌≡◌, ℕ, zero, suc, cond, ◌<◌, Bool, true, false, eqb, List, [], ◌∷◌, length, All}
+use Rattle.std.proofs.Common.{Option, Some, None, unwrap_or, codes, refl, sym, ap, ◌∙◌, arith, get_or, inl, inr}
 use Rattle.std.specs.List.{list_all, range_with_len, IsDistinct}
 use Rattle.std.proofs.lemmas.Bool.{eqb-true}
 use Rattle.std.proofs.lemmas.List.Elements.{All-cons}
@@ -76,7 +77,8 @@ below n test all k at =
     ∙ AllPass-from_list_all test (range_with_len 0 n) all k 0 (omega (arith, length-range_with_len 0 n))
 
 -- numbers that are the same at all places below m and n
-same_below : (m n : ℕ) (f g : ℕ → ℕ → ℕ) → list_all (λ i. list_all (λ j. eqb (f i j) (g i j)) (range_with_len 0 n)) (range_with_len 0 m) ≡ true → (i j : ℕ) → i < m → j < n → f i j ≡ g i j
+same_below : (m n : ℕ) (f g : ℕ → ℕ → ℕ) → list_all (λ i. list_all (λ j. eqb (f i j) (g i j)) (range_with_len 0 n))
+    (range_with_len 0 m) ≡ true → (i j : ℕ) → i < m → j < n → f i j ≡ g i j
 same_below m n f g all i j at col =
     eqb-true (f i j) (g i j) (below n (λ j. eqb (f i j) (g i j)) (below m (λ i. list_all (λ j. eqb (f i j) (g i j)) (range_with_len 0 n)) all i at) j col)
 
@@ -114,20 +116,56 @@ rows_none i d at = absurd omega arith
 
 rows_good : All IsGood controlled_model.rows
 rows_good =
-    All-cons IsGood (constant_entry 3 1 ∷ []) ((constant_entry 5 1 ∷ []) ∷ (constant_entry 0 65520 ∷ constant_entry 2 1 ∷ []) ∷ (constant_entry 2 1 ∷ []) ∷ (constant_entry 1 65520 ∷ constant_entry 4 1 ∷ []) ∷ (constant_entry 0 65520 ∷ constant_entry 6 1 ∷ []) ∷ (symbol_entry 4 ∷ symbol_entry 6 ∷ []) ∷ [])
+    All-cons IsGood (constant_entry 3 1 ∷ []) ((constant_entry 5 1 ∷ []) ∷
+    (constant_entry 0 65520 ∷ constant_entry 2 1 ∷ []) ∷ (constant_entry 2 1 ∷ []) ∷
+    (constant_entry 1 65520 ∷ constant_entry 4 1 ∷ []) ∷ (constant_entry 0 65520 ∷ constant_entry 6 1 ∷ []) ∷
+    (symbol_entry 4 ∷ symbol_entry 6 ∷ []) ∷ [])
     ((omega arith, constant_filled 3 1 (omega arith) (omega arith), tt), All-cons IsBelow (constant_entry 3 1) ([]) (omega arith) (within_none))
-    (All-cons IsGood (constant_entry 5 1 ∷ []) ((constant_entry 0 65520 ∷ constant_entry 2 1 ∷ []) ∷ (constant_entry 2 1 ∷ []) ∷ (constant_entry 1 65520 ∷ constant_entry 4 1 ∷ []) ∷ (constant_entry 0 65520 ∷ constant_entry 6 1 ∷ []) ∷ (symbol_entry 4 ∷ symbol_entry 6 ∷ []) ∷ [])
+    (All-cons IsGood (constant_entry 5 1 ∷ []) ((constant_entry 0 65520 ∷ constant_entry 2 1 ∷ []) ∷
+    (constant_entry 2 1 ∷ []) ∷ (constant_entry 1 65520 ∷ constant_entry 4 1 ∷ []) ∷
+    (constant_entry 0 65520 ∷ constant_entry 6 1 ∷ []) ∷ (symbol_entry 4 ∷ symbol_entry 6 ∷ []) ∷ [])
     ((omega arith, constant_filled 5 1 (omega arith) (omega arith), tt), All-cons IsBelow (constant_entry 5 1) ([]) (omega arith) (within_none))
-    (All-cons IsGood (constant_entry 0 65520 ∷ constant_entry 2 1 ∷ []) ((constant_entry 2 1 ∷ []) ∷ (constant_entry 1 65520 ∷ constant_entry 4 1 ∷ []) ∷ (constant_entry 0 65520 ∷ constant_entry 6 1 ∷ []) ∷ (symbol_entry 4 ∷ symbol_entry 6 ∷ []) ∷ [])
-    ((omega arith, constant_filled 0 65520 (omega arith) (omega arith), (omega arith, constant_filled 2 1 (omega arith) (omega arith), tt)), All-cons IsBelow (constant_entry 0 65520) (constant_entry 2 1 ∷ []) (omega arith) (All-cons IsBelow (constant_entry 2 1) ([]) (omega arith) (within_none)))
-    (All-cons IsGood (constant_entry 2 1 ∷ []) ((constant_entry 1 65520 ∷ constant_entry 4 1 ∷ []) ∷ (constant_entry 0 65520 ∷ constant_entry 6 1 ∷ []) ∷ (symbol_entry 4 ∷ symbol_entry 6 ∷ []) ∷ [])
+    (All-cons IsGood (constant_entry 0 65520 ∷ constant_entry 2 1 ∷ [])
+    ((constant_entry 2 1 ∷ []) ∷ (constant_entry 1 65520 ∷ constant_entry 4 1 ∷ []) ∷
+    (constant_entry 0 65520 ∷ constant_entry 6 1 ∷ []) ∷ (symbol_entry 4 ∷ symbol_entry 6 ∷ []) ∷ []) (
+      (
+        omega arith,
+        constant_filled 0 65520 (omega arith) (omega arith),
+        (omega arith, constant_filled 2 1 (omega arith) (omega arith), tt),
+      ),
+      All-cons IsBelow
+          (constant_entry 0 65520) (constant_entry 2 1 ∷ []) (omega arith) (All-cons IsBelow (constant_entry 2 1) ([])
+          (omega arith) (within_none)),
+    )
+    (All-cons IsGood (constant_entry 2 1 ∷ []) ((constant_entry 1 65520 ∷ constant_entry 4 1 ∷ []) ∷
+    (constant_entry 0 65520 ∷ constant_entry 6 1 ∷ []) ∷ (symbol_entry 4 ∷ symbol_entry 6 ∷ []) ∷ [])
     ((omega arith, constant_filled 2 1 (omega arith) (omega arith), tt), All-cons IsBelow (constant_entry 2 1) ([]) (omega arith) (within_none))
-    (All-cons IsGood (constant_entry 1 65520 ∷ constant_entry 4 1 ∷ []) ((constant_entry 0 65520 ∷ constant_entry 6 1 ∷ []) ∷ (symbol_entry 4 ∷ symbol_entry 6 ∷ []) ∷ [])
-    ((omega arith, constant_filled 1 65520 (omega arith) (omega arith), (omega arith, constant_filled 4 1 (omega arith) (omega arith), tt)), All-cons IsBelow (constant_entry 1 65520) (constant_entry 4 1 ∷ []) (omega arith) (All-cons IsBelow (constant_entry 4 1) ([]) (omega arith) (within_none)))
-    (All-cons IsGood (constant_entry 0 65520 ∷ constant_entry 6 1 ∷ []) ((symbol_entry 4 ∷ symbol_entry 6 ∷ []) ∷ [])
-    ((omega arith, constant_filled 0 65520 (omega arith) (omega arith), (omega arith, constant_filled 6 1 (omega arith) (omega arith), tt)), All-cons IsBelow (constant_entry 0 65520) (constant_entry 6 1 ∷ []) (omega arith) (All-cons IsBelow (constant_entry 6 1) ([]) (omega arith) (within_none)))
-    (All-cons IsGood (symbol_entry 4 ∷ symbol_entry 6 ∷ []) ([])
-    ((omega arith, symbol_filled 4, (omega arith, symbol_filled 6, tt)), All-cons IsBelow (symbol_entry 4) (symbol_entry 6 ∷ []) (omega arith) (All-cons IsBelow (symbol_entry 6) ([]) (omega arith) (within_none)))
+    (All-cons IsGood (constant_entry 1 65520 ∷ constant_entry 4 1 ∷ [])
+    ((constant_entry 0 65520 ∷ constant_entry 6 1 ∷ []) ∷ (symbol_entry 4 ∷ symbol_entry 6 ∷ []) ∷ []) (
+      (
+        omega arith,
+        constant_filled 1 65520 (omega arith) (omega arith),
+        (omega arith, constant_filled 4 1 (omega arith) (omega arith), tt),
+      ),
+      All-cons IsBelow
+          (constant_entry 1 65520) (constant_entry 4 1 ∷ []) (omega arith) (All-cons IsBelow (constant_entry 4 1) ([])
+          (omega arith) (within_none)),
+    )
+    (All-cons IsGood (constant_entry 0 65520 ∷ constant_entry 6 1 ∷ []) ((symbol_entry 4 ∷ symbol_entry 6 ∷ []) ∷ []) (
+      (
+        omega arith,
+        constant_filled 0 65520 (omega arith) (omega arith),
+        (omega arith, constant_filled 6 1 (omega arith) (omega arith), tt),
+      ),
+      All-cons IsBelow
+          (constant_entry 0 65520) (constant_entry 6 1 ∷ []) (omega arith) (All-cons IsBelow (constant_entry 6 1) ([])
+          (omega arith) (within_none)),
+    )
+    (All-cons IsGood (symbol_entry 4 ∷ symbol_entry 6 ∷ []) ([]) (
+      (omega arith, symbol_filled 4, (omega arith, symbol_filled 6, tt)),
+      All-cons IsBelow (symbol_entry 4)
+          (symbol_entry 6 ∷ []) (omega arith) (All-cons IsBelow (symbol_entry 6) ([]) (omega arith) (within_none)),
+    )
     (rows_none)))))))
 
 equation_names : IsNameList controlled_model.equations
@@ -135,7 +173,19 @@ unfolding IsDistinct
 equation_names = record {
   labels = AllPass-from_list_all is_label controlled_model.equations refl;
   few = omega arith;
-  distinct = ((refl, (refl, (refl, (refl, (refl, (refl, tt)))))), ((refl, (refl, (refl, (refl, (refl, tt))))), ((refl, (refl, (refl, (refl, tt)))), ((refl, (refl, (refl, tt))), ((refl, (refl, tt)), ((refl, tt), (tt, tt)))))));
+  distinct = (
+    (refl, (refl, (refl, (refl, (refl, (refl, tt)))))),
+    (
+      (refl, (refl, (refl, (refl, (refl, tt))))),
+      (
+        (refl, (refl, (refl, (refl, tt)))),
+        (
+          (refl, (refl, (refl, tt))),
+          ((refl, (refl, tt)), ((refl, tt), (tt, tt))),
+        ),
+      ),
+    ),
+  );
 }
 
 unknown_names : IsNameList controlled_model.unknowns
@@ -143,7 +193,19 @@ unfolding IsDistinct
 unknown_names = record {
   labels = AllPass-from_list_all is_label controlled_model.unknowns refl;
   few = omega arith;
-  distinct = ((refl, (refl, (refl, (refl, (refl, (refl, tt)))))), ((refl, (refl, (refl, (refl, (refl, tt))))), ((refl, (refl, (refl, (refl, tt)))), ((refl, (refl, (refl, tt))), ((refl, (refl, tt)), ((refl, tt), (tt, tt)))))));
+  distinct = (
+    (refl, (refl, (refl, (refl, (refl, (refl, tt)))))),
+    (
+      (refl, (refl, (refl, (refl, (refl, tt))))),
+      (
+        (refl, (refl, (refl, (refl, tt)))),
+        (
+          (refl, (refl, (refl, tt))),
+          ((refl, (refl, tt)), ((refl, tt), (tt, tt))),
+        ),
+      ),
+    ),
+  );
 }
 
 -- what is said of a place of the controlled source

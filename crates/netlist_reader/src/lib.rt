@@ -22,6 +22,3 @@ pub use examples::{
 pub use kind::DeviceKind;
 pub use laws::{a_netlist_gives_one_model, a_netlist_has_one_refusal};
 pub use netlist::{NetlistReader, read};
-
-#[cfg(test)]
-mod tests;

@@ -1,5 +1,6 @@
 -- The items of lower lists, list by list.
-use Rattle.std.proofs.Common.{◌≡◌, ℕ, ◌+◌, ◌-◌, ◌<◌, ◌≤◌, ◌⊎◌, Bool, true, false, ◌&&◌, eqb, List, [], ◌∷◌, ◌++◌, length, map, slice_index_or, inl, inr, refl, ap, sym, subst, ◌∙◌, arith}
+use Rattle.std.proofs.Common.{◌≡◌, ℕ, ◌+◌, ◌-◌, ◌<◌, ◌≤◌, ◌⊎◌, Bool, true, false, ◌&&◌, eqb, List, [], ◌∷◌, ◌++◌}
+use Rattle.std.proofs.Common.{length, map, slice_index_or, inl, inr, refl, ap, sym, subst, ◌∙◌, arith}
 use Rattle.std.specs.List.{All}
 use Rattle.std.proofs.lemmas.List.{get_or-map, get_or_append_left, get_or-append_right, get_or_past, length-append, length-map}
 use Rattle.std.proofs.lemmas.List.Elements.{All-append}
@@ -63,9 +64,11 @@ module _ (blocks : List CcfBlock) (n : ℕ) (items : List (ℕ × ℕ)) (list : 
   second : (i : ℕ) → length items ≤ i → i < length (items ++ items_of n list) → (slice_index_or (items ++ items_of n list) i (0, 0)).0 ≡ n
   second i high low =
       let long : length (items ++ items_of n list) ≡ length items + length (items_of n list) = length-append items (items_of n list) in
-      ap (λ e. e.0) (get_or-append_right items (items_of n list) (length items) i (0, 0) refl high ∙ item-at n list (i - length items) (0, 0) (omega (arith, long, high, low)))
+      ap (λ e. e.0) (get_or-append_right items (items_of n list) (length items) i (0, 0) refl high
+      ∙ item-at n list (i - length items) (0, 0) (omega (arith, long, high, low)))
 
-  more-rising : (i j : ℕ) → i < j → j < length (items ++ items_of n list) → (slice_index_or (items ++ items_of n list) i (0, 0)).0 ≤ (slice_index_or (items ++ items_of n list) j (0, 0)).0
+  more-rising : (i j : ℕ) → i < j → j < length (items ++ items_of n list) →
+      (slice_index_or (items ++ items_of n list) i (0, 0)).0 ≤ (slice_index_or (items ++ items_of n list) j (0, 0)).0
   more-rising i j less low = elim (lt_cases j (length items)) [
     | inl early ↦ subst (λ e. e.0 ≤ (slice_index_or (items ++ items_of n list) j (0, 0)).0) (sym (first i (omega (arith, less, early))))
         (subst (λ e. (slice_index_or items i (0, 0)).0 ≤ e.0) (sym (first j early)) (before.are.rising i j less early))
@@ -73,7 +76,8 @@ module _ (blocks : List CcfBlock) (n : ℕ) (items : List (ℕ × ℕ)) (list : 
       | inl early ↦ let below : (slice_index_or items i (0, 0)).0 < n = (before.are.within i (0, 0) early).0 in
           let same : (slice_index_or (items ++ items_of n list) i (0, 0)).0 ≡ (slice_index_or items i (0, 0)).0 = ap (λ e. e.0) (first i early) in
           omega (arith, top, below, same)
-      | inr later ↦ let same : (slice_index_or (items ++ items_of n list) i (0, 0)).0 ≡ n = second i later (omega (arith, less, low)) in omega (arith, top, same)
+      | inr later ↦ let same : (slice_index_or (items ++ items_of n list) i (0, 0)).0 ≡ n =
+          second i later (omega (arith, less, low)) in omega (arith, top, same)
     ]
   ]
 
@@ -110,7 +114,9 @@ module _ (blocks : List CcfBlock) (n : ℕ) (items : List (ℕ × ℕ)) (list : 
 
       tell : (l k : ℕ) → ((l < n + 1) × (lower_in blocks l k ≡ true)) → arc_in (items ++ items_of n list) l k ≡ true
       tell l k h = elim (nat_cases l n) [
-        | inl same ↦ subst (λ v. arc_in (items ++ items_of n list) v k ≡ true) (sym same) (in-second items (items_of n list) n k (told-item n list k (subst (λ r. has r k ≡ true) row (subst (λ v. lower_in blocks v k ≡ true) same h.1))))
+        | inl same ↦ subst (λ v. arc_in (items ++ items_of n list) v k ≡ true) (sym same)
+            (in-second items (items_of n list) n k
+            (told-item n list k (subst (λ r. has r k ≡ true) row (subst (λ v. lower_in blocks v k ≡ true) same h.1))))
         | inr less ↦ in-first items (items_of n list) l k ((before.tells l k).1 (omega (arith, h.0, less), h.1))
       ]
 
@@ -127,6 +133,8 @@ items-lower blocks items all l k = same-tests (arc_in items l k) (lower_in block
     within h = elim (lt_cases l (length blocks)) [
       | inl low ↦ low
       | inr high ↦
-          let past : slice_index_or (map (λ (block : CcfBlock). block.lower) blocks) l [] ≡ [] = get_or_past (map (λ (block : CcfBlock). block.lower) blocks) l [] (subst (λ m. m ≤ l) (sym (length-map blocks (λ (block : CcfBlock). block.lower))) high) in
+          let past : slice_index_or (map (λ (block : CcfBlock). block.lower) blocks) l [] ≡ [] =
+          get_or_past (map (λ (block : CcfBlock). block.lower) blocks) l []
+          (subst (λ m. m ≤ l) (sym (length-map blocks (λ (block : CcfBlock). block.lower))) high) in
           absurd (differ refl (subst (λ list. has list k ≡ true) past h))
     ]

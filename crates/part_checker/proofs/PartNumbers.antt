@@ -1,5 +1,6 @@
 -- The parts of a form by their numbers.
-use Rattle.std.proofs.Common.{◌≡◌, ℕ, suc, ◌+◌, ◌-◌, ◌<◌, ◌≤◌, ◌↔◌, true, eqb, List, [], ◌∷◌, ◌++◌, length, map, get_or, slice_index, slice_index_or, refl, sym, subst, ◌∙◌, arith}
+use Rattle.std.proofs.Common.{◌≡◌, ℕ, suc, ◌+◌, ◌-◌, ◌<◌, ◌≤◌, ◌↔◌, true, eqb, List, [], ◌∷◌, ◌++◌, length, map}
+use Rattle.std.proofs.Common.{get_or, slice_index, slice_index_or, refl, sym, subst, ◌∙◌, arith}
 use Rattle.std.proofs.lemmas.List.{get_or-map, get_or_append_left, length-append, length-map}
 use Rattle.residue_theory.proofs.SetLaws.{either-first, eqb_true, eqb_from}
 use Rattle.residue_theory.specs.Sets.{has}
@@ -40,7 +41,8 @@ module _ (p : ℕ) (c : Contents) (is : IsCcf p c) (parts : List ℕ) (T : Tells
   place-low x xl = go (T.once.some x xl)
     where
       go : ((k : ℕ) × (k < length (column_lists c)) × (has (slice_index_or (column_lists c) k []) x ≡ true)) → place_of (column_lists c) x < length c.blocks + 2
-      go (k, kl, h) = let at : place_of (column_lists c) x ≡ k = place-is c.shape.columns (column_lists c) T.once x k xl kl h in let count = list-count c in omega (arith, at, kl, count)
+      go (k, kl, h) = let at : place_of (column_lists c) x ≡ k = place-is c.shape.columns
+          (column_lists c) T.once x k xl kl h in let count = list-count c in omega (arith, at, kl, count)
 
   -- each block has a column
   pub block-member : (k : ℕ) → k < length c.blocks → (x : ℕ) × (x < c.shape.columns) × (slice_index parts x ≡ k + 2)
@@ -50,7 +52,9 @@ module _ (p : ℕ) (c : Contents) (is : IsCcf p c) (parts : List ℕ) (T : Tells
       let x : ℕ = get_or columns 0 0 in
       let xl : x < c.shape.columns = (block.part.columns).below 0 0 block.some in
       let count = list-count c in
-      let at : place_of (column_lists c) x ≡ suc k = place-is c.shape.columns (column_lists c) T.once x (suc k) xl (omega (arith, kb, count)) (subst (λ list. has list x ≡ true) (sym (block-list c k kb)) (has-first columns block.some)) in
+      let at : place_of (column_lists c) x ≡ suc k = place-is c.shape.columns (column_lists c) T.once x (suc k) xl
+      (omega (arith, kb, count)) (subst (λ list. has list x ≡ true) (sym (block-list c k kb))
+      (has-first columns block.some)) in
       let told : slice_index parts x ≡ place_of (column_lists c) x + 1 = T.part x xl in
       (x, xl, omega (arith, at, told))
 
@@ -72,11 +76,13 @@ module _ (p : ℕ) (c : Contents) (is : IsCcf p c) (parts : List ℕ) (T : Tells
 
       last : (x : ℕ) → x < c.shape.columns → (eqb (place_of (column_lists c) x) (length c.blocks + 1) ≡ true) ↔ (slice_index parts x ≡ length c.blocks + 2)
       last x xl = let told = T.part x xl in (
-        λ h. let at : place_of (column_lists c) x ≡ length c.blocks + 1 = eqb_true (place_of (column_lists c) x) (length c.blocks + 1) h in omega (arith, told, at),
+        λ h. let at : place_of (column_lists c) x ≡ length c.blocks + 1 = eqb_true (place_of (column_lists c) x)
+            (length c.blocks + 1) h in omega (arith, told, at),
         λ end. eqb_from (place_of (column_lists c) x) (length c.blocks + 1) (omega (arith, told, end)),
       )
 
-      number : (x : ℕ) → slice_index parts x ≡ place_of (column_lists c) x + 1 → 1 < slice_index parts x → (place_of (column_lists c) x - 1) + 2 ≡ slice_index parts x
+      number : (x : ℕ) → slice_index parts x ≡ place_of (column_lists c) x + 1 → 1 < slice_index parts x →
+          (place_of (column_lists c) x - 1) + 2 ≡ slice_index parts x
       number x told more = omega (arith, told, more)
 
   -- a place of each block, as many places as there are parts told

@@ -16,11 +16,14 @@ some-same (suc n) X Y same = ap (λ b. b || X n) (some-same n X Y (λ j jl. same
 
 module _ (p : ℕ) (c : Contents) (is : IsCcf p c) (L : LayeredMatrix) (P : IsPrintedBy L c) where
   -- a matched row has the symbols of L
-  mate-symbol : (x y : ℕ) → x < c.shape.columns → (b : Bool) → has_column c.mates y ≡ b → (b && pattern_of c.t (row_with c.mates y) x) ≡ (b && L.t (row_with c.mates y) x)
+  mate-symbol : (x y : ℕ) → x < c.shape.columns → (b : Bool) → has_column c.mates y ≡ b →
+      (b && pattern_of c.t (row_with c.mates y) x) ≡ (b && L.t (row_with c.mates y) x)
   mate-symbol x y xl false h = refl
   mate-symbol x y xl true h = go (has-found c.mates y h)
     where
-      go : ((l : ℕ) × (l < length c.mates) × ((pair_at c.mates l).1 ≡ y) × ((pair_at c.mates l).0 ≡ row_with c.mates y)) → pattern_of c.t (row_with c.mates y) x ≡ L.t (row_with c.mates y) x
+      go : ((l : ℕ) × (l < length c.mates) × ((pair_at c.mates l).1 ≡ y)
+          × ((pair_at c.mates l).0 ≡ row_with c.mates y)) → pattern_of c.t (row_with c.mates y) x ≡ L.t
+          (row_with c.mates y) x
       go (l, ll, column, row) = P.symbols (row_with c.mates y) x (subst (λ i. i < c.shape.t_rows) row (is.mates.within l (0, 0) ll).0) xl
 
   pub leads-same : (x y : ℕ) → x < c.shape.columns → leads_to p (printed_rows c) (tableau_of c) x y ≡ leads_to p L (tableau_of c) x y
@@ -37,6 +40,9 @@ module _ (p : ℕ) (c : Contents) (is : IsCcf p c) (L : LayeredMatrix) (P : IsPr
   pub ends-same : (x : ℕ) → x < c.shape.columns → is_end p (printed_rows c) (tableau_of c) x ≡ is_end p L (tableau_of c) x
   unfolding is_end has_base has_match q_end t_end
   ends-same x xl =
-      ap (λ b. b || t_end (pattern_of c.t) c.shape.t_rows c.shape.columns x) (ap (λ m. q_end m c.shape.columns x) (sym P.q_rows) ∙ ap (λ n. q_end L.q_rows n x) (sym P.columns))
-      ∙ ap (λ b. q_end L.q_rows L.columns x || b) (some-same c.shape.t_rows _ _ (λ i il. ap (λ b. b && not (some_below c.shape.columns (λ y. has_column c.mates y && eqb (row_with c.mates y) i))) (P.symbols i x il xl))
+      ap (λ b. b || t_end (pattern_of c.t) c.shape.t_rows c.shape.columns x) (ap (λ m. q_end m c.shape.columns x)
+      (sym P.q_rows) ∙ ap (λ n. q_end L.q_rows n x) (sym P.columns))
+      ∙ ap (λ b. q_end L.q_rows L.columns x || b) (some-same c.shape.t_rows _ _
+      (λ i il. ap (λ b. b && not (some_below c.shape.columns
+      (λ y. has_column c.mates y && eqb (row_with c.mates y) i))) (P.symbols i x il xl))
       ∙ ap (λ m. t_end L.t m c.shape.columns x) (sym P.t_rows) ∙ ap (λ n. t_end L.t L.t_rows n x) (sym P.columns))

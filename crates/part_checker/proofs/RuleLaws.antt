@@ -72,13 +72,16 @@ module _ (p : ℕ) (c : Contents) (is : IsCcf p c) (parts : List ℕ) (T : Tells
         )
 
     numbered : AreNumbered L.columns (length c.blocks) (in_first (parts_of c)) (in_last (parts_of c)) (block_of (parts_of c)) (slice_index parts)
-    numbered = subst (λ n. AreNumbered n (length c.blocks) (in_first (parts_of c)) (in_last (parts_of c)) (block_of (parts_of c)) (slice_index parts)) (sym P.columns) (parts-numbered p c is parts T)
+    numbered = subst (λ n. AreNumbered n (length c.blocks) (in_first (parts_of c)) (in_last (parts_of c))
+        (block_of (parts_of c)) (slice_index parts)) (sym P.columns) (parts-numbered p c is parts T)
 
     abbrev Down : Type 0
-    Down = ArcsAreDown (leads_to p L (tableau_of c)) L.columns (is_free (tableau_of c)) (is_end p L (tableau_of c)) (slice_index parts) (length c.blocks) (lower_of c)
+    Down = ArcsAreDown (leads_to p L (tableau_of c)) L.columns (is_free (tableau_of c)) (is_end p L (tableau_of c))
+        (slice_index parts) (length c.blocks) (lower_of c)
 
     abbrev Tested : Type 0
-    Tested = ArcsAreDown (arc_in t.arcs.arcs.items) (length parts) (marked t.arcs.free.items) (marked t.arcs.ends.items) (slice_index parts) (length c.blocks) (lower_of c)
+    Tested = ArcsAreDown (arc_in t.arcs.arcs.items) (length parts) (marked t.arcs.free.items)
+        (marked t.arcs.ends.items) (slice_index parts) (length c.blocks) (lower_of c)
 
     tested-down : Tested → Down
     tested-down A = record {
@@ -95,7 +98,9 @@ module _ (p : ℕ) (c : Contents) (is : IsCcf p c) (parts : List ℕ) (T : Tells
     }
 
     abbrev PlainDown : Type 0
-    PlainDown = plain.LeadsDown (leads_to p L (tableau_of c)) L.columns (is_free (tableau_of c)) (is_end p L (tableau_of c)) (in_first (parts_of c)) (in_last (parts_of c)) (block_of (parts_of c)) (length c.blocks) (lower_of c)
+    PlainDown = plain.LeadsDown (leads_to p L (tableau_of c)) L.columns (is_free (tableau_of c))
+        (is_end p L (tableau_of c)) (in_first (parts_of c)) (in_last (parts_of c)) (block_of (parts_of c))
+        (length c.blocks) (lower_of c)
 
     rule-down : LeadsDown p L c → PlainDown
     rule-down R = record { starts_first = R.free_first; ends_last = R.ends_last; first_leads = R.first_leads; block_leads = R.block_leads }
@@ -104,13 +109,18 @@ module _ (p : ℕ) (c : Contents) (is : IsCcf p c) (parts : List ℕ) (T : Tells
     down-rule R = record { free_first = R.starts_first; ends_last = R.ends_last; first_leads = R.first_leads; block_leads = R.block_leads }
 
     pub rule-tested : LeadsDown p L c → Tested
-    rule-tested R = down-tested (down-numbers L.columns (length c.blocks) (in_first (parts_of c)) (in_last (parts_of c)) (block_of (parts_of c)) (slice_index parts) numbered (leads_to p L (tableau_of c)) (is_free (tableau_of c)) (is_end p L (tableau_of c)) (lower_of c) (rule-down R))
+    rule-tested R = down-tested (down-numbers L.columns (length c.blocks) (in_first (parts_of c))
+        (in_last (parts_of c)) (block_of (parts_of c)) (slice_index parts) numbered (leads_to p L (tableau_of c))
+        (is_free (tableau_of c)) (is_end p L (tableau_of c)) (lower_of c) (rule-down R))
 
     pub tested-rule : Tested → LeadsDown p L c
-    tested-rule A = down-rule (numbers-down L.columns (length c.blocks) (in_first (parts_of c)) (in_last (parts_of c)) (block_of (parts_of c)) (slice_index parts) numbered (leads_to p L (tableau_of c)) (is_free (tableau_of c)) (is_end p L (tableau_of c)) (lower_of c) (tested-down A))
+    tested-rule A = down-rule (numbers-down L.columns (length c.blocks) (in_first (parts_of c))
+        (in_last (parts_of c)) (block_of (parts_of c)) (slice_index parts) numbered (leads_to p L (tableau_of c))
+        (is_free (tableau_of c)) (is_end p L (tableau_of c)) (lower_of c) (tested-down A))
 
     abbrev PlainReasons : Type 0
-    PlainReasons = plain.HasReasons (leads_to p L (tableau_of c)) L.columns (is_free (tableau_of c)) (is_end p L (tableau_of c)) (in_first (parts_of c)) (in_last (parts_of c)) (block_of (parts_of c))
+    PlainReasons = plain.HasReasons (leads_to p L (tableau_of c)) L.columns (is_free (tableau_of c))
+        (is_end p L (tableau_of c)) (in_first (parts_of c)) (in_last (parts_of c)) (block_of (parts_of c))
 
     rule-reasons : HasReasons p L c → PlainReasons
     rule-reasons R = record { first_from = R.first_from; last_to = R.last_to; block_mutual = R.block_mutual }
@@ -125,22 +135,41 @@ module _ (p : ℕ) (c : Contents) (is : IsCcf p c) (parts : List ℕ) (T : Tells
       down : Down
       down = tested-down (rule-tested R)
 
-      pub reasons-told : (answer : Bool) → IsSearched (inner (arc_in t.arcs.arcs.items) (slice_index parts)) (length parts) (marked t.arcs.free.items) (marked t.arcs.ends.items) (slice_index parts) (length c.blocks) (slice_index t.heads.items) answer →
+      pub reasons-told : (answer : Bool) → IsSearched (inner (arc_in t.arcs.arcs.items) (slice_index parts))
+          (length parts) (marked t.arcs.free.items) (marked t.arcs.ends.items) (slice_index parts) (length c.blocks)
+          (slice_index t.heads.items) answer →
           IsTrue answer ↔ HasReasons p L c
       reasons-told answer S = (
-        λ h. reasons-rule (met-reasons (leads_to p L (tableau_of c)) L.columns (is_free (tableau_of c)) (is_end p L (tableau_of c)) (in_first (parts_of c)) (in_last (parts_of c)) (block_of (parts_of c)) (slice_index parts) (length c.blocks) (lower_of c)
-            numbered falling down (inner (arc_in t.arcs.arcs.items) (slice_index parts)) insides (slice_index t.heads.items) S.low S.high S.from S.to heads-first.heads lows highs froms tos (met-columns (S.told.0 h))),
-        λ G. S.told.1 (met-parts (reasons-met (leads_to p L (tableau_of c)) L.columns (is_free (tableau_of c)) (is_end p L (tableau_of c)) (in_first (parts_of c)) (in_last (parts_of c)) (block_of (parts_of c)) (slice_index parts) (length c.blocks) (lower_of c)
-            numbered falling down (inner (arc_in t.arcs.arcs.items) (slice_index parts)) insides (slice_index t.heads.items) S.low S.high S.from S.to heads-first.heads lows highs froms tos (rule-reasons G))),
+        λ h. reasons-rule (met-reasons (leads_to p L (tableau_of c)) L.columns (is_free (tableau_of c))
+            (is_end p L (tableau_of c)) (in_first (parts_of c)) (in_last (parts_of c)) (block_of (parts_of c))
+            (slice_index parts) (length c.blocks) (lower_of c)
+            numbered falling down (inner (arc_in t.arcs.arcs.items) (slice_index parts)) insides
+            (slice_index t.heads.items) S.low S.high S.from S.to heads-first.heads lows highs froms tos
+            (met-columns (S.told.0 h))),
+        λ G. S.told.1 (met-parts (reasons-met (leads_to p L (tableau_of c)) L.columns (is_free (tableau_of c))
+            (is_end p L (tableau_of c)) (in_first (parts_of c)) (in_last (parts_of c)) (block_of (parts_of c))
+            (slice_index parts) (length c.blocks) (lower_of c)
+            numbered falling down (inner (arc_in t.arcs.arcs.items) (slice_index parts)) insides
+            (slice_index t.heads.items) S.low S.high S.from S.to heads-first.heads lows highs froms tos
+            (rule-reasons G))),
       )
         where
           size : length parts ≡ L.columns
           size = T.count ∙ sym P.columns
 
-          insides : (x y : ℕ) → x < L.columns → y < L.columns → (inner (arc_in t.arcs.arcs.items) (slice_index parts) x y ≡ true) ↔ ((leads_to p L (tableau_of c) x y ≡ true) × (slice_index parts x ≡ slice_index parts y))
+          insides : (x y : ℕ) → x < L.columns → y < L.columns →
+              (inner (arc_in t.arcs.arcs.items) (slice_index parts) x y ≡ true) ↔
+              ((leads_to p L (tableau_of c) x y ≡ true) × (slice_index parts x ≡ slice_index parts y))
           insides x y xl yl = (
-            λ h. ((listed-leads x y xl yl).0 (both-first (arc_in t.arcs.arcs.items x y) (eqb (slice_index parts x) (slice_index parts y)) h), eqb_true (slice_index parts x) (slice_index parts y) (both-second (arc_in t.arcs.arcs.items x y) (eqb (slice_index parts x) (slice_index parts y)) h)),
-            λ h. both_true (arc_in t.arcs.arcs.items x y) (eqb (slice_index parts x) (slice_index parts y)) ((listed-leads x y xl yl).1 h.0) (eqb_from (slice_index parts x) (slice_index parts y) h.1),
+            λ h. (
+              (listed-leads x y xl yl).0 (both-first (arc_in t.arcs.arcs.items x y)
+                  (eqb (slice_index parts x) (slice_index parts y)) h),
+              eqb_true (slice_index parts x)
+                  (slice_index parts y) (both-second (arc_in t.arcs.arcs.items x y)
+                  (eqb (slice_index parts x) (slice_index parts y)) h),
+            ),
+            λ h. both_true (arc_in t.arcs.arcs.items x y) (eqb (slice_index parts x) (slice_index parts y))
+                ((listed-leads x y xl yl).1 h.0) (eqb_from (slice_index parts x) (slice_index parts y) h.1),
           )
 
           lows : AreSeeds L.columns (is_free (tableau_of c)) (length c.blocks) (slice_index t.heads.items) S.low
@@ -156,15 +185,18 @@ module _ (p : ℕ) (c : Contents) (is : IsCcf p c) (parts : List ℕ) (T : Tells
           )
 
           froms : (y : ℕ) → y < L.columns → (S.from y ≡ true) ↔ FromSome (inner (arc_in t.arcs.arcs.items) (slice_index parts)) L.columns S.low y
-          froms y yl = subst (λ n. (S.from y ≡ true) ↔ FromSome (inner (arc_in t.arcs.arcs.items) (slice_index parts)) n S.low y) size (S.reached y (at-parts y yl))
+          froms y yl = subst (λ n. (S.from y ≡ true) ↔ FromSome
+              (inner (arc_in t.arcs.arcs.items) (slice_index parts)) n S.low y) size (S.reached y (at-parts y yl))
 
           tos : (x : ℕ) → x < L.columns → (S.to x ≡ true) ↔ ToSome (inner (arc_in t.arcs.arcs.items) (slice_index parts)) L.columns S.high x
           tos x xl = subst (λ n. (S.to x ≡ true) ↔ ToSome (inner (arc_in t.arcs.arcs.items) (slice_index parts)) n S.high x) size (S.reaching x (at-parts x xl))
 
-          met-columns : AreMet (length parts) (length c.blocks) (slice_index parts) S.from S.to → AreMet L.columns (length c.blocks) (slice_index parts) S.from S.to
+          met-columns : AreMet (length parts) (length c.blocks) (slice_index parts) S.from S.to →
+              AreMet L.columns (length c.blocks) (slice_index parts) S.from S.to
           met-columns met x xl = met x (at-parts x xl)
 
-          met-parts : AreMet L.columns (length c.blocks) (slice_index parts) S.from S.to → AreMet (length parts) (length c.blocks) (slice_index parts) S.from S.to
+          met-parts : AreMet L.columns (length c.blocks) (slice_index parts) S.from S.to →
+              AreMet (length parts) (length c.blocks) (slice_index parts) S.from S.to
           met-parts met x xl = met x (from-parts x xl)
 
       module _ (G : HasReasons p L c) where
@@ -177,19 +209,25 @@ module _ (p : ℕ) (c : Contents) (is : IsCcf p c) (parts : List ℕ) (T : Tells
         listed-covers : Listed → Covers
         listed-covers C = record { direct = λ k l lb h. go k l (C.direct k l lb h); none_between = C.none_between }
           where
-            go : (k l : ℕ) → ((x y : ℕ) × (x < length parts) × (y < length parts) × (slice_index parts x ≡ l + 2) × (slice_index parts y ≡ k + 2) × (arc_in t.arcs.arcs.items x y ≡ true)) →
-                (x y : ℕ) × (x < L.columns) × (y < L.columns) × (slice_index parts x ≡ l + 2) × (slice_index parts y ≡ k + 2) × (leads_to p L (tableau_of c) x y ≡ true)
+            go : (k l : ℕ) → ((x y : ℕ) × (x < length parts) × (y < length parts) × (slice_index parts x ≡ l + 2)
+                × (slice_index parts y ≡ k + 2) × (arc_in t.arcs.arcs.items x y ≡ true)) →
+                (x y : ℕ) × (x < L.columns) × (y < L.columns) × (slice_index parts x ≡ l + 2)
+                × (slice_index parts y ≡ k + 2) × (leads_to p L (tableau_of c) x y ≡ true)
             go k l (x, y, xl, yl, px, py, a) = (x, y, from-parts x xl, from-parts y yl, px, py, (listed-leads x y (from-parts x xl) (from-parts y yl)).0 a)
 
         covers-listed : Covers → Listed
         covers-listed C = record { direct = λ k l lb h. go k l (C.direct k l lb h); none_between = C.none_between }
           where
-            go : (k l : ℕ) → ((x y : ℕ) × (x < L.columns) × (y < L.columns) × (slice_index parts x ≡ l + 2) × (slice_index parts y ≡ k + 2) × (leads_to p L (tableau_of c) x y ≡ true)) →
-                (x y : ℕ) × (x < length parts) × (y < length parts) × (slice_index parts x ≡ l + 2) × (slice_index parts y ≡ k + 2) × (arc_in t.arcs.arcs.items x y ≡ true)
+            go : (k l : ℕ) → ((x y : ℕ) × (x < L.columns) × (y < L.columns) × (slice_index parts x ≡ l + 2)
+                × (slice_index parts y ≡ k + 2) × (leads_to p L (tableau_of c) x y ≡ true)) →
+                (x y : ℕ) × (x < length parts) × (y < length parts) × (slice_index parts x ≡ l + 2)
+                × (slice_index parts y ≡ k + 2) × (arc_in t.arcs.arcs.items x y ≡ true)
             go k l (x, y, xl, yl, px, py, a) = (x, y, at-parts x xl, at-parts y yl, px, py, (listed-leads x y xl yl).1 a)
 
         abbrev PlainLists : Type 0
-        PlainLists = plain.HasLowerLists (leads_to p L (tableau_of c)) L.columns (is_free (tableau_of c)) (is_end p L (tableau_of c)) (in_first (parts_of c)) (in_last (parts_of c)) (block_of (parts_of c)) (length c.blocks) (lower_of c)
+        PlainLists = plain.HasLowerLists (leads_to p L (tableau_of c)) L.columns (is_free (tableau_of c))
+            (is_end p L (tableau_of c)) (in_first (parts_of c)) (in_last (parts_of c)) (block_of (parts_of c))
+            (length c.blocks) (lower_of c)
 
         rule-lists : HasLowerLists p L c → PlainLists
         rule-lists R = record { below = R.below; order = R.order; lists = R.lists; least = R.least }
@@ -197,15 +235,28 @@ module _ (p : ℕ) (c : Contents) (is : IsCcf p c) (parts : List ℕ) (T : Tells
         lists-rule : PlainLists → HasLowerLists p L c
         lists-rule R = record { below = R.below; order = R.order; lists = R.lists; least = R.least }
 
-        pub lists-listed : HasLowerLists p L c → AreCovers (arc_in t.arcs.arcs.items) (length parts) (slice_index parts) (length c.blocks) (arc_in t.lower.items)
-        lists-listed K = subst (AreCovers (arc_in t.arcs.arcs.items) (length parts) (slice_index parts) (length c.blocks)) (sym lists-same) (covers-listed (lists-covers (leads_to p L (tableau_of c)) L.columns (is_free (tableau_of c)) (is_end p L (tableau_of c)) (in_first (parts_of c)) (in_last (parts_of c)) (block_of (parts_of c)) (slice_index parts) (length c.blocks) (lower_of c)
+        pub lists-listed : HasLowerLists p L c → AreCovers (arc_in t.arcs.arcs.items) (length parts)
+            (slice_index parts) (length c.blocks) (arc_in t.lower.items)
+        lists-listed K = subst (AreCovers (arc_in t.arcs.arcs.items) (length parts) (slice_index parts)
+            (length c.blocks)) (sym lists-same) (covers-listed (lists-covers (leads_to p L (tableau_of c)) L.columns
+            (is_free (tableau_of c)) (is_end p L (tableau_of c)) (in_first (parts_of c)) (in_last (parts_of c))
+            (block_of (parts_of c)) (slice_index parts) (length c.blocks) (lower_of c)
             numbered falling down (rule-reasons G) (rule-lists K)))
 
         pub lists-first : HasLowerLists p L c → IsLeastFirst (length c.blocks) (arc_in t.lower.items) (slice_index t.heads.items)
-        lists-first K = subst (λ lower. IsLeastFirst (length c.blocks) lower (slice_index t.heads.items)) (sym lists-same) (lists-least (leads_to p L (tableau_of c)) L.columns (is_free (tableau_of c)) (is_end p L (tableau_of c)) (in_first (parts_of c)) (in_last (parts_of c)) (block_of (parts_of c)) (slice_index parts) (length c.blocks) (lower_of c)
+        lists-first K = subst (λ lower. IsLeastFirst (length c.blocks) lower (slice_index t.heads.items))
+            (sym lists-same) (lists-least (leads_to p L (tableau_of c)) L.columns (is_free (tableau_of c))
+            (is_end p L (tableau_of c)) (in_first (parts_of c)) (in_last (parts_of c)) (block_of (parts_of c))
+            (slice_index parts) (length c.blocks) (lower_of c)
             numbered falling down (rule-reasons G) (rule-lists K) (slice_index t.heads.items) heads-first)
 
-        pub listed-lists : AreCovers (arc_in t.arcs.arcs.items) (length parts) (slice_index parts) (length c.blocks) (arc_in t.lower.items) → IsLeastFirst (length c.blocks) (arc_in t.lower.items) (slice_index t.heads.items) → HasLowerLists p L c
-        listed-lists C O = lists-rule (covers-lists (leads_to p L (tableau_of c)) L.columns (is_free (tableau_of c)) (is_end p L (tableau_of c)) (in_first (parts_of c)) (in_last (parts_of c)) (block_of (parts_of c)) (slice_index parts) (length c.blocks) (lower_of c)
-            numbered falling down (rule-reasons G) (listed-covers (subst (AreCovers (arc_in t.arcs.arcs.items) (length parts) (slice_index parts) (length c.blocks)) lists-same C)) (slice_index t.heads.items) heads-first
+        pub listed-lists : AreCovers (arc_in t.arcs.arcs.items) (length parts) (slice_index parts) (length c.blocks)
+            (arc_in t.lower.items) → IsLeastFirst (length c.blocks) (arc_in t.lower.items)
+            (slice_index t.heads.items) → HasLowerLists p L c
+        listed-lists C O = lists-rule (covers-lists (leads_to p L (tableau_of c)) L.columns (is_free (tableau_of c))
+            (is_end p L (tableau_of c)) (in_first (parts_of c)) (in_last (parts_of c)) (block_of (parts_of c))
+            (slice_index parts) (length c.blocks) (lower_of c)
+            numbered falling down (rule-reasons G)
+            (listed-covers (subst (AreCovers (arc_in t.arcs.arcs.items) (length parts) (slice_index parts)
+            (length c.blocks)) lists-same C)) (slice_index t.heads.items) heads-first
             (subst (λ lower. IsLeastFirst (length c.blocks) lower (slice_index t.heads.items)) lists-same O) (bit_in t.below) chains-told)

@@ -4,16 +4,25 @@ use Rattle.part_rules.specs.Listed.{arc_in, inner, marked}
 use Rattle.part_rules.specs.Tests.{ArcsAreDown, AreCovers, IsLeastFirst}
 use Rattle.part_tests.specs.Searched.{IsSearched}
 
-pub down-as : (arcs list : List (ℕ × ℕ)) (starts free ends stops : List Bool) (n : ℕ) (part : ℕ → ℕ) (b m : ℕ) (lower : ℕ → ℕ → Bool) → arcs ≡ list → starts ≡ free → ends ≡ stops → b ≡ m →
+pub down-as : (arcs list : List (ℕ × ℕ)) (starts free ends stops : List Bool) (n : ℕ) (part : ℕ → ℕ) (b m : ℕ)
+    (lower : ℕ → ℕ → Bool) → arcs ≡ list → starts ≡ free → ends ≡ stops → b ≡ m →
     ArcsAreDown (arc_in arcs) n (marked starts) (marked ends) part b lower ↔ ArcsAreDown (arc_in list) n (marked free) (marked stops) part m lower
 down-as arcs list starts free ends stops n part b m lower same first second count =
-    subst (λ l. ArcsAreDown (arc_in arcs) n (marked starts) (marked ends) part b lower ↔ ArcsAreDown (arc_in l) n (marked free) (marked stops) part m lower) same
-    (subst (λ f. ArcsAreDown (arc_in arcs) n (marked starts) (marked ends) part b lower ↔ ArcsAreDown (arc_in arcs) n (marked f) (marked stops) part m lower) first
-    (subst (λ s. ArcsAreDown (arc_in arcs) n (marked starts) (marked ends) part b lower ↔ ArcsAreDown (arc_in arcs) n (marked starts) (marked s) part m lower) second
-    (subst (λ k. ArcsAreDown (arc_in arcs) n (marked starts) (marked ends) part b lower ↔ ArcsAreDown (arc_in arcs) n (marked starts) (marked ends) part k lower) count (λ h. h, λ h. h))))
+    subst (λ l. ArcsAreDown (arc_in arcs) n (marked starts) (marked ends) part b lower ↔ ArcsAreDown (arc_in l) n
+    (marked free) (marked stops) part m lower) same
+    (subst (λ f. ArcsAreDown (arc_in arcs) n (marked starts) (marked ends) part b lower ↔ ArcsAreDown
+    (arc_in arcs) n (marked f) (marked stops) part m lower) first
+    (subst (λ s. ArcsAreDown (arc_in arcs) n (marked starts) (marked ends) part b lower ↔ ArcsAreDown
+    (arc_in arcs) n (marked starts) (marked s) part m lower) second
+    (subst (λ k. ArcsAreDown (arc_in arcs) n (marked starts) (marked ends) part b lower ↔ ArcsAreDown
+    (arc_in arcs) n (marked starts) (marked ends) part k lower) count (λ h. h, λ h. h))))
 
-pub searched-as : (arcs list : List (ℕ × ℕ)) (starts free ends stops : List Bool) (n : ℕ) (part : ℕ → ℕ) (heads places : List ℕ) (b : ℕ) (answer : Bool) → arcs ≡ list → starts ≡ free → ends ≡ stops → heads ≡ places → length heads ≡ b →
-    IsSearched (inner (arc_in arcs) part) n (marked starts) (marked ends) part (length heads) (slice_index heads) answer → IsSearched (inner (arc_in list) part) n (marked free) (marked stops) part b (slice_index places) answer
+pub searched-as : (arcs list : List (ℕ × ℕ)) (starts free ends stops : List Bool) (n : ℕ) (part : ℕ → ℕ)
+    (heads places : List ℕ) (b : ℕ) (answer : Bool) → arcs ≡ list → starts ≡ free → ends ≡ stops → heads ≡ places →
+    length heads ≡ b →
+    IsSearched (inner (arc_in arcs) part) n (marked starts) (marked ends) part (length heads)
+    (slice_index heads) answer → IsSearched (inner (arc_in list) part) n (marked free) (marked stops) part b
+    (slice_index places) answer
 searched-as arcs list starts free ends stops n part heads places b answer same first second seen count S =
     subst (λ l. IsSearched (inner (arc_in l) part) n (marked free) (marked stops) part b (slice_index places) answer) same
     (subst (λ f. IsSearched (inner (arc_in arcs) part) n (marked f) (marked stops) part b (slice_index places) answer) first

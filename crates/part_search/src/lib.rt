@@ -7,6 +7,3 @@ mod within;
 
 pub use out_of_memory::NoMemory;
 pub use within::{reached_within, reaching_within};
-
-#[cfg(test)]
-mod tests;

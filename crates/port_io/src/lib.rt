@@ -10,8 +10,6 @@ mod ports;
 mod pump;
 mod reading;
 mod streams;
-#[cfg(test)]
-mod tests;
 mod writing;
 
 pub use asking::Asked;

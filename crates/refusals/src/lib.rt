@@ -166,6 +166,3 @@ impl<T: Drop> From<AllocFailed<T>> for ReadModel {
         ReadModel::NoMemory
     }
 }
-
-#[cfg(test)]
-mod tests;

@@ -16,7 +16,9 @@ use Rattle.report_cli.specs.RightFor.{IsRightFor}
 use Rattle.input_kinds.proofs.ByKind.{is-model}
 
 -- a form that is right for the layers makes a certificate that is right for the text
-pub right_for : (kind : Kind) (text : List ℕ) (model : MixedModel) (layers : Layers) (echo : List ℕ) (ccf : Contents) → Gives kind text model → AreLayersOf model layers → echo ≡ text → length text ≤ input_limit → IsCcf res_modulus ccf →
+pub right_for : (kind : Kind) (text : List ℕ) (model : MixedModel) (layers : Layers) (echo : List ℕ) (ccf : Contents) →
+    Gives kind text model → AreLayersOf model layers → echo ≡ text → length text ≤ input_limit →
+    IsCcf res_modulus ccf →
     OfEachModel res_modulus layers (λ M O. HasShape M (layered_matrix_of layers) ccf) → HasTransform res_modulus (layered_matrix_of layers) ccf →
     OfEachModel res_modulus layers (λ M O. HasPairAndRank res_modulus M (layered_matrix_of layers) O ccf) → HasForm res_modulus (layered_matrix_of layers) ccf →
     HasIdeals res_modulus (layered_matrix_of layers) ccf → HasCanonicalListing res_modulus (layered_matrix_of layers) ccf →

@@ -10,7 +10,8 @@ use Rattle.command_line.specs.Words.{format_of}
 use Rattle.command_line.specs.declared.command.Command.{Command}
 use Rattle.report_cli.specs.declared.output.Output.{Output}
 use Rattle.report_cli.specs.declared.status.Status.{Status}
-use Rattle.report_cli.specs.declared.status.Status.TheVariants.{BadCertificate, Done, Memory, NotRegular, ReadFault, Refused, Rejected, TooLong, Usage, WriteFault}
+use Rattle.report_cli.specs.declared.status.Status.TheVariants.{BadCertificate, Done, Memory, NotRegular, ReadFault}
+use Rattle.report_cli.specs.declared.status.Status.TheVariants.{Refused, Rejected, TooLong, Usage, WriteFault}
 use Rattle.report_cli.proofs.Outputs.{has-text}
 
 module _ (command : Command) (left left' written written' : Option (List ℕ)) (output : Output) where

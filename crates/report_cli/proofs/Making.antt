@@ -15,7 +15,8 @@ use Rattle.command_line.specs.declared.command.Request.TheVariants.{Make}
 use Rattle.report_cli.specs.declared.output.Output.{Output}
 use Rattle.report_cli.specs.declared.output.Output.TheVariants.{Accepted, Certificate, Layers, Made, Plan, Report}
 use Rattle.report_cli.specs.declared.status.Status.{Status}
-use Rattle.report_cli.specs.declared.status.Status.TheVariants.{BadCertificate, Done, Memory, NotRegular, ReadFault, Refused, Rejected, TooLong, Usage, WriteFault}
+use Rattle.report_cli.specs.declared.status.Status.TheVariants.{BadCertificate, Done, Memory, NotRegular, ReadFault}
+use Rattle.report_cli.specs.declared.status.Status.TheVariants.{Refused, Rejected, TooLong, Usage, WriteFault}
 use Rattle.command_line.proofs.Asking.{not-both}
 use Rattle.report_cli.proofs.RunWords.{took_nothing}
 

@@ -5,7 +5,8 @@ use Rattle.port_io.specs.declared.writing.WriteFault.{WriteFault as Fault}
 use Rattle.text_writer.specs.Giving.{IsWritten}
 use Rattle.report_cli.specs.Notes.{Noted, note_of, line_of}
 use Rattle.report_cli.specs.declared.status.Status.{Status}
-use Rattle.report_cli.specs.declared.status.Status.TheVariants.{BadCertificate, Done, Memory, NotRegular, ReadFault, Refused, Rejected, TooLong, Usage, WriteFault}
+use Rattle.report_cli.specs.declared.status.Status.TheVariants.{BadCertificate, Done, Memory, NotRegular, ReadFault}
+use Rattle.report_cli.specs.declared.status.Status.TheVariants.{Refused, Rejected, TooLong, Usage, WriteFault}
 
 -- the line of a status without the whole text
 pub note_is : (s : Status) → (s ≡ Done → ⊥) → (s ≡ NotRegular → ⊥) → line_of s ≡ note_of s

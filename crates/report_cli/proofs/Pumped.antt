@@ -1,5 +1,6 @@
 -- What is known between two pieces of an input.
-use Rattle.std.proofs.Common.{◌≡◌, ℕ, ◌+◌, ◌-◌, ◌≤◌, List, ◌++◌, length, Bool, true, false, ◌<◌, refl, ap, arith, Option, Some, None, Result, Err, sym, ◌∙◌, subst}
+use Rattle.std.proofs.Common.{◌≡◌, ℕ, ◌+◌, ◌-◌, ◌≤◌, List, ◌++◌, length, Bool, true, false, ◌<◌, refl, ap, arith}
+use Rattle.std.proofs.Common.{Option, Some, None, Result, Err, sym, ◌∙◌, subst}
 use Rattle.std.proofs.lemmas.List.{length-append}
 use Rattle.std.specs.Io.KnownBytes.{Keeps}
 use Rattle.limits.specs.Limits.{input_limit}
@@ -65,7 +66,8 @@ module _ {S : Type 0} (K : Ghosts S) (first old new : S) (before after : Pumping
       )
   unread_by_error kind result Wanting is all more kept memory = absurd (memory is)
 
-  module _ (took : Took (K.left old) (K.left new) after.piece) (counted : after.taken ≡ before.taken + length after.piece) (within : after.taken ≤ before.limit) where
+  module _ (took : Took (K.left old) (K.left new) after.piece)
+      (counted : after.taken ≡ before.taken + length after.piece) (within : after.taken ≤ before.limit) where
     few : length has.text + length after.piece ≤ input_limit
     few = omega (arith, has.limit, has.taken, counted, within)
 

@@ -9,7 +9,8 @@ use Rattle.command_line.specs.declared.command.Command.{Command}
 use Rattle.command_line.specs.declared.command.WordsError.{WordsError}
 use Rattle.command_line.specs.declared.command.WordsError.TheVariants.{Told, UnknownKind, NoMemory}
 use Rattle.report_cli.specs.declared.status.Status.{Status}
-use Rattle.report_cli.specs.declared.status.Status.TheVariants.{BadCertificate, Done, Memory, NotRegular, ReadFault, Refused, Rejected, TooLong, Usage, WriteFault}
+use Rattle.report_cli.specs.declared.status.Status.TheVariants.{BadCertificate, Done, Memory, NotRegular, ReadFault}
+use Rattle.report_cli.specs.declared.status.Status.TheVariants.{Refused, Rejected, TooLong, Usage, WriteFault}
 use Rattle.command_line.specs.declared.command.Request.TheVariants.{OfInput}
 use Rattle.command_line.proofs.Asking.{asks-one, not-both}
 
@@ -24,7 +25,8 @@ asked-done : (words : List (List ℕ)) (command : Command) (input text : List �
 asked-done words command input text asks (inl given) = asked words command input Done text asks given
 asked-done words command input text asks (inr (n, makes, told)) = not-both words command n asks makes
 
-pub of_command : (words : List (List ℕ)) (command : Command) (input : List ℕ) (answer : Status) (text : List ℕ) → AsksFor words command → IsAnswer words input answer text → IsAnswerOf command input answer text
+pub of_command : (words : List (List ℕ)) (command : Command) (input : List ℕ) (answer : Status) (text : List ℕ) →
+    AsksFor words command → IsAnswer words input answer text → IsAnswerOf command input answer text
 of_command words command input Done text asks given = asked-done words command input text asks given
 of_command words command input NotRegular text asks given = asked words command input NotRegular text asks given
 of_command words command input Usage text asks given = absurd (given.0 (OfInput command) asks)
@@ -42,7 +44,8 @@ pub only_for : (words : List (List ℕ)) (command : Command) (left : Option (Lis
 only_for words command left status asks only = λ input answer text is given. only input answer text is (of_command words command input answer text asks given)
 
 pub complete_for : (words : List (List ℕ)) (command : Command) (left : Option (List ℕ)) (status : Status) → AsksFor words command →
-    ((input : List ℕ) → left ≡ Some input → length input ≤ limit_of (format_of command) → KeepsRules (format_of command) input → HasText status ⊎ (status ≡ Memory)) →
+    ((input : List ℕ) → left ≡ Some input → length input ≤ limit_of (format_of command) →
+    KeepsRules (format_of command) input → HasText status ⊎ (status ≡ Memory)) →
     IsComplete words left status
 complete_for words command left status asks done = λ input other is asks_other short keeps.
     let same : other ≡ command = asks-one words other command asks_other asks in

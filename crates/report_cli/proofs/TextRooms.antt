@@ -37,7 +37,9 @@ use Rattle.report_cli.specs.PlanFor.{IsPlanFor}
 use Rattle.report_cli.proofs.ReportFacts.{rank-many, surplus-few, undetermined-few}
 use Rattle.command_line.specs.declared.command.Command.{Command}
 use Rattle.report_cli.specs.declared.output.Output.{Output}
-use Rattle.report_cli.specs.declared.output.Output.TheVariants.{Accepted, Certificate as Certified, Layers as Layering, Made, Plan as Planning, Report as Reporting}
+use Rattle.report_cli.specs.declared.output.Output.TheVariants.{Accepted, Certificate as Certified}
+use Rattle.report_cli.specs.declared.output.Output.TheVariants.{Layers as Layering, Made, Plan as Planning}
+use Rattle.report_cli.specs.declared.output.Output.TheVariants.{Report as Reporting}
 use Rattle.input_kinds.proofs.ByKind.{is-model}
 use Rattle.report_cli.proofs.ByKind.{few-names}
 use Rattle.answer_texts.proofs.LayerLengths.{layer-text-short}
@@ -53,7 +55,8 @@ pub record IsNarrow (kind : Kind) (n : ℕ) (L : LayeredMatrix) : Type 0 where
   pub columns : L.columns ≤ columns_within kind n
   pub rows : L.q_rows + L.t_rows ≤ columns_within kind n
 
-narrow : (kind : Kind) (text : List ℕ) (model : MixedModel) (L : LayeredMatrix) (O : Origins) → Gives kind text model → IsLayeredMatrixOf (mixed_matrix_of model) L O → IsNarrow kind (length text) L
+narrow : (kind : Kind) (text : List ℕ) (model : MixedModel) (L : LayeredMatrix) (O : Origins) → Gives kind text model →
+    IsLayeredMatrixOf (mixed_matrix_of model) L O → IsNarrow kind (length text) L
 narrow kind text model L O gives are =
     let few = few-names kind text model gives in
     let is : IsModel res_modulus model = is-model res_modulus kind text model gives in
@@ -73,7 +76,8 @@ narrow kind text model L O gives are =
 few_columns : (kind : Kind) (n : ℕ) → columns_within kind n ≤ 8192
 few_columns kind n = omega arith
 
-certificate-fits : (kind : Kind) (input : List ℕ) (c : Certificate) → IsRightFor kind input c → length input ≤ input_limit → length (output_text (Certified c)) ≤ task_room Task.Analyse kind (length input)
+certificate-fits : (kind : Kind) (input : List ℕ) (c : Certificate) → IsRightFor kind input c →
+    length input ≤ input_limit → length (output_text (Certified c)) ≤ task_room Task.Analyse kind (length input)
 certificate-fits kind input c right short =
     let low = narrow kind input right.model right.layered right.origins right.gives right.layers in
     let shape = (right.right).shape in
@@ -85,7 +89,8 @@ certificate-fits kind input c right short =
     let echo : length c.echo ≡ length input = ap length right.echo in
     omega (
       arith,
-      certificate-short res_modulus (omega arith) (mixed_matrix_of right.model) right.layered right.origins c (length input) (columns_within kind (length input))
+      certificate-short res_modulus (omega arith) (mixed_matrix_of right.model) right.layered right.origins c
+          (length input) (columns_within kind (length input))
           (omega (arith, echo)) short (few_columns kind (length input)) right.form right.right within,
     )
 
@@ -93,7 +98,11 @@ layers-fit : (kind : Kind) (input : List ℕ) (model : MixedModel) (layers : Lay
     length (output_text (Layering model layers)) ≤ task_room Task.Layer kind (length input)
 layers-fit kind input model layers gives are whole =
     let low = narrow kind input model (layered_matrix_of layers) (origins_of layers are.split) gives are.layered in
-    omega (arith, layer-text-short model (is-model res_modulus kind input model gives) layers are whole (columns_within kind (length input)) (few_columns kind (length input)) low.q_rows low.t_rows low.columns)
+    omega (
+      arith,
+      layer-text-short model (is-model res_modulus kind input model gives) layers are whole
+          (columns_within kind (length input)) (few_columns kind (length input)) low.q_rows low.t_rows low.columns,
+    )
 
 reports-fit : (kind : Kind) (input : List ℕ) (model : MixedModel) (told : Told) → Gives kind input model → IsReportOf res_modulus (mixed_matrix_of model) told →
     length (output_text (Reporting model told)) ≤ task_room Task.Report kind (length input)

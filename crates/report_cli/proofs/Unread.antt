@@ -23,7 +23,8 @@ pub answered : {T E : Type 0} {result : Result T E} {it : T} {error : E} → res
 answered is not = let both = sym is ∙ not in cc
 
 -- an input that was read whole, and is refused or finds no memory
-pub unread_by_refusal : (kind : Kind) (left left' : Option (List ℕ)) (Holds : List ℕ → Type 0) (whole : ReadsWhole input_limit left left' Holds) (why : ReadModel) →
+pub unread_by_refusal : (kind : Kind) (left left' : Option (List ℕ)) (Holds : List ℕ → Type 0)
+    (whole : ReadsWhole input_limit left left' Holds) (why : ReadModel) →
     IsWhyUnread kind whole.input why → IsUnread (Model kind) (status_of_refusal why) left left'
 unread_by_refusal kind left left' Holds whole (Broken refused) is =
     record { input = whole.input; took = whole.took; ended = whole.ended; short = whole.short; holds = is }
@@ -41,7 +42,8 @@ reads_so most left left' Holds Next next whole = record {
 }
 
 -- what is told of the source where nothing was refused is told of any such answer
-pub tells_still : {S T R : Type 0} (K : Ghosts S) (most : ℕ) (old new : S) (it : T) (other : R) → TellsOfSource K most old new (Ok it) → TellsOfSource K most old new (Ok other)
+pub tells_still : {S T R : Type 0} (K : Ghosts S) (most : ℕ) (old new : S) (it : T) (other : R) →
+    TellsOfSource K most old new (Ok it) → TellsOfSource K most old new (Ok other)
 tells_still K most old new it other tells = record {
   fault = λ e. absurd (answered refl e);
   told = λ _. tells.told (answered refl);

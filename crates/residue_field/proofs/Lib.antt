@@ -1,2 +1,3 @@
 pub mod FieldLaws
 pub mod FractionLaws
+pub mod RowLaws

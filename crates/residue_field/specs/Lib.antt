@@ -1,3 +1,4 @@
 pub mod Fields
 pub mod Fractions
 pub mod Modulus
+pub mod Rows

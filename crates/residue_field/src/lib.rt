@@ -1,11 +1,11 @@
-//! Fields whose values are residues modulo a prime, and the residues modulo 65,521.
+//! Fields whose values are residues modulo a prime, and the residues modulo 65,521 and modulo 2,147,483,647.
 #![tactic(auto)]
 
 mod field;
+mod inverse;
 mod res;
+mod res31;
 
 pub use field::{Field, Vanish, values_form_a_field};
 pub use res::Res;
-
-#[cfg(test)]
-mod tests;
+pub use res31::Res31;

@@ -7,9 +7,8 @@ use Rattle.residue_theory.proofs.SetLaws.{lt_cases}
 use Rattle.residue_theory.proofs.SumLaws.{nat_cases}
 use Rattle.linear_algebra.specs.RowOperations.{IsPivoted}
 use Rattle.bit_table.specs.Bits.{Bits, bit_in, IsBitSet, IsJoined, IsRowCleared}
-use Rattle.dense_q.specs.Tables.{Table, height, entry, HasSameSize}
+use Rattle.row_table.specs.Reductions.{ZeroRowsStay}
 use Rattle.row_transform.specs.Entries.{HasSizeOf, IsListed, IsFilled}
-use Rattle.row_transform.specs.Transforms.{ZeroRowsStay}
 
 -- ---- the rows of a matrix
 -- a bit that is set stays so while another one is set
@@ -26,7 +25,8 @@ set-keeps b c n x y bit i j jl h = elim (nat_cases i x) [
 abbrev pub IsListedTo : ℕ → ℕ → (ℕ → ℕ → ℕ) → (ℕ → ℕ → Bool) → ℕ → Type 0
 IsListedTo p n a b k = (i j : ℕ) → i < k → j < n → a i j % p ≢ 0 → b j i ≡ true
 
-pub listed-next : (p m n : ℕ) (a : ℕ → ℕ → ℕ) (b c : ℕ → ℕ → Bool) (k : ℕ) → IsListedTo p n a b k → k < m → ((j : ℕ) → j < n → a k j % p ≢ 0 → c j k ≡ true) →
+pub listed-next : (p m n : ℕ) (a : ℕ → ℕ → ℕ) (b c : ℕ → ℕ → Bool) (k : ℕ) → IsListedTo p n a b k → k < m →
+    ((j : ℕ) → j < n → a k j % p ≢ 0 → c j k ≡ true) →
     ((i j : ℕ) → i < m → b j i ≡ true → c j i ≡ true) → IsListedTo p n a c (k + 1)
 listed-next p m n a b c k so_far kl row kept i j il jl ne = elim (nat_cases i k) [
   | inl q ↦ subst (λ x. c j x ≡ true) (sym q) (row j jl (subst (λ x. a x j % p ≢ 0) q ne))
@@ -51,7 +51,8 @@ module _ (m n : ℕ) (a : ℕ → ℕ → ℕ) (b c d : ℕ → ℕ → Bool) (r
   filled-join kl apart ne joined = record {
     done = λ i j il jl jv. elim (nat_cases j k) [
       | inl q ↦ subst (λ x. d x i ≡ (b x i || (not (eqb (a r x) 0) && b v i))) (sym q)
-          (joined.here i il ∙ joined_bit (b k i) (b v i) (c k i) (c v i) ne (so_far.rest i k il kl (omega arith)) (so_far.column i il))
+          (joined.here i il ∙ joined_bit (b k i) (b v i) (c k i) (c v i) ne (so_far.rest i k il kl (omega arith))
+          (so_far.column i il))
       | inr other ↦ joined.others j i il other ∙ so_far.done i j il (omega arith) jv
     ];
     rest = λ i j il jl le. joined.others j i il (λ q. omega arith) ∙ so_far.rest i j il jl (omega arith);
@@ -63,7 +64,8 @@ module _ (m n : ℕ) (a : ℕ → ℕ → ℕ) (b c d : ℕ → ℕ → Bool) (r
     done = λ i j il jl jv. elim (nat_cases j k) [
       | inl q ↦ elim why [
         | inl s ↦ absurd (jv (q ∙ s))
-        | inr z ↦ subst (λ x. c x i ≡ (b x i || (not (eqb (a r x) 0) && b v i))) (sym q) (so_far.rest i k il kl (omega arith) ∙ same_bit (b k i) (b v i) z)
+        | inr z ↦ subst (λ x. c x i ≡ (b x i || (not (eqb (a r x) 0) && b v i))) (sym q)
+            (so_far.rest i k il kl (omega arith) ∙ same_bit (b k i) (b v i) z)
       ]
       | inr other ↦ so_far.done i j il (omega arith) jv
     ];
@@ -71,7 +73,8 @@ module _ (m n : ℕ) (a : ℕ → ℕ → ℕ) (b c d : ℕ → ℕ → Bool) (r
     column = so_far.column;
   }
 
-pub filled-done : (m n : ℕ) (a : ℕ → ℕ → ℕ) (b c d e : ℕ → ℕ → Bool) (r v k : ℕ) → n ≤ k → IsFilledTo m n a b c r v k → IsRowCleared c d m v → IsBitSet d e m v r → IsFilled m n a b e r v
+pub filled-done : (m n : ℕ) (a : ℕ → ℕ → ℕ) (b c d e : ℕ → ℕ → Bool) (r v k : ℕ) → n ≤ k →
+    IsFilledTo m n a b c r v k → IsRowCleared c d m v → IsBitSet d e m v r → IsFilled m n a b e r v
 filled-done m n a b c d e r v k le filled cleared bit = record {
   here = λ i il. elim (nat_cases i r) [
     | inl q ↦ subst (λ x. e v x ≡ eqb x r) (sym q) (bit.here ∙ same r)
@@ -87,9 +90,10 @@ filled-done m n a b c d e r v k le filled cleared bit = record {
     apart x ne = grind (arith, nat_tests)
 
 -- ---- after a pivot
-module _ (p : ℕ) (old now : Table) (b c : Bits) (r v : ℕ) (listed : IsListed p old b) (filled : IsFilled (height old) old.width (entry old) (bit_in b) (bit_in c) r v)
-    (pivoted : IsPivoted p (height old) old.width (entry old) (entry now) r v) (stay : ZeroRowsStay p (height old) old.width (entry old) (entry now) r v) where
-  in_column : (i : ℕ) → i < height old → entry now i v % p ≢ 0 → bit_in c v i ≡ true
+module _ (p m n : ℕ) (old now : ℕ → ℕ → ℕ) (b c : Bits) (r v : ℕ) (listed : IsListed p m n old b)
+    (filled : IsFilled m n old (bit_in b) (bit_in c) r v) (pivoted : IsPivoted p m n old now r v)
+    (stay : ZeroRowsStay p m n old now r v) where
+  in_column : (i : ℕ) → i < m → now i v % p ≢ 0 → bit_in c v i ≡ true
   in_column i il ne = elim (nat_cases i r) [
     | inl q ↦ filled.here i il ∙ same q
     | inr other ↦ absurd (ne (pivoted.zero i il other))
@@ -98,42 +102,40 @@ module _ (p : ℕ) (old now : Table) (b c : Bits) (r v : ℕ) (listed : IsListed
       same : i ≡ r → eqb i r ≡ true
       same q = grind (arith, nat_tests)
 
-  elsewhere : (i j : ℕ) → r < height old → v < old.width → i < height old → j < old.width → j ≢ v → entry now i j % p ≢ 0 → bit_in c j i ≡ true
-  elsewhere i j rl vl il jl apart ne = filled.others i j il jl apart ∙ elim (nat_cases (entry old r j % p) 0) [
+  elsewhere : (i j : ℕ) → r < m → v < n → i < m → j < n → j ≢ v → now i j % p ≢ 0 → bit_in c j i ≡ true
+  elsewhere i j rl vl il jl apart ne = filled.others i j il jl apart ∙ elim (nat_cases (old r j % p) 0) [
     | inl z ↦ was (listed.listed i j il jl (λ w. ne (pivoted.keeps j jl z i il ∙ w)))
     | inr some ↦ elim (nat_cases i r) [
-      | inl q ↦ was (listed.listed i j il jl (subst (λ x. entry old x j % p ≢ 0) (sym q) some))
-      | inr other ↦ elim (nat_cases (entry old i v % p) 0) [
+      | inl q ↦ was (listed.listed i j il jl (subst (λ x. old x j % p ≢ 0) (sym q) some))
+      | inr other ↦ elim (nat_cases (old i v % p) 0) [
         | inl z ↦ was (listed.listed i j il jl (λ w. ne (stay i j il jl other z ∙ w)))
         | inr gains ↦ gained (λ z. some (ap (λ y. y % p) z ∙ zero-mod p)) (listed.listed i v il vl gains)
       ]
     ]
   ]
     where
-      was : bit_in b j i ≡ true → (bit_in b j i || (not (eqb (entry old r j) 0) && bit_in b v i)) ≡ true
-      was h = ap (λ x. x || (not (eqb (entry old r j) 0) && bit_in b v i)) h
+      was : bit_in b j i ≡ true → (bit_in b j i || (not (eqb (old r j) 0) && bit_in b v i)) ≡ true
+      was h = ap (λ x. x || (not (eqb (old r j) 0) && bit_in b v i)) h
 
-      gained : entry old r j ≢ 0 → bit_in b v i ≡ true → (bit_in b j i || (not (eqb (entry old r j) 0) && bit_in b v i)) ≡ true
-      gained some h = true_by (bit_in b j i) (bit_in b v i) (entry old r j) some h
+      gained : old r j ≢ 0 → bit_in b v i ≡ true → (bit_in b j i || (not (eqb (old r j) 0) && bit_in b v i)) ≡ true
+      gained some h = true_by (bit_in b j i) (bit_in b v i) (old r j) some h
         where
           true_by : (x y : Bool) (n : ℕ) → n ≢ 0 → y ≡ true → (x || (not (eqb n 0) && y)) ≡ true
           true_by x y n ne e = grind (arith, nat_tests)
 
-  pub pivot-listed : r < height old → v < old.width → HasSizeOf old c → HasSameSize now old → IsListed p now c
-  pivot-listed rl vl size same = record {
-    size = record { columns_are = size.columns_are ∙ sym same.width_same; rows_are = size.rows_are ∙ sym same.height_same };
-    listed = λ i j il jl ne.
-        let il' : i < height old = subst (λ x. i < x) same.height_same il in
-        elim (nat_cases j v) [
-          | inl q ↦ subst (λ x. bit_in c x i ≡ true) (sym q) (in_column i il' (subst (λ x. entry now i x % p ≢ 0) q ne))
-          | inr apart ↦ elsewhere i j rl vl il' (subst (λ x. j < x) same.width_same jl) apart ne
-        ];
+  pub pivot-listed : r < m → v < n → HasSizeOf m n c → IsListed p m n now c
+  pivot-listed rl vl size = record {
+    size = size;
+    listed = λ i j il jl ne. elim (nat_cases j v) [
+      | inl q ↦ subst (λ x. bit_in c x i ≡ true) (sym q) (in_column i il (subst (λ x. now i x % p ≢ 0) q ne))
+      | inr apart ↦ elsewhere i j rl vl il jl apart ne
+    ];
   }
 
 -- ---- the next entry of a column
-module _ (p : ℕ) (a : Table) (b : Bits) (listed : IsListed p a b) (j : ℕ) (jl : j < a.width) where
-  unlisted : (i : ℕ) → i < height a → bit_in b j i ≡ false → not (eqb (entry a i j % p) 0) ≡ false
-  unlisted i il none = elim (nat_cases (entry a i j % p) 0) [
+module _ (p m n : ℕ) (a : ℕ → ℕ → ℕ) (b : Bits) (listed : IsListed p m n a b) (j : ℕ) (jl : j < n) where
+  unlisted : (i : ℕ) → i < m → bit_in b j i ≡ false → not (eqb (a i j % p) 0) ≡ false
+  unlisted i il none = elim (nat_cases (a i j % p) 0) [
     | inl z ↦ ap (λ x. not (eqb x 0)) z
     | inr some ↦ absurd (differ (sym none ∙ listed.listed i j il jl some))
   ]
@@ -142,13 +144,15 @@ module _ (p : ℕ) (a : Table) (b : Bits) (listed : IsListed p a b) (j : ℕ) (j
       differ e = cc
 
   -- there is none between two rows that follow each other in the list
-  pub none-between : (from at row : ℕ) → row ≤ height a → HasNone (λ i. not (eqb (entry a i j % p) 0)) from at → HasNone (bit_in b j) at row → HasNone (λ i. not (eqb (entry a i j % p) 0)) from row
+  pub none-between : (from at row : ℕ) → row ≤ m → HasNone (λ i. not (eqb (a i j % p) 0)) from at →
+      HasNone (bit_in b j) at row → HasNone (λ i. not (eqb (a i j % p) 0)) from row
   none-between from at row le before between i ge less = elim (lt_cases i at) [
     | inl l ↦ before i ge l
     | inr g ↦ unlisted i (omega arith) (between i g less)
   ]
 
-pub none-next : (test : ℕ → Bool) (from row : ℕ) → HasNone test from row → test row ≡ false → HasNone test from (row + 1)
+pub none-next : (test : ℕ → Bool) (from row : ℕ) → HasNone test from row → test row ≡ false →
+    HasNone test from (row + 1)
 none-next test from row before none i ge less = elim (nat_cases i row) [
   | inl q ↦ ap test q ∙ none
   | inr ne ↦ before i ge (omega arith)

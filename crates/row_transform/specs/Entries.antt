@@ -1,17 +1,17 @@
 -- In which rows the columns of a matrix have entries, kept as a row of bits for each column.
 use Rattle.std.specs.Prelude.{ℕ, ◌%◌, ◌<◌, ◌≡◌, ◌≢◌, ◌||◌, ◌&&◌, Bool, true, eqb, not}
 use Rattle.bit_table.specs.Bits.{Bits, bit_in}
-use Rattle.dense_q.specs.Tables.{Table, height, entry}
 
--- b has a row of bits for each column of a, and in it a bit for each row of a
-pub record HasSizeOf (a : Table) (b : Bits) : Type 0 where
-  pub columns_are : b.rows ≡ a.width
-  pub rows_are : b.size ≡ height a
+-- b has a row of bits for each of n columns, and in it a bit for each of m rows
+pub record HasSizeOf (m n : ℕ) (b : Bits) : Type 0 where
+  pub columns_are : b.rows ≡ n
+  pub rows_are : b.size ≡ m
 
--- the bit is set wherever a has an entry that is not zero modulo p; where it has none, the bit may be set too
-pub record IsListed (p : ℕ) (a : Table) (b : Bits) : Type 0 where
-  pub size : HasSizeOf a b
-  pub listed : (i j : ℕ) → i < height a → j < a.width → entry a i j % p ≢ 0 → bit_in b j i ≡ true
+-- a has m rows and n columns: the bit is set wherever a has an entry that is not zero modulo p; where it has none, the
+-- bit may be set too
+pub record IsListed (p m n : ℕ) (a : ℕ → ℕ → ℕ) (b : Bits) : Type 0 where
+  pub size : HasSizeOf m n b
+  pub listed : (i j : ℕ) → i < m → j < n → a i j % p ≢ 0 → bit_in b j i ≡ true
 
 -- c is b after a pivot of a, with m rows and n columns, at row r and column v: column v has row r alone,
 -- and each other column with an entry in row r got the rows of column v

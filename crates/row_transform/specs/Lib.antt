@@ -1,5 +1,4 @@
 pub mod Bases
-pub mod Transforms
 pub mod Tableaus
 pub mod Entries
 pub mod Dense

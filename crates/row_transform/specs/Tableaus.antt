@@ -4,6 +4,8 @@ use Rattle.linear_algebra.specs.Bases.{IsBase, IsBaseTaken, HasNoBase}
 use Rattle.linear_algebra.specs.Products.{product, identity, Agree, IsInverse}
 use Rattle.linear_algebra.specs.RowOperations.{IsPivoted}
 use Rattle.row_transform.specs.Bases.{IsBaseDropped}
+use Rattle.row_transform.specs.declared.tableau.Which.{Which}
+use Rattle.row_transform.specs.declared.tableau.Which.TheVariants.{S, U, P}
 use Rattle.dense_q.specs.Tables.{Table, height, entry}
 
 -- how many rows and columns there are; the matrices q, s, u and p; which columns are base columns, and the row of each
@@ -26,6 +28,21 @@ pub record IsTableau (modulus : ℕ) (t : State) : Type 0 where
 -- P has an entry in row r and column y that is not zero
 abbrev pub has_entry : ℕ → State → ℕ → ℕ → Bool
 has_entry modulus t r y = not (eqb (t.p r y % modulus) 0)
+
+-- the matrix, and how many columns it has
+abbrev pub matrix_of : Which → State → ℕ → ℕ → ℕ
+matrix_of S t = t.s
+matrix_of U t = t.u
+matrix_of P t = t.p
+
+abbrev pub width_of : Which → State → ℕ
+width_of S t = t.rows
+width_of U t = t.rows
+width_of P t = t.columns
+
+-- the matrix has an entry in row r and column y that is not zero
+abbrev pub has_entry_of : Which → State → ℕ → ℕ → Bool
+has_entry_of which t r y = not (eqb (matrix_of which t r y) 0)
 
 -- column y is the base column of row r
 pub record IsBaseColumn (t : State) (r y : ℕ) : Type 0 where

@@ -7,37 +7,36 @@ ghost use Rattle.row_transform.specs.Dense.{state_of};
 
 use crate::base::Base;
 use crate::entries::Entries;
-use crate::tableau::{Tableau, TableauParts};
-use crate::transform::Transform;
+use crate::tableau::{Tableau, TableauParts, Which};
 use dense_q::Mat;
 use out_of_memory::NoMemory;
 use residue_field::Field;
+use row_table::RowTable;
 use std::alloc::Global;
 use std::marker::Model;
 
-/// A tableau that keeps all entries of its matrices, and for each column the rows where P may have one that is not
-/// zero: a search of the exchange graph asks for the entries of a column at each of its looks, and most are zero.
+/// A tableau that keeps P and S in one table, in which pivots are put off, and for each column the rows where P may
+/// have an entry that is not zero: a search of the exchange graph asks for the entries of a column at each of its
+/// looks, and most are zero.
 #[derive(Drop)]
 pub struct DenseTableau<F: Field> {
-    transform: Transform<F>,
+    table: RowTable<F>,
     entries: Entries,
     base: Base,
 }
 
 impl<F: Field> Model for DenseTableau<F> {
+    ghost use Rattle.dense_q.specs.Tables.{height};
+    ghost use Rattle.row_table.specs.RowTables.{p_part};
     ghost use Rattle.row_transform.specs.Dense.{Dense, IsDense};
     ghost use Rattle.row_transform.specs.Entries.{IsListed};
 
     ghost Value = { Dense };
 
-    ghost view = { λ t. record { p = t.transform.p; s = t.transform.s; v = t.transform.v; base = t.base } };
+    ghost view = { λ t. record { table = t.table; base = t.base } };
 
-    ghost invariant = { λ t. IsDense F.modulus (record {
-      p = t.transform.p;
-      s = t.transform.s;
-      v = t.transform.v;
-      base = t.base;
-    }) × IsListed F.modulus t.transform.p t.entries.bits };
+    ghost invariant = { λ t. IsDense F.modulus (record { table = t.table; base = t.base })
+        × IsListed F.modulus (height t.table.q) t.table.q.width (p_part F.modulus t.table) t.entries.bits };
 }
 
 impl<F: Field> Tableau<F> for DenseTableau<F> {
@@ -45,22 +44,22 @@ impl<F: Field> Tableau<F> for DenseTableau<F> {
 
     fn open(alloc: Global, q: &Mat<F>) -> Result<Self, NoMemory> {
         Ok(DenseTableau {
-            transform: Transform::open(alloc, q)?,
+            table: RowTable::open(alloc, q)?,
             entries: Entries::of(alloc, q)?,
             base: Base::empty(alloc, q.rows(), q.cols())?,
         })
     }
 
     fn rows(&self) -> usize {
-        self.transform.rows()
+        self.table.rows()
     }
 
     fn columns(&self) -> usize {
-        self.transform.columns()
+        self.table.columns()
     }
 
     fn entry(&self, row: usize, col: usize) -> F {
-        let entry = self.transform.entry(row, col);
+        let entry = self.table.entry(row, col);
         entry.in_field();
         entry
     }
@@ -99,8 +98,8 @@ impl<F: Field> Tableau<F> for DenseTableau<F> {
     }
 
     fn pivot(&mut self, row: usize, col: usize) {
-        self.entries.pivot(&self.transform.p, row, col);
-        self.transform.pivot(row, col);
+        self.entries.pivot(&self.table, row, col);
+        self.table.pivot(row, col);
         self.base.take(row, col);
     }
 
@@ -108,11 +107,23 @@ impl<F: Field> Tableau<F> for DenseTableau<F> {
         self.base.leave(col);
     }
 
+    fn entry_of(&self, which: Which, row: usize, col: usize) -> F {
+        // there are at most 8,192 rows and columns, so that the sum fits
+        let (_rows, columns) = (self.rows(), self.columns());
+        let entry = match which {
+            Which::S => self.table.entry(row, columns + col),
+            Which::U => self.table.u_entry(row, col),
+            Which::P => self.table.entry(row, col),
+        };
+        entry.in_field();
+        entry
+    }
+
     fn parts(&self) -> Result<TableauParts<F>, NoMemory> {
         Ok(TableauParts {
-            s: self.transform.s.copy()?,
-            u: self.transform.v.transposed()?,
-            p: self.transform.p.copy()?,
+            s: self.table.s()?,
+            u: self.table.u()?,
+            p: self.table.p()?,
         })
     }
 }

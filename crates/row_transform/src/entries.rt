@@ -3,6 +3,7 @@
 ghost use Rattle.std.specs.Prelude.{◌≡◌, ◌≢◌, ℕ, ◌%◌, ◌<◌, ◌≤◌, true, IfOk, IfSome, IfNone};
 ghost use Rattle.number_ranges.specs.Ranges.{HasNone, IsLeast};
 ghost use Rattle.dense_q.specs.Tables.{height, entry};
+ghost use Rattle.row_table.specs.RowTables.{p_part};
 ghost use Rattle.bit_table.specs.Bits.{bit_in};
 ghost use Rattle.row_transform.specs.Entries.{HasSizeOf, IsListed, IsFilled};
 
@@ -10,6 +11,7 @@ use bit_table::BitTable;
 use dense_q::Mat;
 use out_of_memory::NoMemory;
 use residue_field::Field;
+use row_table::RowTable;
 use std::alloc::Global;
 
 // For each column of a matrix a list of rows: each row where the column has an entry that is not zero, and perhaps rows
@@ -22,7 +24,7 @@ pub(crate) struct Entries {
 impl Entries {
     // The entries of a matrix.
     pub(crate) fn of<F: Field>(alloc: Global, q: &Mat<F>) -> Result<Entries, NoMemory>
-        ensures { IfOk result (λ e. IsListed F.modulus q.now e.bits) }
+        ensures { IfOk result (λ e. IsListed F.modulus (height q.now) q.now.width (entry q.now) e.bits) }
     {
         let bits = BitTable::open(alloc, q.cols(), q.rows())?;
         let mut entries = Entries { bits };
@@ -35,8 +37,8 @@ impl Entries {
     // Lists the entries of a row.
     fn list_row<F: Field>(&mut self, q: &Mat<F>, row: usize)
         requires row { row < height q.now }
-        requires size { HasSizeOf q.now self.old.bits }
-        ensures size { HasSizeOf q.now self.new.bits }
+        requires size { HasSizeOf (height q.now) q.now.width self.old.bits }
+        ensures size { HasSizeOf (height q.now) q.now.width self.new.bits }
         ensures listed { (j : ℕ) → j < q.now.width → entry q.now row j % F.modulus ≢ 0 →
             bit_in self.new.bits j row ≡ true }
         ensures kept { (i j : ℕ) → i < height q.now → bit_in self.old.bits j i ≡ true →
@@ -61,16 +63,16 @@ impl Entries {
 
     // Lists what a pivot of P at a row and a column is about to make of the entries: it adds multiples of the row to
     // all rows with an entry in the column, and takes these entries away.
-    pub(crate) fn pivot<F: Field>(&mut self, p: &Mat<F>, row: usize, col: usize)
-        requires row { row < height p.now }
-        requires col { col < p.now.width }
-        requires size { HasSizeOf p.now self.old.bits }
-        ensures size { HasSizeOf p.now self.new.bits }
-        ensures filled { IsFilled (height p.now) p.now.width (entry p.now) (bit_in self.old.bits)
-            (bit_in self.new.bits) row col }
+    pub(crate) fn pivot<F: Field>(&mut self, table: &RowTable<F>, row: usize, col: usize)
+        requires row { row < height table.now.q }
+        requires col { col < table.now.q.width }
+        requires size { HasSizeOf (height table.now.q) table.now.q.width self.old.bits }
+        ensures size { HasSizeOf (height table.now.q) table.now.q.width self.new.bits }
+        ensures filled { IsFilled (height table.now.q) table.now.q.width (p_part F.modulus table.now)
+            (bit_in self.old.bits) (bit_in self.new.bits) row col }
     {
-        for other in 0..p.cols() {
-            if other != col && !p.get(row, other).is_zero() {
+        for other in 0..table.columns() {
+            if other != col && !table.entry(row, other).is_zero() {
                 self.bits.join(other, col);
             }
         }

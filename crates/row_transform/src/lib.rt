@@ -6,11 +6,7 @@ mod base;
 mod dense;
 mod entries;
 mod tableau;
-mod transform;
 
 pub use dense::DenseTableau;
 pub use out_of_memory::NoMemory;
-pub use tableau::{Tableau, TableauParts};
-
-#[cfg(test)]
-mod tests;
+pub use tableau::{Tableau, TableauParts, Which};

@@ -4,7 +4,7 @@ ghost use Rattle.std.specs.Prelude.{◌≡◌, ◌≢◌, ℕ, ◌<◌, ◌≤�
 ghost use Rattle.limits.specs.Limits.{column_limit};
 ghost use Rattle.number_ranges.specs.Ranges.{HasNone, IsLeast};
 ghost use Rattle.dense_q.specs.Tables.{height, entry};
-ghost use Rattle.row_transform.specs.Tableaus.{State, IsOpened, IsTableau, IsBare, IsBaseColumn, IsPivot, IsDrop, AreParts, has_entry};
+ghost use Rattle.row_transform.specs.Tableaus.{State, IsOpened, IsTableau, IsBare, IsBaseColumn, IsPivot, IsDrop, AreParts, has_entry, has_entry_of, matrix_of, width_of};
 ghost use Rattle.linear_algebra.specs.Columns.{IsCombination};
 
 use dense_q::Mat;
@@ -18,6 +18,14 @@ pub struct TableauParts<F: Field> {
     pub s: Mat<F>,
     pub u: Mat<F>,
     pub p: Mat<F>,
+}
+
+/// Which of the matrices of a tableau: S, its inverse U, or P.
+#[derive(Clone, Copy, PartialEq, Eq, Debug)]
+pub enum Which {
+    S,
+    U,
+    P,
 }
 
 /// Row operations on a matrix Q: P = S * Q for an invertible S. Some columns are base columns, each with a row of
@@ -87,6 +95,34 @@ pub trait Tableau<F: Field>: Drop {
         requires col { col < (state self.old).columns }
         requires base { (state self.old).base col ≡ true }
         ensures { IsDrop (state self.old) (state self.new) col };
+
+    /// The entry of one of the matrices.
+    fn entry_of(&self, which: Which, row: usize, col: usize) -> F
+        requires row { row < (state self.now).rows }
+        requires col { col < width_of which (state self.now) }
+        ensures { F.number result ≡ matrix_of which (state self.now) row col };
+
+    /// The first entry of a row of one of the matrices that is not zero, from column `from` on, and its column.
+    fn next_in_row(&self, which: Which, row: usize, from: usize) -> Option<(usize, F)>
+        requires row { row < (state self.now).rows }
+        ensures none { IfNone result (HasNone (has_entry_of which (state self.now) row) from
+            (width_of which (state self.now))) }
+        ensures least { IfSome result (λ e. IsLeast (has_entry_of which (state self.now) row) from
+            (width_of which (state self.now)) e.0) }
+        ensures entry { IfSome result (λ e. F.number e.1 ≡ matrix_of which (state self.now) row e.0) }
+    {
+        let width = match which {
+            Which::S | Which::U => self.rows(),
+            Which::P => self.columns(),
+        };
+        for col in from..width {
+            let entry = self.entry_of(which, row, col);
+            if !entry.is_zero() {
+                return Some((col, entry));
+            }
+        }
+        None
+    }
 
     /// The matrices S, U and P.
     fn parts(&self) -> Result<TableauParts<F>, NoMemory>

@@ -1,5 +1,6 @@
 -- The columns at which the rows of a part have entries.
-use Rattle.std.proofs.Common.{◌≡◌, ◌≢◌, ℕ, ◌<◌, ◌≤◌, ◌%◌, ◌⊎◌, ◌↔◌, Bool, true, false, eqb, cond, List, [], ◌∷◌, length, map, replicate, slice_index, slice_index_or, inl, inr, refl, sym, subst, arith}
+use Rattle.std.proofs.Common.{◌≡◌, ◌≢◌, ℕ, ◌<◌, ◌≤◌, ◌%◌, ◌⊎◌, ◌↔◌, Bool, true, false, eqb, cond, List, [], ◌∷◌}
+use Rattle.std.proofs.Common.{length, map, replicate, slice_index, slice_index_or, inl, inr, refl, sym, subst, arith}
 use Rattle.std.proofs.Math.Nat.{mod-le}
 use Rattle.std.proofs.lemmas.List.{get_or-map}
 use Rattle.residue_theory.proofs.SetLaws.{differ, not_true, either-first, either-second, eqb_false}

@@ -1,5 +1,6 @@
 -- What stands in the tails, by lists and by parts.
-use Rattle.std.proofs.Common.{◌≡◌, ◌≢◌, ℕ, suc, ◌+◌, ◌<◌, ◌%◌, ◌↔◌, true, eqb, List, [], ◌∷◌, ◌++◌, length, map, slice_index, slice_index_or, refl, ap, sym, subst, ◌∙◌, arith}
+use Rattle.std.proofs.Common.{◌≡◌, ◌≢◌, ℕ, suc, ◌+◌, ◌<◌, ◌%◌, ◌↔◌, true, eqb, List, [], ◌∷◌, ◌++◌, length, map}
+use Rattle.std.proofs.Common.{slice_index, slice_index_or, refl, ap, sym, subst, ◌∙◌, arith}
 use Rattle.std.proofs.lemmas.List.{get_or_push, get_or-map, length_push, length-map}
 use Rattle.residue_theory.proofs.SetLaws.{not_true, eqb_true, eqb_false}
 use Rattle.residue_theory.specs.Sets.{has}
@@ -37,7 +38,8 @@ module _ (n : ℕ) (one : List ℕ) (middle : List (List ℕ)) (last : List ℕ)
   pub last-place : (place_of lists x ≡ length middle + 1) ↔ (has last x ≡ true)
   last-place = (
     λ q. subst (λ list. has list x ≡ true) last-at (subst (λ k. has (slice_index_or lists k []) x ≡ true) (q ∙ sym (next (length middle))) place-held),
-    λ h. place-is n lists once x (suc (length middle)) low (within (length middle) (length (middle ++ last ∷ [])) (length_push middle last)) (subst (λ list. has list x ≡ true) (sym last-at) h) ∙ next (length middle),
+    λ h. place-is n lists once x (suc (length middle)) low (within (length middle) (length (middle ++ last ∷ []))
+        (length_push middle last)) (subst (λ list. has list x ≡ true) (sym last-at) h) ∙ next (length middle),
   )
     where
       within : (m l : ℕ) → l ≡ m + 1 → suc m < suc l
@@ -65,7 +67,9 @@ module _ (c : Contents) where
         let low : k < length c.s = subst (λ m. k < m) (sym is.s.count) kl in
         let test = entries-test p c.shape.q_rows (slice_index_or c.s k []) e (is.s.entries k [] low) in
         let row : row_of (map keys_of c.s) k ≡ keys_of (slice_index_or c.s k []) = get_or-map keys_of c.s k [] [] low in (
-          λ ne. subst (λ list. has list e ≡ true) (sym row) (test.0 (not-make (eqb (matrix_of c.s k e % p) 0) (not_true (eqb (matrix_of c.s k e % p) 0) (λ h. ne (eqb_true (matrix_of c.s k e % p) 0 h))))),
+          λ ne. subst (λ list. has list e ≡ true) (sym row)
+              (test.0 (not-make (eqb (matrix_of c.s k e % p) 0) (not_true (eqb (matrix_of c.s k e % p) 0)
+              (λ h. ne (eqb_true (matrix_of c.s k e % p) 0 h))))),
           λ h. eqb_false (matrix_of c.s k e % p) 0 (not-true (eqb (matrix_of c.s k e % p) 0) (test.1 (subst (λ list. has list e ≡ true) row h))),
         )
 

@@ -1,4 +1,5 @@
--- The sizes of the parts of a right form: where the rank of a model is its number of equations and of unknowns, each part has as many rows as columns.
+-- The sizes of the parts of a right form: where the rank of a model is its number of equations and of unknowns, each
+-- part has as many rows as columns.
 use Rattle.std.proofs.Common.{◌≡◌, ℕ, suc, ◌+◌, ◌<◌, ◌≤◌, ◌||◌, Bool, true, false, eqb, leb, not, length, inl, inr, refl, ap, sym, subst, ◌∙◌, arith}
 use Rattle.residue_theory.proofs.CountLaws.{levels, levels-all, size-everything}
 use Rattle.residue_theory.proofs.SetLaws.{le_cases}

@@ -43,7 +43,8 @@ columns-told n m columns list none marks clear are = members-as n n (λ i. marke
 
 -- the marked equations are those that the form tells
 module _ (layers : Layers) (c : Contents) (n : ℕ) (symbols used none first marks : List Bool) (size : height layers.q ≡ c.shape.q_rows)
-    (with_symbols : AreMarksOf n (IsItem layers.t_origins) symbols) (with_use : AreMarksOf c.shape.q_rows (IsUsedLast c) used) (clear : none ≡ replicate n false)
+    (with_symbols : AreMarksOf n (IsItem layers.t_origins) symbols) (with_use : AreMarksOf c.shape.q_rows
+    (IsUsedLast c) used) (clear : none ≡ replicate n false)
     (one : Marks (IsOfLast layers c) none first)
     (two : Marks (OfSome (length used) (λ e x. (slice_index layers.q_origins e ≡ x) × (marked used e ≡ true) × (marked symbols x ≡ false))) first marks) where
   abbrev MadeMarks : ℕ → Type 0
@@ -53,7 +54,11 @@ module _ (layers : Layers) (c : Contents) (n : ℕ) (symbols used none first mar
   made x (e, el, (at, u, s)) = (e, omega (arith, el, with_use.count, size), (at, (with_use.tells e).0 u, λ item. differ s ((with_symbols.tells x).1 item)))
 
   made-back : (x : ℕ) → IsMadeWith layers c x → MadeMarks x
-  made-back x (e, el, (at, u, none_of)) = (e, omega (arith, el, with_use.count, size), (at, (with_use.tells e).1 u, not_true (marked symbols x) (λ h. none_of ((with_symbols.tells x).0 h))))
+  made-back x (e, el, (at, u, none_of)) = (
+    e,
+    omega (arith, el, with_use.count, size),
+    (at, (with_use.tells e).1 u, not_true (marked symbols x) (λ h. none_of ((with_symbols.tells x).0 h))),
+  )
 
   marked-told : (x : ℕ) → (marked marks x ≡ true) ↔ IsToldSurplus layers c x
   marked-told x = (
@@ -76,9 +81,11 @@ module _ (p : ℕ) (layers : Layers) (c : Contents) (ok : AreLayers layers) (R :
   right-fits = record {
     q_rows = sym R.right.shape.q_rows;
     t_rows = sym R.right.shape.t_rows;
-    q_origins = All-from_get_or (λ x. x < c.shape.equations) layers.q_origins 0 (λ k kl. subst (λ m. slice_index layers.q_origins k < m) (sym R.right.shape.equations)
+    q_origins = All-from_get_or (λ x. x < c.shape.equations) layers.q_origins 0
+        (λ k kl. subst (λ m. slice_index layers.q_origins k < m) (sym R.right.shape.equations)
         (R.are.layered.q_rows.below k (omega (arith, kl, ok.q_origins))));
-    t_origins = All-from_get_or (λ x. x < c.shape.equations) layers.t_origins 0 (λ k kl. subst (λ m. slice_index layers.t_origins k < m) (sym R.right.shape.equations)
+    t_origins = All-from_get_or (λ x. x < c.shape.equations) layers.t_origins 0
+        (λ k kl. subst (λ m. slice_index layers.t_origins k < m) (sym R.right.shape.equations)
         (R.are.layered.t_rows.below k (omega (arith, kl, ok.t_origins))));
   }
 

@@ -1,7 +1,9 @@
 -- The rows of a step, and the steps that are put one after the other.
-use Rattle.std.proofs.Common.{◌≡◌, ℕ, ◌+◌, ◌-◌, ◌<◌, ◌≤◌, false, cond, List, [], ◌∷◌, ◌++◌, length, map, take, drop, get_or, slice_index, slice_index_or, inl, inr, refl, ap, sym, subst, ◌∙◌, arith}
+use Rattle.std.proofs.Common.{◌≡◌, ℕ, ◌+◌, ◌-◌, ◌<◌, ◌≤◌, false, cond, List, [], ◌∷◌, ◌++◌, length, map, take, drop}
+use Rattle.std.proofs.Common.{get_or, slice_index, slice_index_or, inl, inr, refl, ap, sym, subst, ◌∙◌, arith}
 use Rattle.std.specs.List.{All}
-use Rattle.std.proofs.lemmas.List.{append-nil, append_assoc, at_drop_more, get_or-map, get_or_append_left, get_or_push, length-map, length_push, map-append, take_more}
+use Rattle.std.proofs.lemmas.List.{append-nil, append_assoc, at_drop_more, get_or-map, get_or_append_left}
+use Rattle.std.proofs.lemmas.List.{get_or_push, length-map, length_push, map-append, take_more}
 use Rattle.residue_theory.proofs.SetLaws.{lt_cases}
 use Rattle.cert_text.specs.Contents.{Contents, numbered, numbered_rows}
 use Rattle.cert_text.specs.declared.part.CcfBlock.{CcfBlock}

@@ -63,7 +63,8 @@ module _ (p : ℕ) (prime : IsPrime p) (big : 2 < p) (M : MixedMatrix) (L : Laye
       let rows : c.shape.q_rows ≡ L.q_rows = R.shape.q_rows in
       let once : StandsOnce c.shape.q_rows (q_row_lists c) = subst (λ n. StandsOnce n (q_row_lists c)) (sym rows) kept.checked.q_rows in
       let told : ((k : ℕ) × (k < L.q_rows) × ((parts_of c).q_row k ≡ length c.blocks + 1) × (matrix_of c.s k e % p ≢ 0)) ↔ IsUsedLast c e =
-      subst (λ n. ((k : ℕ) × (k < n) × ((parts_of c).q_row k ≡ length c.blocks + 1) × (matrix_of c.s k e % p ≢ 0)) ↔ IsUsedLast c e) rows (used-told c p is e once) in (
+      subst (λ n. ((k : ℕ) × (k < n) × ((parts_of c).q_row k ≡ length c.blocks + 1)
+      × (matrix_of c.s k e % p ≢ 0)) ↔ IsUsedLast c e) rows (used-told c p is e once) in (
         λ h. told.0 (stays-used p prime L (matrix_of c.s) (matrix_of c.u) (tableau_of c) tab (parts_of c) kept.checked.below (lower_of c) rules e el
             (surplus-rho p prime big M (gives_q M) (has_symbol M) L O lay e el no_t h)),
         λ used. rho-surplus p prime big M (gives_q M) (has_symbol M) L O lay e el no_t
@@ -101,7 +102,8 @@ module _ (p : ℕ) (prime : IsPrime p) (big : 2 < p) (M : MixedMatrix) (layers :
         let item = has-some c.last.t_rows d ((t-law p prime big M (layered_matrix_of layers) O lay c is R d dl).0 (subst (λ y. IsSurplus p M y) (sym at) h)) in
         inl (item.0, item.1, subst (λ i. slice_index layers.t_origins i ≡ x) (sym item.2) (sym (of_t d) ∙ at))
     | inr (e, el, at, no_t) ↦
-        let used : IsUsedLast c e = (q-law p prime big M (layered_matrix_of layers) O lay c is R e el (subst (λ y. has_symbol M y ≡ false) (sym at) no_t)).0 (subst (λ y. IsSurplus p M y) (sym at) h) in
+        let used : IsUsedLast c e = (q-law p prime big M (layered_matrix_of layers) O lay c is R e el
+        (subst (λ y. has_symbol M y ≡ false) (sym at) no_t)).0 (subst (λ y. IsSurplus p M y) (sym at) h) in
         inr (e, el, (sym (of_q e) ∙ at, used, λ item. differ no_t (item-symbol x item)))
   ]
 

@@ -25,7 +25,8 @@ filled p first (next ∷ seen) entry rest rises = filled p (next.column + 1) see
 abbrev pub HasConstants : List RowEntry → List (ℕ × ℕ) → Type 0
 HasConstants row entries = (j : ℕ) → entry_at entries j ≡ unwrap_or (constant_in row j) 0
 
-module _ (p columns : ℕ) (row seen : List RowEntry) (entry : RowEntry) (rest : List RowEntry) (is_row : IsRow p row) (within : IsWithin columns row) (split : row ≡ seen ++ entry ∷ rest)
+module _ (p columns : ℕ) (row seen : List RowEntry) (entry : RowEntry) (rest : List RowEntry) (is_row : IsRow p row)
+    (within : IsWithin columns row) (split : row ≡ seen ++ entry ∷ rest)
     (entries : List (ℕ × ℕ)) (are : AreEntries p columns entries) (same : HasConstants seen entries) where
   rises : IsRow p (seen ++ entry ∷ rest)
   rises = subst (IsRow p) split is_row
@@ -34,7 +35,9 @@ module _ (p columns : ℕ) (row seen : List RowEntry) (entry : RowEntry) (rest :
   before k kl = ⊎_elim
       (λ low. low)
       (λ high.
-      let nothing : unwrap_or (constant_in seen (get_or entries k (0, 0)).0) 0 ≡ 0 = ap (λ x. unwrap_or (constant_at_place x) 0) (entry_in-lower p 0 seen entry rest rises (get_or entries k (0, 0)).0 high) in
+      let nothing : unwrap_or (constant_in seen (get_or entries k (0, 0)).0) 0 ≡ 0 =
+      ap (λ x. unwrap_or (constant_at_place x) 0) (entry_in-lower p 0 seen entry rest rises
+      (get_or entries k (0, 0)).0 high) in
       let some = entry_at-some entries (λ i il. (are.within i (0, 0) il).1) k kl in
       absurd (omega (arith, some, same (get_or entries k (0, 0)).0, nothing)))
       (cases_lt (get_or entries k (0, 0)).0 entry.column)
@@ -43,7 +46,9 @@ module _ (p columns : ℕ) (row seen : List RowEntry) (entry : RowEntry) (rest :
   pub entered-are : (constant : ℕ) → entry.constant ≡ Some constant → AreEntries p columns (entries ++ (entry.column, constant) ∷ [])
   entered-are constant is =
       let entry_is = filled p 0 seen entry rest rises in
-      entries-push p columns entry.column constant entries are before (entry_within p row seen entry rest is_row split columns within) (entry_is.positive constant is) (entry_is.residue constant is)
+      entries-push p columns entry.column constant entries are before
+      (entry_within p row seen entry rest is_row split columns within) (entry_is.positive constant is)
+      (entry_is.residue constant is)
 
   pub entered-same : (constant : ℕ) → entry.constant ≡ Some constant → HasConstants (seen ++ entry ∷ []) (entries ++ (entry.column, constant) ∷ [])
   entered-same constant is j =
@@ -55,12 +60,14 @@ module _ (p : ℕ) (model : MixedModel) (is : IsModel p model) (equation : ℕ) 
     (entries : List (ℕ × ℕ)) (are : AreEntries p (length model.unknowns) entries) (same : (j : ℕ) → entry_at entries j ≡ constant_at model equation j) where
   -- the row of a split equation has 1 at its auxiliary column
   pub row-split : 1 < p → (place : ℕ) → IsStrictlyIncreasing split → StandsIn split equation place →
-      PrintsRow p (length model.unknowns + length split) (constant_place (mixed_matrix_of model) split equation) (entries ++ (length model.unknowns + place, 1) ∷ [])
+      PrintsRow p (length model.unknowns + length split) (constant_place (mixed_matrix_of model) split equation)
+      (entries ++ (length model.unknowns + place, 1) ∷ [])
   row-split big place rising stands =
       let low = entries-before p (length model.unknowns) (length model.unknowns + place) entries are (omega arith) in
       record {
         are = entries-push p (length model.unknowns + length split) (length model.unknowns + place) 1 entries
-            (entries-wider p (length model.unknowns) (length model.unknowns + length split) entries are (omega arith)) low (omega (arith, stands.within)) (omega arith) big;
+            (entries-wider p (length model.unknowns) (length model.unknowns + length split) entries are
+            (omega arith)) low (omega (arith, stands.within)) (omega arith) big;
         same = λ j jl.
             entry_at-push entries (length model.unknowns + place) 1 low j
             ∙ ap (λ x. cond (eqb (length model.unknowns + place) j) 1 x) (same j)

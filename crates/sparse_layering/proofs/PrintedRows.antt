@@ -14,7 +14,8 @@ numbered_rows-push : {T : Type 0} (number : T → ℕ) (rows : List (List (ℕ �
 numbered_rows-push number rows entries = map-append (numbered number) rows (entries ∷ [])
 
 -- the next row of a matrix
-pub matrix-push : (p m n : ℕ) (matrix : ℕ → ℕ → ℕ) (rows : List (List (ℕ × ℕ))) (entries : List (ℕ × ℕ)) → PrintsMatrix p m n matrix rows → PrintsRow p n (matrix m) entries →
+pub matrix-push : (p m n : ℕ) (matrix : ℕ → ℕ → ℕ) (rows : List (List (ℕ × ℕ))) (entries : List (ℕ × ℕ)) →
+    PrintsMatrix p m n matrix rows → PrintsRow p n (matrix m) entries →
     PrintsMatrix p (m + 1) n matrix (rows ++ entries ∷ [])
 matrix-push p m n matrix rows entries prints next = record {
   is = record {
@@ -42,4 +43,11 @@ rows-push number p m n matrix rows entries prints next =
 
 -- no row of a matrix
 pub matrix-none : {T : Type 0} (number : T → ℕ) (p n : ℕ) (matrix : ℕ → ℕ → ℕ) → PrintsMatrix p 0 n matrix (numbered_rows number [])
-matrix-none number p n matrix = record { is = record { count = refl; entries = λ k d kl. absurd (omega (arith, kl)) }; same = λ i j il. absurd (omega (arith, il)) }
+matrix-none number p n matrix = record {
+  is = record {
+    count = refl;
+    entries =
+        λ k d kl. absurd (omega (arith, kl));
+  };
+  same = λ i j il. absurd (omega (arith, il));
+}

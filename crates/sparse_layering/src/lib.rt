@@ -8,6 +8,3 @@ mod rows;
 pub use layering::layer_rows;
 pub use out_of_memory::NoMemory;
 pub use rows::LayerRows;
-
-#[cfg(test)]
-mod tests;

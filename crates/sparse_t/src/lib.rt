@@ -7,6 +7,3 @@ mod pattern;
 
 pub use out_of_memory::NoMemory;
 pub use pattern::Pattern;
-
-#[cfg(test)]
-mod tests;

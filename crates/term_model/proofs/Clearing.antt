@@ -31,7 +31,11 @@ free-split T B (t ∷ ts) apart free = (
 
 pub free-append : (B xs ys : List Term) → AreFree B xs → AreFree (B ++ xs) ys → AreFree B (xs ++ ys)
 free-append B [] ys first second = subst (λ before. AreFree before ys) (append-nil B) second
-free-append B (x ∷ xs) ys first second = (first.0, free-append (B ++ x ∷ []) xs ys first.1 (subst (λ before. AreFree before ys) (sym (append_assoc B (x ∷ []) xs)) second))
+free-append B (x ∷ xs) ys first second = (
+  first.0,
+  free-append (B ++ x ∷ []) xs ys first.1
+      (subst (λ before. AreFree before ys) (sym (append_assoc B (x ∷ []) xs)) second),
+)
 
 -- a term stands at another place than another
 abbrev pub Clear : Term → Term → Type 0
@@ -49,13 +53,15 @@ clears-free xs [] all = tt
 clears-free xs (y ∷ ys) all = (free-all xs y all.0, clears-free xs ys all.1)
 
 pub joined : (xs ys : List Term) → AreFree [] xs → AreFree [] ys → Clears xs ys → AreFree [] (xs ++ ys)
-joined xs ys first second clear = free-append [] xs ys first (subst (λ before. AreFree before ys) (append-nil xs) (free-split xs [] ys (clears-free xs ys clear) second))
+joined xs ys first second clear = free-append [] xs ys first (subst (λ before. AreFree before ys) (append-nil xs)
+    (free-split xs [] ys (clears-free xs ys clear) second))
 
 pub clear-equation : (x y : Term) (e f : List ℕ) → x.equation ≡ e → y.equation ≡ f → bytes_eq f e ≡ false → Clear x y
 clear-equation x y e f is_x is_y other = (λ t. bytes_eq (is_y t) (is_x t) && bytes_eq y.unknown x.unknown) ∙ ap (λ b. b && bytes_eq y.unknown x.unknown) other
 
 pub clear-unknown : (x y : Term) (u v : List ℕ) → x.unknown ≡ u → y.unknown ≡ v → bytes_eq v u ≡ false → Clear x y
-clear-unknown x y u v is_x is_y other = (λ t. bytes_eq y.equation x.equation && bytes_eq (is_y t) (is_x t)) ∙ ap (λ b. bytes_eq y.equation x.equation && b) other ∙ and_false (bytes_eq y.equation x.equation)
+clear-unknown x y u v is_x is_y other = (λ t. bytes_eq y.equation x.equation && bytes_eq (is_y t) (is_x t))
+    ∙ ap (λ b. bytes_eq y.equation x.equation && b) other ∙ and_false (bytes_eq y.equation x.equation)
 
 pub clears-one : (P : Term → Type 0) (y : Term) → ((x : Term) → P x → Clear x y) → (xs : List Term) → AllByRecursion P xs → AllByRecursion (λ x. Clear x y) xs
 clears-one P y clear [] all = tt

@@ -25,17 +25,22 @@ differ x y name other names others not_same = by (bytes_eq x y) refl
         let told : name ≡ other = sym names ∙ ap (after_first is_point) same ∙ others in
         let both : true ≡ false = sym ((bytes_eq-Decides name other).1 told) ∙ not_same in absurd cc
 
-pub not_among : (x name other : List ℕ) (words : List (List ℕ)) → Dotted words → after_first is_point x ≡ name → bytes_eq name other ≡ false → has_name (map (λ word. dotted word other) words) x ≡ false
+pub not_among : (x name other : List ℕ) (words : List (List ℕ)) → Dotted words → after_first is_point x ≡ name →
+    bytes_eq name other ≡ false → has_name (map (λ word. dotted word other) words) x ≡ false
 not_among x name other [] good names not_same = refl
 not_among x name other (word ∷ words) good names not_same =
     rw (differ x (dotted word other) name other names (good.0 other) not_same) (not_among x name other words good.1 names not_same)
 
 -- a name that is new is so behind a word
-pub dotted-new : (word : List ℕ) → ((name : List ℕ) → after_first is_point (dotted word name) ≡ name) → (names : List (List ℕ)) (name : List ℕ) → has_name names name ≡ false → has_name (map (dotted word) names) (dotted word name) ≡ false
+pub dotted-new : (word : List ℕ) → ((name : List ℕ) → after_first is_point (dotted word name) ≡ name) →
+    (names : List (List ℕ)) (name : List ℕ) → has_name names name ≡ false → has_name (map (dotted word) names)
+    (dotted word name) ≡ false
 dotted-new word good [] name new = refl
 dotted-new word good (other ∷ names) name new = by (bytes_eq name other) refl new (λ rest. dotted-new word good names name rest)
   where
-    by : (b : Bool) → bytes_eq name other ≡ b → (b || has_name names name) ≡ false → (has_name names name ≡ false → has_name (map (dotted word) names) (dotted word name) ≡ false) → has_name (map (dotted word) (other ∷ names)) (dotted word name) ≡ false
+    by : (b : Bool) → bytes_eq name other ≡ b → (b || has_name names name) ≡ false →
+        (has_name names name ≡ false → has_name (map (dotted word) names) (dotted word name) ≡ false) →
+        has_name (map (dotted word) (other ∷ names)) (dotted word name) ≡ false
     by true p none more = let f : ⊥ = cc in absurd f
     by false p none more = rw (differ (dotted word name) (dotted word other) name other (good name) (good other) p) (more none)
 
@@ -53,18 +58,22 @@ apart word x y is other = by (bytes_eq x y) refl
         let told : word ≡ before_first is_point y = sym is ∙ ap (before_first is_point) ((bytes_eq-Decides x y).0 p) in
         let both : true ≡ false = sym ((bytes_eq-Decides word (before_first is_point y)).1 told) ∙ other in absurd cc
 
-pub apart-among : (word x other : List ℕ) (words : List (List ℕ)) → Apart word words → before_first is_point x ≡ word → has_name (map (λ word. dotted word other) words) x ≡ false
+pub apart-among : (word x other : List ℕ) (words : List (List ℕ)) → Apart word words → before_first is_point x ≡ word →
+    has_name (map (λ word. dotted word other) words) x ≡ false
 apart-among word x other [] good is = refl
 apart-among word x other (next ∷ words) good is =
     rw (apart word x (dotted next other) is (good.0 other)) (apart-among word x other words good.1 is)
 
 -- names that differ do so behind a word
-pub dotted-differ : (word : List ℕ) → ((name : List ℕ) → after_first is_point (dotted word name) ≡ name) → (names : List (List ℕ)) → Differ names → Differ (map (dotted word) names)
+pub dotted-differ : (word : List ℕ) → ((name : List ℕ) → after_first is_point (dotted word name) ≡ name) →
+    (names : List (List ℕ)) → Differ names → Differ (map (dotted word) names)
 dotted-differ word good [] differ = tt
 dotted-differ word good (name ∷ names) differ = (dotted-new word good names name differ.0, dotted-differ word good names differ.1)
 
 -- and are none of others of which none has this word
-pub dotted-apart : (word : List ℕ) (others : List (List ℕ)) → ((name : List ℕ) → has_name others (dotted word name) ≡ false) → (names : List (List ℕ)) → AllByRecursion (λ x. has_name others x ≡ false) (map (dotted word) names)
+pub dotted-apart : (word : List ℕ) (others : List (List ℕ)) →
+    ((name : List ℕ) → has_name others (dotted word name) ≡ false) → (names : List (List ℕ)) →
+    AllByRecursion (λ x. has_name others x ≡ false) (map (dotted word) names)
 dotted-apart word others apart [] = tt
 dotted-apart word others apart (name ∷ names) = (apart name, dotted-apart word others apart names)
 
@@ -73,6 +82,8 @@ abbrev pub MayStand : List ℕ → Type 0
 MayStand name = IsTrue (is_label name)
 
 -- parts behind a good word may
-pub dotted-labels : (word : List ℕ) → is_good word ≡ true → (P : List ℕ → Type 0) → ((name : List ℕ) → P name → IsPart name) → (names : List (List ℕ)) → AllByRecursion P names → AllByRecursion MayStand (map (dotted word) names)
+pub dotted-labels : (word : List ℕ) → is_good word ≡ true → (P : List ℕ → Type 0) →
+    ((name : List ℕ) → P name → IsPart name) → (names : List (List ℕ)) → AllByRecursion P names →
+    AllByRecursion MayStand (map (dotted word) names)
 dotted-labels word good P part names all =
     all-map P MayStand (dotted word) names (λ name is. dotted-label word name (good-words (word ∷ []) (ap (λ b. b && true) good)).0 (part name is)) all

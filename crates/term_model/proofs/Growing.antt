@@ -1,5 +1,6 @@
 -- What terms say of a model that grows by an equation or by an unknown.
-use Rattle.std.proofs.Common.{◌≡◌, ℕ, ◌<◌, ◌≤◌, Bool, true, false, ◌&&◌, List, [], ◌∷◌, ◌++◌, All, length, get_or, None, unwrap_or, refl, sym, ap, subst, ◌∙◌, arith, ⊎_elim, length-append}
+use Rattle.std.proofs.Common.{◌≡◌, ℕ, ◌<◌, ◌≤◌, Bool, true, false, ◌&&◌, List, [], ◌∷◌, ◌++◌, All, length, get_or}
+use Rattle.std.proofs.Common.{None, unwrap_or, refl, sym, ap, subst, ◌∙◌, arith, ⊎_elim, length-append}
 use Rattle.std.specs.List.{AllByRecursion}
 use Rattle.std.specs.Str.{bytes_eq}
 use Rattle.std.proofs.lemmas.Bool.{cases_lt}
@@ -29,16 +30,21 @@ and_false true = refl
 and_false false = refl
 
 -- terms with their equations among some leave another equation free, and so it is with unknowns
-pub equation-free : (names : List (List ℕ)) (terms : List Term) (equation unknown : List ℕ) → has_name names equation ≡ false → AllByRecursion (λ (term : Term). has_name names term.equation ≡ true) terms → IsFree terms equation unknown
+pub equation-free : (names : List (List ℕ)) (terms : List Term) (equation unknown : List ℕ) →
+    has_name names equation ≡ false → AllByRecursion (λ (term : Term). has_name names term.equation ≡ true) terms →
+    IsFree terms equation unknown
 equation-free names [] equation unknown new all = refl
 equation-free names (term ∷ terms) equation unknown new all =
     let here : stands_at equation unknown term ≡ false = ap (λ b. b && bytes_eq unknown term.unknown) (new_other names equation term.equation new all.0) in
     rw here (equation-free names terms equation unknown new all.1)
 
-unknown-free : (names : List (List ℕ)) (terms : List Term) (equation unknown : List ℕ) → has_name names unknown ≡ false → AllByRecursion (λ (term : Term). has_name names term.unknown ≡ true) terms → IsFree terms equation unknown
+unknown-free : (names : List (List ℕ)) (terms : List Term) (equation unknown : List ℕ) →
+    has_name names unknown ≡ false → AllByRecursion (λ (term : Term). has_name names term.unknown ≡ true) terms →
+    IsFree terms equation unknown
 unknown-free names [] equation unknown new all = refl
 unknown-free names (term ∷ terms) equation unknown new all =
-    let here : stands_at equation unknown term ≡ false = ap (λ b. bytes_eq equation term.equation && b) (new_other names unknown term.unknown new all.0) ∙ and_false (bytes_eq equation term.equation) in
+    let here : stands_at equation unknown term ≡ false = ap (λ b. bytes_eq equation term.equation && b)
+    (new_other names unknown term.unknown new all.0) ∙ and_false (bytes_eq equation term.equation) in
     rw here (unknown-free names terms equation unknown new all.1)
 
 -- a place past the last row or the last column has no entry
@@ -49,7 +55,9 @@ entry-beyond p model is i j beyond = ⊎_elim
     (cases_lt i (length model.rows))
 
 -- the new equation has nothing
-module _ (p : ℕ) (terms : List Term) (old : MixedModel) (name : List ℕ) (says : Says p terms old) (among : All (λ (term : Term). has_name old.equations term.equation ≡ true) terms) (absent : has_name old.equations name ≡ false) (is : IsModel p old) where
+module _ (p : ℕ) (terms : List Term) (old : MixedModel) (name : List ℕ) (says : Says p terms old)
+    (among : All (λ (term : Term). has_name old.equations term.equation ≡ true) terms)
+    (absent : has_name old.equations name ≡ false) (is : IsModel p old) where
   free : (unknown : List ℕ) → IsFree terms name unknown
   free unknown = equation-free old.equations terms name unknown absent (at_all (λ (term : Term). has_name old.equations term.equation ≡ true) terms among)
 
@@ -89,7 +97,9 @@ module _ (p : ℕ) (terms : List Term) (old : MixedModel) (name : List ℕ) (say
   says-equation new grown = subst (Says p terms) (sym grown) with_equation-says
 
 -- the new unknown stands nowhere
-module _ (p : ℕ) (terms : List Term) (old : MixedModel) (name : List ℕ) (says : Says p terms old) (among : All (λ (term : Term). has_name old.unknowns term.unknown ≡ true) terms) (absent : has_name old.unknowns name ≡ false) (is : IsModel p old) where
+module _ (p : ℕ) (terms : List Term) (old : MixedModel) (name : List ℕ) (says : Says p terms old)
+    (among : All (λ (term : Term). has_name old.unknowns term.unknown ≡ true) terms)
+    (absent : has_name old.unknowns name ≡ false) (is : IsModel p old) where
   clear : (equation : List ℕ) → IsFree terms equation name
   clear equation = unknown-free old.unknowns terms equation name absent (at_all (λ (term : Term). has_name old.unknowns term.unknown ≡ true) terms among)
 

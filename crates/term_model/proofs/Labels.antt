@@ -1,5 +1,6 @@
 -- Names of nodes and of devices, behind a word and a point, may stand in a model.
-use Rattle.std.proofs.Common.{◌≡◌, ℕ, ◌+◌, ◌≤◌, Bool, true, false, not, ◌&&◌, ◌||◌, IsTrue, List, [], ◌∷◌, ◌++◌, length, codes, nat_eq, refl, ap, ◌∙◌, arith, length-append, leb}
+use Rattle.std.proofs.Common.{◌≡◌, ℕ, ◌+◌, ◌≤◌, Bool, true, false, not, ◌&&◌, ◌||◌, IsTrue, List, [], ◌∷◌, ◌++◌}
+use Rattle.std.proofs.Common.{length, codes, nat_eq, refl, ap, ◌∙◌, arith, length-append, leb}
 use Rattle.std.specs.List.{AllByRecursion, list_all}
 use Rattle.std.proofs.lemmas.Bool.Decides.{nat_tests}
 use Rattle.std.proofs.lemmas.List.Folds.{list_all-append}
@@ -19,7 +20,9 @@ pub all_solid : (bytes : List ℕ) → list_all continues_name bytes ≡ true �
 all_solid [] h = refl
 all_solid (byte ∷ bytes) h = by (continues_name byte) refl h (λ rest. all_solid bytes rest)
   where
-    by : (b : Bool) → continues_name byte ≡ b → (b && list_all continues_name bytes) ≡ true → (list_all continues_name bytes ≡ true → list_all is_solid bytes ≡ true) → list_all is_solid (byte ∷ bytes) ≡ true
+    by : (b : Bool) → continues_name byte ≡ b → (b && list_all continues_name bytes) ≡ true →
+        (list_all continues_name bytes ≡ true → list_all is_solid bytes ≡ true) →
+        list_all is_solid (byte ∷ bytes) ≡ true
     by true e rest more = rw (solid_continue byte e) (more rest)
     by false e rest more = let f : ⊥ = cc in absurd f
 
@@ -69,11 +72,13 @@ pub record IsWord (word : List ℕ) : Type 0 where
 
 pub dotted-label : (word name : List ℕ) → IsWord word → IsPart name → IsTrue (is_label (dotted word name))
 dotted-label word name good part =
-    let long : length (dotted word name) ≡ length word + 1 + length name = length-append (word ++ codes ".") name ∙ ap (λ n. n + length name) (length-append word (codes ".")) in
+    let long : length (dotted word name) ≡ length word + 1 + length name = length-append (word ++ codes ".") name
+    ∙ ap (λ n. n + length name) (length-append word (codes ".")) in
     let some : leb 1 (length (dotted word name)) ≡ true = le-leb 1 (length (dotted word name)) (omega (arith, long)) in
     let few : leb (length (dotted word name)) 96 ≡ true = le-leb (length (dotted word name)) 96 (omega (arith, long, good.short, part.short)) in
     let word_solid : list_all is_solid (word ++ codes ".") ≡ true = list_all-append is_solid word (codes ".") ∙ ap (λ b. b && true) good.solid in
-    let solid : list_all is_solid (dotted word name) ≡ true = list_all-append is_solid (word ++ codes ".") name ∙ (λ t. word_solid t && all_solid name part.bytes t) in
+    let solid : list_all is_solid (dotted word name) ≡ true = list_all-append is_solid (word ++ codes ".") name
+    ∙ (λ t. word_solid t && all_solid name part.bytes t) in
     (λ t. some t && few t && solid t)
 
 -- a test of a word
@@ -84,7 +89,9 @@ pub good-words : (words : List (List ℕ)) → list_all is_good words ≡ true �
 good-words [] good = tt
 good-words (word ∷ words) good = by (list_all is_solid word) refl (leb (length word) 8) refl good (good-words words)
   where
-    by : (a : Bool) → list_all is_solid word ≡ a → (b : Bool) → leb (length word) 8 ≡ b → ((a && b) && list_all is_good words) ≡ true → (list_all is_good words ≡ true → AllByRecursion IsWord words) → AllByRecursion IsWord (word ∷ words)
+    by : (a : Bool) → list_all is_solid word ≡ a → (b : Bool) → leb (length word) 8 ≡ b →
+        ((a && b) && list_all is_good words) ≡ true → (list_all is_good words ≡ true → AllByRecursion IsWord words) →
+        AllByRecursion IsWord (word ∷ words)
     by false e b f all more = let g : ⊥ = cc in absurd g
     by true e false f all more = let g : ⊥ = cc in absurd g
     by true e true f all more = (record { solid = e; short = leb-true (length word) 8 f }, more all)

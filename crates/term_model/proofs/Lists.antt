@@ -13,13 +13,16 @@ pub all-append : {X : Type 0} (P : X → Type 0) (xs ys : List X) → AllByRecur
 all-append P [] ys first second = second
 all-append P (x ∷ xs) ys first second = (first.0, all-append P xs ys first.1 second)
 
-pub all-map : {X Y : Type 0} (P : X → Type 0) (Q : Y → Type 0) (f : X → Y) (xs : List X) → ((x : X) → P x → Q (f x)) → AllByRecursion P xs → AllByRecursion Q (map f xs)
+pub all-map : {X Y : Type 0} (P : X → Type 0) (Q : Y → Type 0) (f : X → Y) (xs : List X) → ((x : X) → P x → Q (f x)) →
+    AllByRecursion P xs → AllByRecursion Q (map f xs)
 all-map P Q f [] follows all = tt
 all-map P Q f (x ∷ xs) follows all = (follows x all.0, all-map P Q f xs follows all.1)
 
-pub all-flat_map : {X Y : Type 0} (P : X → Type 0) (Q : Y → Type 0) (f : X → List Y) (xs : List X) → ((x : X) → P x → AllByRecursion Q (f x)) → AllByRecursion P xs → AllByRecursion Q (flat_map f xs)
+pub all-flat_map : {X Y : Type 0} (P : X → Type 0) (Q : Y → Type 0) (f : X → List Y) (xs : List X) →
+    ((x : X) → P x → AllByRecursion Q (f x)) → AllByRecursion P xs → AllByRecursion Q (flat_map f xs)
 all-flat_map P Q f [] follows all = tt
-all-flat_map P Q f (x ∷ xs) follows all = subst (AllByRecursion Q) (sym (flat_map-cons f x xs)) (all-append Q (f x) (flat_map f xs) (follows x all.0) (all-flat_map P Q f xs follows all.1))
+all-flat_map P Q f (x ∷ xs) follows all = subst (AllByRecursion Q) (sym (flat_map-cons f x xs))
+    (all-append Q (f x) (flat_map f xs) (follows x all.0) (all-flat_map P Q f xs follows all.1))
 
 pub all-filter : {X : Type 0} (P : X → Type 0) (test : X → Bool) (xs : List X) → AllByRecursion P xs → AllByRecursion P (filter test xs)
 all-filter P test [] all = tt
@@ -46,7 +49,9 @@ differs-all : (name : List ℕ) (names : List (List ℕ)) → has_name names nam
 differs-all name [] none = tt
 differs-all name (other ∷ names) none = by (bytes_eq name other) refl none (differs-all name names)
   where
-    by : (b : Bool) → bytes_eq name other ≡ b → (b || has_name names name) ≡ false → (has_name names name ≡ false → AllByRecursion (λ other. bytes_eq name other ≡ false) names) → AllByRecursion (λ other. bytes_eq name other ≡ false) (other ∷ names)
+    by : (b : Bool) → bytes_eq name other ≡ b → (b || has_name names name) ≡ false →
+        (has_name names name ≡ false → AllByRecursion (λ other. bytes_eq name other ≡ false) names) →
+        AllByRecursion (λ other. bytes_eq name other ≡ false) (other ∷ names)
     by true e none more = let f : ⊥ = cc in absurd f
     by false e none more = (e, more none)
 
@@ -61,7 +66,12 @@ differ-distinct (name ∷ names) differ = IsDistinct-cons bytes_eq name names (d
 
 pub distinct-differ : (names : List (List ℕ)) → IsDistinct bytes_eq names → Differ names
 distinct-differ [] distinct = tt
-distinct-differ (name ∷ names) distinct = (all-differs name names (IsDistinct-head bytes_eq name names distinct), distinct-differ names (IsDistinct-tail bytes_eq name names distinct))
+distinct-differ (name ∷ names) distinct = (
+  all-differs name names
+      (IsDistinct-head bytes_eq name names distinct),
+  distinct-differ names
+      (IsDistinct-tail bytes_eq name names distinct),
+)
 
 -- two lists, of which no name of the first is in the second
 pub differ-append : (xs ys : List (List ℕ)) → Differ xs → Differ ys → AllByRecursion (λ x. has_name ys x ≡ false) xs → Differ (xs ++ ys)

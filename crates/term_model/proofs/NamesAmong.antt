@@ -12,7 +12,9 @@ pub has-map : (f : List ℕ → List ℕ) (names : List (List ℕ)) (name : List
 has-map f [] name there = let g : ⊥ = cc in absurd g
 has-map f (other ∷ names) name there = by (bytes_eq name other) refl there (has-map f names name)
   where
-    by : (b : Bool) → bytes_eq name other ≡ b → (b || has_name names name) ≡ true → (has_name names name ≡ true → has_name (map f names) (f name) ≡ true) → has_name (map f (other ∷ names)) (f name) ≡ true
+    by : (b : Bool) → bytes_eq name other ≡ b → (b || has_name names name) ≡ true →
+        (has_name names name ≡ true → has_name (map f names) (f name) ≡ true) → has_name (map f (other ∷ names))
+        (f name) ≡ true
     by true e there more = ap (λ b. b || has_name (map f names) (f name)) ((bytes_eq-Decides (f name) (f other)).1 (ap f ((bytes_eq-Decides name other).0 e)))
     by false e there more = (λ t. bytes_eq (f name) (f other) || more there t) ∙ or-true (bytes_eq (f name) (f other))
 
@@ -42,6 +44,10 @@ pub seen-there : (seen names : List (List ℕ)) (name : List ℕ) → has_name n
 seen-there seen [] name there = let g : ⊥ = cc in absurd g
 seen-there seen (new ∷ names) name there = by (bytes_eq name new) refl there (seen-there (see seen new) names name)
   where
-    by : (b : Bool) → bytes_eq name new ≡ b → (b || has_name names name) ≡ true → (has_name names name ≡ true → has_name (fold see (see seen new) names) name ≡ true) → has_name (fold see seen (new ∷ names)) name ≡ true
-    by true e there more = seen-before (see seen new) names name (subst (λ other. has_name (see seen other) name ≡ true) ((bytes_eq-Decides name new).0 e) (seen-now seen name))
+    by : (b : Bool) → bytes_eq name new ≡ b → (b || has_name names name) ≡ true →
+        (has_name names name ≡ true → has_name (fold see (see seen new) names) name ≡ true) →
+        has_name (fold see seen (new ∷ names)) name ≡ true
+    by true e there more = seen-before (see seen new) names name
+        (subst (λ other. has_name (see seen other) name ≡ true) ((bytes_eq-Decides name new).0 e)
+        (seen-now seen name))
     by false e there more = more there

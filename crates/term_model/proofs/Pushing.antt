@@ -6,7 +6,8 @@ use Rattle.std.proofs.lemmas.Grind.{flat_map-append}
 use Rattle.std.proofs.lemmas.List.Concat.{flat_map-cons}
 
 -- one text more, of the next of some things
-pub one_text_more : {X Y : Type 0} (seen : X → List ℕ) (name : Y → List ℕ) (texts : List X) (text : X) (start : List (List ℕ)) (things : List Y) (i : ℕ) (d : Y) → i < length things
+pub one_text_more : {X Y : Type 0} (seen : X → List ℕ) (name : Y → List ℕ) (texts : List X) (text : X)
+    (start : List (List ℕ)) (things : List Y) (i : ℕ) (d : Y) → i < length things
     → map seen texts ≡ start ++ map name (take i things) → seen text ≡ name (get_or things i d)
     → map seen (texts ++ text ∷ []) ≡ start ++ map name (take (i + 1) things)
 one_text_more seen name texts text start things i d within before same =

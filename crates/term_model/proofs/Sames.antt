@@ -57,7 +57,8 @@ cancels p e u big = record {
 }
   where
     by : (b : Bool) → 0 % p ≡ (0 + cond b 1 0 + cond b (p - 1) 0) % p
-    by true = zero-mod p ∙ sym (mod-eq-sub-mod {n = p} {m = p} (omega arith) ∙ ap (λ n. n % p) (omega arith) ∙ zero-mod p) ∙ ap (λ n. n % p) (omega (arith, big))
+    by true = zero-mod p ∙ sym (mod-eq-sub-mod {n = p} {m = p} (omega arith) ∙ ap (λ n. n % p) (omega arith)
+        ∙ zero-mod p) ∙ ap (λ n. n % p) (omega (arith, big))
     by false = refl
 
     none : (b : Bool) → false ≡ (b && false || (b && false || false))

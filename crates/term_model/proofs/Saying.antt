@@ -12,12 +12,14 @@ abbrev pub part_at : List ℕ → List ℕ → Term → ℕ
 part_at equation unknown term = cond (stands_at equation unknown term) term.constant 0
 
 -- what two lists of terms say is added
-pub said_of-append : (p : ℕ) (xs ys : List Term) (equation unknown : List ℕ) → said_of p (xs ++ ys) equation unknown ≡ (said_of p xs equation unknown + said_of p ys equation unknown) % p
+pub said_of-append : (p : ℕ) (xs ys : List Term) (equation unknown : List ℕ) →
+    said_of p (xs ++ ys) equation unknown ≡ (said_of p xs equation unknown + said_of p ys equation unknown) % p
 said_of-append p xs ys equation unknown =
     ap (λ n. n % p) (sum_by-append (part_at equation unknown) xs ys)
     ∙ add-mod (sum_by (part_at equation unknown) xs) (sum_by (part_at equation unknown) ys) p
 
-pub symbol_said-append : (xs ys : List Term) (equation unknown : List ℕ) → symbol_said (xs ++ ys) equation unknown ≡ (symbol_said xs equation unknown || symbol_said ys equation unknown)
+pub symbol_said-append : (xs ys : List Term) (equation unknown : List ℕ) → symbol_said (xs ++ ys) equation unknown ≡
+    (symbol_said xs equation unknown || symbol_said ys equation unknown)
 symbol_said-append xs ys equation unknown = list_any-append (λ term. stands_at equation unknown term && term.symbol) xs ys
 
 -- nothing is said where no term stands
@@ -25,7 +27,10 @@ free-sum : (terms : List Term) (equation unknown : List ℕ) → IsFree terms eq
 free-sum [] equation unknown free = refl
 free-sum (term ∷ terms) equation unknown free = by (stands_at equation unknown term) refl free (free-sum terms equation unknown)
   where
-    by : (b : Bool) → stands_at equation unknown term ≡ b → (b || list_any (stands_at equation unknown) terms) ≡ false → (IsFree terms equation unknown → sum_by (part_at equation unknown) terms ≡ 0) → sum_by (part_at equation unknown) (term ∷ terms) ≡ 0
+    by : (b : Bool) → stands_at equation unknown term ≡ b →
+        (b || list_any (stands_at equation unknown) terms) ≡ false →
+        (IsFree terms equation unknown → sum_by (part_at equation unknown) terms ≡ 0) →
+        sum_by (part_at equation unknown) (term ∷ terms) ≡ 0
     by true e none more = let f : ⊥ = cc in absurd f
     by false e none more =
         let here : ◌≡◌ {A = ℕ} (part_at equation unknown term) 0 = ap (λ b. cond b term.constant 0) e in
@@ -38,7 +43,10 @@ pub symbol_said-free : (terms : List Term) (equation unknown : List ℕ) → IsF
 symbol_said-free [] equation unknown free = refl
 symbol_said-free (term ∷ terms) equation unknown free = by (stands_at equation unknown term) refl free (symbol_said-free terms equation unknown)
   where
-    by : (b : Bool) → stands_at equation unknown term ≡ b → (b || list_any (stands_at equation unknown) terms) ≡ false → (IsFree terms equation unknown → symbol_said terms equation unknown ≡ false) → symbol_said (term ∷ terms) equation unknown ≡ false
+    by : (b : Bool) → stands_at equation unknown term ≡ b →
+        (b || list_any (stands_at equation unknown) terms) ≡ false →
+        (IsFree terms equation unknown → symbol_said terms equation unknown ≡ false) →
+        symbol_said (term ∷ terms) equation unknown ≡ false
     by true e none more = let f : ⊥ = cc in absurd f
     by false e none more = rw e (more none)
 

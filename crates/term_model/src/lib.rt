@@ -8,6 +8,3 @@ mod value;
 pub use names::dotted;
 pub use putting::put_value;
 pub use value::Value;
-
-#[cfg(test)]
-mod tests;

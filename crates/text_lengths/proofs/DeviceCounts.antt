@@ -1,5 +1,7 @@
 -- The nodes and the own names of a netlist's devices are no more than its bytes.
-use Rattle.std.proofs.Common.{◌≡◌, ℕ, suc, ◌+◌, ◌-◌, ◌*◌, ◌≤◌, Bool, true, false, cond, not, List, [], ◌∷◌, ◌++◌, length, map, filter, take, drop, codes, Option, Some, None, refl, ap, subst, arith, length-drop, length-take, if◌then◌else◌, nat_eq, nat_le, leb-true, eqb-true}
+use Rattle.std.proofs.Common.{◌≡◌, ℕ, suc, ◌+◌, ◌-◌, ◌*◌, ◌≤◌, Bool, true, false, cond, not, List, [], ◌∷◌, ◌++◌}
+use Rattle.std.proofs.Common.{length, map, filter, take, drop, codes, Option, Some, None, refl, ap, subst, arith}
+use Rattle.std.proofs.Common.{length-drop, length-take, if◌then◌else◌, nat_eq, nat_le, leb-true, eqb-true}
 use Rattle.std.specs.List.{All, flat_map}
 use Rattle.std.specs.Option.{option_or, option_map, option_to_list}
 use Rattle.std.proofs.lemmas.List.{length-append, length-map, get_or_default}
@@ -12,8 +14,11 @@ use Rattle.line_reader.specs.LineRules.{is_remark, content, words_in, line_rule,
 use Rattle.mixed_model.specs.Models.{MixedModel}
 use Rattle.term_model.specs.Terms.{dotted}
 use Rattle.netlist_reader.specs.declared.kind.DeviceKind.{DeviceKind}
-use Rattle.netlist_reader.specs.declared.kind.DeviceKind.TheVariants.{Passive, Voltage, Current, VoltageByVoltage, CurrentByVoltage, CurrentByCurrent, VoltageByCurrent, Opamp, Transformer, Gyrator}
-use Rattle.netlist_reader.specs.Devices.{Device, kind_of, is_directive, nodes_wanted, words_wanted, from_name, device_of, device_in, devices_in, is_ground, nodes_of}
+use Rattle.netlist_reader.specs.declared.kind.DeviceKind.TheVariants.{Passive, Voltage, Current, VoltageByVoltage}
+use Rattle.netlist_reader.specs.declared.kind.DeviceKind.TheVariants.{CurrentByVoltage, CurrentByCurrent}
+use Rattle.netlist_reader.specs.declared.kind.DeviceKind.TheVariants.{VoltageByCurrent, Opamp, Transformer, Gyrator}
+use Rattle.netlist_reader.specs.Devices.{Device, kind_of, is_directive, nodes_wanted, words_wanted, from_name}
+use Rattle.netlist_reader.specs.Devices.{device_of, device_in, devices_in, is_ground, nodes_of}
 use Rattle.netlist_reader.specs.Terms.{unknown_words, equation_words, own_names, equations_of, unknowns_of}
 use Rattle.netlist_reader.specs.Rules.{shape_rule, kind_rule, words_rule, device_rules}
 use Rattle.netlist_reader.specs.Models.{GivesModel, lines_in}
@@ -46,7 +51,8 @@ holds false why kept = let none : ⊥ = cc in absurd none
 shaped : (kind : DeviceKind) (words : List (List ℕ)) → shape_rule kind words ≡ None → words_wanted kind ≤ length words
 shaped kind words kept = go (is_directive kind) (holds _ BadShape kept)
   where
-    go : (b : Bool) → (if b then nat_eq (length words) (words_wanted kind) else nat_le (words_wanted kind) (length words)) ≡ true → words_wanted kind ≤ length words
+    go : (b : Bool) → (if b then nat_eq (length words) (words_wanted kind) else nat_le (words_wanted kind)
+        (length words)) ≡ true → words_wanted kind ≤ length words
     go true same = omega (arith, eqb-true (length words) (words_wanted kind) same)
     go false least = leb-true (words_wanted kind) (length words) least
 
@@ -61,10 +67,12 @@ from-name-few kind words = go (is_directive kind)
 abbrev Keeps : ℕ → List ℕ → Type 0
 Keeps p line = (before : List (List (List ℕ))) × (line_rule (device_rules p) before line ≡ None)
 
-clean-words : (p : ℕ) (line : List ℕ) (before : List (List (List ℕ))) → line_rule (device_rules p) before line ≡ None → words_rule p before (words_in (device_rules p) line) ≡ None
+clean-words : (p : ℕ) (line : List ℕ) (before : List (List (List ℕ))) → line_rule (device_rules p) before line ≡ None →
+    words_rule p before (words_in (device_rules p) line) ≡ None
 clean-words p line before kept = go (is_clean (content (device_rules p) line)) kept
   where
-    go : (b : Bool) → (if b then words_rule p before (words_in (device_rules p) line) else Some BadByte) ≡ None → words_rule p before (words_in (device_rules p) line) ≡ None
+    go : (b : Bool) → (if b then words_rule p before (words_in (device_rules p) line) else Some BadByte) ≡ None →
+        words_rule p before (words_in (device_rules p) line) ≡ None
     go true kept = kept
     go false kept = let none : ⊥ = cc in absurd none
 
@@ -78,7 +86,8 @@ content-few p line = go (is_remark (Some 42) line)
 each-keeps : (p : ℕ) (text : List ℕ) → KeepsAll (device_rules p) text → All (Keeps p) (lines_of text)
 each-keeps p text kept k d within = (
   map (words_in (device_rules p)) (take k (lines_of text)),
-  subst (λ line. line_rule (device_rules p) (map (words_in (device_rules p)) (take k (lines_of text))) line ≡ None) (get_or_default (lines_of text) k [] d within) (kept k within),
+  subst (λ line. line_rule (device_rules p) (map (words_in (device_rules p)) (take k (lines_of text))) line ≡ None)
+      (get_or_default (lines_of text) k [] d within) (kept k within),
 )
 
 -- own names, by the words of the kinds, that have bytes enough in their device's line
@@ -110,7 +119,8 @@ module _ (own : DeviceKind → List (List ℕ)) (few : (kind : DeviceKind) → n
       let shape = shaped kind named (first-kept (shape_rule kind named) _ kept) in
       omega (arith, few kind, shape, from-name-few kind words, length-take (nodes_wanted kind) (drop 1 named))
 
-  words-size : (p : ℕ) (before : List (List (List ℕ))) (words : List (List ℕ)) → words_rule p before words ≡ None → size (device_in p words) ≤ 2 * length words - 1
+  words-size : (p : ℕ) (before : List (List (List ℕ))) (words : List (List ℕ)) → words_rule p before words ≡ None →
+      size (device_in p words) ≤ 2 * length words - 1
   words-size p before [] kept = omega arith
   words-size p before (word ∷ words) kept = kind-size p (devices_in p before) (kind_of word) (word ∷ words) kept
 
@@ -170,7 +180,8 @@ names-count word own devices = omega (
   length-map (nodes_of devices) (dotted word),
 )
 
-pub netlist-names-few : (p : ℕ) (text : List ℕ) (model : MixedModel) → GivesModel p text model → (length model.equations ≤ length text) × (length model.unknowns ≤ length text)
+pub netlist-names-few : (p : ℕ) (text : List ℕ) (model : MixedModel) → GivesModel p text model →
+    (length model.equations ≤ length text) × (length model.unknowns ≤ length text)
 netlist-names-few p text model gives =
     let devices : List Device = devices_in p (lines_in p text) in
     let equations : length model.equations ≡ length (equations_of devices) = ap length (gives.given).equations_are in

@@ -1,5 +1,7 @@
 -- Each equation and each unknown of an equation list has bytes of its own.
-use Rattle.std.proofs.Common.{◌≡◌, ℕ, suc, ◌+◌, ◌-◌, ◌*◌, ◌≤◌, Bool, true, false, cond, List, [], ◌∷◌, ◌++◌, length, map, fold, filter, drop, take, codes, refl, ap, ◌∙◌, arith, length-drop, length-take, if◌then◌else◌, ◌==◌, slice_index}
+use Rattle.std.proofs.Common.{◌≡◌, ℕ, suc, ◌+◌, ◌-◌, ◌*◌, ◌≤◌, Bool, true, false, cond, List, [], ◌∷◌, ◌++◌, length}
+use Rattle.std.proofs.Common.{map, fold, filter, drop, take, codes, refl, ap, ◌∙◌, arith, length-drop, length-take}
+use Rattle.std.proofs.Common.{if◌then◌else◌, ◌==◌, slice_index}
 use Rattle.std.specs.List.{flat_map, onto_first, position_or_len}
 use Rattle.std.specs.Str.{bytes_eq}
 use Rattle.std.specs.Str.Lines.{strip_carriage_return}
@@ -30,7 +32,8 @@ cut-count : (text : List ℕ) → length (cut_at_feeds text) ≤ length text
 cut-count [] = omega arith
 cut-count (byte ∷ bytes) = go (cut-count bytes) (is_line_feed byte)
   where
-    go : length (cut_at_feeds bytes) ≤ length bytes → (b : Bool) → length (if b then [] ∷ cut_at_feeds bytes else onto_first byte (cut_at_feeds bytes)) ≤ length (byte ∷ bytes)
+    go : length (cut_at_feeds bytes) ≤ length bytes → (b : Bool) →
+        length (if b then [] ∷ cut_at_feeds bytes else onto_first byte (cut_at_feeds bytes)) ≤ length (byte ∷ bytes)
     go rest true = omega (arith, rest)
     go rest false = omega (arith, rest, first-count byte (cut_at_feeds bytes))
 
@@ -38,7 +41,8 @@ cut-bytes : (text : List ℕ) → bytes_of (cut_at_feeds text) ≤ length text
 cut-bytes [] = omega arith
 cut-bytes (byte ∷ bytes) = go (cut-bytes bytes) (is_line_feed byte)
   where
-    go : bytes_of (cut_at_feeds bytes) ≤ length bytes → (b : Bool) → bytes_of (if b then [] ∷ cut_at_feeds bytes else onto_first byte (cut_at_feeds bytes)) ≤ length (byte ∷ bytes)
+    go : bytes_of (cut_at_feeds bytes) ≤ length bytes → (b : Bool) →
+        bytes_of (if b then [] ∷ cut_at_feeds bytes else onto_first byte (cut_at_feeds bytes)) ≤ length (byte ∷ bytes)
     go rest true = omega (arith, rest)
     go rest false = omega (arith, rest, first-bytes byte (cut_at_feeds bytes))
 
@@ -75,7 +79,9 @@ part-count i byte [] = omega arith
 part-count i byte (part ∷ parts) = go (has_bytes (i, byte ∷ part.1)) (has_bytes part)
   where
     go : (b d : Bool) →
-        2 * length (cond b ((i, byte ∷ part.1) ∷ filter has_bytes parts) (filter has_bytes parts)) + cond d 1 0 ≤ 2 * length (cond d (part ∷ filter has_bytes parts) (filter has_bytes parts)) + 1 + cond b 1 0
+        2 * length (cond b ((i, byte ∷ part.1) ∷ filter has_bytes parts)
+        (filter has_bytes parts)) + cond d 1 0 ≤ 2 * length (cond d (part ∷ filter has_bytes parts)
+        (filter has_bytes parts)) + 1 + cond b 1 0
     go true true = omega arith
     go true false = omega arith
     go false true = omega arith
@@ -89,7 +95,8 @@ tokens-short i (byte ∷ bytes) = go (tokens-short (i + 1) bytes) (is_blank byte
     rest = parts_from (i + 1) bytes
 
     go : 2 * length (filter has_bytes rest) ≤ length bytes + opens rest → (b : Bool) →
-        2 * length (filter has_bytes (if b then (i, []) ∷ rest else onto_first_part i byte rest)) ≤ length (byte ∷ bytes) + opens (if b then (i, []) ∷ rest else onto_first_part i byte rest)
+        2 * length (filter has_bytes (if b then (i, []) ∷ rest else onto_first_part i byte rest)) ≤ length
+        (byte ∷ bytes) + opens (if b then (i, []) ∷ rest else onto_first_part i byte rest)
     go short true = omega (arith, short, opens-one rest)
     go short false = omega (arith, short, part-count i byte rest)
 
@@ -119,7 +126,14 @@ names-few (word ∷ words) = go (bytes_eq word (codes "eq")) (bytes_eq word (cod
 
 all-names-few : (lines : List (List ℕ)) → length (flat_map names_in (map words_of lines)) ≤ bytes_of lines
 all-names-few [] = omega arith
-all-names-few (line ∷ lines) = omega (arith, length-append (names_in (words_of line)) (flat_map names_in (map words_of lines)), names-few (words_of line), words-few line, all-names-few lines)
+all-names-few (line ∷ lines) = omega (
+  arith,
+  length-append (names_in (words_of line))
+      (flat_map names_in (map words_of lines)),
+  names-few (words_of line),
+  words-few line,
+  all-names-few lines,
+)
 
 see-few : (names : List (List ℕ)) (name : List ℕ) → length (see names name) ≤ length names + 1
 see-few names name = go (has_name names name)
@@ -146,10 +160,21 @@ equations-few : (lines : List (List (List ℕ))) → length (equations_in lines)
 equations-few [] = omega arith
 equations-few (line ∷ lines) = omega (arith, length-append (equation_of line) (equations_in lines), equation-few line, equations-few lines)
 
-pub few-names : (p : ℕ) (text : List ℕ) (model : MixedModel) → GivesModel p text model → (length model.equations ≤ length text) × (length model.unknowns ≤ length text)
+pub few-names : (p : ℕ) (text : List ℕ) (model : MixedModel) → GivesModel p text model →
+    (length model.equations ≤ length text) × (length model.unknowns ≤ length text)
 few-names p text model gives =
     let lines : List (List (List ℕ)) = map words_of (lines_of text) in
-    let equations : length model.equations ≡ length (equations_in lines) = ap length (gives.given).equations_are ∙ length-map (equations_in lines) (λ (equation : Equation). equation.name) in
+    let equations : length model.equations ≡ length (equations_in lines) = ap length (gives.given).equations_are
+    ∙ length-map (equations_in lines) (λ (equation : Equation). equation.name) in
     let unknowns : length model.unknowns ≡ length (unknowns_in lines) = ap length (gives.given).unknowns_are in
-    let count : length lines ≤ length text = omega (arith, length-map (lines_of text) words_of, length-map (cut_at_feeds text) strip_carriage_return, cut-count text) in
-    (omega (arith, equations, equations-few lines, count), omega (arith, unknowns, seen-few [] (flat_map names_in lines), all-names-few (lines_of text), text-bytes text))
+    let count : length lines ≤ length text = omega (
+      arith,
+      length-map (lines_of text) words_of,
+      length-map
+          (cut_at_feeds text) strip_carriage_return,
+      cut-count text,
+    ) in (
+      omega (arith, equations, equations-few lines, count),
+      omega
+          (arith, unknowns, seen-few [] (flat_map names_in lines), all-names-few (lines_of text), text-bytes text),
+    )

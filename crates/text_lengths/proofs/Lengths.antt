@@ -51,14 +51,27 @@ pairs-short [] within = omega arith
 pairs-short (pair ∷ pairs) within =
     let here : (pair.0 < 8192) × (pair.1 < 8192) = All-head (λ (pair : ℕ × ℕ). (pair.0 < 8192) × (pair.1 < 8192)) pair pairs within in
     let rest = pairs-short pairs (All-tail (λ (pair : ℕ × ℕ). (pair.0 < 8192) × (pair.1 < 8192)) pair pairs within) in
-    omega (arith, rest, length-append (item (pair.0 + 1) (pair.1 + 1)) (pairs_text pairs), item-short (pair.0 + 1) (pair.1 + 1) (omega (arith, here.0)) (omega (arith, here.1)))
+    omega (
+      arith,
+      rest,
+      length-append (item (pair.0 + 1) (pair.1 + 1)) (pairs_text pairs),
+      item-short (pair.0 + 1)
+          (pair.1 + 1) (omega (arith, here.0)) (omega (arith, here.1)),
+    )
 
-pub entries-short : (p : ℕ) → p ≤ 100000 → (entries : List (ℕ × ℕ)) → All (λ entry. (entry.0 < 8192) × (entry.1 < p)) entries → length (entries_text entries) ≤ 12 * length entries
+pub entries-short : (p : ℕ) → p ≤ 100000 → (entries : List (ℕ × ℕ)) →
+    All (λ entry. (entry.0 < 8192) × (entry.1 < p)) entries → length (entries_text entries) ≤ 12 * length entries
 entries-short p few [] within = omega arith
 entries-short p few (entry ∷ entries) within =
     let here : (entry.0 < 8192) × (entry.1 < p) = All-head (λ (entry : ℕ × ℕ). (entry.0 < 8192) × (entry.1 < p)) entry entries within in
     let rest = entries-short p few entries (All-tail (λ (entry : ℕ × ℕ). (entry.0 < 8192) × (entry.1 < p)) entry entries within) in
-    omega (arith, rest, length-append (item (entry.0 + 1) entry.1) (entries_text entries), item-short (entry.0 + 1) entry.1 (omega (arith, here.0)) (omega (arith, here.1, few)))
+    omega (
+      arith,
+      rest,
+      length-append (item (entry.0 + 1) entry.1) (entries_text entries),
+      item-short
+          (entry.0 + 1) entry.1 (omega (arith, here.0)) (omega (arith, here.1, few)),
+    )
 
 pub numbers-short : (numbers : List ℕ) → All (λ number. number < 8192) numbers → length (numbers_text numbers) ≤ 6 * length numbers
 numbers-short [] within = omega arith

@@ -4,7 +4,9 @@ use Rattle.std.specs.List.{All}
 use Rattle.std.proofs.lemmas.List.{length-append, length-map, get_or-map}
 use Rattle.std.proofs.lemmas.List.Elements.{All-head, All-tail}
 use Rattle.cert_text.specs.Ranges.{AreRising, ArePairs, AreEntries, IsPart}
-use Rattle.cert_text.specs.Texts.{spaced, pairs_text, entries_text, numbers_text, letters_text, head_text, entries_line, columns_line, matrix_text, pattern_text, part_text, tail_line, block_line, blocks_text}
+use Rattle.cert_text.specs.Texts.{spaced, pairs_text, entries_text, numbers_text, letters_text, head_text}
+use Rattle.cert_text.specs.Texts.{entries_line, columns_line, matrix_text, pattern_text, part_text, tail_line}
+use Rattle.cert_text.specs.Texts.{block_line, blocks_text}
 use Rattle.cert_text.specs.declared.shape.Shape.{Shape}
 use Rattle.cert_text.specs.declared.part.CcfPart.{CcfPart}
 use Rattle.cert_text.specs.declared.part.CcfBlock.{CcfBlock}
@@ -50,7 +52,8 @@ module _ (k : ℕ) (few : k ≤ 8192) where
       omega (arith, less, long, count, pairs-short pairs (λ i d il. let b = are.within i d il in (omega (arith, b.0, less, few), omega (arith, b.1, low, few))))
 
   -- the lines of a matrix of at most as many rows, with a word of one letter
-  pub matrix-short : (p : ℕ) → p ≤ 100000 → (letter number n : ℕ) (rows : List (List (ℕ × ℕ))) → n ≤ k → number + length rows ≤ 8193 → All (AreEntries p n) rows →
+  pub matrix-short : (p : ℕ) → p ≤ 100000 → (letter number n : ℕ) (rows : List (List (ℕ × ℕ))) → n ≤ k →
+      number + length rows ≤ 8193 → All (AreEntries p n) rows →
       length (matrix_text (letter ∷ []) number rows) ≤ length rows * (9 + 12 * k)
   matrix-short p short letter number n [] less small are = omega arith
   matrix-short p short letter number n (row ∷ rows) less small are =
@@ -65,7 +68,13 @@ module _ (k : ℕ) (few : k ≤ 8192) where
         length-append (head_text (letter ∷ []) number ++ entries_text row) (codes "\n"),
         length-append (spaced number) (codes ":"),
       ) in
-      rw (suc-mul (length rows) (9 + 12 * k)) (omega (arith, line, rest, length-append (entries_line (letter ∷ []) number row) (matrix_text (letter ∷ []) (number + 1) rows)))
+      rw (suc-mul (length rows) (9 + 12 * k)) (omega (
+        arith,
+        line,
+        rest,
+        length-append (entries_line (letter ∷ []) number row)
+            (matrix_text (letter ∷ []) (number + 1) rows),
+      ))
 
   pub pattern-short : (letter number n : ℕ) (rows : List (List ℕ)) → n ≤ k → number + length rows ≤ 8193 → All (AreRising n) rows →
       length (pattern_text (letter ∷ []) number rows) ≤ length rows * (9 + 6 * k)
@@ -82,7 +91,13 @@ module _ (k : ℕ) (few : k ≤ 8192) where
         length-append (head_text (letter ∷ []) number ++ numbers_text row) (codes "\n"),
         length-append (spaced number) (codes ":"),
       ) in
-      rw (suc-mul (length rows) (9 + 6 * k)) (omega (arith, line, rest, length-append (columns_line (letter ∷ []) number row) (pattern_text (letter ∷ []) (number + 1) rows)))
+      rw (suc-mul (length rows) (9 + 6 * k)) (omega (
+        arith,
+        line,
+        rest,
+        length-append (columns_line (letter ∷ []) number row)
+            (pattern_text (letter ∷ []) (number + 1) rows),
+      ))
 
   -- a part, a tail and a block
   part-short : (shape : Shape) (part : CcfPart) → IsShapeWithin k shape → IsPart shape part → length (part_text part) ≤ 20 * k + 2
@@ -100,11 +115,13 @@ module _ (k : ℕ) (few : k ≤ 8192) where
         length-append (numbers_text part.columns ++ codes " |" ++ letters_text 113 part.q_rows) (letters_text 116 part.t_rows),
       )
 
-  pub tail-short : (word : List ℕ) (shape : Shape) (part : CcfPart) → length word ≤ 5 → IsShapeWithin k shape → IsPart shape part → length (tail_line word part) ≤ 20 * k + 8
+  pub tail-short : (word : List ℕ) (shape : Shape) (part : CcfPart) → length word ≤ 5 → IsShapeWithin k shape →
+      IsPart shape part → length (tail_line word part) ≤ 20 * k + 8
   tail-short word shape part small low is =
       omega (arith, part-short shape part low is, length-append word (part_text part), length-append (word ++ part_text part) (codes "\n"))
 
-  block-short : (number : ℕ) (shape : Shape) (block : CcfBlock) (b : ℕ) → number < 100000 → b ≤ k → IsShapeWithin k shape → IsPart shape block.part → AreRising b block.lower →
+  block-short : (number : ℕ) (shape : Shape) (block : CcfBlock) (b : ℕ) → number < 100000 → b ≤ k →
+      IsShapeWithin k shape → IsPart shape block.part → AreRising b block.lower →
       length (block_line number block) ≤ 17 + 26 * k
   block-short number shape block b small less low is lower =
       let head : List ℕ = head_text (codes "block") number in
@@ -123,7 +140,8 @@ module _ (k : ℕ) (few : k ≤ 8192) where
       )
 
   pub blocks-short : (number : ℕ) (shape : Shape) (blocks : List CcfBlock) → number + length blocks ≤ 8193 → IsShapeWithin k shape →
-      All (λ block. IsPart shape block.part × ((b : ℕ) × (b ≤ k) × AreRising b block.lower)) blocks → length (blocks_text number blocks) ≤ length blocks * (17 + 26 * k)
+      All (λ block. IsPart shape block.part × ((b : ℕ) × (b ≤ k) × AreRising b block.lower)) blocks →
+      length (blocks_text number blocks) ≤ length blocks * (17 + 26 * k)
   blocks-short number shape [] small low are = omega arith
   blocks-short number shape (block ∷ blocks) small low are =
       let P : CcfBlock → Type 0 = λ block. IsPart shape block.part × ((b : ℕ) × (b ≤ k) × AreRising b block.lower) in

@@ -1,5 +1,6 @@
 -- The length of a right certificate's text.
-use Rattle.std.proofs.Common.{◌≡◌, ℕ, ◌+◌, ◌-◌, ◌*◌, ◌≤◌, List, ◌++◌, length, codes, refl, ap, ◌∙◌, subst, arith, mul-add, mul_comm, mul_left_comm, mul-le-mul_right}
+use Rattle.std.proofs.Common.{◌≡◌, ℕ, ◌+◌, ◌-◌, ◌*◌, ◌≤◌, List, ◌++◌, length, codes, refl, ap, ◌∙◌, subst, arith}
+use Rattle.std.proofs.Common.{mul-add, mul_comm, mul_left_comm, mul-le-mul_right}
 use Rattle.std.specs.List.{All}
 use Rattle.std.proofs.lemmas.Fmt.{length-decimal-le}
 use Rattle.std.proofs.lemmas.List.{length-append}
@@ -13,7 +14,9 @@ use Rattle.mixed_matrices.specs.Models.{MixedMatrix}
 use Rattle.cert_text.specs.Contents.{Contents, Certificate}
 use Rattle.cert_text.specs.Ranges.{IsCcf, IsPart, AreRising}
 use Rattle.cert_text.specs.Right.{IsRightCcf}
-use Rattle.cert_text.specs.Texts.{spaced, pairs_text, matrix_text, pattern_text, tail_line, blocks_text, kind_text, echo_text, shape_text, pair_text, matrices_text, parts_text, contents_text, certificate_text}
+use Rattle.cert_text.specs.Texts.{spaced, pairs_text, matrix_text, pattern_text, tail_line, blocks_text, kind_text}
+use Rattle.cert_text.specs.Texts.{echo_text, shape_text, pair_text, matrices_text, parts_text, contents_text}
+use Rattle.cert_text.specs.Texts.{certificate_text}
 use Rattle.cert_text.specs.declared.kind.Kind.{Kind}
 use Rattle.cert_text.specs.declared.kind.Kind.TheVariants.{Flowsheet, Matrix, Netlist}
 use Rattle.text_lengths.specs.Rooms.{IsShapeWithin, contents_room, certificate_room}
@@ -127,7 +130,16 @@ module _ (p : ℕ) (short : p ≤ 100000) (k : ℕ) (few : k ≤ 8192) (c : Cont
       let blocks = blocks-short k few 1 c.shape c.blocks (omega (arith, less, few)) low each in
       let all = at_most (length c.blocks) k 17 26 less in
       let one : List ℕ = tail_line (codes "first") c.first in
-      omega (arith, first, last, blocks, all, length-append one (blocks_text 1 c.blocks), length-append (one ++ blocks_text 1 c.blocks) (tail_line (codes "last") c.last))
+      omega (
+        arith,
+        first,
+        last,
+        blocks,
+        all,
+        length-append one (blocks_text 1 c.blocks),
+        length-append
+            (one ++ blocks_text 1 c.blocks) (tail_line (codes "last") c.last),
+      )
 
   contents-short : length c.blocks ≤ k → length (contents_text c) ≤ contents_room k
   contents-short less =

@@ -7,6 +7,3 @@ mod progress;
 mod writer;
 
 pub use writer::TextWriter;
-
-#[cfg(test)]
-mod tests;

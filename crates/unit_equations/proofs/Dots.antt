@@ -1,5 +1,6 @@
 -- Names of parts between points, and the parts of such a name.
-use Rattle.std.proofs.Common.{◌≡◌, ℕ, suc, ◌+◌, arith, Bool, true, false, cond, not, ◌&&◌, List, [], ◌∷◌, ◌++◌, take, drop, codes, refl, sym, ap, ◌∙◌, append_assoc}
+use Rattle.std.proofs.Common.{◌≡◌, ℕ, suc, ◌+◌, arith, Bool, true, false, cond, not, ◌&&◌, List, [], ◌∷◌, ◌++◌, take}
+use Rattle.std.proofs.Common.{drop, codes, refl, sym, ap, ◌∙◌, append_assoc}
 use Rattle.std.specs.List.{after_first, before_first, list_all, position_or_len}
 use Rattle.line_lexer.specs.Numbers.{is_point}
 use Rattle.term_model.specs.Terms.{dotted}
@@ -33,7 +34,10 @@ after-dotted (byte ∷ word) rest h =
     ap (λ n. drop n (dotted (byte ∷ word) rest)) (one-more (first-more byte (dotted word rest) parts.0))
     ∙ after-dotted word rest parts.1
   where
-    one-more : position_or_len is_point (dotted (byte ∷ word) rest) ≡ suc (position_or_len is_point (dotted word rest)) → position_or_len is_point (dotted (byte ∷ word) rest) + 1 ≡ suc (position_or_len is_point (dotted word rest) + 1)
+    one-more : position_or_len is_point (dotted (byte ∷ word) rest) ≡ suc
+        (position_or_len is_point (dotted word rest)) →
+        position_or_len is_point (dotted (byte ∷ word) rest) + 1 ≡ suc
+        (position_or_len is_point (dotted word rest) + 1)
     one-more e = omega (arith, e)
 
 pub before-dotless : (word : List ℕ) → is_dotless word ≡ true → before_first is_point word ≡ word

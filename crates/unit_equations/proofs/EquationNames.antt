@@ -14,7 +14,8 @@ use Rattle.unit_equations.specs.declared.version.Version.{Version}
 use Rattle.unit_equations.specs.declared.version.Version.TheVariants.{One, Two}
 use Rattle.unit_equations.specs.Kinds.{numbered, own_for}
 use Rattle.unit_equations.specs.Parts.{UnitEquation}
-use Rattle.unit_equations.proofs.Dots.{behind-longer, behind_unit, before-dotless, before-dotted, after-dotted, component_of, dotted-assoc, is_dotless, unit_of, unit_of-longer, word_of}
+use Rattle.unit_equations.proofs.Dots.{behind-longer, behind_unit, before-dotless, before-dotted, after-dotted}
+use Rattle.unit_equations.proofs.Dots.{component_of, dotted-assoc, is_dotless, unit_of, unit_of-longer, word_of}
 use Rattle.unit_equations.proofs.Keyed.{all-weaker, map-differ}
 use Rattle.unit_equations.proofs.Spelled.{IsShort, IsSpelled, decimal-spelled, spelled-dotted, spelled-more}
 
@@ -69,7 +70,9 @@ module _ (word unit component : List ℕ) (w : IsWord word) (u : IsShort unit) (
   pub numbered-spelled : (version : Version) (k : ℕ) → k < 2 ^ 64 → IsSpelled (numbered version (own_for word unit component) k) 96
   numbered-spelled One k small = spelled-more (own_for word unit component) 67 96 own_for-spelled (omega arith)
   numbered-spelled Two k small =
-      spelled-more (numbered Two (own_for word unit component) k) 88 96 (spelled-dotted (own_for word unit component) (decimal k) 67 20 own_for-spelled (decimal-spelled k small)) (omega arith)
+      spelled-more (numbered Two (own_for word unit component) k) 88 96
+      (spelled-dotted (own_for word unit component) (decimal k) 67 20 own_for-spelled (decimal-spelled k small))
+      (omega arith)
 
   -- the number that it tells
   pub numbered-number : (k : ℕ) → after_first is_point (behind_unit (numbered Two (own_for word unit component) k)) ≡ decimal k
@@ -82,11 +85,14 @@ module _ (word unit component : List ℕ) (w : IsWord word) (u : IsShort unit) (
 abbrev pub AreNumbers : {X : Type 0} → (X → ℕ) → List X → Type 0
 AreNumbers number xs = AllByRecursion (λ x. number x < 2 ^ 64) xs × Differ (map (λ x. decimal (number x)) xs)
 
-enumerated-new : {X : Type 0} (n k : ℕ) (xs : List X) → k < n → n + length xs ≤ 2 ^ 64 → has_name (map (λ (x : ℕ × X). decimal x.0) (enumerate_from n xs)) (decimal k) ≡ false
+enumerated-new : {X : Type 0} (n k : ℕ) (xs : List X) → k < n → n + length xs ≤ 2 ^ 64 →
+    has_name (map (λ (x : ℕ × X). decimal x.0) (enumerate_from n xs)) (decimal k) ≡ false
 enumerated-new n k [] less few = refl
 enumerated-new n k (x ∷ xs) less few = by (bytes_eq (decimal k) (decimal n)) refl (enumerated-new (n + 1) k xs (omega (arith, less)) (omega (arith, few)))
   where
-    by : (b : Bool) → bytes_eq (decimal k) (decimal n) ≡ b → has_name (map (λ (x : ℕ × _). decimal x.0) (enumerate_from (n + 1) xs)) (decimal k) ≡ false → has_name (map (λ (x : ℕ × _). decimal x.0) (enumerate_from n (x ∷ xs))) (decimal k) ≡ false
+    by : (b : Bool) → bytes_eq (decimal k) (decimal n) ≡ b →
+        has_name (map (λ (x : ℕ × _). decimal x.0) (enumerate_from (n + 1) xs)) (decimal k) ≡ false →
+        has_name (map (λ (x : ℕ × _). decimal x.0) (enumerate_from n (x ∷ xs))) (decimal k) ≡ false
     by false e rest = rw e rest
     by true e rest =
         let same : k ≡ n = decimal_injective k n (omega (arith, less, few)) (omega (arith, few)) ((bytes_eq-Decides (decimal k) (decimal n)).0 e) in
@@ -99,12 +105,18 @@ enumerated-numbers n (x ∷ xs) few =
     ((omega (arith, few), rest.0), (enumerated-new (n + 1) n xs (omega arith) (omega (arith, few)), rest.1))
 
 -- and with something beside each
-zipped-new : {X Y : Type 0} (number : X → ℕ) (xs : List X) (ys : List Y) (text : List ℕ) → has_name (map (λ x. decimal (number x)) xs) text ≡ false → has_name (map (λ (p : X × Y). decimal (number p.0)) (zip xs ys)) text ≡ false
+zipped-new : {X Y : Type 0} (number : X → ℕ) (xs : List X) (ys : List Y) (text : List ℕ) →
+    has_name (map (λ x. decimal (number x)) xs) text ≡ false →
+    has_name (map (λ (p : X × Y). decimal (number p.0)) (zip xs ys)) text ≡ false
 zipped-new number [] ys text new = refl
 zipped-new number (x ∷ xs) [] text new = refl
 zipped-new number (x ∷ xs) (y ∷ ys) text new = by (bytes_eq text (decimal (number x))) refl new (λ rest. zipped-new number xs ys text rest)
   where
-    by : (b : Bool) → bytes_eq text (decimal (number x)) ≡ b → has_name (map (λ x. decimal (number x)) (x ∷ xs)) text ≡ false → (has_name (map (λ x. decimal (number x)) xs) text ≡ false → has_name (map (λ (p : _ × _). decimal (number p.0)) (zip xs ys)) text ≡ false) → has_name (map (λ (p : _ × _). decimal (number p.0)) (zip (x ∷ xs) (y ∷ ys))) text ≡ false
+    by : (b : Bool) → bytes_eq text (decimal (number x)) ≡ b →
+        has_name (map (λ x. decimal (number x)) (x ∷ xs)) text ≡ false →
+        (has_name (map (λ x. decimal (number x)) xs) text ≡ false →
+        has_name (map (λ (p : _ × _). decimal (number p.0)) (zip xs ys)) text ≡ false) →
+        has_name (map (λ (p : _ × _). decimal (number p.0)) (zip (x ∷ xs) (y ∷ ys))) text ≡ false
     by true e none more = let f : ⊥ = cc in absurd f
     by false e none more = rw e (more (sym (rw e refl) ∙ none))
 
@@ -116,11 +128,17 @@ zipped-numbers number (x ∷ xs) (y ∷ ys) are =
     ((are.0.0, rest.0), (zipped-new number xs ys (decimal (number x)) are.1.0, rest.1))
 
 -- one equation for each component, by its name
-pub one-each : {X : Type 0} (word unit : List ℕ) (id : X → List ℕ) (make : X → UnitEquation) (xs : List X) → IsWord word → IsShort unit → ((x : X) → (make x).name ≡ own_for word unit (id x)) → AllByRecursion (λ x. IsShort (id x)) xs → Differ (map id xs) → AreNames unit (map make xs)
+pub one-each : {X : Type 0} (word unit : List ℕ) (id : X → List ℕ) (make : X → UnitEquation) (xs : List X) →
+    IsWord word → IsShort unit → ((x : X) → (make x).name ≡ own_for word unit (id x)) →
+    AllByRecursion (λ x. IsShort (id x)) xs → Differ (map id xs) → AreNames unit (map make xs)
 one-each {X} word unit id make xs w u named short differ = record {
-  owned = all-map (λ x. IsShort (id x)) (λ equation. unit_of equation.name ≡ unit) make xs (λ x c. ap unit_of (named x) ∙ own_for-unit word unit (id x) w u c) short;
+  owned = all-map (λ x. IsShort (id x)) (λ equation. unit_of equation.name ≡ unit) make xs
+      (λ x c. ap unit_of (named x) ∙ own_for-unit word unit (id x) w u c) short;
   differ = subst Differ (sym (map-map (λ equation. equation.name) make xs))
-      (map-differ component_of id (λ x. (make x).name) xs (all-weaker (λ x. IsShort (id x)) (λ x. component_of ((make x).name) ≡ id x) xs (λ x c. ap component_of (named x) ∙ own_for-component word unit (id x) w u c) short) differ);
+      (map-differ component_of id (λ x. (make x).name) xs
+      (all-weaker (λ x. IsShort (id x)) (λ x. component_of ((make x).name) ≡ id x) xs
+      (λ x c. ap component_of (named x) ∙ own_for-component word unit (id x) w u c) short) differ);
   spelled = all-map (λ x. IsShort (id x)) (λ equation. IsSpelled equation.name 96) make xs
-      (λ x c. subst (λ name. IsSpelled name 96) (sym (named x)) (spelled-more (own_for word unit (id x)) 67 96 (own_for-spelled word unit (id x) w u c) (omega arith))) short;
+      (λ x c. subst (λ name. IsSpelled name 96) (sym (named x)) (spelled-more (own_for word unit (id x)) 67 96
+      (own_for-spelled word unit (id x) w u c) (omega arith))) short;
 }

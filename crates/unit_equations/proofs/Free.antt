@@ -12,19 +12,25 @@ use Rattle.term_model.proofs.Lists.{Differ, distinct-differ}
 use Rattle.unit_equations.specs.Parts.{Summand, equation, terms_of}
 
 -- a place stays free after a term at another unknown
-free-next : (before : List Term) (name unknown : List ℕ) (term : Term) → IsFree before name unknown → bytes_eq term.unknown unknown ≡ false → IsFree (before ++ term ∷ []) name unknown
+free-next : (before : List Term) (name unknown : List ℕ) (term : Term) → IsFree before name unknown →
+    bytes_eq term.unknown unknown ≡ false → IsFree (before ++ term ∷ []) name unknown
 free-next before name unknown term free other =
-    let here : stands_at name unknown term ≡ false = ap (λ b. bytes_eq name term.equation && b) (bytes_eq-sym term.unknown unknown other) ∙ and_false (bytes_eq name term.equation) in
+    let here : stands_at name unknown term ≡ false = ap (λ b. bytes_eq name term.equation && b)
+    (bytes_eq-sym term.unknown unknown other) ∙ and_false (bytes_eq name term.equation) in
     list_any-append (stands_at name unknown) before (term ∷ []) ∙ rw (free, here) refl
 
 -- so do the places of others than the summand's
-free-others : (before : List Term) (name : List ℕ) (term : Term) (summands : List Summand) → has_name (map (λ summand. summand.unknown) summands) term.unknown ≡ false
-    → AllByRecursion (λ summand. IsFree before name summand.unknown) summands → AllByRecursion (λ summand. IsFree (before ++ term ∷ []) name summand.unknown) summands
+free-others : (before : List Term) (name : List ℕ) (term : Term) (summands : List Summand) →
+    has_name (map (λ summand. summand.unknown) summands) term.unknown ≡ false
+    → AllByRecursion (λ summand. IsFree before name summand.unknown) summands →
+    AllByRecursion (λ summand. IsFree (before ++ term ∷ []) name summand.unknown) summands
 free-others before name term [] none all = tt
 free-others before name term (summand ∷ summands) none all = by (bytes_eq term.unknown summand.unknown) refl none (free-others before name term summands)
   where
     by : (b : Bool) → bytes_eq term.unknown summand.unknown ≡ b → has_name (map (λ summand. summand.unknown) (summand ∷ summands)) term.unknown ≡ false
-        → (has_name (map (λ summand. summand.unknown) summands) term.unknown ≡ false → AllByRecursion (λ summand. IsFree before name summand.unknown) summands → AllByRecursion (λ summand. IsFree (before ++ term ∷ []) name summand.unknown) summands)
+        → (has_name (map (λ summand. summand.unknown) summands) term.unknown ≡ false →
+        AllByRecursion (λ summand. IsFree before name summand.unknown) summands →
+        AllByRecursion (λ summand. IsFree (before ++ term ∷ []) name summand.unknown) summands)
         → AllByRecursion (λ summand. IsFree (before ++ term ∷ []) name summand.unknown) (summand ∷ summands)
     by true e none more = let f : true ≡ false = rw e at none in absurd (cc)
     by false e none more = (free-next before name summand.unknown term all.0 e, more (rw e at none) all.1)

@@ -26,17 +26,20 @@ pub record IsTurn {A B : Type 0} (ks : List A) (vs : List B) (n place : ℕ) (a 
   pub second : b ≡ get_or vs n b
   pub number : place ≡ n
 
-module _ {A B : Type 0} (ks : List A) (vs : List B) (xs : List (ℕ × (Bor A × Bor B))) (s t u : Enumerate (Zip (Iter A) (Iter B))) (r : Option (ℕ × (Bor A × Bor B)))
+module _ {A B : Type 0} (ks : List A) (vs : List B) (xs : List (ℕ × (Bor A × Bor B)))
+    (s t u : Enumerate (Zip (Iter A) (Iter B))) (r : Option (ℕ × (Bor A × Bor B)))
     (first : iter_rest (zip_first (enumerate_source s)) ≡ ks) (second : iter_rest (zip_second (enumerate_source s)) ≡ vs) (none : enumerate_count s ≡ 0)
     (yielded : Yields (enumerate_steps (zips fronts fronts)) s xs t) where
   pairs : List (Bor A × Bor B)
   pairs = map (λ x. x.1) xs
 
-  pub turn_of : (place : ℕ) (a : Bor A) (b : Bor B) → r ≡ Some (place, (a, b)) → enumerate_steps (zips fronts fronts) t r u → IsTurn ks vs (length xs) place a.now b.now
+  pub turn_of : (place : ℕ) (a : Bor A) (b : Bor B) → r ≡ Some (place, (a, b)) →
+      enumerate_steps (zips fronts fronts) t r u → IsTurn ks vs (length xs) place a.now b.now
   turn_of place a b is steps =
       let so_far = enumerated (zips fronts fronts) xs s t yielded in
       let step = subst (λ o. enumerate_steps (zips fronts fronts) t o u) is steps in
-      let turn = zip_turn ks vs (map (λ x. x.1) xs) (enumerate_source s) (enumerate_source t) (enumerate_source u) (Some (a, b)) first second so_far.0 (a, b) refl step.0 in
+      let turn = zip_turn ks vs (map (λ x. x.1) xs) (enumerate_source s) (enumerate_source t) (enumerate_source u)
+      (Some (a, b)) first second so_far.0 (a, b) refl step.0 in
       let count = length-map xs (λ (x : ℕ × (Bor A × Bor B)). x.1) in
       record {
         first_within = omega (arith, turn.0, count);

@@ -17,10 +17,12 @@ next_one f xs old now new n m x within is more before put =
     ∙ ap (λ taken. old ++ map f taken) (ap (λ last. take n xs ++ last ∷ []) (sym is) ∙ sym (take_more xs n x within) ∙ ap (λ k. take k xs) (sym more))
 
 -- the next of some pairs, put last
-pub next_pair : {K V Y : Type 0} (f : K × V → Y) (ks : List K) (vs : List V) (old now new : List Y) (n m : ℕ) (k : K) (v : V) → n < length ks → n < length vs → get_or ks n k ≡ k → get_or vs n v ≡ v → m ≡ n + 1
+pub next_pair : {K V Y : Type 0} (f : K × V → Y) (ks : List K) (vs : List V) (old now new : List Y) (n m : ℕ)
+    (k : K) (v : V) → n < length ks → n < length vs → get_or ks n k ≡ k → get_or vs n v ≡ v → m ≡ n + 1
     → now ≡ old ++ map f (take n (zip ks vs)) → new ≡ now ++ f (k, v) ∷ [] → new ≡ old ++ map f (take m (zip ks vs))
 next_pair f ks vs old now new n m k v first second key value more before put =
-    next_one f (zip ks vs) old now new n m (k, v) (omega (arith, length-zip ks vs, first, second)) (get_or-zip ks vs n (k, v) first second ∙ (λ t. (key t, value t))) more before put
+    next_one f (zip ks vs) old now new n m (k, v) (omega (arith, length-zip ks vs, first, second))
+    (get_or-zip ks vs n (k, v) first second ∙ (λ t. (key t, value t))) more before put
 
 -- all pairs
 pub all_pairs : {K V : Type 0} (ks : List K) (vs : List V) (n : ℕ) → n ≡ min (length ks) (length vs) → take n (zip ks vs) ≡ zip ks vs
@@ -45,7 +47,8 @@ module _ {A X : Type 0} (see : A → X) (items : List A) (n : ℕ) (item : A) (w
       ∙ (λ t. (number t, seen-is (map see items) refl t))
 
 -- all but the last of what is seen
-pub but_last-seen : {A : Type 0} (see : A → List ℕ) (outlets items : List A) → items ≡ take (length outlets - 1) outlets → but_last (map see outlets) ≡ enumerate_from 1 (map see items)
+pub but_last-seen : {A : Type 0} (see : A → List ℕ) (outlets items : List A) →
+    items ≡ take (length outlets - 1) outlets → but_last (map see outlets) ≡ enumerate_from 1 (map see items)
 but_last-seen see outlets items is =
     ap (λ n. enumerate_from 1 (take (n - 1) (map see outlets))) (length-map outlets see)
     ∙ ap (enumerate_from 1) (take-map see (length outlets - 1) outlets ∙ ap (map see) (sym is))

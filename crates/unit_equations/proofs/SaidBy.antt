@@ -1,5 +1,7 @@
 -- Each model is said by some terms: those of its entries.
-use Rattle.std.proofs.Common.{◌≡◌, ℕ, zero, suc, ◌+◌, ◌%◌, ◌<◌, Bool, true, false, cond, ◌&&◌, ◌||◌, Option, Some, None, List, [], ◌∷◌, ◌++◌, All, filter, length, get_or, map, nat_eq, unwrap_or, refl, sym, ap, subst, ◌∙◌, arith, append-nil, ne_eqb}
+use Rattle.std.proofs.Common.{◌≡◌, ℕ, zero, suc, ◌+◌, ◌%◌, ◌<◌, Bool, true, false, cond, ◌&&◌, ◌||◌, Option, Some}
+use Rattle.std.proofs.Common.{None, List, [], ◌∷◌, ◌++◌, All, filter, length, get_or, map, nat_eq, unwrap_or, refl}
+use Rattle.std.proofs.Common.{sym, ap, subst, ◌∙◌, arith, append-nil, ne_eqb}
 use Rattle.std.specs.List.{AllByRecursion, IsDistinct, list_any, sum_by}
 use Rattle.std.specs.Str.{bytes_eq}
 use Rattle.std.proofs.Math.Nat.{mod-eq_of_lt, zero-mod}
@@ -41,57 +43,72 @@ terms_by (name ∷ names) unknowns [] = []
 terms_by (name ∷ names) unknowns (row ∷ rows) = map (entry_term name unknowns) row ++ terms_by names unknowns rows
 
 -- what terms say of a place, those that stand there say
-sum-filter : (terms : List Term) (equation unknown : List ℕ) → sum_by (part_at equation unknown) terms ≡ sum_by (λ term. term.constant) (filter (stands_at equation unknown) terms)
+sum-filter : (terms : List Term) (equation unknown : List ℕ) → sum_by (part_at equation unknown) terms ≡ sum_by
+    (λ term. term.constant) (filter (stands_at equation unknown) terms)
 sum-filter [] equation unknown = refl
 sum-filter (term ∷ terms) equation unknown = by (stands_at equation unknown term) refl (sum-filter terms equation unknown)
   where
     standing : List Term
     standing = filter (stands_at equation unknown) terms
 
-    by : (b : Bool) → stands_at equation unknown term ≡ b → sum_by (part_at equation unknown) terms ≡ sum_by (λ term. term.constant) (filter (stands_at equation unknown) terms)
+    by : (b : Bool) → stands_at equation unknown term ≡ b → sum_by (part_at equation unknown) terms ≡ sum_by
+        (λ term. term.constant) (filter (stands_at equation unknown) terms)
         → sum_by (part_at equation unknown) (term ∷ terms) ≡ sum_by (λ term. term.constant) (filter (stands_at equation unknown) (term ∷ terms))
     by true e more =
         let here : part_at equation unknown term ≡ term.constant = ap (λ b. cond b term.constant 0) e in
         sum_by-cons (part_at equation unknown) term terms
         ∙ (λ t. here t + more t)
         ∙ sym (sum_by-cons (λ (term : Term). term.constant) term (filter (stands_at equation unknown) terms))
-        ∙ sym (ap (λ b. sum_by (λ (term : Term). term.constant) (cond b (term ∷ filter (stands_at equation unknown) terms) (filter (stands_at equation unknown) terms))) e)
+        ∙ sym (ap (λ b. sum_by (λ (term : Term). term.constant)
+        (cond b (term ∷ filter (stands_at equation unknown) terms)
+        (filter (stands_at equation unknown) terms))) e)
     by false e more =
         let here : ◌≡◌ {A = ℕ} (part_at equation unknown term) 0 = ap (λ b. cond b term.constant 0) e in
         sum_by-cons (part_at equation unknown) term terms
         ∙ omega (arith, here)
         ∙ more
-        ∙ sym (ap (λ b. sum_by (λ (term : Term). term.constant) (cond b (term ∷ filter (stands_at equation unknown) terms) (filter (stands_at equation unknown) terms))) e)
+        ∙ sym (ap (λ b. sum_by (λ (term : Term). term.constant)
+        (cond b (term ∷ filter (stands_at equation unknown) terms)
+        (filter (stands_at equation unknown) terms))) e)
 
-any-filter : (terms : List Term) (equation unknown : List ℕ) → symbol_said terms equation unknown ≡ list_any (λ term. term.symbol) (filter (stands_at equation unknown) terms)
+any-filter : (terms : List Term) (equation unknown : List ℕ) → symbol_said terms equation unknown ≡ list_any
+    (λ term. term.symbol) (filter (stands_at equation unknown) terms)
 any-filter [] equation unknown = refl
 any-filter (term ∷ terms) equation unknown = by (stands_at equation unknown term) refl (any-filter terms equation unknown)
   where
-    by : (b : Bool) → stands_at equation unknown term ≡ b → symbol_said terms equation unknown ≡ list_any (λ term. term.symbol) (filter (stands_at equation unknown) terms)
+    by : (b : Bool) → stands_at equation unknown term ≡ b → symbol_said terms equation unknown ≡ list_any
+        (λ term. term.symbol) (filter (stands_at equation unknown) terms)
         → symbol_said (term ∷ terms) equation unknown ≡ list_any (λ term. term.symbol) (filter (stands_at equation unknown) (term ∷ terms))
     by true e more =
         ap (λ b. (b && term.symbol) || symbol_said terms equation unknown) e
         ∙ ap (λ b. term.symbol || b) more
-        ∙ sym (ap (λ b. list_any (λ (term : Term). term.symbol) (cond b (term ∷ filter (stands_at equation unknown) terms) (filter (stands_at equation unknown) terms))) e)
+        ∙ sym (ap (λ b. list_any (λ (term : Term). term.symbol)
+        (cond b (term ∷ filter (stands_at equation unknown) terms)
+        (filter (stands_at equation unknown) terms))) e)
     by false e more =
         ap (λ b. (b && term.symbol) || symbol_said terms equation unknown) e
         ∙ more
-        ∙ sym (ap (λ b. list_any (λ (term : Term). term.symbol) (cond b (term ∷ filter (stands_at equation unknown) terms) (filter (stands_at equation unknown) terms))) e)
+        ∙ sym (ap (λ b. list_any (λ (term : Term). term.symbol)
+        (cond b (term ∷ filter (stands_at equation unknown) terms)
+        (filter (stands_at equation unknown) terms))) e)
 
 -- a row has nothing in another equation
-other-row : (equation unknown name : List ℕ) (unknowns : List (List ℕ)) (row : List RowEntry) → bytes_eq equation name ≡ false → filter (stands_at equation unknown) (map (entry_term name unknowns) row) ≡ []
+other-row : (equation unknown name : List ℕ) (unknowns : List (List ℕ)) (row : List RowEntry) →
+    bytes_eq equation name ≡ false → filter (stands_at equation unknown) (map (entry_term name unknowns) row) ≡ []
 other-row equation unknown name unknowns [] other = refl
 other-row equation unknown name unknowns (entry ∷ row) other =
     let rest = filter (stands_at equation unknown) (map (entry_term name unknowns) row) in
     ap (λ b. cond (b && bytes_eq unknown (get_or unknowns entry.column [])) (entry_term name unknowns entry ∷ rest) rest) other
     ∙ other-row equation unknown name unknowns row other
 
-other-rows : (equation unknown : List ℕ) (names unknowns : List (List ℕ)) (rows : List (List RowEntry)) → has_name names equation ≡ false → filter (stands_at equation unknown) (terms_by names unknowns rows) ≡ []
+other-rows : (equation unknown : List ℕ) (names unknowns : List (List ℕ)) (rows : List (List RowEntry)) →
+    has_name names equation ≡ false → filter (stands_at equation unknown) (terms_by names unknowns rows) ≡ []
 other-rows equation unknown [] unknowns rows none = refl
 other-rows equation unknown (name ∷ names) unknowns [] none = refl
 other-rows equation unknown (name ∷ names) unknowns (row ∷ rows) none = by (bytes_eq equation name) refl none (other-rows equation unknown names unknowns rows)
   where
-    by : (b : Bool) → bytes_eq equation name ≡ b → (b || has_name names equation) ≡ false → (has_name names equation ≡ false → filter (stands_at equation unknown) (terms_by names unknowns rows) ≡ [])
+    by : (b : Bool) → bytes_eq equation name ≡ b → (b || has_name names equation) ≡ false →
+        (has_name names equation ≡ false → filter (stands_at equation unknown) (terms_by names unknowns rows) ≡ [])
         → filter (stands_at equation unknown) (terms_by (name ∷ names) unknowns (row ∷ rows)) ≡ []
     by true e none more = let f : ⊥ = cc in absurd f
     by false e none more =
@@ -105,15 +122,19 @@ none-before p first (entry ∷ row) j rises before =
     rw (ne_eqb entry.column j (omega (arith, rises.0, before))) (none-before p (entry.column + 1) row j rises.2 (omega (arith, rises.0, before)))
 
 -- and in its own equation what stands at the column of the unknown
-own-row : (p first : ℕ) (name : List ℕ) (unknowns : List (List ℕ)) (j : ℕ) (row : List RowEntry) → IsDistinct bytes_eq unknowns → j < length unknowns → RisesFrom p first row → AllByRecursion (λ (entry : RowEntry). entry.column < length unknowns) row
+own-row : (p first : ℕ) (name : List ℕ) (unknowns : List (List ℕ)) (j : ℕ) (row : List RowEntry) →
+    IsDistinct bytes_eq unknowns → j < length unknowns → RisesFrom p first row →
+    AllByRecursion (λ (entry : RowEntry). entry.column < length unknowns) row
     → filter (stands_at name (get_or unknowns j [])) (map (entry_term name unknowns) row) ≡ at_place name unknowns (entry_in row j)
 own-row p first name unknowns j [] distinct within rises inside = refl
 own-row p first name unknowns j (entry ∷ row) distinct within rises inside =
     by (nat_eq entry.column j) refl (own-row p (entry.column + 1) name unknowns j row distinct within rises.2 inside.1)
   where
-    by : (b : Bool) → nat_eq entry.column j ≡ b → filter (stands_at name (get_or unknowns j [])) (map (entry_term name unknowns) row) ≡ at_place name unknowns (entry_in row j)
+    by : (b : Bool) → nat_eq entry.column j ≡ b → filter (stands_at name (get_or unknowns j []))
+        (map (entry_term name unknowns) row) ≡ at_place name unknowns (entry_in row j)
         → filter (stands_at name (get_or unknowns j [])) (map (entry_term name unknowns) (entry ∷ row)) ≡ at_place name unknowns (entry_in (entry ∷ row) j)
-    by b e more = ap (λ b. cond b (entry_term name unknowns entry ∷ rest) rest) (stands ∙ e) ∙ last b e ∙ sym (ap (λ b. at_place name unknowns (cond b (Some entry) (entry_in row j))) e)
+    by b e more = ap (λ b. cond b (entry_term name unknowns entry ∷ rest) rest) (stands ∙ e) ∙ last b e
+        ∙ sym (ap (λ b. at_place name unknowns (cond b (Some entry) (entry_in row j))) e)
       where
         rest : List Term
         rest = filter (stands_at name (get_or unknowns j [])) (map (entry_term name unknowns) row)
@@ -121,8 +142,12 @@ own-row p first name unknowns j (entry ∷ row) distinct within rises inside =
         stands : stands_at name (get_or unknowns j []) (entry_term name unknowns entry) ≡ nat_eq entry.column j
         stands = (λ t. bytes_eq-refl name t && stands_once unknowns (get_or unknowns entry.column []) entry.column j distinct inside.0 within refl t)
 
-        last : (b : Bool) → nat_eq entry.column j ≡ b → cond b (entry_term name unknowns entry ∷ rest) rest ≡ at_place name unknowns (cond b (Some entry) (entry_in row j))
-        last true e = ap (λ found. entry_term name unknowns entry ∷ found) (more ∙ ap (at_place name unknowns) (none-before p (entry.column + 1) row j rises.2 (omega (arith, eqb-true entry.column j e))))
+        last : (b : Bool) → nat_eq entry.column j ≡ b →
+            cond b (entry_term name unknowns entry ∷ rest) rest ≡ at_place name unknowns
+            (cond b (Some entry) (entry_in row j))
+        last true e = ap (λ found. entry_term name unknowns entry ∷ found)
+            (more ∙ ap (at_place name unknowns) (none-before p (entry.column + 1) row j rises.2
+            (omega (arith, eqb-true entry.column j e))))
         last false e = more
 
 -- a name that is not among some is none of them
@@ -133,9 +158,11 @@ absent-at names name i none at = bytes_eq-sym name (get_or names i []) (by (byte
     by false e = e
     by true e = let both : true ≡ false = sym (list_any_at (bytes_eq name) names i [] at e) ∙ none in let f : ⊥ = cc in absurd f
 
-each-row : (p : ℕ) (names unknowns : List (List ℕ)) (rows : List (List RowEntry)) (i j : ℕ) → Differ names → IsDistinct bytes_eq unknowns → length rows ≡ length names → i < length names → j < length unknowns
+each-row : (p : ℕ) (names unknowns : List (List ℕ)) (rows : List (List RowEntry)) (i j : ℕ) → Differ names →
+    IsDistinct bytes_eq unknowns → length rows ≡ length names → i < length names → j < length unknowns
     → AllByRecursion (λ row. IsRow p row × IsWithin (length unknowns) row) rows
-    → filter (stands_at (get_or names i []) (get_or unknowns j [])) (terms_by names unknowns rows) ≡ at_place (get_or names i []) unknowns (entry_in (get_or rows i []) j)
+    → filter (stands_at (get_or names i []) (get_or unknowns j [])) (terms_by names unknowns rows) ≡ at_place
+    (get_or names i []) unknowns (entry_in (get_or rows i []) j)
 each-row p [] unknowns rows i j differ distinct long at col all = absurd (omega (arith, at))
 each-row p (name ∷ names) unknowns [] i j differ distinct long at col all = absurd (omega (arith, long))
 each-row p (name ∷ names) unknowns (row ∷ rows) zero j differ distinct long at col all =
@@ -152,7 +179,8 @@ each-row p (name ∷ names) unknowns (row ∷ rows) (suc i) j differ distinct lo
 there-at : (names : List (List ℕ)) (i : ℕ) → i < length names → has_name names (get_or names i []) ≡ true
 there-at names i at = list_any_at (bytes_eq (get_or names i [])) names i [] at (bytes_eq-refl (get_or names i []))
 
-placed-row : (equations unknowns : List (List ℕ)) (name : List ℕ) (row : List RowEntry) → has_name equations name ≡ true → AllByRecursion (λ (entry : RowEntry). entry.column < length unknowns) row
+placed-row : (equations unknowns : List (List ℕ)) (name : List ℕ) (row : List RowEntry) →
+    has_name equations name ≡ true → AllByRecursion (λ (entry : RowEntry). entry.column < length unknowns) row
     → AllByRecursion (IsPlaced equations unknowns) (map (entry_term name unknowns) row)
 placed-row equations unknowns name [] there inside = tt
 placed-row equations unknowns name (entry ∷ row) there inside =
@@ -178,7 +206,8 @@ constant-said p name unknowns (Some entry) filled = by entry.constant refl
     by (Some constant) e =
         rw e (sym (mod-eq_of_lt {n = 0 + constant} {m = p} (omega (arith, (filled entry refl).residue constant e)) ∙ omega arith))
 
-symbol-said : (name : List ℕ) (unknowns : List (List ℕ)) (found : Option RowEntry) → symbol_at_place found ≡ list_any (λ term. term.symbol) (at_place name unknowns found)
+symbol-said : (name : List ℕ) (unknowns : List (List ℕ)) (found : Option RowEntry) →
+    symbol_at_place found ≡ list_any (λ term. term.symbol) (at_place name unknowns found)
 symbol-said name unknowns None = refl
 symbol-said name unknowns (Some entry) = by entry.symbol
   where
@@ -192,7 +221,9 @@ said_by p model is = (
   terms,
   record {
     constants = λ i j row col.
-        constant-said p (get_or model.equations i []) model.unknowns (entry_in (row_of model i) j) (λ entry found. entry_in-filled p 0 (row_of model i) (is.rows i [] (omega (arith, row, is.one_row_each))).0 j entry found)
+        constant-said p (get_or model.equations i []) model.unknowns (entry_in (row_of model i) j)
+        (λ entry found. entry_in-filled p 0 (row_of model i)
+        (is.rows i [] (omega (arith, row, is.one_row_each))).0 j entry found)
         ∙ ap (λ found. sum_by (λ (term : Term). term.constant) found % p) (sym (at i j row col))
         ∙ ap (λ n. n % p) (sym (sum-filter terms (get_or model.equations i []) (get_or model.unknowns j [])));
     symbols = λ i j row col.
@@ -201,7 +232,9 @@ said_by p model is = (
         ∙ sym (any-filter terms (get_or model.equations i []) (get_or model.unknowns j []));
   },
   all_at (IsPlaced model.equations model.unknowns) terms (placed-rows p model.equations model.equations model.unknowns model.rows
-      (at_all (λ name. has_name model.equations name ≡ true) model.equations (λ k d at. subst (λ name. has_name model.equations name ≡ true) (get_or_default model.equations k [] d at) (there-at model.equations k at)))
+      (at_all (λ name. has_name model.equations name ≡ true) model.equations
+      (λ k d at. subst (λ name. has_name model.equations name ≡ true) (get_or_default model.equations k [] d at)
+      (there-at model.equations k at)))
       all_rows),
 )
   where
@@ -212,5 +245,8 @@ said_by p model is = (
     all_rows = at_all (λ row. IsRow p row × IsWithin (length model.unknowns) row) model.rows is.rows
 
     at : (i j : ℕ) → i < length model.equations → j < length model.unknowns
-        → filter (stands_at (get_or model.equations i []) (get_or model.unknowns j [])) (terms_by model.equations model.unknowns model.rows) ≡ at_place (get_or model.equations i []) model.unknowns (entry_in (row_of model i) j)
-    at i j row col = each-row p model.equations model.unknowns model.rows i j (distinct-differ model.equations is.equations.distinct) is.unknowns.distinct is.one_row_each row col all_rows
+        → filter (stands_at (get_or model.equations i []) (get_or model.unknowns j []))
+        (terms_by model.equations model.unknowns model.rows) ≡ at_place
+        (get_or model.equations i []) model.unknowns (entry_in (row_of model i) j)
+    at i j row col = each-row p model.equations model.unknowns model.rows i j
+        (distinct-differ model.equations is.equations.distinct) is.unknowns.distinct is.one_row_each row col all_rows

@@ -7,5 +7,6 @@ pub returns : goal.returns
 returns c = elim [
   | Matrix ↦ λ words asks answer. let other : 98 ≡ 108 = ap (λ t. get_or t 84 0) (empty-answer words Matrix _ asks answer) in absurd (omega (arith, other))
   | Netlist ↦ λ words asks answer. let other : 98 ≡ 108 = ap (λ t. get_or t 85 0) (empty-answer words Netlist _ asks answer) in absurd (omega (arith, other))
-  | Flowsheet ↦ λ words asks answer. let other : 98 ≡ 108 = ap (λ t. get_or t 87 0) (empty-answer words Flowsheet _ asks answer) in absurd (omega (arith, other))
+  | Flowsheet ↦ λ words asks answer. let other : 98 ≡ 108 = ap (λ t. get_or t 87 0)
+      (empty-answer words Flowsheet _ asks answer) in absurd (omega (arith, other))
 ]

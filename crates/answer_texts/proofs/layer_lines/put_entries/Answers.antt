@@ -14,9 +14,12 @@ loop-column-preserved g c =
     let row = row_at c.args.matrix.now c.args.row in
     let rest = row_entries_text (c.loop-column.column + 1 + 1) (drop (c.loop-column.column + 1) row) in
     let within : c.loop-column.column < length row = omega (arith, row_long c.args.matrix.now c.args.row c.requires c.cols-column-end.ensures.matrix) in
-    loop_goes_on (entries_left row c.loop-column.column 0 within ∙ ap (λ n. entry_text (c.loop-column.column + 1) n ++ rest) (sym c.get.ensures)) c.loop-column.invariant c.put_entry.ensures
+    loop_goes_on (entries_left row c.loop-column.column 0 within
+    ∙ ap (λ n. entry_text (c.loop-column.column + 1) n ++ rest)
+    (sym c.get.ensures)) c.loop-column.invariant c.put_entry.ensures
 
 pub returns : goal.returns
 returns g c =
     let row = row_at c.args.matrix.now c.args.row in
-    loop_ends (entries_end (c.loop-column.column + 1) row c.loop-column.column (omega (arith, row_long c.args.matrix.now c.args.row c.requires c.cols-column-end.ensures.matrix))) c.loop-column.invariant
+    loop_ends (entries_end (c.loop-column.column + 1) row c.loop-column.column
+    (omega (arith, row_long c.args.matrix.now c.args.row c.requires c.cols-column-end.ensures.matrix))) c.loop-column.invariant

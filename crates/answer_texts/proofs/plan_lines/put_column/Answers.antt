@@ -12,4 +12,5 @@ put_column_name-requires g c =
 
 pub returns : goal.returns
 returns g c = puts_then c.piece.ensures
-    (puts_is (ap (column_name c.args.model.now) (sym (got_or c.args.layered.now.column_origins c.args.column (Unknown 0) c.column_origin-origin.result c.column_origin-origin.ensures))) c.put_column_name.ensures)
+    (puts_is (ap (column_name c.args.model.now) (sym (got_or c.args.layered.now.column_origins c.args.column
+    (Unknown 0) c.column_origin-origin.result c.column_origin-origin.ensures))) c.put_column_name.ensures)

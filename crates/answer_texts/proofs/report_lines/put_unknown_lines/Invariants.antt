@@ -5,4 +5,5 @@ use Rattle.answer_texts.proofs.report_lines.put_unknown_lines.Given as goal
 
 abbrev pub invariant-loop-unknown : goal.invariant-loop-unknown
 invariant-loop-unknown g l =
-    PutsUpTo g.K.Sink l.initial.out l.out (name_lines (codes "undetermined") l.model.unknowns l.unknowns) (name_lines (codes "undetermined") l.model.unknowns (drop l.unknown-index l.unknowns))
+    PutsUpTo g.K.Sink l.initial.out l.out (name_lines (codes "undetermined") l.model.unknowns l.unknowns)
+    (name_lines (codes "undetermined") l.model.unknowns (drop l.unknown-index l.unknowns))

@@ -21,7 +21,8 @@ returns g c =
     let t_rows = c.rows-2.ensures.rows ∙ ap (λ (l : Layers). length l.t.rows) c.l.view_is in
     record {
       tableau =
-          subst (λ d. PrintsTableau g.F.Field.modulus (g.T.Tableau.state d) (numbered_rows number printed.s) (numbered_rows number printed.u) (numbered_rows number printed.p))
+          subst (λ d. PrintsTableau g.F.Field.modulus (g.T.Tableau.state d) (numbered_rows number printed.s)
+          (numbered_rows number printed.u) (numbered_rows number printed.p))
           c.tableau-tableau.ensures c.in_ok-tableau_of.ensures;
       symbols = subst (λ (l : Layers). PrintsPattern (length l.t.rows) l.t.width (touches l.t) symbols) c.l.view_is c.in_ok-symbols_of.ensures;
       parts =

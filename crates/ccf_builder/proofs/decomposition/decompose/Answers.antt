@@ -24,8 +24,10 @@ returns g c =
     record {
       starts = starts;
       ends = ends;
-      starts_are = λ x xl. ap (λ list. members_of list x) c.deref.ensures.value ∙ get_or_from_slice_get c.in_ok-free.free.items x (free x) false (c.in_ok-free.ensures.at x xl);
-      ends_are = λ x xl. ap (λ list. members_of list x) c.deref-2.ensures.value ∙ get_or_from_slice_get c.in_ok-ends.ends.items x (end x) false (c.in_ok-ends.ensures.at x xl);
+      starts_are = λ x xl. ap (λ list. members_of list x) c.deref.ensures.value
+          ∙ get_or_from_slice_get c.in_ok-free.free.items x (free x) false (c.in_ok-free.ensures.at x xl);
+      ends_are = λ x xl. ap (λ list. members_of list x) c.deref-2.ensures.value
+          ∙ get_or_from_slice_get c.in_ok-ends.ends.items x (end x) false (c.in_ok-ends.ensures.at x xl);
       places = c.fill.ensures.places ∙ places;
       lattice = subst (λ n. IsLattice arc n starts ends v) places c.fill.ensures.lattice;
       rules = subst (λ n. NoEndReached arc n starts ends → KeepsRules arc n starts ends v.first v.last v.block v.blocks v.covers) places c.fill.ensures.rules;

@@ -1,5 +1,5 @@
 use Rattle.std.proofs.Common.{◌+◌, subst, sym}
-use Rattle.dense_q.specs.Tables.{entry}
+use Rattle.row_transform.specs.Tableaus.{matrix_of, width_of}
 use Rattle.cert_text.specs.Contents.{numbered_rows}
 use Rattle.ccf_builder.specs.Matrices.{PrintsMatrix}
 use Rattle.ccf_builder.proofs.PrintedRows.{rows-push}
@@ -9,8 +9,10 @@ pub loop-row-preserved : goal.loop-row-preserved
 loop-row-preserved g c =
     let p = g.F.Field.modulus in
     let number = g.F.Field.number in
-    let n = c.args.matrix.now.width in
-    let matrix = entry c.args.matrix.now in
+    let S = g.T.Tableau.state c.args.tableau.now in
+    let n = width_of c.args.which S in
+    let matrix = matrix_of c.args.which S in
     let row = c.loop-row.row in
     subst (λ list. PrintsMatrix p (row + 1) n matrix (numbered_rows number list)) (sym c.in_ok-push.ensures.items)
-    (rows-push number p row n matrix c.loop-row.rows.items c.in_ok-entries_of.field-0 c.loop-row.invariant c.in_ok-entries_of.ensures)
+    (rows-push number p row n matrix c.loop-row.rows.items c.in_ok-entries_of.field-0 c.loop-row.invariant
+    c.in_ok-entries_of.ensures)

@@ -12,6 +12,9 @@ loop-j-preserved c =
     let j = c.loop-j.j in
     let P : List ℕ → Type 0 = ListsBelow Of (j + 1) in
     elim c.if-covers.branch [
-      | then-covers+in_ok-push w ↦ subst P (sym (ap (λ v. v.items) w.lower-is ∙ w.in_ok-push.ensures.items)) (lists-more Of j c.loop-j.lower.items c.loop-j.invariant (sym c.covers.ensures ∙ w.if-covers.true))
-      | else-covers w ↦ subst P (sym (ap (λ v. v.items) w.lower-is)) (lists-same Of j c.loop-j.lower.items c.loop-j.invariant (λ h. differ w.if-covers.false (c.covers.ensures ∙ h)))
+      | then-covers+in_ok-push w ↦ subst P (sym (ap (λ v. v.items) w.lower-is ∙ w.in_ok-push.ensures.items))
+          (lists-more Of j c.loop-j.lower.items c.loop-j.invariant (sym c.covers.ensures ∙ w.if-covers.true))
+      | else-covers w ↦ subst P (sym (ap (λ v. v.items) w.lower-is))
+          (lists-same Of j c.loop-j.lower.items c.loop-j.invariant (λ h. differ w.if-covers.false (c.covers.ensures
+          ∙ h)))
     ]

@@ -11,6 +11,10 @@ loop-number-preserved c =
     let number = c.loop-number.number in
     let P : List ℕ → Type 0 = ListsBelow Of (number + 1) in
     elim c.if-stands_in.branch [
-      | then-stands_in+in_ok-push w ↦ subst P (sym (ap (λ v. v.items) w.numbers-is ∙ w.in_ok-push.ensures.items)) (lists-more Of number c.loop-number.numbers.items c.loop-number.invariant (c.stands_in.ensures.0 w.if-stands_in.true))
-      | else-stands_in w ↦ subst P (sym (ap (λ v. v.items) w.numbers-is)) (lists-same Of number c.loop-number.numbers.items c.loop-number.invariant (λ h. differ w.if-stands_in.false (c.stands_in.ensures.1 h)))
+      | then-stands_in+in_ok-push w ↦ subst P (sym (ap (λ v. v.items) w.numbers-is ∙ w.in_ok-push.ensures.items))
+          (lists-more Of number c.loop-number.numbers.items c.loop-number.invariant
+          (c.stands_in.ensures.0 w.if-stands_in.true))
+      | else-stands_in w ↦ subst P (sym (ap (λ v. v.items) w.numbers-is))
+          (lists-same Of number c.loop-number.numbers.items c.loop-number.invariant
+          (λ h. differ w.if-stands_in.false (c.stands_in.ensures.1 h)))
     ]

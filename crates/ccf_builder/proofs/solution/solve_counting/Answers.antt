@@ -14,5 +14,6 @@ returns g c =
     record {
       layers_are = same;
       entries = entries;
-      solved = subst (λ M. IsSolved g.F.Field.modulus M (tableau_of (g.T.Tableau.state now.tableau) now.matching) (reached_of now.found)) same (c.run.ensures.solved q entries);
+      solved = subst (λ M. IsSolved g.F.Field.modulus M (tableau_of (g.T.Tableau.state now.tableau) now.matching)
+          (reached_of now.found)) same (c.run.ensures.solved q entries);
     }

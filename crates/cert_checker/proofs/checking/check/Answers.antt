@@ -14,4 +14,6 @@ pub returns-clause-rejected : goal.returns-clause-rejected
 returns-clause-rejected g c =
     let layered = c.in_ok-layered.layered in
     let are = c.in_ok-layered.ensures in
-    IfErr-weaker c.check_layered.result _ _ (why-not g.F.Field.modulus g.met.F.Field.prime g.met.F.Field.odd (mixed_matrix_of c.args.model.now) c.args.form.now c.shape-shape.ensures.ccf (matrix_of_rows layered) are.origins are.layered) c.check_layered.ensures.broken
+    IfErr-weaker c.check_layered.result _ _ (why-not g.F.Field.modulus g.met.F.Field.prime g.met.F.Field.odd
+    (mixed_matrix_of c.args.model.now) c.args.form.now c.shape-shape.ensures.ccf
+    (matrix_of_rows layered) are.origins are.layered) c.check_layered.ensures.broken

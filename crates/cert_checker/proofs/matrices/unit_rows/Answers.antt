@@ -16,7 +16,9 @@ loop-row-preserved g c =
     c.from_vec.ensures ∙ c.in_ok-push.ensures.items ∙ ap (λ es. es ++ (row, c.one.result) ∷ []) c.new-entries.ensures.items in
     subst (λ list. PrintsMatrix p (row + 1) n identity (numbered_rows number list)) (sym c.in_ok-push-2.ensures.items)
     (rows-push number p row n identity c.loop-row.rows.items c.from_vec.result c.loop-row.invariant
-    (subst (λ es. PrintsRow p n (identity row) (numbered number es)) (sym entries) (unit-entry number p n row c.one.result (omega (arith, g.met.F.Field.odd)) c.loop-row-test.true c.one.ensures)))
+    (subst (λ es. PrintsRow p n (identity row) (numbered number es)) (sym entries)
+    (unit-entry number p n row c.one.result (omega
+    (arith, g.met.F.Field.odd)) c.loop-row-test.true c.one.ensures)))
 
 pub returns : goal.returns
 returns g c =

@@ -20,7 +20,8 @@ loop-entry-preserved g c =
     let n = length c.args.row.now in
     let factor = number c.args.factor in
     let want : ℕ → ℕ = λ j. slice_index (map number c.args.row.now) j + factor * entry_at printed j in
-    let cut : drop k printed ≡ named number entry ∷ drop (k + 1) printed = next_entry number c.args.entries.now k entry c.loop-entry-test.true c.entry-item.is in
+    let cut : drop k printed ≡ named number entry ∷ drop (k + 1) printed =
+    next_entry number c.args.entries.now k entry c.loop-entry-test.true c.entry-item.is in
     let low : entry.0 < n = subst (λ (e : ℕ × g.row.F.Denot). e.0 < n) (sym c.entry-item.is) (c.requires.columns k entry c.loop-entry-test.true) in
     let old : number c.index-row-column.result ≡ slice_index (map number row) entry.0 =
     ap number c.index-row-column.is ∙ sym (get_or-map number row entry.0 c.index-row-column.result 0 (omega (arith, c.loop-entry.auto.row, low))) in
@@ -34,5 +35,6 @@ loop-entry-preserved g c =
 pub returns : goal.returns
 returns g c =
     let number = g.F.Field.number in
-    left-end g.F.Field.modulus (length c.args.row.now) (number c.args.factor) (map number c.loop-entry.row) (numbered number c.args.entries.now) c.loop-entry.entry-index _
+    left-end g.F.Field.modulus (length c.args.row.now) (number c.args.factor) (map number c.loop-entry.row)
+    (numbered number c.args.entries.now) c.loop-entry.entry-index _
     (omega (arith, c.loop-entry-test.false, entry_count number c.args.entries.now)) c.loop-entry.invariant

@@ -19,7 +19,8 @@ pub add_entries-requires-clause-columns : goal.add_entries-requires-clause-colum
 add_entries-requires-clause-columns g c =
     let number = g.F.Field.number in
     let p = g.F.Field.modulus in
-    entry_columns number p (length c.gather.new.row) c.args.entries.now (subst (λ n. AreEntries p n (numbered number c.args.entries.now)) (sym c.gather.auto.row) c.requires.entries)
+    entry_columns number p (length c.gather.new.row) c.args.entries.now
+    (subst (λ n. AreEntries p n (numbered number c.args.entries.now)) (sym c.gather.auto.row) c.requires.entries)
 
 pub returns-clause-answer : goal.returns-clause-answer
 returns-clause-answer g c =
@@ -33,10 +34,14 @@ returns-clause-answer g c =
     let minus : (1 + f) % p ≡ 0 = subst (λ one. (one + f) % p ≡ 0) c.one.ensures c.neg.ensures.negative in
     let added : IsAdded p n f entries sum less = subst (λ m. IsAdded p m f entries sum less) c.gather.auto.row c.add_entries.ensures in
     let long : length c.add_entries.new.row ≡ n = c.add_entries.auto.row ∙ c.gather.auto.row in (
-      λ h. nothing-left p (length c.args.matrix.now) n f minus (numbered number c.args.coefficients.now) (numbered_rows number c.args.matrix.now) entries (map number c.args.row.now) sum less c.requires.zero c.gather.ensures added
+      λ h. nothing-left p (length c.args.matrix.now) n f minus (numbered number c.args.coefficients.now)
+          (numbered_rows number c.args.matrix.now) entries
+          (map number c.args.row.now) sum less c.requires.zero c.gather.ensures added
           (subst (λ m. IsZeroRow p m less) long (c.is_zero_row.ensures.0 h)),
       λ is. c.is_zero_row.ensures.1 (subst (λ m. IsZeroRow p m less) (sym long)
-          (left-nothing p (length c.args.matrix.now) n f minus (numbered number c.args.coefficients.now) (numbered_rows number c.args.matrix.now) entries (map number c.args.row.now) sum less c.requires.zero c.gather.ensures added is)),
+          (left-nothing p (length c.args.matrix.now) n f minus (numbered number c.args.coefficients.now)
+          (numbered_rows number c.args.matrix.now) entries
+          (map number c.args.row.now) sum less c.requires.zero c.gather.ensures added is)),
     )
 
 pub returns-clause-zero : goal.returns-clause-zero

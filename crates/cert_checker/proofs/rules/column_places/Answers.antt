@@ -13,5 +13,7 @@ returns g c =
     let form = c.args.form.now in
     let n = c.args.layered.now.symbols.width in
     let width : c.columns.result ≡ n = c.columns.ensures in
-    subst (λ lists. IfOk c.places_of.result (λ found. MatchOption found (Not (StandsOnce n lists)) (λ places. TellsPlaces n lists places.items))) (columns-are form)
-    (subst (λ m. IfOk c.places_of.result (λ found. MatchOption found (Not (StandsOnce m (lists_in Column form))) (λ places. TellsPlaces m (lists_in Column form) places.items))) width c.places_of.ensures)
+    subst (λ lists. IfOk c.places_of.result (λ found. MatchOption found (Not (StandsOnce n lists))
+    (λ places. TellsPlaces n lists places.items))) (columns-are form)
+    (subst (λ m. IfOk c.places_of.result (λ found. MatchOption found (Not (StandsOnce m (lists_in Column form)))
+    (λ places. TellsPlaces m (lists_in Column form) places.items))) width c.places_of.ensures)

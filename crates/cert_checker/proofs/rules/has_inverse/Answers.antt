@@ -17,7 +17,8 @@ is_product-requires-clause-a g c =
     let s = printed-rows number c.s.result.now c.as_slice.result.now form.s c.as_slice.ensures c.s.ensures.s in
     let u = printed-rows number c.u.result.now c.as_slice-2.result.now form.u c.as_slice-2.ensures c.u.ensures.u in
     printed-matrix number p q q (length c.as_slice.result.now) (length c.as_slice-2.result.now) c.as_slice.result.now form.s s c.s.ensures.ccf.s
-    (sym (printed-count number p q q c.as_slice.result.now form.s s c.s.ensures.ccf.s)) (sym (printed-count number p q q c.as_slice-2.result.now form.u u c.u.ensures.ccf.u))
+    (sym (printed-count number p q q c.as_slice.result.now form.s s c.s.ensures.ccf.s))
+    (sym (printed-count number p q q c.as_slice-2.result.now form.u u c.u.ensures.ccf.u))
 
 pub is_product-requires-clause-b : goal.is_product-requires-clause-b
 is_product-requires-clause-b g c =
@@ -53,8 +54,12 @@ returns g c =
     let unit = printed-rows number c.in_ok-unit.unit c.as_slice-3.result.now (numbered_rows number c.in_ok-unit.unit) c.as_slice-3.ensures refl in
     let size = c.requires.q_rows in
     let view : n ≡ length c.args.layered.now.constants = c.q_rows-n.ensures in
-    let printed : PrintsMatrix p _ _ identity (numbered_rows number c.in_ok-unit.unit) = subst (λ k. PrintsMatrix p k k identity (numbered_rows number c.in_ok-unit.unit)) view c.in_ok-unit.ensures in
-    let sizes = product_as p (numbered_rows number c.as_slice-3.result.now) (numbered_rows number c.in_ok-unit.unit) (numbered_rows number c.as_slice.result.now) form.s (numbered_rows number c.as_slice-2.result.now) form.u _ _ _ _ _ _
-    (printed-count number p q q c.as_slice.result.now form.s s c.s.ensures.ccf.s ∙ size) view (printed-count number p q q c.as_slice-2.result.now form.u u c.u.ensures.ccf.u ∙ size) unit s u in
+    let printed : PrintsMatrix p _ _ identity (numbered_rows number c.in_ok-unit.unit) =
+    subst (λ k. PrintsMatrix p k k identity (numbered_rows number c.in_ok-unit.unit)) view c.in_ok-unit.ensures in
+    let sizes = product_as p (numbered_rows number c.as_slice-3.result.now) (numbered_rows number c.in_ok-unit.unit)
+    (numbered_rows number c.as_slice.result.now) form.s
+    (numbered_rows number c.as_slice-2.result.now) form.u _ _ _ _ _ _
+    (printed-count number p q q c.as_slice.result.now form.s s c.s.ensures.ccf.s ∙ size) view
+    (printed-count number p q q c.as_slice-2.result.now form.u u c.u.ensures.ccf.u ∙ size) unit s u in
     let inverse = inverse-iff p _ (matrix_of form.s) (matrix_of form.u) (matrix_of (numbered_rows number c.in_ok-unit.unit)) printed.same in
     IfOk-weaker c.is_product.result _ _ (λ answer h. (λ x. inverse.0 (sizes.0 (h.0 x)), λ y. h.1 (sizes.1 (inverse.1 y)))) c.is_product.ensures

@@ -9,7 +9,8 @@ are_units-requires-clause-p g c =
     let p = g.F.Field.modulus in
     let form = c.args.form.now in
     let P = printed-rows number c.p.result.now c.as_slice.result.now form.p c.as_slice.ensures c.p.ensures.p in
-    printed-matrix number p form.shape.q_rows form.shape.columns (length c.as_slice.result.now) c.columns.result c.as_slice.result.now form.p P c.p.ensures.ccf.p
+    printed-matrix number p form.shape.q_rows form.shape.columns
+    (length c.as_slice.result.now) c.columns.result c.as_slice.result.now form.p P c.p.ensures.ccf.p
     (sym (printed-count number p form.shape.q_rows form.shape.columns c.as_slice.result.now form.p P c.p.ensures.ccf.p)) (c.requires.columns ∙ sym c.columns.ensures)
 
 pub are_units-requires-clause-base : goal.are_units-requires-clause-base

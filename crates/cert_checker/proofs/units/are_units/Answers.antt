@@ -20,10 +20,12 @@ returns g c =
           let is = w.deref.ensures.value in (
             λ h. units-to p m n big P base marks c.requires.p c.requires.base c.in_ok-marks.ensures (c.are_ones.ensures.0 w.if-are_ones.true)
                 (subst (λ ms. AreClear m ms P m) is (w.are_clear.ensures.0 (sym w.result-is ∙ h))),
-            λ u. w.result-is ∙ w.are_clear.ensures.1 (subst (λ ms. AreClear m ms P m) (sym is) (units-clear p m n big P base marks c.requires.p c.requires.base c.in_ok-marks.ensures u)),
+            λ u. w.result-is ∙ w.are_clear.ensures.1 (subst (λ ms. AreClear m ms P m) (sym is)
+                (units-clear p m n big P base marks c.requires.p c.requires.base c.in_ok-marks.ensures u)),
           )
       | else-are_ones w ↦ (
         λ h. absurd (differ w.if-are_ones.false (sym w.result-is ∙ h)),
-        λ u. absurd (differ w.if-are_ones.false (c.are_ones.ensures.1 (units-ones p m n big P base marks c.requires.p c.requires.base c.in_ok-marks.ensures u))),
+        λ u. absurd (differ w.if-are_ones.false (c.are_ones.ensures.1
+            (units-ones p m n big P base marks c.requires.p c.requires.base c.in_ok-marks.ensures u))),
       )
     ]

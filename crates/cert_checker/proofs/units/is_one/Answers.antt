@@ -37,6 +37,8 @@ returns g c =
     let printed = numbered number c.args.row.now in (
       λ f. absurd (cc),
       λ one.
-          let none : entry_at printed c.args.column ≡ 0 = c.loop-entry.invariant ∙ entry-none printed c.loop-entry.entry-index c.args.column (omega (arith, c.loop-entry-test.false, entry_count number c.args.row.now)) in
+          let none : entry_at printed c.args.column ≡ 0 = c.loop-entry.invariant
+          ∙ entry-none printed c.loop-entry.entry-index c.args.column
+          (omega (arith, c.loop-entry-test.false, entry_count number c.args.row.now)) in
           absurd (omega (arith, one, none)),
     )

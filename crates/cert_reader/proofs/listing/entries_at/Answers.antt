@@ -20,7 +20,8 @@ pub loop-rest-smaller : goal.loop-rest-smaller
 loop-rest-smaller g c =
     let number = g.F.Field.number in
     let entry = c.in_ok-entry.entry in
-    entry_short g.F.Field.modulus c.args.n c.loop-rest.low c.args.line c.loop-rest.rest.now ((entry.0, number entry.1), c.in_ok-entry.after.now) c.in_ok-entry.ensures.entry
+    entry_short g.F.Field.modulus c.args.n c.loop-rest.low c.args.line c.loop-rest.rest.now
+    ((entry.0, number entry.1), c.in_ok-entry.after.now) c.in_ok-entry.ensures.entry
 
 pub loop-rest-preserved : goal.loop-rest-preserved
 loop-rest-preserved g c =
@@ -32,9 +33,13 @@ loop-rest-preserved g c =
     let entries = c.loop-rest.entries.items in
     let all = entries_at p c.args.n c.args.line c.args.bytes.now in
     let going : goes_on left ≡ true = sym c.goes_on.ensures ∙ c.loop-rest-test.true in
-    let shorter : length after < length left = entry_short p c.args.n c.loop-rest.low c.args.line left ((entry.0, number entry.1), after) c.in_ok-entry.ensures.entry in
-    subst (λ front. SoFar goes_on (λ (p : ℕ × ℕ). p.0 + 1) (entry_at p c.args.n) c.args.line front (entry.0 + 1) after all) (sym (ap (numbered number) c.in_ok-push.ensures.items ∙ numbered-more number entries entry))
-    (goes_further goes_on (λ (p : ℕ × ℕ). p.0 + 1) (entry_at p c.args.n) c.args.line c.loop-rest.low (numbered number entries) left (entry.0, number entry.1) after all going c.in_ok-entry.ensures.entry shorter c.loop-rest.invariant)
+    let shorter : length after < length left = entry_short p c.args.n c.loop-rest.low c.args.line left
+    ((entry.0, number entry.1), after) c.in_ok-entry.ensures.entry in
+    subst (λ front. SoFar goes_on (λ (p : ℕ × ℕ). p.0 + 1) (entry_at p c.args.n) c.args.line front
+    (entry.0 + 1) after all) (sym (ap (numbered number) c.in_ok-push.ensures.items
+    ∙ numbered-more number entries entry))
+    (goes_further goes_on (λ (p : ℕ × ℕ). p.0 + 1) (entry_at p c.args.n) c.args.line c.loop-rest.low
+    (numbered number entries) left (entry.0, number entry.1) after all going c.in_ok-entry.ensures.entry shorter c.loop-rest.invariant)
 
 pub returns : goal.returns
 returns g c =

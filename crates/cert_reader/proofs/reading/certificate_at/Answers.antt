@@ -12,6 +12,7 @@ contents_at-requires-clause-short g c = omega (
   c.requires,
   spells_short (Spells-text (codes "mixed-certificate 1\n")) 1 c.args.bytes.now (tt, c.in_ok-from_kind.from_kind.now) c.in_ok-from_kind.ensures,
   spells_short Spells-kind 2 c.in_ok-from_kind.from_kind.now (c.in_ok-kind.kind, c.in_ok-kind.from_length.now) c.in_ok-kind.ensures,
-  count_short (codes "length ") input_limit 3 c.in_ok-kind.from_length.now (c.in_ok-size.size, c.in_ok-size.from_echo.now) (omega arith) c.in_ok-size.ensures.number,
+  count_short (codes "length ") input_limit 3 c.in_ok-kind.from_length.now
+      (c.in_ok-size.size, c.in_ok-size.from_echo.now) (omega arith) c.in_ok-size.ensures.number,
   spells_short (Spells-echo c.in_ok-size.size) 4 c.in_ok-size.from_echo.now (c.in_ok-echo.echo.now, c.in_ok-echo.from_shape.now) c.in_ok-echo.ensures,
 )

@@ -13,10 +13,16 @@ parts_at-requires-clause-short g c =
     omega (
       arith,
       c.requires.short,
-      matrix_short modulus (codes "S") shape.q_rows shape.q_rows c.args.line c.args.bytes.now (numbered_rows number c.in_ok-s.s.items, c.in_ok-s.from_u.now) small (omega (arith, c.requires.shape.q_rows)) c.in_ok-s.ensures,
-      matrix_short modulus (codes "U") shape.q_rows shape.q_rows _ c.in_ok-s.from_u.now (numbered_rows number c.in_ok-u.u.items, c.in_ok-u.from_p.now) small (omega (arith, c.requires.shape.q_rows)) c.in_ok-u.ensures,
-      matrix_short modulus (codes "P") shape.columns shape.q_rows _ c.in_ok-u.from_p.now (numbered_rows number c.in_ok-p.p.items, c.in_ok-p.from_t.now) small c.requires.shape.columns c.in_ok-p.ensures,
-      pattern_short (codes "T") shape.columns shape.t_rows _ c.in_ok-p.from_t.now (c.in_ok-t.t.items, c.in_ok-t.from_parts.now) c.requires.shape.columns c.in_ok-t.ensures,
+      matrix_short modulus (codes "S") shape.q_rows shape.q_rows c.args.line c.args.bytes.now
+          (numbered_rows number c.in_ok-s.s.items, c.in_ok-s.from_u.now) small
+          (omega (arith, c.requires.shape.q_rows)) c.in_ok-s.ensures,
+      matrix_short modulus (codes "U") shape.q_rows shape.q_rows _ c.in_ok-s.from_u.now
+          (numbered_rows number c.in_ok-u.u.items, c.in_ok-u.from_p.now) small
+          (omega (arith, c.requires.shape.q_rows)) c.in_ok-u.ensures,
+      matrix_short modulus (codes "P") shape.columns shape.q_rows _ c.in_ok-u.from_p.now
+          (numbered_rows number c.in_ok-p.p.items, c.in_ok-p.from_t.now) small c.requires.shape.columns c.in_ok-p.ensures,
+      pattern_short (codes "T") shape.columns shape.t_rows _ c.in_ok-p.from_t.now
+          (c.in_ok-t.t.items, c.in_ok-t.from_parts.now) c.requires.shape.columns c.in_ok-t.ensures,
     )
 
 pub parts_at-requires-clause-room : goal.parts_at-requires-clause-room

@@ -13,7 +13,10 @@ matrices_at-requires-clause-short g c =
       arith,
       c.requires.short,
       spells_short Spells-shape c.args.line c.args.bytes.now (shape, c.in_ok-shape.from_rank.now) c.in_ok-shape.ensures.shape,
-      count_short (codes "rank ") column_limit _ c.in_ok-shape.from_rank.now (c.in_ok-rank.rank, c.in_ok-rank.from_base.now) (omega arith) c.in_ok-rank.ensures.number,
-      pairs_short (codes "base") shape.q_rows shape.columns _ c.in_ok-rank.from_base.now (c.in_ok-base.base.items, c.in_ok-base.from_mates.now) fits.q_rows fits.columns c.in_ok-base.ensures,
-      pairs_short (codes "match") shape.t_rows shape.columns _ c.in_ok-base.from_mates.now (c.in_ok-mates.mates.items, c.in_ok-mates.from_s.now) fits.t_rows fits.columns c.in_ok-mates.ensures,
+      count_short (codes "rank ") column_limit _ c.in_ok-shape.from_rank.now
+          (c.in_ok-rank.rank, c.in_ok-rank.from_base.now) (omega arith) c.in_ok-rank.ensures.number,
+      pairs_short (codes "base") shape.q_rows shape.columns _ c.in_ok-rank.from_base.now
+          (c.in_ok-base.base.items, c.in_ok-base.from_mates.now) fits.q_rows fits.columns c.in_ok-base.ensures,
+      pairs_short (codes "match") shape.t_rows shape.columns _ c.in_ok-base.from_mates.now
+          (c.in_ok-mates.mates.items, c.in_ok-mates.from_s.now) fits.t_rows fits.columns c.in_ok-mates.ensures,
     )

@@ -14,7 +14,10 @@ returns-in_err-certificate-clause-refused g c =
     rw (same.1, same.2) (cause_is g.F.Field.modulus g.met.F.Field.small c.args.bytes.now c.in_err-certificate.field-0.0 c.requires c.in_err-certificate.ensures)
 
 pub returns-clause-found : goal.returns-clause-found
-returns-clause-found g c = found_is g.F.Field.modulus g.met.F.Field.small c.args.bytes.now (c.in_ok-certificate.certificate, c.in_ok-certificate._rest.now) c.requires c.in_ok-certificate.ensures
+returns-clause-found g c = found_is g.F.Field.modulus g.met.F.Field.small c.args.bytes.now
+    (c.in_ok-certificate.certificate, c.in_ok-certificate._rest.now) c.requires c.in_ok-certificate.ensures
 
 pub returns-clause-only : goal.returns-clause-only
-returns-clause-only g c = λ d is text. ap (λ e. Ok e) (only_ok g.F.Field.modulus g.met.F.Field.small c.args.bytes.now (c.in_ok-certificate.certificate, c.in_ok-certificate._rest.now) d c.requires c.in_ok-certificate.ensures is text)
+returns-clause-only g c = λ d is text. ap (λ e. Ok e)
+    (only_ok g.F.Field.modulus g.met.F.Field.small c.args.bytes.now
+    (c.in_ok-certificate.certificate, c.in_ok-certificate._rest.now) d c.requires c.in_ok-certificate.ensures is text)

@@ -21,7 +21,9 @@ returns-in_err-block c =
 pub loop-blocks-smaller : goal.loop-blocks-smaller
 loop-blocks-smaller c =
     let count : c.len.result ≡ length c.loop-blocks.blocks.items = c.len.ensures ∙ c.loop-blocks.blocks.ok.0 in
-    block_short c.args.shape c.len.result c.loop-blocks.at c.loop-blocks.rest.now (c.in_ok-block.block, c.in_ok-block.after.now) c.requires.shape (omega (arith, count, c.loop-blocks.invariant.room, c.requires.short)) c.in_ok-block.ensures
+    block_short c.args.shape c.len.result c.loop-blocks.at c.loop-blocks.rest.now
+    (c.in_ok-block.block, c.in_ok-block.after.now) c.requires.shape
+    (omega (arith, count, c.loop-blocks.invariant.room, c.requires.short)) c.in_ok-block.ensures
 
 pub loop-blocks-preserved : goal.loop-blocks-preserved
 loop-blocks-preserved c =
@@ -32,7 +34,8 @@ loop-blocks-preserved c =
     let after = c.in_ok-block.after.now in
     let going : begins_with (codes "block") left ≡ true = sym c.begins.ensures ∙ c.loop-blocks-test.true in
     let count : c.len.result ≡ length blocks = c.len.ensures ∙ c.loop-blocks.blocks.ok.0 in
-    let shorter : length after < length left = block_short c.args.shape c.len.result at left (block, after) c.requires.shape (omega (arith, count, c.loop-blocks.invariant.room, c.requires.short)) c.in_ok-block.ensures in
+    let shorter : length after < length left = block_short c.args.shape c.len.result at left
+    (block, after) c.requires.shape (omega (arith, count, c.loop-blocks.invariant.room, c.requires.short)) c.in_ok-block.ensures in
     subst (λ items. BlocksSoFar c.args.shape c.args.line c.args.bytes.now items (at + 1) after) (sym c.in_ok-push.ensures.items)
     (blocks_further c.args.shape c.args.line c.args.bytes.now blocks at left block after going
     (subst (λ k. block_at c.args.shape k at left ≡ Ok (block, after)) count c.in_ok-block.ensures) shorter c.loop-blocks.invariant)

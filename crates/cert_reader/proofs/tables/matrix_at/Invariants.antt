@@ -7,5 +7,6 @@ use Rattle.cert_reader.proofs.tables.matrix_at.Given as goal
 
 abbrev pub invariant-loop-row : goal.invariant-loop-row
 invariant-loop-row g l =
-    with_front (numbered_rows g.F.Field.number l.rows.items) (rows_at (entries_line_at g.F.Field.modulus l.word l.n) (l.count - l.row) (l.row + 1) (l.line + l.row) l.rest)
+    with_front (numbered_rows g.F.Field.number l.rows.items) (rows_at (entries_line_at g.F.Field.modulus l.word l.n)
+    (l.count - l.row) (l.row + 1) (l.line + l.row) l.rest)
     ≡ rows_at (entries_line_at g.F.Field.modulus l.word l.n) l.count 1 l.line l.bytes

@@ -6,4 +6,5 @@ use Rattle.cert_text.proofs.lists.put_entries.Given as goal
 
 abbrev pub invariant-loop-entry : goal.invariant-loop-entry
 invariant-loop-entry g l =
-    PutsUpTo g.K.Sink l.initial.out l.out (entries_text (numbered g.F.Field.number l.entries)) (entries_text (numbered g.F.Field.number (drop l.entry-index l.entries)))
+    PutsUpTo g.K.Sink l.initial.out l.out (entries_text (numbered g.F.Field.number l.entries))
+    (entries_text (numbered g.F.Field.number (drop l.entry-index l.entries)))

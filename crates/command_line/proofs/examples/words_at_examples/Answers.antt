@@ -1,4 +1,6 @@
-use Rattle.command_line.proofs.AtExamples.{analyse, layer, report, plan, check, make, make_most, make_zeros, make_plus, make_none, make_more, make_word, make_alone, check_of_kind, no_word, no_kind, unknown_kind, too_many, help, help_flag, part}
+use Rattle.command_line.proofs.AtExamples.{analyse, layer, report, plan, check, make, make_most, make_zeros}
+use Rattle.command_line.proofs.AtExamples.{make_plus, make_none, make_more, make_word, make_alone, check_of_kind}
+use Rattle.command_line.proofs.AtExamples.{no_word, no_kind, unknown_kind, too_many, help, help_flag, part}
 use Rattle.command_line.proofs.examples.words_at_examples.Goals as goal
 
 pub returns : goal.returns

@@ -10,8 +10,8 @@ loop-row-preserved g c =
     omega (arith, c.deref_mut.ensures.len, c.deref.ensures.len, c.loop-row.sum.ok.0, c.loop-row.invariant.length_is, ap vec_len (turn.2 c.in-Some.row.now), c.requires.full (length c.loop-row.yielded) c.in-Some.row.now turn.0) in
     record {
       length_is = combined-length g.F.Field.number g.F.Field.modulus c.args.columns (length c.loop-row.yielded) c.args.coefficients.now c.args.rows.now c.loop-row.sum c.in-Some.row.now c.in-Some.coefficient.now
-          c.deref_mut.result.now c.add_multiple.new.target c.deref.result.now turn.1 turn.0 (turn.3 c.in-Some.coefficient.now) (turn.2 c.in-Some.row.now) c.deref_mut.ensures.value c.add_multiple.auto.target c.deref.ensures.value equal c.add_multiple.ensures c.loop-row.invariant.length_is;
+          c.deref_mut.result.now c.add_scaled.new.dst c.deref.result.now turn.1 turn.0 (turn.3 c.in-Some.coefficient.now) (turn.2 c.in-Some.row.now) c.deref_mut.ensures.value c.add_scaled.auto.dst c.deref.ensures.value equal c.add_scaled.ensures c.loop-row.invariant.length_is;
       sums = combined-sums g.F.Field.number g.F.Field.modulus c.args.columns (length c.loop-row.yielded) c.args.coefficients.now c.args.rows.now c.loop-row.sum c.in-Some.row.now c.in-Some.coefficient.now
-          c.deref_mut.result.now c.add_multiple.new.target c.deref.result.now turn.1 turn.0 (turn.3 c.in-Some.coefficient.now) (turn.2 c.in-Some.row.now) c.deref_mut.ensures.value c.add_multiple.auto.target c.deref.ensures.value equal c.add_multiple.ensures
+          c.deref_mut.result.now c.add_scaled.new.dst c.deref.result.now turn.1 turn.0 (turn.3 c.in-Some.coefficient.now) (turn.2 c.in-Some.row.now) c.deref_mut.ensures.value c.add_scaled.auto.dst c.deref.ensures.value equal c.add_scaled.ensures
           _ (length-append c.loop-row.yielded _) c.loop-row.invariant.length_is c.loop-row.invariant.sums;
     }

@@ -1,7 +1,8 @@
 use Rattle.std.proofs.Common.{arith, map, ◌∙◌}
 use Rattle.std.proofs.lemmas.List.{length-map}
 use Rattle.dense_q.specs.Rows.{multiple}
-use Rattle.dense_q.proofs.RowLaws.{multiplied_at, upto-all, multiple-length}
+use Rattle.residue_field.proofs.RowLaws.{upto-all}
+use Rattle.dense_q.proofs.RowLaws.{multiplied_at, multiple-length}
 use Rattle.dense_q.proofs.rows.multiply.Goals as goal
 
 pub loop-x-preserved : goal.loop-x-preserved

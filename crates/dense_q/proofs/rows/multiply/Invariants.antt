@@ -1,6 +1,6 @@
 use Rattle.std.proofs.Common.{◌≡◌, map}
 use Rattle.dense_q.specs.Rows.{multiple}
-use Rattle.dense_q.proofs.RowLaws.{upto}
+use Rattle.residue_field.proofs.RowLaws.{upto}
 use Rattle.dense_q.proofs.rows.multiply.Given as goal
 
 abbrev pub invariant-loop-x : goal.invariant-loop-x

@@ -19,6 +19,7 @@ pub returns : goal.returns
 returns c =
     let items = c.as_slice-stream-items.result.now in
     c.loop-stream.invariant
-    ∙ ap (flat_map (λ (stream : String Global). map (flow (string_bytes stream)) c.args.components.now)) (take_all c.loop-stream.stream-index items c.loop-stream-test.false)
+    ∙ ap (flat_map (λ (stream : String Global). map (flow (string_bytes stream)) c.args.components.now))
+    (take_all c.loop-stream.stream-index items c.loop-stream-test.false)
     ∙ sym (flat_map-map (λ stream. map (flow stream) c.args.components.now) string_bytes items)
     ∙ ap (flat_map (λ stream. map (flow stream) c.args.components.now)) c.as_slice-stream-items.ensures

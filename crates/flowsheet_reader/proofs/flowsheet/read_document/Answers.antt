@@ -25,7 +25,9 @@ returns-in_err-units-clause-refused g c =
     (λ refused breaks.
     then (start_of document) (with_units_of p document) start.0 start.1
     ∙ broken (at Place.Document (list_at_key (get_member (codes "unit") document))) (units_in p start.0) refused breaks)
-    (listed-Err Place.Document c.list_at.result (list_at_key (get_member (codes "unit") document)) c.in_err-units.field-0.0 c.list_at.ensures (sym c.at.ensures ∙ c.in_err-units.was)))
+    (listed-Err Place.Document c.list_at.result (list_at_key
+    (get_member (codes "unit") document)) c.in_err-units.field-0.0 c.list_at.ensures (sym c.at.ensures
+    ∙ c.in_err-units.was)))
 
 pub returns-in_err-add_units-clause-refused : goal.returns-in_err-add_units-clause-refused
 returns-in_err-add_units-clause-refused g c =
@@ -33,7 +35,9 @@ returns-in_err-add_units-clause-refused g c =
     let document = table_view c.args.document.now in
     let start = c.in_ok-sheet.ensures.kept in
     let wanted : Refusal → Type 0 = λ refused. sheet_in p document ≡ Err refused in
-    let listed = listed-Ok Place.Document c.list_at.result (list_at_key (get_member (codes "unit") document)) c.in_ok-units.units c.list_at.ensures (sym c.at.ensures ∙ c.in_ok-units.was) in
+    let listed = listed-Ok Place.Document c.list_at.result
+    (list_at_key (get_member (codes "unit") document)) c.in_ok-units.units c.list_at.ensures (sym c.at.ensures
+    ∙ c.in_ok-units.was) in
     same-error (λ why. OnRefused why wanted) c.from_residual-in_err-add_units.result c.in_err-add_units.field-0.0 c.from_residual-in_err-add_units.ensures.1
     (on_refused (IsRefusedBy p c.in_ok-sheet.sheet (λ sheet. units_in p sheet (map view c.in_ok-units.units.now))) wanted c.in_err-add_units.field-0.0
     (λ refused breaks.
@@ -47,7 +51,9 @@ returns-clause-model g c =
     let p = g.F.Field.modulus in
     let document = table_view c.args.document.now in
     let start = c.in_ok-sheet.ensures.kept in
-    let listed = listed-Ok Place.Document c.list_at.result (list_at_key (get_member (codes "unit") document)) c.in_ok-units.units c.list_at.ensures (sym c.at.ensures ∙ c.in_ok-units.was) in
+    let listed = listed-Ok Place.Document c.list_at.result
+    (list_at_key (get_member (codes "unit") document)) c.in_ok-units.units c.list_at.ensures (sym c.at.ensures
+    ∙ c.in_ok-units.was) in
     let next = c.in_ok-add_units.ensures.added start.0 start.2 in (
       next.0,
       then (start_of document) (with_units_of p document) start.0 start.1

@@ -19,7 +19,8 @@ loop-item-preserved g c =
     let P : List (ℕ × ℕ) → Type 0 = λ arcs. IsLed list y (k + 1) old arcs in
     record {
       led = elim c.if-item-y.branch [
-        | then-item-y+in_ok-push w ↦ subst P (sym (ap (λ v. v.items) w.arcs-is ∙ w.in_ok-push.ensures.items)) (led-put list y k x old now c.loop-item.invariant.led is w.if-item-y.true)
+        | then-item-y+in_ok-push w ↦ subst P (sym (ap (λ v. v.items) w.arcs-is ∙ w.in_ok-push.ensures.items))
+            (led-put list y k x old now c.loop-item.invariant.led is w.if-item-y.true)
         | else-item-y w ↦ subst P (sym (ap (λ v. v.items) w.arcs-is)) (led-stay list y k old now c.loop-item.invariant.led (is ∙ w.if-item-y.false))
       ];
     }

@@ -14,7 +14,8 @@ loop-number-preserved c =
     let P : List (ℕ × ℕ) → Type 0 = λ arcs. IsLed list y (k + 1) old arcs in
     record {
       led = elim c.if-number-y.branch [
-        | then-number-y+in_ok-push w ↦ subst P (sym (ap (λ v. v.items) w.arcs-is ∙ w.in_ok-push.ensures.items)) (led-put list y k (slice_index list k) old now c.loop-number.invariant.led refl w.if-number-y.true)
+        | then-number-y+in_ok-push w ↦ subst P (sym (ap (λ v. v.items) w.arcs-is ∙ w.in_ok-push.ensures.items))
+            (led-put list y k (slice_index list k) old now c.loop-number.invariant.led refl w.if-number-y.true)
         | else-number-y w ↦ subst P (sym (ap (λ v. v.items) w.arcs-is)) (led-stay list y k old now c.loop-number.invariant.led w.if-number-y.false)
       ];
     }

@@ -6,5 +6,6 @@ use Rattle.mixed_layering.proofs.columns.place_of.Goals as goal
 
 pub returns : goal.returns
 returns c =
-    subst (λ found. MatchOption found (IsAbsent c.args.split.now c.args.equation) (λ place. StandsIn c.args.split.now c.args.equation place)) (sym c.ok.ensures.value)
+    subst (λ found. MatchOption found (IsAbsent c.args.split.now c.args.equation)
+    (λ place. StandsIn c.args.split.now c.args.equation place)) (sym c.ok.ensures.value)
     (found_place c.args.split.now c.args.equation c.binary_search.result c.requires c.binary_search.ensures.position)

@@ -44,4 +44,5 @@ returns g c =
     c.deref.result.now c.deref-3.result.now c.deref-2.result.now c.deref-4.result.now c.deref-5.result.now
     c.deref.ensures.value c.deref-3.ensures.value c.deref-2.ensures.value c.deref-4.ensures.value c.deref-5.ensures.value
     c.in_ok-q.ensures c.in_ok-t.ensures
-    (subst (λ u. AreColumns u c.deref-5.result.now (length c.deref-5.result.now) c.in_ok-columns.columns.items) c.unknowns.ensures.count c.in_ok-columns.ensures))
+    (subst (λ u. AreColumns u c.deref-5.result.now
+    (length c.deref-5.result.now) c.in_ok-columns.columns.items) c.unknowns.ensures.count c.in_ok-columns.ensures))

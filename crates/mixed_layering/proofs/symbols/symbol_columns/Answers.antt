@@ -49,5 +49,6 @@ loop-entry-preserved g c =
       split = split ∙ sym (append_assoc seen (entry ∷ []) rest);
       rising = c.loop-entry.invariant.rising;
       below = c.loop-entry.invariant.below;
-      exact = λ j. c.loop-entry.invariant.exact j ∙ symbol-none g.F.Field.modulus row seen entry rest row_is.0 split (sym (ap (λ (x : RowEntry). x.symbol) c.entry.view_is) ∙ c.if-entry.false) j;
+      exact = λ j. c.loop-entry.invariant.exact j ∙ symbol-none g.F.Field.modulus row seen entry rest row_is.0 split
+          (sym (ap (λ (x : RowEntry). x.symbol) c.entry.view_is) ∙ c.if-entry.false) j;
     }

@@ -11,5 +11,6 @@ returns-in_err-put_constant-clause-kept g c =
 
 pub returns-clause-put : goal.returns-clause-put
 returns-clause-put g c =
-    ChangesRow-set (PutsConstant g.F.Field.modulus c.args.column (g.F.Field.number c.args.constant)) c.args.rows.now.items c.args.i c.index_mut-row.result.now c.put_constant.new.row
+    ChangesRow-set (PutsConstant g.F.Field.modulus c.args.column
+    (g.F.Field.number c.args.constant)) c.args.rows.now.items c.args.i c.index_mut-row.result.now c.put_constant.new.row
     (search rules) c.index_mut-row.ensures.value c.in_ok-put_constant.ensures.put

@@ -7,11 +7,13 @@ use Rattle.netlist_reader.proofs.building.build.Goals as goal
 
 pub add_unknowns-requires-clause-names : goal.add_unknowns-requires-clause-names
 add_unknowns-requires-clause-names g c =
-    subst IsNameList (sym (ap (map string_bytes) c.deref.ensures.value ∙ c.in_ok-names_on.ensures)) (unknowns-listed g.F.Field.modulus c.args.circuit.now c.requires.circuit)
+    subst IsNameList (sym (ap (map string_bytes) c.deref.ensures.value ∙ c.in_ok-names_on.ensures))
+    (unknowns-listed g.F.Field.modulus c.args.circuit.now c.requires.circuit)
 
 pub add_equations-requires-clause-names : goal.add_equations-requires-clause-names
 add_equations-requires-clause-names g c =
-    subst IsNameList (sym (ap (map string_bytes) c.deref-2.ensures.value ∙ c.in_ok-names_on-2.ensures)) (equations-listed g.F.Field.modulus c.args.circuit.now c.requires.circuit)
+    subst IsNameList (sym (ap (map string_bytes) c.deref-2.ensures.value ∙ c.in_ok-names_on-2.ensures))
+    (equations-listed g.F.Field.modulus c.args.circuit.now c.requires.circuit)
 
 pub put_devices-requires-clause-blank : goal.put_devices-requires-clause-blank
 put_devices-requires-clause-blank g c = blank_says g.F.Field.modulus c.add_equations.new.model c.in_ok-add_equations.ensures.blank
@@ -19,8 +21,11 @@ put_devices-requires-clause-blank g c = blank_says g.F.Field.modulus c.add_equat
 pub returns : goal.returns
 returns g c = record {
   is_model = c.equations.ensures.model;
-  equations_are = c.in_ok-put_devices.ensures.equations ∙ c.in_ok-add_equations.ensures.equations ∙ ap (map string_bytes) c.deref-2.ensures.value ∙ c.in_ok-names_on-2.ensures;
-  unknowns_are = c.in_ok-put_devices.ensures.unknowns ∙ c.in_ok-add_equations.ensures.unknowns ∙ c.in_ok-add_unknowns.ensures.unknowns ∙ ap (map string_bytes) c.deref.ensures.value ∙ c.in_ok-names_on.ensures;
+  equations_are = c.in_ok-put_devices.ensures.equations ∙ c.in_ok-add_equations.ensures.equations
+      ∙ ap (map string_bytes) c.deref-2.ensures.value ∙ c.in_ok-names_on-2.ensures;
+  unknowns_are = c.in_ok-put_devices.ensures.unknowns ∙ c.in_ok-add_equations.ensures.unknowns
+      ∙ c.in_ok-add_unknowns.ensures.unknowns ∙ ap (map string_bytes) c.deref.ensures.value
+      ∙ c.in_ok-names_on.ensures;
   constants_are = c.in_ok-put_devices.ensures.says.constants;
   symbols_are = c.in_ok-put_devices.ensures.says.symbols;
 }

@@ -10,7 +10,8 @@ use Rattle.netlist_reader.proofs.NodeSteps.{see_more, see_all}
 use Rattle.netlist_reader.proofs.circuit.add_nodes.Goals as goal
 
 -- the bytes of one of some texts
-bytes_at : (texts : List (String Global)) (i : ℕ) (text : String Global) (bytes : List ℕ) → i < length texts → text ≡ get_or texts i text → bytes ≡ string_bytes text → get_or (map string_bytes texts) i [] ≡ bytes
+bytes_at : (texts : List (String Global)) (i : ℕ) (text : String Global) (bytes : List ℕ) → i < length texts →
+    text ≡ get_or texts i text → bytes ≡ string_bytes text → get_or (map string_bytes texts) i [] ≡ bytes
 bytes_at texts i text bytes at is same = get_or-map string_bytes texts i text [] at ∙ ap string_bytes (sym is) ∙ sym same
 
 pub add_node-requires : goal.add_node-requires
@@ -33,7 +34,8 @@ returns-in_err-add_node-clause-full c =
     let same : see_node c.loop-node.seen node ≡ see_nodes seen (take (i + 1) all) =
     ap (λ front. see_node front node) c.loop-node.invariant ∙ ap (see_node (see_nodes seen (take i all))) (sym here) ∙ sym more in
     rw failed.1
-    (on_same (λ why. (why ≡ TooMany) × (4096 < length (see_node c.loop-node.seen node))) (λ why. (why ≡ TooMany) × (4096 < length (see_nodes seen all))) failed.0 c.in_err-add_node.field-0.0 failed.2
+    (on_same (λ why. (why ≡ TooMany) × (4096 < length (see_node c.loop-node.seen node))) (λ why. (why ≡ TooMany)
+    × (4096 < length (see_nodes seen all))) failed.0 c.in_err-add_node.field-0.0 failed.2
     (λ why full. (full.0, omega (arith, full.1, ap length same, see_all seen all (i + 1))))
     c.in_err-add_node.ensures.full)
 

@@ -34,7 +34,8 @@ returns-in_err-source-clause-read g c =
     let texts = c.args.words.now in
     let kind = c.args.kind in
     let taken = nodes_taken texts c.nodes_wanted-after.result (nodes_wanted kind) c.nodes_wanted-after.ensures in
-    let last : c.word_at-last.result.now ≡ word_after_nodes kind (bytes_of texts) = c.word_at-last.ensures ∙ ap (λ n. get_or (bytes_of texts) (1 + n) []) c.nodes_wanted-after.ensures in
+    let last : c.word_at-last.result.now ≡ word_after_nodes kind (bytes_of texts) = c.word_at-last.ensures
+    ∙ ap (λ n. get_or (bytes_of texts) (1 + n) []) c.nodes_wanted-after.ensures in
     rw failed.1
     (on_same (λ why. (keeps_source_name kind (if has_source kind then c.word_at-last.result.now else []) ≡ false) × (why ≡ BadName))
     (λ why. own_rule g.F.Field.modulus kind (bytes_of texts) ≡ Some why) failed.0 c.in_err-source.field-0.0 failed.2
@@ -49,7 +50,8 @@ returns-in_err-number-clause-read g c =
     let texts = c.args.words.now in
     let kind = c.args.kind in
     let taken = nodes_taken texts c.nodes_wanted-after.result (nodes_wanted kind) c.nodes_wanted-after.ensures in
-    let last : c.word_at-last.result.now ≡ word_after_nodes kind (bytes_of texts) = c.word_at-last.ensures ∙ ap (λ n. get_or (bytes_of texts) (1 + n) []) c.nodes_wanted-after.ensures in
+    let last : c.word_at-last.result.now ≡ word_after_nodes kind (bytes_of texts) = c.word_at-last.ensures
+    ∙ ap (λ n. get_or (bytes_of texts) (1 + n) []) c.nodes_wanted-after.ensures in
     rw failed.1
     (subst (λ fault. OnBroken fault (λ why. own_rule g.F.Field.modulus kind (bytes_of texts) ≡ Some why)) (sym failed.2)
     (number_left g.F.Field.modulus kind (bytes_of texts) (shape_kept kind texts c.if-not-has_shape.ensures)
@@ -63,8 +65,17 @@ returns-clause-device g c =
     let kind = c.args.kind in
     let words = bytes_of texts in
     let taken = nodes_taken texts c.nodes_wanted-after.result (nodes_wanted kind) c.nodes_wanted-after.ensures in
-    let last : c.word_at-last.result.now ≡ word_after_nodes kind words = c.word_at-last.ensures ∙ ap (λ n. get_or words (1 + n) []) c.nodes_wanted-after.ensures in
-    let device : Device = record { kind = kind; name = string_bytes c.in_ok-name.name; nodes = map string_bytes c.in_ok-nodes.nodes.items; source = string_bytes c.in_ok-source.source; number = g.F.Field.number c.in_ok-number.number } in
+    let last : c.word_at-last.result.now ≡ word_after_nodes kind words = c.word_at-last.ensures
+    ∙ ap (λ n. get_or words (1 + n) []) c.nodes_wanted-after.ensures in
+    let device : Device = record {
+      kind = kind;
+      name = string_bytes c.in_ok-name.name;
+      nodes =
+          map string_bytes c.in_ok-nodes.nodes.items;
+      source = string_bytes c.in_ok-source.source;
+      number =
+          g.F.Field.number c.in_ok-number.number;
+    } in
     device_kept g.F.Field.modulus kind texts device c.if-not-has_shape.ensures
     (ap is_name (sym c.word_at.ensures) ∙ c.in_ok-name.ensures.0) (ap (list_all is_node) (sym taken) ∙ c.in_ok-nodes.ensures.0)
     (same_device device (device_of g.F.Field.modulus kind words) refl (c.in_ok-name.ensures.1 ∙ c.word_at.ensures) (c.in_ok-nodes.ensures.1 ∙ taken)
@@ -78,8 +89,17 @@ returns-clause-read g c =
     let kind = c.args.kind in
     let words = bytes_of texts in
     let taken = nodes_taken texts c.nodes_wanted-after.result (nodes_wanted kind) c.nodes_wanted-after.ensures in
-    let last : c.word_at-last.result.now ≡ word_after_nodes kind words = c.word_at-last.ensures ∙ ap (λ n. get_or words (1 + n) []) c.nodes_wanted-after.ensures in
-    let device : Device = record { kind = kind; name = string_bytes c.in_ok-name.name; nodes = map string_bytes c.in_ok-nodes.nodes.items; source = string_bytes c.in_ok-source.source; number = g.F.Field.number c.in_ok-number.number } in (
+    let last : c.word_at-last.result.now ≡ word_after_nodes kind words = c.word_at-last.ensures
+    ∙ ap (λ n. get_or words (1 + n) []) c.nodes_wanted-after.ensures in
+    let device : Device = record {
+      kind = kind;
+      name = string_bytes c.in_ok-name.name;
+      nodes =
+          map string_bytes c.in_ok-nodes.nodes.items;
+      source = string_bytes c.in_ok-source.source;
+      number =
+          g.F.Field.number c.in_ok-number.number;
+    } in (
       number_left g.F.Field.modulus kind words (shape_kept kind texts c.if-not-has_shape.ensures)
           (ap is_name (sym c.word_at.ensures) ∙ c.in_ok-name.ensures.0) (ap (list_all is_node) (sym taken) ∙ c.in_ok-nodes.ensures.0)
           (ap (λ word. keeps_source_name kind (if has_source kind then word else [])) (sym last) ∙ c.in_ok-source.ensures.0)

@@ -12,7 +12,8 @@ loop-block-preserved c =
     let n = c.loop-block.block in
     let block = c.index-blocks-block.result in
     record {
-      items = subst (AreItems blocks (n + 1)) (sym c.in_ok-put_list.ensures) (items-more blocks n c.loop-block.items.items c.as_slice.result.now c.loop-block.invariant.items
+      items = subst (AreItems blocks (n + 1)) (sym c.in_ok-put_list.ensures)
+          (items-more blocks n c.loop-block.items.items c.as_slice.result.now c.loop-block.invariant.items
           (subst (AreRising n) (sym c.as_slice.ensures) (c.requires n block c.loop-block-test.true)) c.loop-block-test.true
           (λ d. c.as_slice.ensures ∙ ap (λ (b : CcfBlock). b.lower) (get_or_default blocks n block d c.loop-block-test.true)));
     }

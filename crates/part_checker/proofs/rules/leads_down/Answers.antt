@@ -19,7 +19,9 @@ returns g c L P =
     let parts = c.args.parts.now in
     let told = c.args.told.now in
     let rows : told.below.rows ≡ length form.blocks = c.requires.told.rows in
-    let chains : TellsChains (lower_of form) told.below.rows (bit_in told.below) = subst (λ n. TellsChains (lower_of form) n (bit_in told.below)) (sym rows) (chains-told p form c.blocks-2.ensures.ccf parts c.requires.parts told c.requires.told) in
+    let chains : TellsChains (lower_of form) told.below.rows (bit_in told.below) =
+    subst (λ n. TellsChains (lower_of form) n (bit_in told.below)) (sym rows)
+    (chains-told p form c.blocks-2.ensures.ccf parts c.requires.parts told c.requires.told) in
     let test = c.arcs_are_down.ensures (lower_of form) chains in
     let view = down-as c.deref.result.now told.arcs.arcs.items c.deref-2.result.now told.arcs.free.items c.deref-3.result.now told.arcs.ends.items (length parts) (slice_index parts) told.below.rows (length form.blocks) (lower_of form)
     c.deref.ensures.value c.deref-2.ensures.value c.deref-3.ensures.value rows in (

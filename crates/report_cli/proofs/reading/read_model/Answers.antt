@@ -17,7 +17,8 @@ returns-in_err-model-clause-unread g c =
     (status_of_refusal why)
     c.from_residual-in_err-model.ensures.0
     c.from_residual-in_err-model.ensures.1
-    (unread_by_refusal g.R.ModelReader.KIND left left' (g.R.ModelReader.is_fed c.in_ok-reader-2.reader) whole why (c.in_err-model.ensures.refused whole.input whole.holds))
+    (unread_by_refusal g.R.ModelReader.KIND left left' (g.R.ModelReader.is_fed c.in_ok-reader-2.reader) whole why
+    (c.in_err-model.ensures.refused whole.input whole.holds))
 
 pub returns-clause-source : goal.returns-clause-source
 returns-clause-source g c = tells_still g.S.Source input_limit c.args.source.now c.feed_all.new.source c.in_ok-reader-2.reader c.in_ok-model.field-0 c.in_ok-reader-2.ensures.source

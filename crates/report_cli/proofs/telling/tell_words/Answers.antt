@@ -6,20 +6,23 @@ use Rattle.report_cli.proofs.telling.tell_words.Goals as goal
 pub returns-in-Told-clause-noted : goal.returns-in-Told-clause-noted
 returns-in-Told-clause-noted g c =
     subst
-    (λ why. Noted (g.N.Sink.written c.args.notes.now) (g.N.Sink.written c.write_text.new.notes) (g.N.Sink.faults c.args.notes.now) (g.N.Sink.faults c.write_text.new.notes) (note_of_words why))
+    (λ why. Noted (g.N.Sink.written c.args.notes.now) (g.N.Sink.written c.write_text.new.notes)
+    (g.N.Sink.faults c.args.notes.now) (g.N.Sink.faults c.write_text.new.notes) (note_of_words why))
     (sym c.in-Told.is)
     (noted c.write_text.result c.write_text.ensures)
 
 pub returns-in-UnknownKind-clause-noted : goal.returns-in-UnknownKind-clause-noted
 returns-in-UnknownKind-clause-noted g c =
     subst
-    (λ why. Noted (g.N.Sink.written c.args.notes.now) (g.N.Sink.written c.tell.new.notes) (g.N.Sink.faults c.args.notes.now) (g.N.Sink.faults c.tell.new.notes) (note_of_words why))
+    (λ why. Noted (g.N.Sink.written c.args.notes.now) (g.N.Sink.written c.tell.new.notes)
+    (g.N.Sink.faults c.args.notes.now) (g.N.Sink.faults c.tell.new.notes) (note_of_words why))
     (sym c.in-UnknownKind.is)
     c.tell.ensures.noted
 
 pub returns-in-NoMemory-clause-noted : goal.returns-in-NoMemory-clause-noted
 returns-in-NoMemory-clause-noted g c =
     subst
-    (λ why. Noted (g.N.Sink.written c.args.notes.now) (g.N.Sink.written c.tell-in-NoMemory.new.notes) (g.N.Sink.faults c.args.notes.now) (g.N.Sink.faults c.tell-in-NoMemory.new.notes) (note_of_words why))
+    (λ why. Noted (g.N.Sink.written c.args.notes.now) (g.N.Sink.written c.tell-in-NoMemory.new.notes)
+    (g.N.Sink.faults c.args.notes.now) (g.N.Sink.faults c.tell-in-NoMemory.new.notes) (note_of_words why))
     (sym c.in-NoMemory.is)
     c.tell-in-NoMemory.ensures.noted

@@ -13,6 +13,7 @@ loop-i-preserved c =
     let list = c.loop-i.list.items in
     let P : List ℕ → Type 0 = λ items. AreMembersOf (n + 1) A items in
     elim c.if-marks-i.branch [
-      | then-marks-i+in_ok-push w ↦ subst P (sym (ap (λ v. v.items) w.list-is ∙ w.in_ok-push.ensures.items)) (members-put n A list c.loop-i.invariant w.if-marks-i.true)
+      | then-marks-i+in_ok-push w ↦ subst P (sym (ap (λ v. v.items) w.list-is ∙ w.in_ok-push.ensures.items))
+          (members-put n A list c.loop-i.invariant w.if-marks-i.true)
       | else-marks-i w ↦ subst P (sym (ap (λ v. v.items) w.list-is)) (members-skip n A list c.loop-i.invariant (differ w.if-marks-i.false))
     ]

@@ -15,7 +15,9 @@ loop-item-preserved g c =
     let item = c.item-item.result in
     let row = c.index-rows-row.result in
     let same : items ≡ slice_index_or c.args.rows.now c.args.row row = c.as_slice-items.ensures ∙ c.index-rows-row.is in
-    let below : All (λ (i : ℕ × g.row.T.Denot). i.0 < length old) items = subst (All (λ (i : ℕ × g.row.T.Denot). i.0 < length old)) (sym same) (c.requires.rows c.args.row row c.requires.row) in
+    let below : All (λ (i : ℕ × g.row.T.Denot). i.0 < length old) items =
+    subst (All (λ (i : ℕ × g.row.T.Denot). i.0 < length old)) (sym same)
+    (c.requires.rows c.args.row row c.requires.row) in
     let key : slice_index list k ≡ item.0 = key-given items k item c.loop-item-test.true c.item-item.is in
     let low : item.0 < length old = subst (λ i. i.0 < length old) (sym c.item-item.is) (below k item c.loop-item-test.true) in
     mark-set (λ i y. slice_index list i ≡ y) k old c.loop-item.marks item.0 c.loop-item.invariant low key (λ x is. sym key ∙ is)

@@ -5,4 +5,5 @@ use Rattle.solve_plan.proofs.MarkSets.{mark-join}
 use Rattle.solve_plan.proofs.marking.mark_rows.Goals as goal
 
 pub loop-row-preserved : goal.loop-row-preserved
-loop-row-preserved g c = mark-join (λ i. IsItem (row_of (map keys_of c.args.rows.now) (slice_index c.args.list.now i))) c.loop-row.row-index c.args.marks.now c.loop-row.marks c.mark_row.new.marks c.loop-row.invariant c.mark_row.ensures
+loop-row-preserved g c = mark-join (λ i. IsItem (row_of (map keys_of c.args.rows.now)
+    (slice_index c.args.list.now i))) c.loop-row.row-index c.args.marks.now c.loop-row.marks c.mark_row.new.marks c.loop-row.invariant c.mark_row.ensures

@@ -15,7 +15,8 @@ returns g c =
     let none = c.deref_mut.result.now in
     let marks = c.mark_numbers.new.marks in
     let size : c.shape.result.columns ≡ n = ap (λ s. s.columns) c.shape.ensures.shape in
-    let start : none ≡ replicate n false = c.deref_mut.ensures.value ∙ c.in_ok-marks.ensures.items_if_clones_equal (λ y. search rules) ∙ ap (λ m. replicate m false) size in
+    let start : none ≡ replicate n false = c.deref_mut.ensures.value ∙ c.in_ok-marks.ensures.items_if_clones_equal
+    (λ y. search rules) ∙ ap (λ m. replicate m false) size in
     let long : c.in_ok-marks.marks.len ≡ length none = c.in_ok-marks.ensures.len ∙ size ∙ sym (ap length start ∙ length-replicate n false) in
     let end : c.deref.result.now ≡ marks = c.deref.ensures.value ∙ back c.in_ok-marks.marks.len marks none _ long c.mark_numbers.ensures.count in
     let columns : c.as_slice.result.now ≡ form.first.columns = c.as_slice.ensures ∙ ap (λ (part : CcfPart). part.columns) c.first.ensures.first in

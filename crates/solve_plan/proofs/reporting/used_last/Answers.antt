@@ -12,8 +12,10 @@ pub mark_rows-requires-clause-rows : goal.mark_rows-requires-clause-rows
 mark_rows-requires-clause-rows g c =
     let form = c.args.form.now in
     let size : c.shape.result.q_rows ≡ form.shape.q_rows = ap (λ s. s.q_rows) c.shape.ensures.shape in
-    let start : c.deref_mut.result.now ≡ replicate c.shape.result.q_rows false = c.deref_mut.ensures.value ∙ c.in_ok-marks.ensures.items_if_clones_equal (λ y. search rules) in
-    keys-low g.F.Field.number g.F.Field.modulus form.shape.q_rows form.shape.q_rows (length c.deref_mut.result.now) c.as_slice.result.now c.s.result.now form.s c.s.ensures.ccf.s c.as_slice.ensures c.s.ensures.s
+    let start : c.deref_mut.result.now ≡ replicate c.shape.result.q_rows false = c.deref_mut.ensures.value
+    ∙ c.in_ok-marks.ensures.items_if_clones_equal (λ y. search rules) in
+    keys-low g.F.Field.number g.F.Field.modulus form.shape.q_rows form.shape.q_rows
+    (length c.deref_mut.result.now) c.as_slice.result.now c.s.result.now form.s c.s.ensures.ccf.s c.as_slice.ensures c.s.ensures.s
     (sym (ap length start ∙ length-replicate c.shape.result.q_rows false ∙ size))
 
 pub returns : goal.returns
@@ -23,10 +25,13 @@ returns g c =
     let none = c.deref_mut.result.now in
     let marks = c.mark_rows.new.marks in
     let size : c.shape.result.q_rows ≡ n = ap (λ s. s.q_rows) c.shape.ensures.shape in
-    let start : none ≡ replicate n false = c.deref_mut.ensures.value ∙ c.in_ok-marks.ensures.items_if_clones_equal (λ y. search rules) ∙ ap (λ m. replicate m false) size in
+    let start : none ≡ replicate n false = c.deref_mut.ensures.value ∙ c.in_ok-marks.ensures.items_if_clones_equal
+    (λ y. search rules) ∙ ap (λ m. replicate m false) size in
     let long : c.in_ok-marks.marks.len ≡ length none = c.in_ok-marks.ensures.len ∙ size ∙ sym (ap length start ∙ length-replicate n false) in
-    let keys : map keys_of c.as_slice.result.now ≡ map keys_of form.s = keys-as g.F.Field.number c.as_slice.result.now c.s.result.now form.s c.as_slice.ensures c.s.ensures.s in
+    let keys : map keys_of c.as_slice.result.now ≡ map keys_of form.s =
+    keys-as g.F.Field.number c.as_slice.result.now c.s.result.now form.s c.as_slice.ensures c.s.ensures.s in
     let rows : c.as_slice-tail.result.now ≡ form.last.q_rows = c.as_slice-tail.ensures ∙ ap (λ (part : CcfPart). part.q_rows) c.last.ensures.last in
     let Used : List (List ℕ) → List ℕ → Type 0 = λ matrix list. Marks (OfSome (length list) (λ k. IsItem (row_of matrix (slice_index list k)))) none marks in
-    let are : Marks (IsUsedLast form) none marks = subst (λ list. Used (map keys_of form.s) list) rows (subst (λ matrix. Used matrix c.as_slice-tail.result.now) keys c.mark_rows.ensures) in
+    let are : Marks (IsUsedLast form) none marks = subst (λ list. Used (map keys_of form.s) list) rows
+    (subst (λ matrix. Used matrix c.as_slice-tail.result.now) keys c.mark_rows.ensures) in
     subst (AreMarksOf n (IsUsedLast form)) (sym (back c.in_ok-marks.marks.len marks none _ long c.mark_rows.ensures.count)) (mark-fresh n (IsUsedLast form) none marks start are)

@@ -26,6 +26,7 @@ returns g c =
     let split = c.args.split.now in
     let n = length model.unknowns + length split in
     let matrix : ℕ → ℕ → ℕ = λ i j. constant_place (mixed_matrix_of model) split (slice_index c.args.equations.now i) j in
-    let end : c.loop-equation.equation-index ≡ length c.args.equations.now = omega (arith, c.loop-equation-test.false, c.loop-equation.auto.equation-index-end) in
+    let end : c.loop-equation.equation-index ≡ length c.args.equations.now =
+    omega (arith, c.loop-equation-test.false, c.loop-equation.auto.equation-index-end) in
     subst (λ rows. PrintsMatrix p (length c.args.equations.now) n matrix (numbered_rows number rows)) (sym c.from_vec.ensures)
     (subst (λ m. PrintsMatrix p m n matrix (numbered_rows number c.loop-equation.rows.items)) end c.loop-equation.invariant)

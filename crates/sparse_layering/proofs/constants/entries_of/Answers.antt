@@ -33,9 +33,11 @@ loop-entry-preserved-in-Continue-1 g c =
       is_finite = tt;
       split = split ∙ sym (append_assoc seen (entry ∷ []) rest);
       are = subst (AreEntries p columns) (sym pushed)
-          (entered-are p columns row seen entry rest row_is.0 row_is.1 split (numbered number list) known.are known.same (number c.in-Some-constant.constant) constant_is);
+          (entered-are p columns row seen entry rest row_is.0 row_is.1 split
+          (numbered number list) known.are known.same (number c.in-Some-constant.constant) constant_is);
       same = subst (HasConstants (seen ++ entry ∷ [])) (sym pushed)
-          (entered-same p columns row seen entry rest row_is.0 row_is.1 split (numbered number list) known.are known.same (number c.in-Some-constant.constant) constant_is);
+          (entered-same p columns row seen entry rest row_is.0 row_is.1 split
+          (numbered number list) known.are known.same (number c.in-Some-constant.constant) constant_is);
     }
 
 pub loop-entry-preserved : goal.loop-entry-preserved
@@ -55,5 +57,7 @@ loop-entry-preserved g c =
       are = known.are;
       same = λ j.
           known.same j
-          ∙ constant-none g.F.Field.modulus row seen entry rest row_is.0 split (sym (ap (λ (x : RowEntry). x.constant) c.entry.view_is) ∙ ap (option_map g.F.Field.number) c.in_default.is) j;
+          ∙ constant-none g.F.Field.modulus row seen entry rest row_is.0 split
+          (sym (ap (λ (x : RowEntry). x.constant) c.entry.view_is)
+          ∙ ap (option_map g.F.Field.number) c.in_default.is) j;
     }

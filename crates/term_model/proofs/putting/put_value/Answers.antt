@@ -8,7 +8,8 @@ pub returns-in-Constant-clause-says : goal.returns-in-Constant-clause-says
 returns-in-Constant-clause-says g c =
     let term = term_of_value g.F.Field.number c.args.equation.now c.args.unknown.now c.args.value in
     on_ok_weaker c.put_constant.result
-    (constant_put g.F.Field.modulus c.args.model.now c.put_constant.new.self _ _ (g.F.Field.number c.in-Constant.constant) term c.place_of-i.ensures.model c.place_of-i.ensures.place
+    (constant_put g.F.Field.modulus c.args.model.now c.put_constant.new.self _ _
+    (g.F.Field.number c.in-Constant.constant) term c.place_of-i.ensures.model c.place_of-i.ensures.place
     (ap (constant_of_value g.F.Field.number) c.in-Constant.is) (ap is_symbol c.in-Constant.is) c.in_field.ensures)
     c.put_constant.ensures.put
 

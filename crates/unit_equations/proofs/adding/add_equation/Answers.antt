@@ -11,7 +11,8 @@ use Rattle.unit_equations.proofs.adding.add_equation.Goals as goal
 pub put_summands-requires-clause-placed : goal.put_summands-requires-clause-placed
 put_summands-requires-clause-placed g c =
     let same = (λ t. terms_of (equation (c.deref-2.ensures t) (c.deref-3.ensures.value t))) ∙ ap terms_of c.equation.view_is in
-    let grown = c.in_ok-add_equation.ensures.added ∙ ap (with_equation c.args.model.now) (c.deref.ensures ∙ ap (λ (e : UnitEquation). e.name) c.equation.view_is) in
+    let grown = c.in_ok-add_equation.ensures.added ∙ ap (with_equation c.args.model.now) (c.deref.ensures
+    ∙ ap (λ (e : UnitEquation). e.name) c.equation.view_is) in
     subst (All (IsPlaced c.add_equation.new.self.equations c.add_equation.new.self.unknowns)) (sym same)
     (new-placed g.F.Field.modulus c.args.model.now c.add_equation.new.self c.args.equation.now c.equations.ensures.model c.requires.new grown c.requires.summands)
 
@@ -26,7 +27,8 @@ returns-in_err-put_summands-clause-full g c =
     let of = c.args.equation.now in
     let mid = c.add_equation.new.self in
     let same = (λ t. terms_of (equation (c.deref-2.ensures t) (c.deref-3.ensures.value t))) ∙ ap terms_of c.equation.view_is in
-    let grown = c.in_ok-add_equation.ensures.added ∙ ap (with_equation c.args.model.now) (c.deref.ensures ∙ ap (λ (e : UnitEquation). e.name) c.equation.view_is) in
+    let grown = c.in_ok-add_equation.ensures.added ∙ ap (with_equation c.args.model.now) (c.deref.ensures
+    ∙ ap (λ (e : UnitEquation). e.name) c.equation.view_is) in
     let error = c.in_err-put_summands.field-0.0 in
     let none = equation-lacks p c.args.model.now mid of c.equations.ensures.model c.requires.new grown c.requires.summands error (subst (λ terms. LacksRoom p mid terms error) same c.in_err-put_summands.ensures.refused) in
     let failed = err_from_is_err_and c.from_residual-in_err-put_summands.result c.from_residual-in_err-put_summands.ensures.1 in
@@ -38,6 +40,7 @@ returns-clause-grown g c =
     let mid = c.add_equation.new.self in
     let new = c.put_summands.new.model in
     let same = (λ t. terms_of (equation (c.deref-2.ensures t) (c.deref-3.ensures.value t))) ∙ ap terms_of c.equation.view_is in
-    let grown = c.in_ok-add_equation.ensures.added ∙ ap (with_equation c.args.model.now) (c.deref.ensures ∙ ap (λ (e : UnitEquation). e.name) c.equation.view_is) in
+    let grown = c.in_ok-add_equation.ensures.added ∙ ap (with_equation c.args.model.now) (c.deref.ensures
+    ∙ ap (λ (e : UnitEquation). e.name) c.equation.view_is) in
     grows-equation p c.args.model.now mid c.args.equation.now c.equations.ensures.model c.requires.new grown c.requires.summands new c.in_ok-put_summands.ensures.equations c.in_ok-put_summands.ensures.unknowns
     (subst (PutsTerms p mid new) same c.in_ok-put_summands.ensures.says)

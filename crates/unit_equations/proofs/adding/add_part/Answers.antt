@@ -12,7 +12,11 @@ returns-clause-added g c =
     let old = c.args.model.now in
     let mid = c.add_unknowns.new.model in
     let new = c.add_equations.new.model in
-    let first = subst (λ names. GrowsBy p old mid (unknowns_alone names)) (ap (map string_bytes) c.deref.ensures.value ∙ ap (λ (all : UnitPart). all.unknowns) c.part.view_is) c.in_ok-add_unknowns.ensures.grown in
-    let then = subst (λ equations. GrowsBy p mid new (equations_alone equations)) (c.deref-2.ensures.value ∙ ap (λ (all : UnitPart). all.equations) c.part.view_is) c.in_ok-add_equations.ensures.grown in
-    let grown = subst (GrowsBy p old new) (part-alone part) (grows-then p old mid new (unknowns_alone part.unknowns) (equations_alone part.equations) first then) in
+    let first = subst (λ names. GrowsBy p old mid (unknowns_alone names))
+    (ap (map string_bytes) c.deref.ensures.value
+    ∙ ap (λ (all : UnitPart). all.unknowns) c.part.view_is) c.in_ok-add_unknowns.ensures.grown in
+    let then = subst (λ equations. GrowsBy p mid new (equations_alone equations)) (c.deref-2.ensures.value
+    ∙ ap (λ (all : UnitPart). all.equations) c.part.view_is) c.in_ok-add_equations.ensures.grown in
+    let grown = subst (GrowsBy p old new) (part-alone part) (grows-then p old mid new (unknowns_alone part.unknowns)
+    (equations_alone part.equations) first then) in
     model-grows p old new (system_of part) grown c.equations.ensures.model

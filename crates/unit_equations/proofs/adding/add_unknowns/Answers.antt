@@ -34,4 +34,6 @@ loop-name-preserved g c =
     let at = text_at c.args.names.now i c.name-item.result name c.loop-name-test.true c.name-item.is c.deref.ensures in
     let longer : take i names ++ name ∷ [] ≡ take (i + 1) names = ap (λ n. take i names ++ n ∷ []) (sym at) ∙ sym (take_more names i [] within) in
     subst (λ all. GrowsBy g.F.Field.modulus c.args.model.now c.add_unknown.new.model (unknowns_alone all)) longer
-    (grows-then g.F.Field.modulus c.args.model.now c.loop-name.model c.add_unknown.new.model (unknowns_alone (take i names)) (unknowns_alone (name ∷ [])) c.loop-name.invariant c.in_ok-add_unknown.ensures.grown)
+    (grows-then g.F.Field.modulus c.args.model.now c.loop-name.model c.add_unknown.new.model
+    (unknowns_alone (take i names)) (unknowns_alone
+    (name ∷ [])) c.loop-name.invariant c.in_ok-add_unknown.ensures.grown)

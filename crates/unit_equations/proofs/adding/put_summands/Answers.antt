@@ -36,7 +36,8 @@ loop-summand-preserved g c =
     record {
       equations = c.in_ok-put_value.ensures.equations ∙ c.loop-summand.invariant.equations;
       unknowns = c.in_ok-put_value.ensures.unknowns ∙ c.loop-summand.invariant.unknowns;
-      says = goes_on g.F.Field.modulus c.args.model.now c.loop-summand.model (terms_of (equation name c.args.summands.now)) _ _ next.within next.is c.loop-summand.invariant.says c.put_value.new.model c.in_ok-put_value.ensures.says;
+      says = goes_on g.F.Field.modulus c.args.model.now c.loop-summand.model
+          (terms_of (equation name c.args.summands.now)) _ _ next.within next.is c.loop-summand.invariant.says c.put_value.new.model c.in_ok-put_value.ensures.says;
     }
 
 pub returns-in_err-put_value-clause-refused : goal.returns-in_err-put_value-clause-refused
@@ -45,4 +46,5 @@ returns-in_err-put_value-clause-refused g c =
     let next = next_term name c.args.summands.now c.loop-summand.summand-index c.summand-item.result _ c.loop-summand-test.true c.summand-item.is
     ((λ t. term_of_value g.F.Field.number name (c.deref.ensures t) c.summand.inside.value) ∙ ap (term_of name) c.summand.view_is) in
     let failed = err_from_is_err_and c.from_residual.result c.from_residual.ensures.1 in
-    rw (failed.1, failed.2) (next-lacks g.F.Field.modulus c.args.model.now c.loop-summand.model (terms_of (equation name c.args.summands.now)) _ _ _ next c.loop-summand.invariant.says c.in_err-put_value.ensures.refused)
+    rw (failed.1, failed.2) (next-lacks g.F.Field.modulus c.args.model.now c.loop-summand.model
+    (terms_of (equation name c.args.summands.now)) _ _ _ next c.loop-summand.invariant.says c.in_err-put_value.ensures.refused)

@@ -5,4 +5,6 @@ use Rattle.unit_equations.proofs.equations.separator.Given as goal
 
 abbrev pub invariant-loop-component : goal.invariant-loop-component
 invariant-loop-component g l =
-    l.equations ≡ (separator g.F.Field.modulus l.version (map string_bytes (take l.component-index l.component-items)) l.unit l.inlet (map string_bytes l.outlets)).equations
+    l.equations ≡ (separator g.F.Field.modulus l.version
+    (map string_bytes (take l.component-index l.component-items)) l.unit l.inlet
+    (map string_bytes l.outlets)).equations

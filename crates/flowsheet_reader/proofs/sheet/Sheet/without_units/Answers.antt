@@ -7,7 +7,8 @@ use Rattle.flowsheet_reader.proofs.sheet.Sheet.without_units.Goals as goal
 
 pub add_flows-requires-clause-new : goal.add_flows-requires-clause-new
 add_flows-requires-clause-new g c =
-    flows-part g.F.Field.modulus c.args.version c.args.components c.args.streams c.requires c.in_ok-model.model (map string_bytes c.in_ok-flows.field-0.items) c.new-2.result.items
+    flows-part g.F.Field.modulus c.args.version c.args.components c.args.streams c.requires c.in_ok-model.model
+    (map string_bytes c.in_ok-flows.field-0.items) c.new-2.result.items
     c.in_ok-model.ensures.empty c.in_ok-flows.ensures c.new-2.ensures.items
 
 pub add_flows-requires-clause-unknowns : goal.add_flows-requires-clause-unknowns

@@ -8,5 +8,7 @@ use Rattle.independent_matching.proofs.engine.Engine.size.Goals as goal
 pub returns-clause-pair : goal.returns-clause-pair
 returns-clause-pair g c =
     let p = g.F.Field.modulus in
-    subst (λ e. (q : ℕ → ℕ → ℕ) → AreEntries p (g.T.Tableau.state e.tableau) q → HasTableau p (layers q (g.T.Tableau.state e.tableau) e.matching) (tableau_of (g.T.Tableau.state e.tableau) e.matching)) c.self.view_is
+    subst (λ e. (q : ℕ → ℕ → ℕ) → AreEntries p (g.T.Tableau.state e.tableau) q →
+    HasTableau p (layers q (g.T.Tableau.state e.tableau) e.matching)
+    (tableau_of (g.T.Tableau.state e.tableau) e.matching)) c.self.view_is
     (λ q agree. entries-tableau p q (g.T.Tableau.state c.self.inside.improver.pair.tableau) c.self.inside.improver.pair.mates agree c.self.invariant.pair)

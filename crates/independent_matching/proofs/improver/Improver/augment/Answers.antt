@@ -5,7 +5,9 @@ use Rattle.mixed_augmentation.specs.Moves.{route}
 use Rattle.mixed_matrices.specs.LayeredMatrices.{LayeredMatrix}
 use Rattle.independent_matching.specs.Sides.{AreRowsMoving, CanTake, IsMoving, Takes, in_q, is_matched, layers_of, number, row_had, size_of, tableau_of}
 use Rattle.independent_matching.proofs.LeftLaws.{move-rows, moved-rows, moving-rows}
-use Rattle.independent_matching.proofs.MoveLaws.{can-take, moving-apart, moving-below, moving-count, moving-next, moving-none, moving-pivots, moving-positive, moving-size, moving-start, moving-tableau, moving-taken}
+use Rattle.independent_matching.proofs.MoveLaws.{can-take, moving-apart, moving-below, moving-count, moving-next}
+use Rattle.independent_matching.proofs.MoveLaws.{moving-none, moving-pivots, moving-positive, moving-size}
+use Rattle.independent_matching.proofs.MoveLaws.{moving-start, moving-tableau, moving-taken}
 use Rattle.independent_matching.proofs.RunLaws.{base-bound, pivots-bound, pivots-more, size-bound}
 use Rattle.independent_matching.proofs.improver.Improver.augment.Goals as goal
 
@@ -59,13 +61,24 @@ loop-next-preserved g c =
     let here : i + 1 ≡ c.loop-next.left = omega (arith, positive) in
     let x_is : c.step-x.result ≡ at i = c.step-x.ensures ∙ ap (λ s. step_of s i) I.search in
     record {
-      moving = subst (λ next. IsMoving p S₀ M₀ (route (tableau_of S₀ M₀) at c.args.last (in_q c.args.end) (number c.args.end)) S' M' next i) (sym (c.row_of-next.ensures ∙ ap (row_had (tableau_of S M)) x_is))
+      moving = subst (λ next. IsMoving p S₀ M₀ (route (tableau_of S₀ M₀) at c.args.last (in_q c.args.end)
+          (number c.args.end)) S' M' next i) (sym (c.row_of-next.ensures ∙ ap (row_had (tableau_of S M)) x_is))
           (moving-next p S₀ M₀ c.requires.pair at c.args.last c.args.end c.requires.route S M c.loop-next.next c.in-Some.row c.loop-next.left I.moving c.in-Some.is i here S' M' c.take.ensures.layers c.take.ensures.pattern
           (subst (λ x. Takes p (layers_of S M) (tableau_of S M) (tableau_of S' M') c.in-Some.row x) x_is c.take.ensures.takes));
       rows = subst (λ next. AreRowsMoving M₀ c.args.end M' next) (sym c.row_of-next.ensures)
-          (move-rows p S S' M M' (omega (arith, I.moving.width, c.requires.width, ap (λ (L : LayeredMatrix). L.columns) I.moving.layers)) (ap (λ m. m.width) c.take.ensures.pattern) c.step-x.result
-          (subst (λ n. c.step-x.result < n) (sym (ap (λ (L : LayeredMatrix). L.columns) I.moving.layers)) (subst (λ x. x < S₀.columns) (sym x_is) (moving-below p S₀ M₀ c.requires.pair at c.args.last c.args.end c.requires.route S M c.loop-next.next c.in-Some.row c.loop-next.left I.moving c.in-Some.is i here)))
-          (subst (λ x. S.base x ≡ true → is_matched M x ≡ true → ⊥) (sym x_is) (moving-apart p S₀ M₀ c.requires.pair at c.args.last c.args.end c.requires.route S M c.loop-next.next c.in-Some.row c.loop-next.left I.moving c.in-Some.is i here))
+          (move-rows p S S' M M' (omega (
+            arith,
+            I.moving.width,
+            c.requires.width,
+            ap
+                (λ (L : LayeredMatrix). L.columns) I.moving.layers,
+          ))
+          (ap (λ m. m.width) c.take.ensures.pattern) c.step-x.result
+          (subst (λ n. c.step-x.result < n) (sym (ap (λ (L : LayeredMatrix). L.columns) I.moving.layers))
+          (subst (λ x. x < S₀.columns) (sym x_is)
+          (moving-below p S₀ M₀ c.requires.pair at c.args.last c.args.end c.requires.route S M c.loop-next.next c.in-Some.row c.loop-next.left I.moving c.in-Some.is i here)))
+          (subst (λ x. S.base x ≡ true → is_matched M x ≡ true → ⊥) (sym x_is)
+          (moving-apart p S₀ M₀ c.requires.pair at c.args.last c.args.end c.requires.route S M c.loop-next.next c.in-Some.row c.loop-next.left I.moving c.in-Some.is i here))
           c.in-Some.row c.take.ensures.takes M₀ c.args.end (subst (λ next. AreRowsMoving M₀ c.args.end M next) c.in-Some.is I.rows));
       marks = c.take.ensures.marks;
       count = omega (arith, c.take.ensures.steps, I.count, moving-count p S₀ M₀ c.requires.pair at c.args.last c.args.end c.requires.route S M c.loop-next.next c.in-Some.row c.loop-next.left I.moving c.in-Some.is i here);
@@ -82,14 +95,16 @@ returns-clause-pair g c =
     let S₀ = g.T.Tableau.state c.args.self.now.pair.tableau in
     let M₀ = c.args.self.now.pair.mates in
     let at = step_of c.args.self.now.search in
-    moving-tableau g.F.Field.modulus S₀ M₀ c.requires.pair at c.args.last c.args.end c.requires.route (g.T.Tableau.state c.loop-next.self.pair.tableau) c.loop-next.self.pair.mates c.loop-next.next c.loop-next.left c.loop-next.invariant.moving c.in_default.is
+    moving-tableau g.F.Field.modulus S₀ M₀ c.requires.pair at c.args.last c.args.end c.requires.route
+    (g.T.Tableau.state c.loop-next.self.pair.tableau) c.loop-next.self.pair.mates c.loop-next.next c.loop-next.left c.loop-next.invariant.moving c.in_default.is
 
 pub returns-clause-size : goal.returns-clause-size
 returns-clause-size g c =
     let S₀ = g.T.Tableau.state c.args.self.now.pair.tableau in
     let M₀ = c.args.self.now.pair.mates in
     let at = step_of c.args.self.now.search in
-    moving-size g.F.Field.modulus S₀ M₀ c.requires.pair at c.args.last c.args.end c.requires.route (g.T.Tableau.state c.loop-next.self.pair.tableau) c.loop-next.self.pair.mates c.loop-next.next c.loop-next.left c.loop-next.invariant.moving c.in_default.is
+    moving-size g.F.Field.modulus S₀ M₀ c.requires.pair at c.args.last c.args.end c.requires.route
+    (g.T.Tableau.state c.loop-next.self.pair.tableau) c.loop-next.self.pair.mates c.loop-next.next c.loop-next.left c.loop-next.invariant.moving c.in_default.is
 
 pub returns-clause-steps : goal.returns-clause-steps
 returns-clause-steps g c =
@@ -101,7 +116,8 @@ returns-clause-steps g c =
       arith,
       c.loop-next.invariant.count,
       moving-pivots p S₀ M₀ c.requires.pair at c.args.last c.args.end c.requires.route,
-      moving-none p S₀ M₀ c.requires.pair at c.args.last c.args.end c.requires.route (g.T.Tableau.state c.loop-next.self.pair.tableau) c.loop-next.self.pair.mates c.loop-next.next c.loop-next.left c.loop-next.invariant.moving c.in_default.is,
+      moving-none p S₀ M₀ c.requires.pair at c.args.last c.args.end c.requires.route
+          (g.T.Tableau.state c.loop-next.self.pair.tableau) c.loop-next.self.pair.mates c.loop-next.next c.loop-next.left c.loop-next.invariant.moving c.in_default.is,
     )
 
 pub take-requires-clause-few : goal.take-requires-clause-few
@@ -142,4 +158,5 @@ returns-clause-taken g c =
     let S₀ = g.T.Tableau.state c.args.self.now.pair.tableau in
     let M₀ = c.args.self.now.pair.mates in
     let at = step_of c.args.self.now.search in
-    moving-taken g.F.Field.modulus S₀ M₀ c.requires.pair at c.args.last c.args.end c.requires.route (g.T.Tableau.state c.loop-next.self.pair.tableau) c.loop-next.self.pair.mates c.loop-next.next c.loop-next.left c.loop-next.invariant.moving c.in_default.is
+    moving-taken g.F.Field.modulus S₀ M₀ c.requires.pair at c.args.last c.args.end c.requires.route
+    (g.T.Tableau.state c.loop-next.self.pair.tableau) c.loop-next.self.pair.mates c.loop-next.next c.loop-next.left c.loop-next.invariant.moving c.in_default.is

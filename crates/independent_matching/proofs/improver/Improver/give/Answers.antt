@@ -5,14 +5,17 @@ use Rattle.independent_matching.proofs.StepLaws.{one-rows, one-size, one-step, o
 use Rattle.independent_matching.proofs.improver.Improver.give.Goals as goal
 
 pub take-requires-clause-can : goal.take-requires-clause-can
-take-requires-clause-can g c = one-take g.F.Field.modulus (g.T.Tableau.state c.args.self.now.pair.tableau) c.args.self.now.pair.mates c.requires.pair c.args.x c.requires.x c.args.row c.requires.free c.requires.row
+take-requires-clause-can g c = one-take g.F.Field.modulus
+    (g.T.Tableau.state c.args.self.now.pair.tableau) c.args.self.now.pair.mates c.requires.pair c.args.x c.requires.x c.args.row c.requires.free c.requires.row
 
 pub returns-clause-pair : goal.returns-clause-pair
-returns-clause-pair g c = one-tableau g.F.Field.modulus (g.T.Tableau.state c.args.self.now.pair.tableau) c.args.self.now.pair.mates c.requires.pair c.args.x c.requires.x c.args.row c.requires.free c.requires.row
+returns-clause-pair g c = one-tableau g.F.Field.modulus
+    (g.T.Tableau.state c.args.self.now.pair.tableau) c.args.self.now.pair.mates c.requires.pair c.args.x c.requires.x c.args.row c.requires.free c.requires.row
     (g.T.Tableau.state c.take.new.self.pair.tableau) c.take.new.self.pair.mates c.take.ensures.layers c.take.ensures.pattern c.take.ensures.takes
 
 pub returns-clause-size : goal.returns-clause-size
-returns-clause-size g c = one-size g.F.Field.modulus (g.T.Tableau.state c.args.self.now.pair.tableau) c.args.self.now.pair.mates c.requires.pair c.args.x c.requires.x c.args.row c.requires.free c.requires.row
+returns-clause-size g c = one-size g.F.Field.modulus
+    (g.T.Tableau.state c.args.self.now.pair.tableau) c.args.self.now.pair.mates c.requires.pair c.args.x c.requires.x c.args.row c.requires.free c.requires.row
     (g.T.Tableau.state c.take.new.self.pair.tableau) c.take.new.self.pair.mates c.take.ensures.layers c.take.ensures.pattern c.take.ensures.takes
 
 pub take-requires-clause-few : goal.take-requires-clause-few
@@ -32,9 +35,11 @@ returns-clause-few g c =
     (g.T.Tableau.state c.take.new.self.pair.tableau) c.take.new.self.pair.mates c.take.ensures.layers c.take.ensures.pattern c.take.ensures.takes)
 
 pub returns-clause-rows : goal.returns-clause-rows
-returns-clause-rows g c = one-rows g.F.Field.modulus (g.T.Tableau.state c.args.self.now.pair.tableau) c.args.self.now.pair.mates c.requires.pair c.args.x c.requires.x c.args.row c.requires.free c.requires.row
+returns-clause-rows g c = one-rows g.F.Field.modulus
+    (g.T.Tableau.state c.args.self.now.pair.tableau) c.args.self.now.pair.mates c.requires.pair c.args.x c.requires.x c.args.row c.requires.free c.requires.row
     (g.T.Tableau.state c.take.new.self.pair.tableau) c.take.new.self.pair.mates c.take.ensures.layers c.take.ensures.pattern c.take.ensures.takes c.requires.width
 
 pub returns-clause-taken : goal.returns-clause-taken
-returns-clause-taken g c = one-taken g.F.Field.modulus (g.T.Tableau.state c.args.self.now.pair.tableau) c.args.self.now.pair.mates c.requires.pair c.args.x c.requires.x c.args.row c.requires.free c.requires.row
+returns-clause-taken g c = one-taken g.F.Field.modulus
+    (g.T.Tableau.state c.args.self.now.pair.tableau) c.args.self.now.pair.mates c.requires.pair c.args.x c.requires.x c.args.row c.requires.free c.requires.row
     (g.T.Tableau.state c.take.new.self.pair.tableau) c.take.new.self.pair.mates c.take.ensures.layers c.take.ensures.pattern c.take.ensures.takes

@@ -14,7 +14,9 @@ unwrap-row-requires g c =
     let M = c.args.self.now.pair.mates in
     let marks = c.requires.ready.marks in
     let is : is_end g.F.Field.modulus (layers_of S M) (tableau_of S M) c.args.x ≡ true =
-    sym (mark-end g.F.Field.modulus S M c.args.x c.requires.ready.width c.args.self.now.marks (marks.of_q.ends c.args.x c.requires.x) (marks.by_t c.args.x c.requires.x) (marks.of_q.by_q c.args.x c.requires.x)) ∙ c.requires.end in
+    sym (mark-end g.F.Field.modulus S M c.args.x c.requires.ready.width c.args.self.now.marks
+    (marks.of_q.ends c.args.x c.requires.x) (marks.by_t c.args.x c.requires.x)
+    (marks.of_q.by_q c.args.x c.requires.x)) ∙ c.requires.end in
     c.free_row.ensures.end ∙ is
 
 pub close-requires-clause-by_t : goal.close-requires-clause-by_t

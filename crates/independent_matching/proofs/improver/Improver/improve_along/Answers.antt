@@ -25,9 +25,12 @@ augment-requires-clause-route g c =
     let arc = leads_to p (layers_of S M) (tableau_of S M) in
     search-route p S M ready.width marks ready.marks c.args.self.now.search.places ready.search ready.pair at c.in-Some.last c.step-x.result
     (subst (λ free. IsShortest arc c.args.self.now.search.places (members_of free) (members_of marks.ends.items) at c.in-Some.last) c.deref.ensures.value
-    (subst (λ ends. IsShortest arc c.args.self.now.search.places (members_of c.deref.result.now) (members_of ends) at c.in-Some.last) c.deref-2.ensures.value c.in-Some.ensures.found))
+    (subst (λ ends. IsShortest arc c.args.self.now.search.places (members_of c.deref.result.now)
+    (members_of ends) at c.in-Some.last) c.deref-2.ensures.value c.in-Some.ensures.found))
     c.step-x.ensures c.unwrap-end.result
-    (some-read c.free_row.result c.unwrap-end.result (λ row. IsFreeRow p (layers_of S M) (tableau_of S M) c.step-x.result (in_q row) (number row)) c.unwrap-end.ensures c.free_row.ensures.free)
+    (some-read c.free_row.result c.unwrap-end.result
+    (λ row. IsFreeRow p (layers_of S M) (tableau_of S M) c.step-x.result (in_q row)
+    (number row)) c.unwrap-end.ensures c.free_row.ensures.free)
 
 pub unwrap-end-requires : goal.unwrap-end-requires
 unwrap-end-requires g c =
@@ -41,7 +44,8 @@ unwrap-end-requires g c =
     c.free_row.ensures.end ∙
     walk-end p S M ready.width marks ready.marks c.args.self.now.search.places ready.search at c.in-Some.last c.step-x.result
     (subst (λ free. IsShortest arc c.args.self.now.search.places (members_of free) (members_of marks.ends.items) at c.in-Some.last) c.deref.ensures.value
-    (subst (λ ends. IsShortest arc c.args.self.now.search.places (members_of c.deref.result.now) (members_of ends) at c.in-Some.last) c.deref-2.ensures.value c.in-Some.ensures.found))
+    (subst (λ ends. IsShortest arc c.args.self.now.search.places (members_of c.deref.result.now)
+    (members_of ends) at c.in-Some.last) c.deref-2.ensures.value c.in-Some.ensures.found))
     c.step-x.ensures
 
 pub close-requires-clause-by_t : goal.close-requires-clause-by_t
@@ -127,5 +131,12 @@ returns-in-Some-clause-ready g c =
       few = subst (λ n. c.augment.new.self.pivots ≤ n * n) grown E.few;
       few_looks = subst (λ n. c.augment.new.self.looks + c.looks.result ≤ (c.augment.new.self.size + 1) * n) (sym same)
           (looks-more c.args.self.now.size (c.augment.new.self.size + 1) S.columns c.args.self.now.looks c.looks.result (c.augment.new.self.looks + c.looks.result) ready.few_looks
-          (omega (arith, E.looks)) (omega (arith, c.looks.ensures, ap (λ (s : Found). s.looks) E.search, c.in-Some.ensures.few, ready.search)) (omega (arith, E.count)));
+          (omega (arith, E.looks)) (omega (
+            arith,
+            c.looks.ensures,
+            ap
+                (λ (s : Found). s.looks) E.search,
+            c.in-Some.ensures.few,
+            ready.search,
+          )) (omega (arith, E.count)));
     }

@@ -4,7 +4,9 @@ use Rattle.exchange_graph.specs.Results.{reached_of}
 use Rattle.mixed_matrices.specs.LayeredMatrices.{LayeredMatrix}
 use Rattle.independent_matching.specs.Sides.{size_of}
 use Rattle.independent_matching.specs.Engines.{AreLooksOfSearches}
-use Rattle.independent_matching.proofs.RunLaws.{base-bound, looks-last, looks-next, looks-none, looks-search, made-more, never, pivots-next, run-count, run-going, run-smaller, size-bound}
+use Rattle.independent_matching.proofs.RunLaws.{base-bound, looks-last, looks-next, looks-none, looks-search}
+use Rattle.independent_matching.proofs.RunLaws.{made-more, never, pivots-next, run-count, run-going, run-smaller}
+use Rattle.independent_matching.proofs.RunLaws.{size-bound}
 use Rattle.independent_matching.proofs.improver.Improver.run.Goals as goal
 
 pub loop-grown-init : goal.loop-grown-init
@@ -35,7 +37,12 @@ loop-grown-smaller g c =
     let M' = c.improve-grown.new.self.pair.mates in
     subst (λ b. N - size_of S' M' + cond c.improve-grown.result 1 0 < N - size_of S M + cond b 1 0) (sym c.loop-grown-test.true)
     (run-smaller c.improve-grown.result N (size_of S M) (size_of S' M')
-    (omega (arith, size-bound p S' M' c.improve-grown.ensures.ready.pair, ap (λ (L : LayeredMatrix). L.columns) (c.improve-grown.ensures.layers ∙ c.loop-grown.invariant.layers)))
+    (omega (
+      arith,
+      size-bound p S' M' c.improve-grown.ensures.ready.pair,
+      ap (λ (L : LayeredMatrix). L.columns)
+          (c.improve-grown.ensures.layers ∙ c.loop-grown.invariant.layers),
+    ))
     c.improve-grown.ensures.size (λ f. ap (λ q. size_of (g.T.Tableau.state q.tableau) q.mates) (c.improve-grown.ensures.pair f)))
 
 pub loop-grown-preserved : goal.loop-grown-preserved
@@ -55,19 +62,32 @@ loop-grown-preserved g c =
     record {
       ready = E.ready;
       layers = E.layers ∙ I.layers;
-      going = λ t. run-going N (size_of S M) (size_of S' M') (size_on S.base S.columns) (s * N + s * s) c.args.steps.now c.loop-grown.steps c.improve-grown.new.steps
-          (I.going c.loop-grown-test.true) (omega (arith, E.told t, E.few_pivots t, E.few_looks t, ap (λ (L : LayeredMatrix). L.columns) I.layers)) (base-bound S M) (E.size t);
+      going = λ t. run-going N (size_of S M) (size_of S' M') (size_on S.base S.columns)
+          (s * N + s * s) c.args.steps.now c.loop-grown.steps c.improve-grown.new.steps
+          (I.going c.loop-grown-test.true) (omega (
+            arith,
+            E.told t,
+            E.few_pivots t,
+            E.few_looks t,
+            ap
+                (λ (L : LayeredMatrix). L.columns) I.layers,
+          )) (base-bound S M) (E.size t);
       told = λ t. omega (arith, E.told t, I.told c.loop-grown-test.true);
-      last = λ f. subst (λ n. c.improve-grown.new.steps + (c.args.self.now.pivots + c.args.self.now.looks) ≡ c.args.steps.now + (c.improve-grown.new.self.pivots + c.improve-grown.new.self.looks) + size_on (reached_of c.improve-grown.new.self.search) n)
+      last = λ f. subst (λ n. c.improve-grown.new.steps +
+          (c.args.self.now.pivots + c.args.self.now.looks) ≡ c.args.steps.now +
+          (c.improve-grown.new.self.pivots + c.improve-grown.new.self.looks) + size_on
+          (reached_of c.improve-grown.new.self.search) n)
           (ap (λ (L : LayeredMatrix). L.columns) I.layers) (omega (arith, E.looks f, (E.none_told f).0, (E.none_told f).1, I.told c.loop-grown-test.true));
       no_walk = E.no_walk;
       reached = E.reached;
       asked = omega (arith, E.searches, I.asked);
       made = made-more c.improve-grown.result s (size_of S M) (size_of S' M') c.loop-grown.made
           (subst (λ b. c.loop-grown.made + s ≡ size_of S M + cond b 0 1) c.loop-grown-test.true I.made) E.size same_size;
-      few_pivots = pivots-next c.improve-grown.result s (size_of S M) (size_of S' M') (size_on S.base S.columns) c.args.self.now.pivots c.loop-grown.self.pivots c.improve-grown.new.self.pivots
+      few_pivots = pivots-next c.improve-grown.result s (size_of S M) (size_of S' M')
+          (size_on S.base S.columns) c.args.self.now.pivots c.loop-grown.self.pivots c.improve-grown.new.self.pivots
           I.few_pivots E.few_pivots (base-bound S M) E.size (λ f. (E.none_told f).0) same_size;
-      few_looks = looks-next c.improve-grown.result N s (size_of S M) (size_of S' M') c.args.self.now.looks c.loop-grown.self.looks c.improve-grown.new.self.looks
+      few_looks = looks-next c.improve-grown.result N s (size_of S M)
+          (size_of S' M') c.args.self.now.looks c.loop-grown.self.looks c.improve-grown.new.self.looks
           I.few_looks (λ t. omega (arith, E.few_looks t, ap (λ (L : LayeredMatrix). L.columns) I.layers)) E.size (λ f. (E.none_told f).1) same_size;
       looked = λ t. looks-search c.args.self.now.search c.loop-grown.self.search c.improve-grown.new.self.search c.args.self.now.looks c.loop-grown.self.looks c.improve-grown.new.self.looks
           (I.looked c.loop-grown-test.true) (E.searched t);
@@ -77,7 +97,8 @@ loop-grown-preserved g c =
           (looks-last c.args.self.now.search c.loop-grown.self.search c.improve-grown.new.self.search c.args.self.now.looks c.loop-grown.self.looks (size_on (reached_of c.improve-grown.new.self.search) S.columns)
           (I.looked c.loop-grown-test.true) (E.last f)));
       count = λ f. run-count N s (size_of S M) (size_of S' M') c.args.steps.now c.loop-grown.steps c.improve-grown.new.steps
-          (I.going c.loop-grown-test.true) (omega (arith, E.few f, ap (λ (L : LayeredMatrix). L.columns) I.layers)) (ap (λ q. size_of (g.T.Tableau.state q.tableau) q.mates) (E.pair f));
+          (I.going c.loop-grown-test.true) (omega (arith, E.few f, ap (λ (L : LayeredMatrix). L.columns) I.layers))
+          (ap (λ q. size_of (g.T.Tableau.state q.tableau) q.mates) (E.pair f));
     }
 
 pub overflow_add-made : goal.overflow_add-made

@@ -20,7 +20,8 @@ invariant-loop-grown g l =
       layers : layers_of S M ≡ layers_of S₀ M₀;
       going : IsTrue l.grown → l.steps + (size_of S₀ M₀ * S₀.columns + size_of S₀ M₀ * size_of S₀ M₀) ≤ l.fn.steps + size_of S M * S₀.columns + size_of S M * size_of S M;
       told : IsTrue l.grown → l.steps + (l.fn.self.pivots + l.fn.self.looks) ≡ l.fn.steps + (l.self.pivots + l.self.looks);
-      last : IsFalse l.grown → l.steps + (l.fn.self.pivots + l.fn.self.looks) ≡ l.fn.steps + (l.self.pivots + l.self.looks) + size_on (reached_of l.self.search) S₀.columns;
+      last : IsFalse l.grown → l.steps + (l.fn.self.pivots + l.fn.self.looks) ≡ l.fn.steps +
+          (l.self.pivots + l.self.looks) + size_on (reached_of l.self.search) S₀.columns;
       no_walk : IsFalse l.grown → HasNoWalk p (layers_of S M) (tableau_of S M);
       reached : IsFalse l.grown → IsReachedFromFree p (layers_of S M) (tableau_of S M) (reached_of l.self.search);
       asked : l.searches ≡ l.fn.searches + l.made;
@@ -28,7 +29,8 @@ invariant-loop-grown g l =
       few_pivots : AreFewPivots (size_of S₀ M₀) (size_of S M) l.fn.self.pivots l.self.pivots;
       few_looks : AreFewLooks S₀.columns (size_of S₀ M₀) (size_of S M) l.fn.self.looks l.self.looks;
       looked : IsTrue l.grown → AreLooksSoFar l.fn.self.search l.self.search l.fn.self.looks l.self.looks;
-      told_looks : IsFalse l.grown → AreLooksOfSearches l.fn.self.search l.self.search l.fn.self.looks l.self.looks (size_on (reached_of l.self.search) S₀.columns);
+      told_looks : IsFalse l.grown → AreLooksOfSearches l.fn.self.search l.self.search l.fn.self.looks l.self.looks
+          (size_on (reached_of l.self.search) S₀.columns);
       count : IsFalse l.grown → AreFewSteps S₀.columns (size_of S₀ M₀) (size_of S M) l.fn.steps l.steps;
     }
 

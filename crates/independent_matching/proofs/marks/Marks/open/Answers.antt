@@ -28,7 +28,8 @@ loop-x-preserved g c =
       ];
       ends = λ y l. elim (nat_cases y c.loop-x.x) [
         | inl e ↦ subst (λ k. IsEndMark now k) (sym e) Q'.end
-        | inr ne ↦ other-end between now c.loop-x.x Q'.others y ne (other-end c.loop-x.marks between c.loop-x.x T'.others y ne (I.ends y (omega (arith, l, ne))))
+        | inr ne ↦ other-end between now c.loop-x.x Q'.others y ne
+            (other-end c.loop-x.marks between c.loop-x.x T'.others y ne (I.ends y (omega (arith, l, ne))))
       ];
     }
 

@@ -24,9 +24,21 @@ loop-x-preserved g c =
             by_t = Q'.by_t ∙ I.by_t;
             free = Q'.others.free ∙ I.free;
             touched = Q'.touched ∙ I.touched;
-            ends = λ y l. elim (nat_cases y x) [ inl e ↦ subst (λ k. IsEndMark now k) (sym e) Q'.end | inr ne ↦ other-end was now x Q'.others y ne (I.ends y l) ];
-            done = λ y l. elim (nat_cases y x) [ inl e ↦ subst (λ k. IsQMark p S now.by_q.items k) (sym e) Q'.found | inr ne ↦ other-q was now x Q'.others y ne p S (I.done y (omega (arith, l, ne))) ];
-            others = λ y l none. elim (nat_cases y x) [ inl e ↦ subst (λ k. IsQMark p S now.by_q.items k) (sym e) Q'.found | inr ne ↦ other-q was now x Q'.others y ne p S (I.others y l none) ];
+            ends = λ y l. elim (nat_cases y x) [
+              | inl e ↦ subst (λ k. IsEndMark now k) (sym e) Q'.end
+              | inr ne ↦
+                  other-end was now x Q'.others y ne (I.ends y l)
+            ];
+            done = λ y l. elim (nat_cases y x) [
+              | inl e ↦ subst (λ k. IsQMark p S now.by_q.items k)
+                  (sym e) Q'.found
+              | inr ne ↦ other-q was now x Q'.others y ne p S (I.done y (omega (arith, l, ne)))
+            ];
+            others = λ y l none. elim (nat_cases y x) [
+              | inl e ↦ subst (λ k. IsQMark p S now.by_q.items k)
+                  (sym e) Q'.found
+              | inr ne ↦ other-q was now x Q'.others y ne p S (I.others y l none)
+            ];
           })
       | else-index w ↦
           let untouched : members_of c.args.self.now.touched.items x ≡ false = ap (λ (t : _). members_of t.items x) (sym I.touched)
@@ -38,7 +50,11 @@ loop-x-preserved g c =
             free = I.free;
             touched = I.touched;
             ends = I.ends;
-            done = λ y l. elim (nat_cases y x) [ inl e ↦ subst (λ k. IsQMark p S was.by_q.items k) (sym e) (I.others x here untouched) | inr ne ↦ I.done y (omega (arith, l, ne)) ];
+            done = λ y l. elim (nat_cases y x) [
+              | inl e ↦ subst (λ k. IsQMark p S was.by_q.items k) (sym e)
+                  (I.others x here untouched)
+              | inr ne ↦ I.done y (omega (arith, l, ne))
+            ];
             others = I.others;
           })
     ]

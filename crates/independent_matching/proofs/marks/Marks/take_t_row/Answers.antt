@@ -16,7 +16,8 @@ loop-x-init g c =
       of_q = c.requires.of_q;
       free = refl;
       by_t = λ y l none. c.requires.others y l (not_true (touches M.pattern c.args.row y) (λ h.
-          let (k, kl, e) = has-member list y (ap (λ ys. has ys y) (c.row-x-items.ensures.columns ∙ ap (λ i. columns_at i c.args.row) c.pattern.ensures.pattern) ∙ h) in none k (omega arith) kl e));
+          let (k, kl, e) = has-member list y (ap (λ ys. has ys y) (c.row-x-items.ensures.columns
+          ∙ ap (λ i. columns_at i c.args.row) c.pattern.ensures.pattern) ∙ h) in none k (omega arith) kl e));
     }
 
 pub loop-x-preserved : goal.loop-x-preserved
@@ -43,6 +44,11 @@ loop-x-preserved g c =
       free = T'.others.free ∙ I.free;
       by_t = λ y l none. elim (nat_cases y x) [
         | inl e ↦ subst (λ z. IsTMark M now.by_t.items z) (sym e) T'.found
-        | inr ne ↦ other-t was now x T'.others y ne M (I.by_t y l (λ j le jl e. elim (nat_cases j k) [ inl q ↦ ne (sym e ∙ ap (λ i. slice_index list i) q) | inr o ↦ none j (omega (arith, le, o)) jl e ]))
+        | inr ne ↦ other-t was now x T'.others y ne M
+            (I.by_t y l (λ j le jl e. elim (nat_cases j k) [
+              | inl q ↦
+                  ne (sym e ∙ ap (λ i. slice_index list i) q)
+              | inr o ↦ none j (omega (arith, le, o)) jl e
+            ]))
       ];
     }

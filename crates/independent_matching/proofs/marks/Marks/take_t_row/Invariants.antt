@@ -6,5 +6,6 @@ abbrev pub invariant-loop-x : goal.invariant-loop-x
 invariant-loop-x g l = record {
   of_q : AreMarksOfQ g.F.Field.modulus (g.T.Tableau.state l.pair.tableau) l.self;
   free : l.self.free ≡ l.fn.self.free;
-  by_t : (y : ℕ) → y < l.pair.mates.pattern.width → ((k : ℕ) → l.x-index ≤ k → k < length l.x-items → slice_index l.x-items k ≢ y) → IsTMark l.pair.mates l.self.by_t.items y;
+  by_t : (y : ℕ) → y < l.pair.mates.pattern.width → ((k : ℕ) → l.x-index ≤ k → k < length l.x-items →
+      slice_index l.x-items k ≢ y) → IsTMark l.pair.mates l.self.by_t.items y;
 }

@@ -21,11 +21,16 @@ loop-row-preserved g c =
     let step = c.nearer-least.ensures.found in
     record {
       within = next-within c.args.x c.args.from c.args.end column (HasPair M (slice_index list k)) some least now step I.within;
-      found = next-found c.args.x c.args.from c.args.end column (HasPair M (slice_index list k)) some least now step (t_arc M c.args.x) (t_arc-of M c.pattern.ensures.matching c.args.x list rows k here) I.found;
+      found = next-found c.args.x c.args.from c.args.end column (HasPair M (slice_index list k)) some least now step
+          (t_arc M c.args.x) (t_arc-of M c.pattern.ensures.matching c.args.x list rows k here) I.found;
       none = λ j y jl w. elim (nat_cases j k) [
         | inl e ↦ next-here c.args.x c.args.from c.args.end column (HasPair M (slice_index list k)) some least now step c.mate_of_row.ensures.none
-            (λ a b h i. c.pattern.ensures.matching.one_column (slice_index list k) a b h i) c.nearer-least.ensures.none y (subst (λ i. IsNearer (HasPair M (slice_index list i)) c.args.x c.args.from now y) e w)
-        | inr ne ↦ next-kept c.args.x c.args.from c.args.end column (HasPair M (slice_index list k)) some least now step (HasPair M (slice_index list j)) y (I.none j y (omega (arith, jl, ne))) w
+            (λ a b h i. c.pattern.ensures.matching.one_column
+            (slice_index list k) a b h i) c.nearer-least.ensures.none y
+            (subst (λ i. IsNearer (HasPair M (slice_index list i)) c.args.x c.args.from now y) e w)
+        | inr ne ↦ next-kept c.args.x c.args.from c.args.end column
+            (HasPair M (slice_index list k)) some least now step (HasPair M (slice_index list j)) y
+            (I.none j y (omega (arith, jl, ne))) w
       ];
     }
 
@@ -37,7 +42,8 @@ returns-then-least-end-clause-least g c =
     let I = c.loop-row.invariant in
     let less : c.loop-row.least < c.args.end = omega (arith, c.if-least-end.true) in
     last-least c.args.x c.args.from c.args.end (t_arc M c.args.x) c.loop-row.least
-    (t_arc-none M c.pattern.ensures.matching c.args.x list rows c.args.from c.loop-row.least (λ k y l. I.none k y (omega (arith, l, c.loop-row-test.false)))) less (I.found less)
+    (t_arc-none M c.pattern.ensures.matching c.args.x list rows c.args.from c.loop-row.least
+    (λ k y l. I.none k y (omega (arith, l, c.loop-row-test.false)))) less (I.found less)
 
 pub returns-else-least-end-clause-none : goal.returns-else-least-end-clause-none
 returns-else-least-end-clause-none g c =
@@ -46,4 +52,5 @@ returns-else-least-end-clause-none g c =
     let rows : AreRowsOf M.pattern c.args.x list = subst (λ p. AreRowsOf p c.args.x list) c.pattern.ensures.pattern c.rows_of-row-items.ensures in
     let I = c.loop-row.invariant in
     last-none c.args.x c.args.from c.args.end (t_arc M c.args.x) c.loop-row.least
-    (t_arc-none M c.pattern.ensures.matching c.args.x list rows c.args.from c.loop-row.least (λ k y l. I.none k y (omega (arith, l, c.loop-row-test.false)))) (omega (arith, c.if-least-end.false))
+    (t_arc-none M c.pattern.ensures.matching c.args.x list rows c.args.from c.loop-row.least
+    (λ k y l. I.none k y (omega (arith, l, c.loop-row-test.false)))) (omega (arith, c.if-least-end.false))

@@ -15,10 +15,13 @@ loop-line-preserved g c = record {
       let piece = c.args.piece.now in
       let new = c.take_line.new.self in
       let cut = c.in-Some.ensures.cut in
-      let step = c.in_ok-take_line.ensures.fed (text ++ before.0) (piece-within before.0 rest line others piece before.1 cut text input_limit short) before.2 in (
+      let step = c.in_ok-take_line.ensures.fed (text ++ before.0)
+      (piece-within before.0 rest line others piece before.1 cut text input_limit short) before.2 in (
         before.0 ++ line ++ 10 ∷ [],
         piece-taken before.0 rest line others piece before.1 cut,
-        subst (IsFed g.R.LineFormat.rules g.R.LineFormat.has_read (reading new.format new.number new.line.items new.commented new.refused)) (piece-joined text before.0 line) step,
+        subst (IsFed g.R.LineFormat.rules g.R.LineFormat.has_read
+            (reading new.format new.number new.line.items new.commented new.refused))
+            (piece-joined text before.0 line) step,
       );
 }
 

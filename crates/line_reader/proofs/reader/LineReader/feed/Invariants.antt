@@ -8,7 +8,8 @@ invariant-loop-line g l = record {
   ready : l.progress.refused ≡ None → g.R.LineFormat.is_ready l.progress.format;
   fed :
       (text : List ℕ) → IsFed g.R.LineFormat.rules g.R.LineFormat.has_read l.fn.self text → length (text ++ l.piece) ≤ input_limit
-      → (front : List ℕ) × (front ++ l.rest ≡ l.piece) × IsFed g.R.LineFormat.rules g.R.LineFormat.has_read (reading l.progress.format l.progress.number l.progress.line.items l.progress.commented l.progress.refused) (text ++ front);
+      → (front : List ℕ) × (front ++ l.rest ≡ l.piece) × IsFed g.R.LineFormat.rules g.R.LineFormat.has_read
+      (reading l.progress.format l.progress.number l.progress.line.items l.progress.commented l.progress.refused) (text ++ front);
 }
 
 abbrev pub decreases-loop-line : goal.decreases-loop-line

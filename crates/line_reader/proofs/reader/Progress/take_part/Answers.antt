@@ -7,7 +7,9 @@ use Rattle.line_reader.proofs.Steps.{fed-left, fed-part, fed-remark}
 use Rattle.line_reader.proofs.reader.Progress.take_part.Goals as goal
 use Rattle.line_reader.proofs.reader.Progress.take_part.Goals.{then-is_some-via-then-is_some, then-is_some-via-else-is_some+then-self}
 
-becomes_remark : (rules : Rules) (bytes part line : List ℕ) (result value : Bool) → line ≡ bytes → result ≡ (is_remark rules.remark part && list_all is_blank line) → result ≡ value → (is_remark rules.remark part && list_all is_blank bytes) ≡ value
+becomes_remark : (rules : Rules) (bytes part line : List ℕ) (result value : Bool) → line ≡ bytes →
+    result ≡ (is_remark rules.remark part && list_all is_blank line) → result ≡ value →
+    (is_remark rules.remark part && list_all is_blank bytes) ≡ value
 becomes_remark rules bytes part line result value same is answer = sym (is ∙ ap (λ l. is_remark rules.remark part && list_all is_blank l) same) ∙ answer
 
 pub returns-then-is_some-clause-fed : goal.returns-then-is_some-clause-fed

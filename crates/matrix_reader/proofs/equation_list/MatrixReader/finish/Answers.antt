@@ -8,4 +8,5 @@ pub returns-in_err-finish-clause-refused : goal.returns-in_err-finish-clause-ref
 returns-in_err-finish-clause-refused g c =
     let failed = err_from_is_err_and c.from_residual.result c.from_residual.ensures.1 in
     rw failed.1
-    (subst (λ why. (text : List ℕ) → IsFed g.F.Field.modulus c.args.self text → IsRefusal g.F.Field.modulus text why) (sym failed.2) c.in_err-finish.ensures.refused)
+    (subst (λ why. (text : List ℕ) → IsFed g.F.Field.modulus c.args.self text →
+    IsRefusal g.F.Field.modulus text why) (sym failed.2) c.in_err-finish.ensures.refused)

@@ -37,6 +37,12 @@ returns-clause-marked g c =
     let old = c.args.self.now.model in
     let found = FoundOrAdded-from old c.find_or_add_unknown.new.self c.args.unknown.now c.in_ok-j.j c.in_ok-j.ensures.answer c.in_ok-j.ensures.seen in
     let bound : c.in_ok-j.j < length c.args.self.now.last_lines.items =
-    omega (arith, c.requires.lengths, known_within (position (bytes_eq c.args.unknown.now) old.unknowns) old c.find_or_add_unknown.new.self c.args.unknown.now c.in_ok-j.j found (λ last. omega (arith, last))) in
+    omega (
+      arith,
+      c.requires.lengths,
+      known_within
+          (position (bytes_eq c.args.unknown.now) old.unknowns) old c.find_or_add_unknown.new.self c.args.unknown.now c.in_ok-j.j found (λ last. omega (arith, last)),
+    ) in
     marked_known g.F.Field.modulus (position (bytes_eq c.args.unknown.now) old.unknowns) old c.find_or_add_unknown.new.self c.args.unknown.now c.in_ok-j.j c.args.line c.args.self.now.last_lines.items _
-    found (λ last. omega (arith, last)) refl (λ stood. omega (arith, stood, c.index.ensures, bound, get_or_default_zero c.args.self.now.last_lines.items c.in_ok-j.j c.index.result.now bound))
+    found (λ last. omega (arith, last)) refl (λ stood. omega
+    (arith, stood, c.index.ensures, bound, get_or_default_zero c.args.self.now.last_lines.items c.in_ok-j.j c.index.result.now bound))

@@ -41,7 +41,8 @@ returns-in_err-put_value-clause-read g c = λ before name items numbered at_line
     let left = IsWithin g.F.Field.modulus before (so_far name (items ++ item ∷ [])) c.args.line c.put_value.new.model c.mark.new.self.last_lines.items in
     let error = c.in_err-put_value.field-0.0 in
     let marks = Marks-from_mark g.F.Field.modulus before name items c.args.line old lines item at_line new new_lines j
-    (subst (λ unknown. MarkedFrom g.F.Field.modulus (position (bytes_eq unknown) old.unknowns) c.args.line old new lines new_lines unknown j) c.in-Ok.ensures.2 c.in_ok-j.ensures.marked) in
+    (subst (λ unknown. MarkedFrom g.F.Field.modulus
+    (position (bytes_eq unknown) old.unknowns) c.args.line old new lines new_lines unknown j) c.in-Ok.ensures.2 c.in_ok-j.ensures.marked) in
     rw failed.1
     (subst (λ fault. AnswersRule rule left (Err fault)) (sym failed.2)
     (put_refused g.F.Field.modulus before name items c.args.line old lines item at_line new new_lines j marks error rule left
@@ -58,10 +59,12 @@ returns-clause-read g c = λ before name items numbered at_line.
     let j = c.in_ok-j.j in
     let value = c.in-Ok.term.value in
     let marks = Marks-from_mark g.F.Field.modulus before name items c.args.line old lines item at_line new new_lines j
-    (subst (λ unknown. MarkedFrom g.F.Field.modulus (position (bytes_eq unknown) old.unknowns) c.args.line old new lines new_lines unknown j) c.in-Ok.ensures.2 c.in_ok-j.ensures.marked) in (
+    (subst (λ unknown. MarkedFrom g.F.Field.modulus
+    (position (bytes_eq unknown) old.unknowns) c.args.line old new lines new_lines unknown j) c.in-Ok.ensures.2 c.in_ok-j.ensures.marked) in (
       marked_item g.F.Field.modulus before name items c.args.line old lines item at_line new new_lines j marks c.in-Ok.ensures.0,
       grown_by_value g.F.Field.modulus before name items c.args.line old lines item at_line new new_lines j marks last
-          (subst (λ symbol. PutsValue g.F.Field.modulus new last (length (equations_in before)) j (item_constant g.F.Field.modulus item) symbol) c.in-Ok.ensures.4
+          (subst (λ symbol. PutsValue g.F.Field.modulus new last (length (equations_in before)) j
+          (item_constant g.F.Field.modulus item) symbol) c.in-Ok.ensures.4
           (subst (λ constant. PutsValue g.F.Field.modulus new last (length (equations_in before)) j constant value.symbol) c.in-Ok.ensures.3
           (subst (λ i. PutsValue g.F.Field.modulus new last i j (g.F.Field.number value.constant) value.symbol) numbered c.in_ok-put_value.ensures.put))),
     )

@@ -9,6 +9,8 @@ invariant-loop-item g l = record {
   lengths : vec_len l.self.last_lines ≡ length l.self.model.unknowns;
   equation : l.i < length l.self.model.equations;
   items : words l.fn.items ≡ map (λ token. token.text.now) l.yielded ++ words l.item-iterator;
-  progress : (before : List (List (List ℕ))) (name : List ℕ) → l.i ≡ length (equations_in before) → IsWithin g.F.Field.modulus before (so_far name []) l.line l.fn.self.model l.fn.self.last_lines.items
-      → ItemsSoFar g.F.Field.modulus before name (words l.fn.items) (map (λ token. token.text.now) l.yielded) (words l.item-iterator) l.line l.self.model l.self.last_lines.items;
+  progress : (before : List (List (List ℕ))) (name : List ℕ) → l.i ≡ length (equations_in before) →
+      IsWithin g.F.Field.modulus before (so_far name []) l.line l.fn.self.model l.fn.self.last_lines.items
+      → ItemsSoFar g.F.Field.modulus before name (words l.fn.items) (map (λ token. token.text.now) l.yielded)
+      (words l.item-iterator) l.line l.self.model l.self.last_lines.items;
 }

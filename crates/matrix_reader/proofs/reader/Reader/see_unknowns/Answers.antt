@@ -21,7 +21,9 @@ loop-unknown-preserved g c =
       progress = λ before names read.
           let old = c.loop-unknown.self.model in
           let lines = c.loop-unknown.self.last_lines.items in
-          let progress = subst (λ tokens. NamesSoFar g.F.Field.modulus before names all seen (words tokens) c.args.line old lines) c.in-Some.ensures.steps (c.loop-unknown.invariant.progress before names read) in
+          let progress = subst (λ tokens. NamesSoFar g.F.Field.modulus before names all seen
+          (words tokens) c.args.line old lines) c.in-Some.ensures.steps
+          (c.loop-unknown.invariant.progress before names read) in
           let sees = c.in_ok-see_unknown.ensures.seen before (names ++ seen) progress.read in
           subst (λ front. NamesSoFar g.F.Field.modulus before names all front left c.args.line c.see_unknown.new.self.model c.see_unknown.new.self.last_lines.items) (sym more)
           (NamesSoFar-more g.F.Field.modulus before names all seen left name c.args.line old c.see_unknown.new.self.model lines c.see_unknown.new.self.last_lines.items progress sees.0 sees.1);

@@ -7,6 +7,9 @@ abbrev pub invariant-loop-unknown : goal.invariant-loop-unknown
 invariant-loop-unknown g l = record {
   lengths : vec_len l.self.last_lines ≡ length l.self.model.unknowns;
   unknowns : words l.fn.unknowns ≡ map (λ token. token.text.now) l.yielded ++ words l.unknown-iterator;
-  progress : (before : List (List (List ℕ))) (names : List (List ℕ)) → IsRead g.F.Field.modulus (before ++ (codes "unknown" ∷ names) ∷ []) (l.line + 1) l.fn.self.model l.fn.self.last_lines.items
-      → NamesSoFar g.F.Field.modulus before names (words l.fn.unknowns) (map (λ token. token.text.now) l.yielded) (words l.unknown-iterator) l.line l.self.model l.self.last_lines.items;
+  progress : (before : List (List (List ℕ))) (names : List (List ℕ)) →
+      IsRead g.F.Field.modulus (before ++ (codes "unknown" ∷ names) ∷ [])
+      (l.line + 1) l.fn.self.model l.fn.self.last_lines.items
+      → NamesSoFar g.F.Field.modulus before names (words l.fn.unknowns) (map (λ token. token.text.now) l.yielded)
+      (words l.unknown-iterator) l.line l.self.model l.self.last_lines.items;
 }

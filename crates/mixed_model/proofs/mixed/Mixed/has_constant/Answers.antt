@@ -10,5 +10,6 @@ pub returns : goal.returns
 returns g c =
     c.any_constant.ensures
     ∙ ap (λ rows. list_any (λ entry. is_some entry.constant) (row_at rows c.args.i)) c.deref.ensures.value
-    ∙ subst (λ model. c.args.i < length model.equations → list_any (λ entry. is_some entry.constant) (row_at c.self.inside.rows.items c.args.i) ≡ has_constant (mixed_matrix_of model) c.args.i)
+    ∙ subst (λ model. c.args.i < length model.equations → list_any (λ entry. is_some entry.constant)
+    (row_at c.self.inside.rows.items c.args.i) ≡ has_constant (mixed_matrix_of model) c.args.i)
     c.self.view_is (λ equation. model_has_constant g.F.Field.modulus _ c.self.invariant c.args.i equation) c.requires

@@ -10,5 +10,6 @@ pub returns : goal.returns
 returns g c =
     c.any_symbol.ensures
     ∙ ap (λ rows. list_any (λ entry. entry.symbol) (row_at rows c.args.i)) c.deref.ensures.value
-    ∙ subst (λ model. c.args.i < length model.equations → list_any (λ entry. entry.symbol) (row_at c.self.inside.rows.items c.args.i) ≡ has_symbol (mixed_matrix_of model) c.args.i)
+    ∙ subst (λ model. c.args.i < length model.equations → list_any (λ entry. entry.symbol)
+    (row_at c.self.inside.rows.items c.args.i) ≡ has_symbol (mixed_matrix_of model) c.args.i)
     c.self.view_is (λ equation. model_has_symbol g.F.Field.modulus _ c.self.invariant c.args.i equation) c.requires

@@ -18,7 +18,16 @@ returns-in_err-add_name-clause-added g c =
     let name : c.deref.result.now ≡ device.name = c.deref.ensures ∙ ap (λ (d : Device). d.name) c.device.view_is in
     rw failed.1
     (fault_answers (place_rule old.devices device)
-    (PutsLast c.args.line old (record { devices = c.self.inside.devices.items; lines = c.self.inside.lines.items; names = c.add_name.new.names; nodes = c.self.inside.nodes; own_equations = c.self.inside.own_equations; own_unknowns = c.self.inside.own_unknowns }) (device ∷ []))
+    (PutsLast c.args.line old (record {
+      devices = c.self.inside.devices.items;
+      lines =
+          c.self.inside.lines.items;
+      names = c.add_name.new.names;
+      nodes = c.self.inside.nodes;
+      own_equations =
+          c.self.inside.own_equations;
+      own_unknowns = c.self.inside.own_unknowns;
+    }) (device ∷ []))
     failed.0 c.in_err-add_name.field-0.0 failed.2
     (name-fault old.devices device c.self.inside.names c.add_name.new.names c.deref.result.now c.in_err-add_name.field-0.0
     (ap (λ (parts : Parts). parts.names) c.self.view_is ∙ c.requires.circuit.names) name c.in_err-add_name.ensures))
@@ -29,13 +38,26 @@ returns-in_err-add_nodes-clause-added g c =
     let old = c.args.self.now in
     let device = c.args.device in
     let name : c.deref.result.now ≡ device.name = c.deref.ensures ∙ ap (λ (d : Device). d.name) c.device.view_is in
-    let nodes : map string_bytes c.deref-2.result.now ≡ device.nodes = ap (map string_bytes) c.deref-2.ensures.value ∙ ap (λ (d : Device). d.nodes) c.device.view_is in
-    let fresh : has_name old.names device.name ≡ false = (λ i. has_name (sym (ap (λ (parts : Parts). parts.names) c.self.view_is) i) (sym name i)) ∙ c.in_ok-add_name.ensures.0 in
+    let nodes : map string_bytes c.deref-2.result.now ≡ device.nodes = ap (map string_bytes) c.deref-2.ensures.value
+    ∙ ap (λ (d : Device). d.nodes) c.device.view_is in
+    let fresh : has_name old.names device.name ≡ false =
+    (λ i. has_name (sym (ap (λ (parts : Parts). parts.names) c.self.view_is) i) (sym name i))
+    ∙ c.in_ok-add_name.ensures.0 in
     rw failed.1
     (fault_answers (place_rule old.devices device)
-    (PutsLast c.args.line old (record { devices = c.self.inside.devices.items; lines = c.self.inside.lines.items; names = c.add_name.new.names; nodes = c.add_nodes.new.seen; own_equations = c.self.inside.own_equations; own_unknowns = c.self.inside.own_unknowns }) (device ∷ []))
+    (PutsLast c.args.line old (record {
+      devices = c.self.inside.devices.items;
+      lines =
+          c.self.inside.lines.items;
+      names = c.add_name.new.names;
+      nodes = c.add_nodes.new.seen;
+      own_equations =
+          c.self.inside.own_equations;
+      own_unknowns = c.self.inside.own_unknowns;
+    }) (device ∷ []))
     failed.0 c.in_err-add_nodes.field-0.0 failed.2
-    (nodes-fault g.F.Field.modulus old device (see_nodes c.self.inside.nodes (map string_bytes c.deref-2.result.now)) c.in_err-add_nodes.field-0.0 c.requires.circuit fresh
+    (nodes-fault g.F.Field.modulus old device (see_nodes c.self.inside.nodes
+    (map string_bytes c.deref-2.result.now)) c.in_err-add_nodes.field-0.0 c.requires.circuit fresh
     (λ i. see_nodes (ap (λ (parts : Parts). parts.nodes) c.self.view_is i) (nodes i)) c.in_err-add_nodes.ensures.full))
 
 pub returns-in_err-take_room-clause-added : goal.returns-in_err-take_room-clause-added
@@ -44,10 +66,23 @@ returns-in_err-take_room-clause-added g c =
     let old = c.args.self.now in
     let device = c.args.device in
     let name : c.deref.result.now ≡ device.name = c.deref.ensures ∙ ap (λ (d : Device). d.name) c.device.view_is in
-    let nodes : map string_bytes c.deref-2.result.now ≡ device.nodes = ap (map string_bytes) c.deref-2.ensures.value ∙ ap (λ (d : Device). d.nodes) c.device.view_is in
-    let fresh : has_name old.names device.name ≡ false = (λ i. has_name (sym (ap (λ (parts : Parts). parts.names) c.self.view_is) i) (sym name i)) ∙ c.in_ok-add_name.ensures.0 in
-    let middle : Parts = record { devices = c.self.inside.devices.items; lines = c.self.inside.lines.items; names = c.add_name.new.names; nodes = c.add_nodes.new.seen; own_equations = c.self.inside.own_equations; own_unknowns = c.self.inside.own_unknowns } in
-    let seen : middle.nodes ≡ see_nodes old.nodes device.nodes = c.in_ok-add_nodes.ensures.added ∙ (λ i. see_nodes (ap (λ (parts : Parts). parts.nodes) c.self.view_is i) (nodes i)) in
+    let nodes : map string_bytes c.deref-2.result.now ≡ device.nodes = ap (map string_bytes) c.deref-2.ensures.value
+    ∙ ap (λ (d : Device). d.nodes) c.device.view_is in
+    let fresh : has_name old.names device.name ≡ false =
+    (λ i. has_name (sym (ap (λ (parts : Parts). parts.names) c.self.view_is) i) (sym name i))
+    ∙ c.in_ok-add_name.ensures.0 in
+    let middle : Parts = record {
+      devices = c.self.inside.devices.items;
+      lines = c.self.inside.lines.items;
+      names =
+          c.add_name.new.names;
+      nodes = c.add_nodes.new.seen;
+      own_equations = c.self.inside.own_equations;
+      own_unknowns =
+          c.self.inside.own_unknowns;
+    } in
+    let seen : middle.nodes ≡ see_nodes old.nodes device.nodes = c.in_ok-add_nodes.ensures.added
+    ∙ (λ i. see_nodes (ap (λ (parts : Parts). parts.nodes) c.self.view_is i) (nodes i)) in
     rw failed.1
     (fault_answers (place_rule old.devices device) (PutsLast c.args.line old c.take_room.new.self (device ∷ []))
     failed.0 c.in_err-take_room.field-0.0 failed.2
@@ -60,12 +95,35 @@ returns-clause-circuit g c =
     let old = c.args.self.now in
     let device = c.args.device in
     let name : c.deref.result.now ≡ device.name = c.deref.ensures ∙ ap (λ (d : Device). d.name) c.device.view_is in
-    let nodes : map string_bytes c.deref-2.result.now ≡ device.nodes = ap (map string_bytes) c.deref-2.ensures.value ∙ ap (λ (d : Device). d.nodes) c.device.view_is in
-    let fresh : has_name old.names device.name ≡ false = (λ i. has_name (sym (ap (λ (parts : Parts). parts.names) c.self.view_is) i) (sym name i)) ∙ c.in_ok-add_name.ensures.0 in
-    let middle : Parts = record { devices = c.self.inside.devices.items; lines = c.self.inside.lines.items; names = c.add_name.new.names; nodes = c.add_nodes.new.seen; own_equations = c.self.inside.own_equations; own_unknowns = c.self.inside.own_unknowns } in
-    let seen : middle.nodes ≡ see_nodes old.nodes device.nodes = c.in_ok-add_nodes.ensures.added ∙ (λ i. see_nodes (ap (λ (parts : Parts). parts.nodes) c.self.view_is i) (nodes i)) in
-    let named : middle.names ≡ old.names ++ device.name ∷ [] = c.in_ok-add_name.ensures.1 ∙ (λ i. ap (λ (parts : Parts). parts.names) c.self.view_is i ++ name i ∷ []) in
-    let new : Parts = record { devices = c.push-2.new.self.items; lines = c.push.new.self.items; names = c.self-2.inside.names; nodes = c.self-2.inside.nodes; own_equations = c.self-2.inside.own_equations; own_unknowns = c.self-2.inside.own_unknowns } in
+    let nodes : map string_bytes c.deref-2.result.now ≡ device.nodes = ap (map string_bytes) c.deref-2.ensures.value
+    ∙ ap (λ (d : Device). d.nodes) c.device.view_is in
+    let fresh : has_name old.names device.name ≡ false =
+    (λ i. has_name (sym (ap (λ (parts : Parts). parts.names) c.self.view_is) i) (sym name i))
+    ∙ c.in_ok-add_name.ensures.0 in
+    let middle : Parts = record {
+      devices = c.self.inside.devices.items;
+      lines = c.self.inside.lines.items;
+      names =
+          c.add_name.new.names;
+      nodes = c.add_nodes.new.seen;
+      own_equations = c.self.inside.own_equations;
+      own_unknowns =
+          c.self.inside.own_unknowns;
+    } in
+    let seen : middle.nodes ≡ see_nodes old.nodes device.nodes = c.in_ok-add_nodes.ensures.added
+    ∙ (λ i. see_nodes (ap (λ (parts : Parts). parts.nodes) c.self.view_is i) (nodes i)) in
+    let named : middle.names ≡ old.names ++ device.name ∷ [] = c.in_ok-add_name.ensures.1
+    ∙ (λ i. ap (λ (parts : Parts). parts.names) c.self.view_is i ++ name i ∷ []) in
+    let new : Parts = record {
+      devices = c.push-2.new.self.items;
+      lines = c.push.new.self.items;
+      names =
+          c.self-2.inside.names;
+      nodes = c.self-2.inside.nodes;
+      own_equations =
+          c.self-2.inside.own_equations;
+      own_unknowns = c.self-2.inside.own_unknowns;
+    } in
     counted g.F.Field.modulus old middle c.take_room.new.self new device c.device.inside.kind c.requires.circuit c.requires.device fresh
     (ap (λ (d : Device). d.kind) c.device.view_is)
     (ap (λ (parts : Parts). parts.own_equations) c.self.view_is) (ap (λ (parts : Parts). parts.own_unknowns) c.self.view_is)
@@ -81,10 +139,23 @@ returns-clause-added g c =
     let old = c.args.self.now in
     let device = c.args.device in
     let name : c.deref.result.now ≡ device.name = c.deref.ensures ∙ ap (λ (d : Device). d.name) c.device.view_is in
-    let nodes : map string_bytes c.deref-2.result.now ≡ device.nodes = ap (map string_bytes) c.deref-2.ensures.value ∙ ap (λ (d : Device). d.nodes) c.device.view_is in
-    let fresh : has_name old.names device.name ≡ false = (λ i. has_name (sym (ap (λ (parts : Parts). parts.names) c.self.view_is) i) (sym name i)) ∙ c.in_ok-add_name.ensures.0 in
-    let middle : Parts = record { devices = c.self.inside.devices.items; lines = c.self.inside.lines.items; names = c.add_name.new.names; nodes = c.add_nodes.new.seen; own_equations = c.self.inside.own_equations; own_unknowns = c.self.inside.own_unknowns } in
-    let seen : middle.nodes ≡ see_nodes old.nodes device.nodes = c.in_ok-add_nodes.ensures.added ∙ (λ i. see_nodes (ap (λ (parts : Parts). parts.nodes) c.self.view_is i) (nodes i)) in (
+    let nodes : map string_bytes c.deref-2.result.now ≡ device.nodes = ap (map string_bytes) c.deref-2.ensures.value
+    ∙ ap (λ (d : Device). d.nodes) c.device.view_is in
+    let fresh : has_name old.names device.name ≡ false =
+    (λ i. has_name (sym (ap (λ (parts : Parts). parts.names) c.self.view_is) i) (sym name i))
+    ∙ c.in_ok-add_name.ensures.0 in
+    let middle : Parts = record {
+      devices = c.self.inside.devices.items;
+      lines = c.self.inside.lines.items;
+      names =
+          c.add_name.new.names;
+      nodes = c.add_nodes.new.seen;
+      own_equations = c.self.inside.own_equations;
+      own_unknowns =
+          c.self.inside.own_unknowns;
+    } in
+    let seen : middle.nodes ≡ see_nodes old.nodes device.nodes = c.in_ok-add_nodes.ensures.added
+    ∙ (λ i. see_nodes (ap (λ (parts : Parts). parts.nodes) c.self.view_is i) (nodes i)) in (
       counted-kept g.F.Field.modulus old middle c.take_room.new.self device c.device.inside.kind c.requires.circuit fresh
           (ap (λ (d : Device). d.kind) c.device.view_is)
           (ap (λ (parts : Parts). parts.own_equations) c.self.view_is) (ap (λ (parts : Parts). parts.own_unknowns) c.self.view_is)

@@ -19,4 +19,5 @@ returns-in-Some g c =
 
 pub returns-in-None : goal.returns-in-None
 returns-in-None g c =
-    source_lost c.args.self.now.devices c.self.inside.names c.args.name.now (ap (λ (parts : Parts). parts.names) c.self.view_is ∙ c.requires.names) (sym c.in-None.ensures.place)
+    source_lost c.args.self.now.devices c.self.inside.names c.args.name.now
+    (ap (λ (parts : Parts). parts.names) c.self.view_is ∙ c.requires.names) (sym c.in-None.ensures.place)

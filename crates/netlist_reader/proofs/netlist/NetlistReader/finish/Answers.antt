@@ -17,11 +17,13 @@ returns-in_err-test-clause-refused g c =
     let failed = err_from_is_err_and c.from_residual-in_err-test.result c.from_residual-in_err-test.ensures.1 in
     rw failed.1
     (subst (λ why. (text : List ℕ) → IsFed g.F.Field.modulus c.args.self text → IsRefusal g.F.Field.modulus text why) (sym failed.2)
-    (λ text fed. refused-whole g.F.Field.modulus text c.in_ok-circuit.circuit c.in_err-test.field-0.0 (c.in_ok-circuit.ensures.kept text fed) (c.in_ok-circuit.ensures.read text fed) c.in_err-test.ensures))
+    (λ text fed. refused-whole g.F.Field.modulus text c.in_ok-circuit.circuit c.in_err-test.field-0.0
+    (c.in_ok-circuit.ensures.kept text fed) (c.in_ok-circuit.ensures.read text fed) c.in_err-test.ensures))
 
 pub build-requires-clause-sourced : goal.build-requires-clause-sourced
 build-requires-clause-sourced g c = sourced c.in_ok-circuit.circuit.devices c.in_ok-test.ensures.1
 
 pub returns-in-Ok-clause-model : goal.returns-in-Ok-clause-model
 returns-in-Ok-clause-model g c = λ text fed.
-    gives g.F.Field.modulus text c.in_ok-circuit.circuit c.in-Ok.model (c.in_ok-circuit.ensures.kept text fed) (c.in_ok-circuit.ensures.read text fed) c.in_ok-test.ensures c.in-Ok.ensures
+    gives g.F.Field.modulus text c.in_ok-circuit.circuit c.in-Ok.model (c.in_ok-circuit.ensures.kept text fed)
+    (c.in_ok-circuit.ensures.read text fed) c.in_ok-test.ensures c.in-Ok.ensures

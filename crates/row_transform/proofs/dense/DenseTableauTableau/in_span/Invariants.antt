@@ -10,4 +10,4 @@ invariant-loop-row g l =
     (k : ℕ) → k < l.at → IsBare t k → t.p k l.col % g.F.Field.modulus ≡ 0
 
 abbrev pub decreases-loop-row : goal.decreases-loop-row
-decreases-loop-row g l = height l.self.p - l.at
+decreases-loop-row g l = height l.self.table.q - l.at

@@ -6,7 +6,7 @@ use Rattle.row_transform.proofs.entries.Entries.list_row.Given as goal
 
 abbrev pub invariant-loop-col : goal.invariant-loop-col
 invariant-loop-col g l = record {
-  size : HasSizeOf l.q l.self.bits;
+  size : HasSizeOf (height l.q) l.q.width l.self.bits;
   listed : (j : ℕ) → j < l.col → entry l.q l.row j % g.F.Field.modulus ≢ 0 → bit_in l.self.bits j l.row ≡ true;
   kept : (i j : ℕ) → i < height l.q → bit_in l.fn.self.bits j i ≡ true → bit_in l.self.bits j i ≡ true;
 }

@@ -42,7 +42,9 @@ returns g c =
     let number = g.F.Field.number in
     let keys = but_last (map string_bytes c.args.outlets.now) in
     let turns = turns_all texts values c.loop-place.yielded c.into_iter-place-iterator.result c.loop-place.place-iterator c.next.new.self c.next.result (search rules) (search rules) (search rules) c.loop-place.yielded_by c.in-None.is c.next.ensures.steps in
-    let long : length keys ≡ length texts = ap length (but_last-seen string_bytes c.args.outlets.now texts c.but_last.ensures) ∙ length-enumerate_from 1 (map string_bytes texts) ∙ length-map texts string_bytes in
+    let long : length keys ≡ length texts = ap length
+    (but_last-seen string_bytes c.args.outlets.now texts c.but_last.ensures)
+    ∙ length-enumerate_from 1 (map string_bytes texts) ∙ length-map texts string_bytes in
     c.loop-place.invariant
     ∙ ap (λ pairs. c.args.self.now ++ map (fixed_split g.F.Field.modulus c.args.version c.args.unit.now c.args.inlet.now c.args.component.now) pairs)
     (all_pairs keys (map number values) (length c.loop-place.yielded) (omega (arith, turns, long, length-map values number)))

@@ -1,5 +1,0 @@
-use Rattle.std.proofs.Common.{◌≡◌}
-use Rattle.exchange_graph.proofs.tests.looks_in_turn.Given as goal
-
-abbrev pub invariant-loop-starts : goal.invariant-loop-starts
-invariant-loop-starts g l = l.search.places ≡ 10

@@ -1,4 +1,0 @@
-use Rattle.exchange_graph.proofs.tests.tells_walks_and_sets.Given as goal
-
-abbrev pub ghosts-walk_then_reached : goal.ghosts-walk_then_reached
-ghosts-walk_then_reached g a = record { name = a.blank.name; parts = a.blank.parts }

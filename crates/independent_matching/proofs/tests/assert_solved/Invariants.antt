@@ -1,4 +1,0 @@
-use Rattle.independent_matching.proofs.tests.assert_solved.Given as goal
-
-abbrev pub ghosts-solved : goal.ghosts-solved
-ghosts-solved g a = record { name = a.blank.name; parts = a.blank.parts }

@@ -1,0 +1,45 @@
+-- What is left of the text of a picture once a piece of it is put.
+use Rattle.std.proofs.Common.{◌≡◌, ℕ, ◌+◌, ◌<◌, List, ◌++◌, length, get_or, drop, ap, ◌∙◌}
+use Rattle.text_writer.proofs.Putting.{drop_next}
+use Rattle.cert_text.specs.Contents.{Contents}
+use Rattle.mixed_model.specs.Layers.{Layers}
+use Rattle.mixed_model.specs.Models.{MixedModel}
+use Rattle.matrix_picture.specs.Names.{name_of_column, name_of_row}
+use Rattle.matrix_picture.specs.Texts.{column_name_text, column_names_text, entry_text, frame_text, framed_text, frames_text, placed_text, row_name_text, row_names_text, row_text, rows_text}
+use Rattle.matrix_picture.specs.declared.layout.Frame.{Frame}
+use Rattle.matrix_picture.specs.declared.layout.Row.{Row}
+
+pub frames_left : (least count : ℕ) (frames : List Frame) (i : ℕ) (d : Frame) → i < length frames →
+    frames_text least count i (drop i frames) ≡ frame_text least count i (get_or frames i d) ++ frames_text least count (i + 1) (drop (i + 1) frames)
+frames_left least count frames i d within = ap (frames_text least count i) (drop_next frames i d within)
+
+pub row_left : (c : Contents) (row : Row) (top : ℕ) (columns : List ℕ) (i d : ℕ) → i < length columns →
+    row_text c row top i (drop i columns) ≡ entry_text c row top i (get_or columns i d) ++ row_text c row top (i + 1) (drop (i + 1) columns)
+row_left c row top columns i d within = ap (row_text c row top i) (drop_next columns i d within)
+
+pub rows_left : (c : Contents) (columns : List ℕ) (rows : List Row) (i : ℕ) (d : Row) → i < length rows →
+    rows_text c columns i (drop i rows) ≡ row_text c (get_or rows i d) i 0 columns ++ rows_text c columns (i + 1) (drop (i + 1) rows)
+rows_left c columns rows i d within = ap (rows_text c columns i) (drop_next rows i d within)
+
+pub column_names_left : (model : MixedModel) (layers : Layers) (columns : List ℕ) (i d : ℕ) → i < length columns →
+    column_names_text model layers i (drop i columns)
+    ≡ column_name_text i (name_of_column model layers (get_or columns i d)) ++ column_names_text model layers (i + 1) (drop (i + 1) columns)
+column_names_left model layers columns i d within = ap (column_names_text model layers i) (drop_next columns i d within)
+
+pub row_names_left : (model : MixedModel) (layers : Layers) (right : ℕ) (rows : List Row) (i : ℕ) (d : Row) → i < length rows →
+    row_names_text model layers right i (drop i rows)
+    ≡ row_name_text right i (name_of_row model layers (get_or rows i d)) ++ row_names_text model layers right (i + 1) (drop (i + 1) rows)
+row_names_left model layers right rows i d within = ap (row_names_text model layers right i) (drop_next rows i d within)
+
+-- the same columns, rows and frames have the same text
+pub same_placed : (model : MixedModel) (layers : Layers) (c : Contents) {columns columns1 : List ℕ} {rows rows1 : List Row} {frames frames1 : List Frame} →
+    columns ≡ columns1 → rows ≡ rows1 → frames ≡ frames1 → placed_text model layers c columns rows frames ≡ placed_text model layers c columns1 rows1 frames1
+same_placed model layers c {columns} {columns1} {rows} {rows1} {frames} {frames1} one two three =
+    ap (λ xs. placed_text model layers c xs rows frames) one ∙ ap (λ xs. placed_text model layers c columns1 xs frames) two
+    ∙ ap (placed_text model layers c columns1 rows1) three
+
+pub same_framed : {columns columns1 : List ℕ} {rows rows1 : List Row} {frames frames1 : List Frame} →
+    columns ≡ columns1 → rows ≡ rows1 → frames ≡ frames1 → framed_text (length columns) (length rows) frames ≡ framed_text (length columns1) (length rows1) frames1
+same_framed {columns} {columns1} {rows} {rows1} {frames} {frames1} one two three =
+    ap (λ (xs : List ℕ). framed_text (length xs) (length rows) frames) one ∙ ap (λ (xs : List Row). framed_text (length columns1) (length xs) frames) two
+    ∙ ap (framed_text (length columns1) (length rows1)) three

@@ -1,0 +1,8 @@
+use Rattle.std.proofs.Common.{drop}
+use Rattle.text_writer.specs.Texts.{PutsUpTo}
+use Rattle.matrix_picture.specs.Texts.{column_names_text}
+use Rattle.matrix_picture.proofs.names.put_column_names.Given as goal
+
+abbrev pub invariant-loop-left : goal.invariant-loop-left
+invariant-loop-left g l =
+    PutsUpTo g.K.Sink l.initial.out l.out (column_names_text l.model l.layered 0 l.columns) (column_names_text l.model l.layered l.left (drop l.left l.columns))

@@ -1,0 +1,8 @@
+use Rattle.picture_cli.proofs.Runs.{only}
+use Rattle.picture_cli.proofs.running.run.Goals as goal
+
+pub returns-clause-only_answer : goal.returns-clause-only_answer
+returns-clause-only_answer g c = λ quiet calm input answer text is given.
+    only (g.S.Source.left c.args.source.now) (g.S.Source.left c.work-status.new.source) (g.K.Sink.written c.args.out.now)
+    (g.K.Sink.written c.work-status.new.out) input is c.work-status.result c.work-status.ensures.answered c.work-status.ensures.ended
+    (λ e. quiet (c.work-status.ensures.read_fault e)) (λ e. calm (c.work-status.ensures.write_fault e).0) answer text given

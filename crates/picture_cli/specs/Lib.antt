@@ -1,0 +1,4 @@
+pub mod Notes
+pub mod Numbers
+pub mod Statuses
+pub mod Answer

@@ -1,0 +1,104 @@
+//! Pictures that were written by hand from the definition, those of docs/pictures/, and runs that draw nothing.
+
+use crate::inputs::{CONSTANT, EMPTY, MIXED, NO_END, WRONG_RANK};
+use crate::pictures::PICTURES;
+use crate::running::{Failing, expect_none, expect_picture, expect_run};
+use std::test::Fail;
+
+/// The picture of nothing: the two tails, which have neither columns nor rows, and the legend.
+const EMPTY_PICTURE: &str =
+    "<svg xmlns=\"http://www.w3.org/2000/svg\" font-family=\"sans-serif\" style=\"background:#fff\" font-size=\"1\" width=\"360\" height=\"360\" viewBox=\"-4 -14 18 18\">\n<style>path{fill:#eef2f6;stroke:#667;stroke-width:.06}.p{text-anchor:end;fill:#667;font-size:.8em}</style>\n<defs><rect id=\"c\" x=\".2\" y=\".2\" width=\".6\" height=\".6\" fill=\"#1f4e79\"/><circle id=\"s\" cx=\".5\" cy=\".5\" r=\".34\" fill=\"#d2601a\"/></defs>\n<path d=\"M0 0H0V0H0z\"/>\n<path d=\"M0 0H0V0H0z\"/>\n<g font-size=\".75\">\n<use href=\"#c\" x=\"0\" y=\"1\"/>\n<text x=\"1\" y=\"1\" dx=\".4em\" dy=\"1em\">a constant, in a row of P</text>\n<use href=\"#s\" x=\"0\" y=\"2\"/>\n<text x=\"1\" y=\"2\" dx=\".4em\" dy=\"1em\">a symbol, in a row of T</text>\n</g>\n</svg>\n";
+
+/// What the picture of one constant has: the frame of block 1 with its number, the entry, and the two names.
+const CONSTANT_PIECES: [&str; 4] = [
+    "\n<path d=\"M0 0H1V1H0z\"/>\n<text class=\"p\" x=\"0\" y=\"1\" dx=\"-.3em\" dy=\"-.2em\">1</text>\n<path d=\"M1 1H1V1H1z\"/>\n",
+    "\n<use href=\"#c\" x=\"0\" y=\"0\"/>\n",
+    "\n<text transform=\"translate(0 0)rotate(-90)\" dx=\".4em\" dy=\".95em\">x</text>\n",
+    "\n<text x=\"1\" y=\"0\" dx=\".4em\" dy=\"1em\">a</text>\n",
+];
+
+/// What the picture of two equations has, of which one is split: block 2, which stands right of and below block 1, its
+/// two kinds of entries, and the names of its auxiliary column and of its row of symbols.
+const MIXED_PIECES: [&str; 4] = [
+    "\n<path d=\"M1 1H3V3H1z\"/>\n<text class=\"p\" x=\"1\" y=\"3\" dx=\"-.3em\" dy=\"-.2em\">2</text>\n",
+    "\n<use href=\"#c\" x=\"0\" y=\"0\"/>\n<use href=\"#c\" x=\"2\" y=\"0\"/>\n<use href=\"#c\" x=\"1\" y=\"1\"/>\n<use href=\"#c\" x=\"2\" y=\"1\"/>\n<use href=\"#s\" x=\"1\" y=\"2\"/>\n<use href=\"#s\" x=\"2\" y=\"2\"/>\n",
+    "\n<text transform=\"translate(2 0)rotate(-90)\" dx=\".4em\" dy=\".95em\">*b</text>\n",
+    "\n<text x=\"3\" y=\"2\" dx=\".4em\" dy=\"1em\">b</text>\n",
+];
+
+/// Streams of which no call fails.
+const CALM: Failing<'static> = Failing {
+    reads: &[],
+    writes: &[],
+};
+
+// Whether a text has a piece.
+fn holds(text: &[u8], piece: &[u8]) -> bool {
+    for start in 0..=text.len() {
+        if text[start..].starts_with(piece) {
+            return true;
+        }
+    }
+    false
+}
+
+#[test]
+fn nothing_is_drawn_as_two_tails(rt: HostRuntime) -> Result<(), Fail> {
+    expect_picture(&rt, rt.alloc(), EMPTY, EMPTY_PICTURE)
+}
+
+#[test]
+fn pieces_stand_in_their_pictures(rt: HostRuntime) -> Result<(), Fail> {
+    for (certificate, pieces) in [(CONSTANT, CONSTANT_PIECES), (MIXED, MIXED_PIECES)] {
+        let out = expect_run(&rt, rt.alloc(), certificate.as_bytes(), &CALM, 0, b"")?;
+        for piece in pieces {
+            assert!(rt; holds(out.bytes(), piece.as_bytes()));
+        }
+    }
+    Ok(())
+}
+
+#[test]
+fn pictures_of_the_page(rt: HostRuntime) -> Result<(), Fail> {
+    for (certificate, picture) in PICTURES {
+        expect_picture(&rt, rt.alloc(), certificate, picture)?;
+    }
+    Ok(())
+}
+
+#[test]
+fn what_is_not_accepted_is_not_drawn(rt: HostRuntime) -> Result<(), Fail> {
+    let alloc = rt.alloc();
+    expect_none(
+        &rt,
+        alloc,
+        "",
+        3,
+        b"mixed: line 1: not a certificate line\n",
+    )?;
+    expect_none(
+        &rt,
+        alloc,
+        NO_END,
+        3,
+        b"mixed: line 15: not a certificate line\n",
+    )?;
+    expect_none(&rt, alloc, WRONG_RANK, 7, b"mixed: rejected by rule 7\n")
+}
+
+#[test]
+fn failed_calls_are_told(rt: HostRuntime) -> Result<(), Fail> {
+    let alloc = rt.alloc();
+    let input = CONSTANT.as_bytes();
+    let reads = Failing {
+        reads: &[1],
+        writes: &[],
+    };
+    expect_run(&rt, alloc, input, &reads, 4, b"mixed: read fault\n")?;
+    let writes = Failing {
+        reads: &[],
+        writes: &[1],
+    };
+    expect_run(&rt, alloc, input, &writes, 5, b"mixed: write fault\n")?;
+    Ok(())
+}

@@ -1,0 +1,29 @@
+//! Values that are put.
+
+use mixed_model::{AddError, Mixed};
+use residue_field::{Field, Res};
+use std::test::Fail;
+use term_model::{Value, dotted, put_value};
+
+#[test]
+fn values_stand_at_their_places(rt: HostRuntime) -> Result<(), Fail> {
+    let mut model: Mixed<Res> = Mixed::new(rt.alloc())?;
+    model.add_unknown("x")?;
+    model.add_unknown("y")?;
+    model.add_equation("law.R1")?;
+    put_value(&mut model, "law.R1", "y", Value::Constant(Res::one()))?;
+    put_value(&mut model, "law.R1", "x", Value::Symbol)?;
+    let again = put_value(&mut model, "law.R1", "x", Value::Symbol);
+    assert_eq!(rt; again, Err(AddError::Twice));
+    assert!(rt; 0 < model.equations() && 1 < model.unknowns());
+    assert_eq!(rt; (model.symbol(0, 0), model.symbol(0, 1)), (true, false));
+    assert_eq!(rt; model.constant(0, 1).map(Field::value), Some(1));
+    assert!(rt; model.constant(0, 0).is_none());
+    Ok(())
+}
+
+#[test]
+fn a_word_and_a_name_have_a_point_between_them(rt: HostRuntime) -> Result<(), Fail> {
+    assert_eq!(rt; dotted(rt.alloc(), "kcl", "out")?.as_str(), "kcl.out");
+    Ok(())
+}

@@ -1,0 +1,49 @@
+use Rattle.std.proofs.Common.{◌∙◌, ap, ◌<◌, ◌≡◌, false, sym, subst}
+use Rattle.row_table.specs.Layouts.{Layout, row_count, all, places}
+use Rattle.row_table.proofs.LayoutLaws.{read-laid, read-moved, moved-places}
+use Rattle.row_table.proofs.layout.Placement.exchange.Goals as goal
+
+pub invariant_of-self : goal.invariant_of-self
+invariant_of-self c =
+    read-laid (record {
+      columns = c.self.inside.columns;
+      basic = c.self.inside.basic.items;
+      units =
+          c.self.inside.units.items;
+      unit_rows = c.self.inside.rows.items;
+      slots = c.self.inside.slots.items;
+    })
+    c.args.row c.args.column c.index-gone.result.now c.index.result.now c.self.invariant
+    (subst (λ (l : Layout). c.args.row < row_count l) (sym c.self.view_is) c.requires.row)
+    (subst (λ (l : Layout). c.args.column < all l) (sym c.self.view_is) c.requires.column)
+    (subst (λ (l : Layout). (places l).is_unit c.args.column ≡ false) (sym c.self.view_is) c.requires.other)
+    c.index-gone.ensures c.index.ensures
+
+pub returns-clause-moved : goal.returns-clause-moved
+returns-clause-moved c =
+    rw (← c.self.view_is) (read-moved (record {
+      columns = c.self.inside.columns;
+      basic = c.self.inside.basic.items;
+      units = c.self.inside.units.items;
+      unit_rows = c.self.inside.rows.items;
+      slots = c.self.inside.slots.items;
+    })
+    c.args.row c.args.column c.index-gone.result.now c.index.result.now c.self.invariant
+    (subst (λ (l : Layout). c.args.row < row_count l) (sym c.self.view_is) c.requires.row)
+    (subst (λ (l : Layout). c.args.column < all l) (sym c.self.view_is) c.requires.column)
+    c.index-gone.ensures c.index.ensures)
+
+pub returns-clause-exchanged : goal.returns-clause-exchanged
+returns-clause-exchanged c = ap (λ (l : Layout). places l) (returns-clause-moved c)
+    ∙ (rw (← c.self.view_is)
+    (moved-places (record {
+      columns = c.self.inside.columns;
+      basic = c.self.inside.basic.items;
+      units =
+          c.self.inside.units.items;
+      unit_rows = c.self.inside.rows.items;
+      slots = c.self.inside.slots.items;
+    })
+    c.args.row c.args.column c.self.invariant
+    (subst (λ (l : Layout). c.args.row < row_count l) (sym c.self.view_is) c.requires.row)
+    (subst (λ (l : Layout). c.args.column < all l) (sym c.self.view_is) c.requires.column)))

@@ -1,0 +1,156 @@
+//! Where the columns of [Q | 1] stand in one table.
+
+ghost use Rattle.std.specs.Prelude.{◌≡◌, ◌≢◌, ℕ, ◌+◌, ◌-◌, ◌<◌, ◌≤◌, Bool, true, false, not, ltb, length, slice_index, slice_index_or, IfOk, IfSome, IfNone, IsTrue, ◌↔◌};
+ghost use Rattle.limits.specs.Limits.{column_limit};
+ghost use Rattle.row_table.specs.Places.{Places, exchanged};
+ghost use Rattle.row_table.specs.Layouts.{Layout, row_count, all, places, moved, IsFirst};
+
+use out_of_memory::NoMemory;
+use std::alloc::{AllocError, Global};
+use std::marker::Model;
+
+/// Where the columns of a matrix, and after them a unit column for each of its rows, stand after exchanges: each is a
+/// unit column now, or has a slot in a table that is as wide as the matrix. There are at most 8,192 rows and columns.
+#[derive(Drop)]
+pub struct Placement {
+    columns: usize,
+    basic: Vec<usize>,
+    units: Vec<bool>,
+    rows: Vec<usize>,
+    slots: Vec<usize>,
+}
+
+impl Model for Placement {
+    ghost use Rattle.row_table.specs.Layouts.{Layout, IsLaidOut};
+
+    ghost Value = { Layout };
+
+    ghost view = { λ t. record {
+      columns = t.columns;
+      basic = t.basic.items;
+      units = t.units.items;
+      unit_rows = t.rows.items;
+      slots = t.slots.items;
+    } };
+
+    ghost invariant = { λ t. IsLaidOut (record {
+      columns = t.columns;
+      basic = t.basic.items;
+      units = t.units.items;
+      unit_rows = t.rows.items;
+      slots = t.slots.items;
+    }) };
+}
+
+impl Placement {
+    /// The places before any exchange.
+    pub fn first(alloc: Global, rows: usize, columns: usize) -> Result<Placement, NoMemory>
+        requires rows { rows ≤ column_limit }
+        requires columns { columns ≤ column_limit }
+        ensures rows { IfOk result (λ t. row_count t ≡ rows) }
+        ensures columns { IfOk result (λ t. t.columns ≡ columns) }
+        ensures first { IfOk result (λ t. IsFirst rows columns (places t)) }
+    {
+        let all = columns + rows;
+        Ok(Placement {
+            columns,
+            basic: numbers(alloc, columns, rows)?,
+            units: units(alloc, columns, all)?,
+            rows: offsets(alloc, columns, all)?,
+            slots: numbers(alloc, 0, all)?,
+        })
+    }
+
+    /// The column that is the unit column of a row.
+    pub fn basic(&self, row: usize) -> usize
+        requires { row < row_count self.now }
+        ensures basic { result ≡ (places self.now).basic row }
+        ensures below { result < all self.now }
+    {
+        self.basic[row]
+    }
+
+    /// Whether a column is a unit column.
+    pub fn is_unit(&self, column: usize) -> bool
+        requires { column < all self.now }
+        ensures { result ≡ (places self.now).is_unit column }
+    {
+        self.units[column]
+    }
+
+    /// The row of a unit column.
+    pub fn row(&self, column: usize) -> usize
+        requires column { column < all self.now }
+        requires unit { (places self.now).is_unit column ≡ true }
+        ensures row { result ≡ (places self.now).row column }
+        ensures below { result < row_count self.now }
+    {
+        self.rows[column]
+    }
+
+    /// The slot of a column that is no unit column.
+    pub fn slot(&self, column: usize) -> usize
+        requires column { column < all self.now }
+        requires other { (places self.now).is_unit column ≡ false }
+        ensures slot { result ≡ (places self.now).slot column }
+        ensures below { result < self.now.columns }
+    {
+        self.slots[column]
+    }
+
+    /// Makes a column the unit column of a row; the one that was it takes its slot.
+    pub fn exchange(&mut self, row: usize, column: usize)
+        requires row { row < row_count self.old }
+        requires column { column < all self.old }
+        requires other { (places self.old).is_unit column ≡ false }
+        ensures moved { self.new ≡ moved self.old row column }
+        ensures exchanged { places self.new ≡ exchanged (places self.old) row column }
+        ensures rows { row_count self.new ≡ row_count self.old }
+        ensures columns { self.new.columns ≡ self.old.columns }
+    {
+        let gone = self.basic[row];
+        self.slots[gone] = self.slots[column];
+        self.units[gone] = false;
+        self.units[column] = true;
+        self.rows[column] = row;
+        self.basic[row] = column;
+    }
+}
+
+// The numbers from `start` on.
+fn numbers(alloc: Global, start: usize, count: usize) -> Result<Vec<usize>, AllocError>
+    requires start { start ≤ column_limit }
+    requires count { count ≤ column_limit + column_limit }
+    ensures length { IfOk result (λ v. length v.items ≡ count) }
+    ensures items { IfOk result (λ v. (i : ℕ) → i < count → slice_index v.items i ≡ start + i) }
+{
+    let mut all = Vec::with_capacity(alloc, count)?;
+    for i in 0..count {
+        all.push(start + i)?;
+    }
+    Ok(all)
+}
+
+// How far each number is beyond `start`.
+fn offsets(alloc: Global, start: usize, count: usize) -> Result<Vec<usize>, AllocError>
+    ensures length { IfOk result (λ v. length v.items ≡ count) }
+    ensures items { IfOk result (λ v. (i : ℕ) → i < count → slice_index v.items i ≡ i - start) }
+{
+    let mut all = Vec::with_capacity(alloc, count)?;
+    for i in 0..count {
+        all.push(i.saturating_sub(start))?;
+    }
+    Ok(all)
+}
+
+// Whether each number is beyond `start`.
+fn units(alloc: Global, start: usize, count: usize) -> Result<Vec<bool>, AllocError>
+    ensures length { IfOk result (λ v. length v.items ≡ count) }
+    ensures items { IfOk result (λ v. (i : ℕ) → i < count → slice_index_or v.items i false ≡ not (ltb i start)) }
+{
+    let mut all = Vec::with_capacity(alloc, count)?;
+    for i in 0..count {
+        all.push(i >= start)?;
+    }
+    Ok(all)
+}

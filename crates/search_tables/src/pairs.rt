@@ -1,0 +1,201 @@
+//! What the engine tells of small matrices.
+
+ghost use Rattle.std.specs.Prelude.{◌≡◌, ◌<◌, IfOk};
+
+use dense_q::Mat;
+use independent_matching::{Engine, Steps};
+use mixed_model::{Layered, Origin};
+use residue_field::{Field, Res};
+use row_transform::Tableau;
+use sparse_t::Pattern;
+use std::alloc::Global;
+use std::marker::Brand;
+use std::process::Abort;
+use std::sync::ledger::{Blank, Ledger};
+use std::test::Fail;
+
+// The matrix with these rows.
+fn constants(alloc: Global, columns: usize, rows: &[&[u64]]) -> Result<Mat<Res>, Fail>
+    requires { columns < 8192 }
+    ensures { IfOk result (λ q. q.width ≡ columns) }
+{
+    let mut q = Mat::zeros(alloc, 0, columns)?;
+    for row in rows {
+        let mut residues = Vec::new(alloc);
+        for number in row.iter() {
+            residues.push(Res::of(*number))?;
+        }
+        if q.rows() < 8_192 && residues.len() == q.cols() {
+            q.push_row(&residues)?;
+        }
+    }
+    Ok(q)
+}
+
+// An engine that has run on the layered matrix of q and t.
+fn solved<L: Ledger>(
+    alloc: Global,
+    q: Mat<Res>,
+    t: Pattern,
+    blank: Blank,
+) -> Result<Engine<Res>, Fail>
+    requires columns { t.width ≡ q.width }
+    requires name { blank.name ≡ L.name }
+    requires parts { blank.parts ≡ L.parts }
+    requires some { 0 < blank.parts }
+{
+    let q_origins = vec![in alloc; 0; q.rows()]?;
+    let t_origins = vec![in alloc; 0; t.rows()]?;
+    let column_origins = vec![in alloc; Origin::Unknown(0); q.cols()]?;
+    let layered = Layered::new(q, t, q_origins, t_origins, column_origins);
+    let mut engine = Engine::open(alloc, &layered)?;
+    engine.run(&mut Steps::<L>::new(blank));
+    Ok(engine)
+}
+
+// What an engine tells of each column: `q` or `t` where it is in the pair and `.` where it is free, then `-` where it
+// is in the least minimiser and `!` where it is an end.
+fn told(alloc: Global, engine: &Engine<Res>) -> Result<String, Fail> {
+    let mut text = String::new(alloc);
+    for col in 0..engine.tableau().columns() {
+        if engine.in_q(col) {
+            text.push('q')?;
+        }
+        if engine.mate(col).is_some() {
+            text.push('t')?;
+        }
+        if engine.free(col) {
+            text.push('.')?;
+        }
+        if engine.least_minimiser(col) {
+            text.push('-')?;
+        }
+        if engine.end(col) {
+            text.push('!')?;
+        }
+    }
+    Ok(text)
+}
+
+fn assert_solved(
+    rt: &impl Abort,
+    alloc: Global,
+    q: Mat<Res>,
+    t: Pattern,
+    size: usize,
+    text: &str,
+) -> Result<(), Fail>
+    requires { t.width ≡ q.width }
+{
+    let engine = solved::<Brand>(alloc, q, t, Blank::new(1))?;
+    assert_eq!(rt; engine.size(), size);
+    assert_eq!(rt; engine.searches(), size.saturating_add(1));
+    let told = told(alloc, &engine)?;
+    assert_eq!(rt; told.as_str(), text);
+    Ok(())
+}
+
+#[test]
+fn matches_a_triangle_of_symbols(rt: HostRuntime) -> Result<(), Fail> {
+    let mut t = Pattern::empty(rt.alloc(), 2)?;
+    t.push_row(&[0, 1])?;
+    t.push_row(&[0])?;
+    let q = constants(rt.alloc(), 2, &[])?;
+    assert_solved(&rt, rt.alloc(), q, t, 2, "tt")
+}
+
+#[test]
+fn matches_loose_symbols(rt: HostRuntime) -> Result<(), Fail> {
+    let mut t = Pattern::empty(rt.alloc(), 2)?;
+    t.push_row(&[0])?;
+    t.push_row(&[1])?;
+    let q = constants(rt.alloc(), 2, &[])?;
+    assert_solved(&rt, rt.alloc(), q, t, 2, "tt")
+}
+
+// The equations x + y and x + ?y, the second one split.
+#[test]
+fn finds_constants_over_a_split_row(rt: HostRuntime) -> Result<(), Fail> {
+    let mut t = Pattern::empty(rt.alloc(), 3)?;
+    t.push_row(&[1, 2])?;
+    let q = constants(rt.alloc(), 3, &[&[1, 1, 0], &[1, 0, 1]])?;
+    assert_solved(&rt, rt.alloc(), q, t, 3, "qtq")
+}
+
+// The equations ?x + y and x + ?y, both split.
+#[test]
+fn finds_a_block_of_four_columns(rt: HostRuntime) -> Result<(), Fail> {
+    let mut t = Pattern::empty(rt.alloc(), 4)?;
+    t.push_row(&[0, 2])?;
+    t.push_row(&[1, 3])?;
+    let q = constants(rt.alloc(), 4, &[&[0, 1, 1, 0], &[1, 0, 0, 1]])?;
+    assert_solved(&rt, rt.alloc(), q, t, 4, "ttqq")
+}
+
+// A constant and a symbol at one place.
+#[test]
+fn finds_a_split_entry(rt: HostRuntime) -> Result<(), Fail> {
+    let mut t = Pattern::empty(rt.alloc(), 2)?;
+    t.push_row(&[0, 1])?;
+    let q = constants(rt.alloc(), 2, &[&[1, 1]])?;
+    assert_solved(&rt, rt.alloc(), q, t, 2, "tq")
+}
+
+// A column of two symbols stays an end; a column of two constants does not.
+#[test]
+fn tells_ends_from_blocks(rt: HostRuntime) -> Result<(), Fail> {
+    let mut t = Pattern::empty(rt.alloc(), 1)?;
+    t.push_row(&[0])?;
+    t.push_row(&[0])?;
+    let q = constants(rt.alloc(), 1, &[])?;
+    assert_solved(&rt, rt.alloc(), q, t, 1, "t!")?;
+    let t = Pattern::empty(rt.alloc(), 1)?;
+    let q = constants(rt.alloc(), 1, &[&[1], &[1]])?;
+    assert_solved(&rt, rt.alloc(), q, t, 1, "q")
+}
+
+// Of two columns that always cancel both are in the least minimiser.
+#[test]
+fn finds_columns_that_cancel(rt: HostRuntime) -> Result<(), Fail> {
+    let t = Pattern::empty(rt.alloc(), 2)?;
+    let q = constants(rt.alloc(), 2, &[&[1, 1], &[1, 1]])?;
+    assert_solved(&rt, rt.alloc(), q, t, 1, "q-.-")
+}
+
+// Row 0 may take column 0 first, which row 1 needs.
+#[test]
+fn walks_where_a_greedy_pair_stops(rt: HostRuntime) -> Result<(), Fail> {
+    let mut t = Pattern::empty(rt.alloc(), 3)?;
+    t.push_row(&[0, 2])?;
+    t.push_row(&[0, 1])?;
+    t.push_row(&[1])?;
+    let q = constants(rt.alloc(), 3, &[])?;
+    assert_solved(&rt, rt.alloc(), q, t, 3, "ttt")
+}
+
+fn assert_pivots(
+    rt: &impl Abort,
+    alloc: Global,
+    q: Mat<Res>,
+    t: Pattern,
+    pivots: usize,
+) -> Result<(), Fail>
+    requires { t.width ≡ q.width }
+{
+    let engine = solved::<Brand>(alloc, q, t, Blank::new(1))?;
+    assert_eq!(rt; engine.pivots(), pivots);
+    Ok(())
+}
+
+// A column that takes a Q row takes a pivot, and one that takes a T row takes none.
+#[test]
+fn counts_pivots(rt: HostRuntime) -> Result<(), Fail> {
+    let t = Pattern::empty(rt.alloc(), 2)?;
+    let q = constants(rt.alloc(), 2, &[&[1, 1], &[1, 2]])?;
+    assert_pivots(&rt, rt.alloc(), q, t, 2)?;
+    let mut t = Pattern::empty(rt.alloc(), 2)?;
+    t.push_row(&[0, 1])?;
+    t.push_row(&[0])?;
+    let q = constants(rt.alloc(), 2, &[])?;
+    assert_pivots(&rt, rt.alloc(), q, t, 0)
+}

@@ -1,0 +1,48 @@
+-- Sparse matrices: what a change of one row does, and matrices that are made row by row.
+use Rattle.std.proofs.Common.{◌≡◌, ℕ, ◌+◌, ◌*◌, ◌%◌, ◌<◌, List, [], map, length, slice_index_or, slice_set, refl, sym, subst, ap, ◌∙◌, arith}
+use Rattle.std.proofs.lemmas.List.{map-set, get_or-map, get_or-set_same, get_or-set_other, length-map, length-set}
+use Rattle.sparse_q.specs.Rows.{Row, number_at, IsSum, IsMultiple}
+use Rattle.sparse_q.specs.Tables.{SparseTable, row_count, number_in, IsRowSet}
+
+-- the table of rows
+abbrev pub table_of : ℕ → List Row → SparseTable
+table_of w rows = record { width = w; rows = map (λ r. r.items) rows }
+
+module _ (w : ℕ) (rows : List Row) (m : SparseTable) (view : table_of w rows ≡ m) (i : ℕ) (l : i < row_count m) where
+  within : i < length rows
+  within = omega (arith, length-map rows (λ (r : Row). r.items), ap row_count view)
+
+  pub row-at : (x : Row) → x ≡ slice_index_or rows i x → (j : ℕ) → number_at x.items j ≡ number_in m i j
+  row-at x e j = ap (λ (r : Row). number_at r.items j) e
+      ∙ ap (λ zs. number_at zs j) (sym (get_or-map (λ r. r.items) rows i x [] within)) ∙ ap (λ t. number_in t i j) view
+
+  pub row-set : (row : Row) (f : ℕ → ℕ) → ((j : ℕ) → number_at row.items j ≡ f j) →
+      IsRowSet m (table_of w (slice_set rows i row)) i f
+  row-set row f is = subst (λ t. IsRowSet t (table_of w (slice_set rows i row)) i f) view (record {
+    size = record {
+      rows_are = ap (λ zs. length zs) put ∙ length-set (map (λ r. r.items) rows) i row.items;
+      width_is =
+          refl;
+    };
+    changed = λ j. ap (λ zs. number_at zs j) (ap (λ rs. slice_index_or rs i []) put
+        ∙ get_or-set_same (map (λ r. r.items) rows) i row.items []
+        (omega (arith, within, length-map rows (λ (r : Row). r.items)))) ∙ is j;
+    others = λ t j ne. ap (λ zs. number_at zs j) (ap (λ rs. slice_index_or rs t []) put
+        ∙ get_or-set_other (map (λ r. r.items) rows) i t row.items [] ne);
+  })
+    where
+      put : map (λ r. r.items) (slice_set rows i row) ≡ slice_set (map (λ r. r.items) rows) i row.items
+      put = map-set (λ r. r.items) rows i row
+
+  pub row-multiple : (p k : ℕ) (x now : Row) → x ≡ slice_index_or rows i x → IsMultiple p k x.items now.items →
+      IsRowSet m (table_of w (slice_set rows i now)) i (λ j. k * number_in m i j % p)
+  row-multiple p k x now e is = row-set now (λ j. k * number_in m i j % p)
+      (λ j. is j ∙ ap (λ z. k * z % p) (row-at x e j))
+
+  pub row-sum : (p k t : ℕ) (x y now : Row) → x ≡ slice_index_or rows i x →
+      ((j : ℕ) → number_at y.items j ≡ number_in m t j) → IsSum p k x.items y.items now.items →
+      IsRowSet m (table_of w (slice_set rows i now)) i (λ j. (number_in m i j + k * number_in m t j) % p)
+  row-sum p k t x y now e other is =
+      row-set now (λ j. (number_in m i j + k * number_in m t j) % p)
+      (λ j. is j ∙ ap (λ z. (z + k * number_at y.items j) % p) (row-at x e j)
+      ∙ ap (λ z. (number_in m i j + k * z) % p) (other j))

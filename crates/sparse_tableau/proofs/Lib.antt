@@ -1,0 +1,5 @@
+pub mod BaseLaws
+pub mod OpenLaws
+pub mod TransformLaws
+pub mod EntryLaws
+pub mod SparseLaws

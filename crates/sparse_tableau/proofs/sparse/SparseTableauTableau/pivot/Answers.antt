@@ -1,0 +1,53 @@
+use Rattle.std.proofs.Common.{◌≢◌, ◌%◌, ◌<◌, sym, subst}
+use Rattle.sparse_q.specs.Tables.{row_count, number_in}
+use Rattle.sparse_tableau.specs.Sparse.{Sparse}
+use Rattle.sparse_tableau.proofs.EntryLaws.{pivot-listed}
+use Rattle.sparse_tableau.proofs.SparseLaws.{pivot-pivoted, pivoted-sparse, pivoted-state}
+use Rattle.sparse_tableau.proofs.sparse.SparseTableauTableau.pivot.Goals as goal
+
+pub invariant_of-self : goal.invariant_of-self
+invariant_of-self g c =
+    let modulus = g.F.Field.modulus in
+    let inside = c.self.inside in
+    let rl : c.args.row < row_count inside.transform.p = subst (λ (t : Sparse). c.args.row < row_count t.p)
+    (sym c.self.view_is) c.requires.row in
+    let cl : c.args.col < inside.transform.p.width = subst (λ (t : Sparse). c.args.col < t.p.width)
+    (sym c.self.view_is) c.requires.col in
+    let some : number_in inside.transform.p c.args.row c.args.col % modulus ≢ 0 =
+    subst (λ (t : Sparse). number_in t.p c.args.row c.args.col % modulus ≢ 0) (sym c.self.view_is)
+    c.requires.entry in (
+      pivoted-sparse modulus g.met.F.Field.prime inside.columns inside.transform.p inside.transform.s inside.v
+          c.pivot-2.new.self.p
+          c.pivot-2.new.self.s c.copy_row.new.self inside.base c.take.new.self c.args.row c.args.col
+          c.self.invariant.0 rl cl some
+          c.pivot-2.ensures.p_size c.pivot-2.ensures.s_size c.pivot-2.ensures.p_reduced c.pivot-2.ensures.s_reduced
+          c.copy_row.ensures c.take.ensures.taken c.take.ensures.rows c.take.ensures.columns,
+      pivot-listed modulus inside.transform.p c.pivot-2.new.self.p inside.entries.bits c.pivot.new.self.bits
+          c.args.row c.args.col rl cl
+          c.self.invariant.1 c.pivot.ensures.filled
+          (pivot-pivoted modulus g.met.F.Field.prime inside.columns inside.transform.p inside.transform.s inside.v
+          c.pivot-2.new.self.p
+          c.pivot-2.new.self.s c.copy_row.new.self inside.base c.take.new.self c.args.row c.args.col
+          c.self.invariant.0 rl cl some
+          c.pivot-2.ensures.p_size c.pivot-2.ensures.s_size c.pivot-2.ensures.p_reduced c.pivot-2.ensures.s_reduced
+          c.copy_row.ensures c.take.ensures.taken)
+          c.pivot-2.ensures.p_reduced c.pivot.ensures.size c.pivot-2.ensures.p_size,
+    )
+
+pub returns : goal.returns
+returns g c =
+    let modulus = g.F.Field.modulus in
+    let inside = c.self.inside in
+    let rl : c.args.row < row_count inside.transform.p = subst (λ (t : Sparse). c.args.row < row_count t.p)
+    (sym c.self.view_is) c.requires.row in
+    let cl : c.args.col < inside.transform.p.width = subst (λ (t : Sparse). c.args.col < t.p.width)
+    (sym c.self.view_is) c.requires.col in
+    let some : number_in inside.transform.p c.args.row c.args.col % modulus ≢ 0 =
+    subst (λ (t : Sparse). number_in t.p c.args.row c.args.col % modulus ≢ 0) (sym c.self.view_is) c.requires.entry in
+    rw (← c.self.view_is)
+    (pivoted-state modulus g.met.F.Field.prime inside.columns inside.transform.p inside.transform.s inside.v
+    c.pivot-2.new.self.p
+    c.pivot-2.new.self.s c.copy_row.new.self inside.base c.take.new.self c.args.row c.args.col c.self.invariant.0 rl
+    cl some
+    c.pivot-2.ensures.p_size c.pivot-2.ensures.s_size c.pivot-2.ensures.p_reduced c.pivot-2.ensures.s_reduced
+    c.copy_row.ensures c.take.ensures.taken)

@@ -1,0 +1,131 @@
+//! The base of a tableau.
+
+ghost use Rattle.std.specs.Prelude.{◌≡◌, ◌≢◌, ℕ, ◌<◌, ◌≤◌, Bool, true, false, length, replicate, slice_index_or, IfOk, IfSome, IfNone};
+ghost use Rattle.linear_algebra.specs.Bases.{IsBaseTaken};
+ghost use Rattle.row_transform.specs.Bases.{BaseLists, is_base, row_of, unlinked, linked, IsBaseDropped, IsRowCleared};
+
+use out_of_memory::NoMemory;
+use std::alloc::{AllocError, Global};
+use std::marker::Model;
+
+// Which column is the base column of which row. Rows and columns are counted from 0.
+#[derive(Drop)]
+pub(crate) struct Base {
+    columns: Vec<Option<usize>>,
+    rows: Vec<Option<usize>>,
+}
+
+impl Model for Base {
+    ghost use Rattle.row_transform.specs.Bases.{BaseLists, IsConsistent};
+
+    ghost Value = { BaseLists };
+
+    ghost view = { λ b. record { columns = b.columns.items; rows = b.rows.items } };
+
+    ghost invariant = { λ b. IsConsistent (record { columns = b.columns.items; rows = b.rows.items }) };
+}
+
+impl Base {
+    // The base of so many rows and columns with no column in it.
+    pub(crate) fn empty(alloc: Global, rows: usize, columns: usize) -> Result<Base, NoMemory>
+        ensures { IfOk result (λ b. b ≡ record { columns = replicate rows None; rows = replicate columns None }) }
+    {
+        Ok(Base {
+            columns: nothing(alloc, rows)?,
+            rows: nothing(alloc, columns)?,
+        })
+    }
+
+    // The base column of a row.
+    pub(crate) fn column_of(&self, row: usize) -> Option<usize>
+        requires { row < length self.now.columns }
+        ensures none { IfNone result ((y : ℕ) → y < length self.now.rows → is_base self.now y ≡ true →
+            row_of self.now y ≢ row) }
+        ensures below { IfSome result (λ y. y < length self.now.rows) }
+        ensures member { IfSome result (λ y. is_base self.now y ≡ true) }
+        ensures at_row { IfSome result (λ y. row_of self.now y ≡ row) }
+    {
+        self.columns[row]
+    }
+
+    // The row whose base column a column is.
+    pub(crate) fn row_of(&self, column: usize) -> Option<usize>
+        requires { column < length self.now.rows }
+        ensures none { IfNone result (is_base self.now column ≡ false) }
+        ensures member { IfSome result (λ r. is_base self.now column ≡ true) }
+        ensures at_row { IfSome result (λ r. row_of self.now column ≡ r) }
+        ensures below { IfSome result (λ r. r < length self.now.columns) }
+    {
+        self.rows[column]
+    }
+
+    // Makes a column that is no base column the base column of a row; the one that it had leaves the base.
+    pub(crate) fn take(&mut self, row: usize, column: usize)
+        requires row { row < length self.old.columns }
+        requires column { column < length self.old.rows }
+        requires free { is_base self.old column ≡ false }
+        ensures taken { IsBaseTaken (length self.old.rows) (is_base self.old) (row_of self.old) (is_base self.new)
+            (row_of self.new) row column }
+        ensures rows { length self.new.columns ≡ length self.old.columns }
+        ensures columns { length self.new.rows ≡ length self.old.rows }
+    {
+        self.clear(row);
+        self.link(row, column);
+    }
+
+    // Takes a column out of the base.
+    pub(crate) fn leave(&mut self, column: usize)
+        requires column { column < length self.old.rows }
+        ensures dropped { IsBaseDropped (length self.old.rows) (is_base self.old) (row_of self.old) (is_base self.new)
+            (row_of self.new) column }
+        ensures rows { length self.new.columns ≡ length self.old.columns }
+        ensures columns { length self.new.rows ≡ length self.old.rows }
+    {
+        if let Some(row) = self.rows[column] {
+            self.unlink(row, column);
+        }
+    }
+
+    // Takes the base column of a row out of the base, if there is one.
+    fn clear(&mut self, row: usize)
+        requires row { row < length self.old.columns }
+        ensures cleared { IsRowCleared (length self.old.rows) (is_base self.old) (row_of self.old) (is_base self.new)
+            (row_of self.new) row }
+        ensures bare { slice_index_or self.new.columns row None ≡ None }
+        ensures rows { length self.new.columns ≡ length self.old.columns }
+        ensures columns { length self.new.rows ≡ length self.old.rows }
+    {
+        if let Some(column) = self.columns[row] {
+            self.unlink(row, column);
+        }
+    }
+
+    fn unlink(&mut self, row: usize, column: usize)
+        requires { slice_index_or self.old.columns row None ≡ Some column }
+        ensures { self.new ≡ unlinked self.old row column }
+    {
+        self.columns[row] = None;
+        self.rows[column] = None;
+    }
+
+    fn link(&mut self, row: usize, column: usize)
+        requires row { row < length self.old.columns }
+        requires column { column < length self.old.rows }
+        requires bare { slice_index_or self.old.columns row None ≡ None }
+        requires free { is_base self.old column ≡ false }
+        ensures { self.new ≡ linked self.old row column }
+    {
+        self.columns[row] = Some(column);
+        self.rows[column] = Some(row);
+    }
+}
+
+fn nothing(alloc: Global, count: usize) -> Result<Vec<Option<usize>>, AllocError>
+    ensures { IfOk result (λ v. v.items ≡ replicate count None) }
+{
+    let mut all = Vec::with_capacity(alloc, count)?;
+    for _place in 0..count {
+        all.push(None)?;
+    }
+    Ok(all)
+}

@@ -1,0 +1,146 @@
+//! A tableau of sparse matrices.
+
+ghost use Rattle.std.specs.Prelude.{◌≡◌, ◌≢◌, ℕ, ◌<◌, ◌≤◌, ◌%◌, true, false, IfOk};
+ghost use Rattle.sparse_tableau.specs.Sparse.{state_of};
+
+use crate::base::Base;
+use crate::entries::Entries;
+use crate::transform::Transform;
+use dense_q::Mat;
+use out_of_memory::NoMemory;
+use residue_field::Field;
+use row_transform::{Tableau, TableauParts, Which};
+use sparse_q::SparseMat;
+use std::alloc::Global;
+use std::marker::Model;
+
+/// A tableau that keeps of its matrices the entries that are not zero, and Q by columns: a pivot at a row and a column
+/// reduces P and S, and puts the column of Q into U. It takes no memory, since each row has room for all its columns.
+#[derive(Drop)]
+pub struct SparseTableau<F: Field> {
+    alloc: Global,
+    columns: SparseMat<F>,
+    transform: Transform<F>,
+    v: SparseMat<F>,
+    entries: Entries,
+    base: Base,
+}
+
+impl<F: Field> Model for SparseTableau<F> {
+    ghost use Rattle.sparse_tableau.specs.Sparse.{Sparse, IsSparse};
+    ghost use Rattle.sparse_tableau.specs.Entries.{IsListed};
+
+    ghost Value = { Sparse };
+
+    ghost view = { λ t. record {
+      q = t.columns;
+      p = t.transform.p;
+      s = t.transform.s;
+      v = t.v;
+      base = t.base;
+    } };
+
+    ghost invariant = { λ t. IsSparse F.modulus (record {
+      q = t.columns;
+      p = t.transform.p;
+      s = t.transform.s;
+      v = t.v;
+      base = t.base;
+    }) × IsListed F.modulus t.transform.p t.entries.bits };
+}
+
+impl<F: Field> Tableau<F> for SparseTableau<F> {
+    ghost state = { state_of };
+
+    fn open(alloc: Global, q: &Mat<F>) -> Result<Self, NoMemory> {
+        let rows = q.rows();
+        let columns = q.cols();
+        let p = SparseMat::of(alloc, q)?;
+        let entries = Entries::of(alloc, &p)?;
+        let s = SparseMat::identity(alloc, rows)?;
+        Ok(SparseTableau {
+            alloc,
+            columns: SparseMat::columns_of(alloc, q)?,
+            transform: Transform { p, s },
+            v: SparseMat::identity(alloc, rows)?,
+            entries,
+            base: Base::empty(alloc, rows, columns)?,
+        })
+    }
+
+    fn rows(&self) -> usize {
+        self.transform.p.rows()
+    }
+
+    fn columns(&self) -> usize {
+        self.transform.p.cols()
+    }
+
+    fn entry(&self, row: usize, col: usize) -> F {
+        let entry = self.transform.p.get(row, col);
+        entry.in_field();
+        entry
+    }
+
+    fn next_entry(&self, col: usize, from: usize) -> Option<usize> {
+        let rows = self.rows();
+        let mut at = from;
+        while let Some(row) = self.entries.next(col, at, rows) {
+            if !self.entry(row, col).is_zero() {
+                return Some(row);
+            }
+            at = row + 1;
+        }
+        None
+    }
+
+    fn base_of(&self, row: usize) -> Option<usize> {
+        self.base.column_of(row)
+    }
+
+    fn row_of(&self, col: usize) -> Option<usize> {
+        self.base.row_of(col)
+    }
+
+    fn in_span(&self, col: usize) -> bool {
+        // there are at most 8,192 rows, so that the sum below fits
+        let _rows = self.rows();
+        let mut at = 0;
+        while let Some(row) = self.next_entry(col, at) {
+            if self.base_of(row).is_none() {
+                return false;
+            }
+            at = row + 1;
+        }
+        true
+    }
+
+    fn pivot(&mut self, row: usize, col: usize) {
+        self.entries.pivot(&self.transform.p, row, col);
+        self.transform.pivot(row, col);
+        self.v.copy_row(row, &self.columns, col);
+        self.base.take(row, col);
+    }
+
+    fn drop_base(&mut self, col: usize) {
+        self.base.leave(col);
+    }
+
+    fn entry_of(&self, which: Which, row: usize, col: usize) -> F {
+        let entry = match which {
+            Which::S => self.transform.s.get(row, col),
+            Which::U => self.v.get(col, row),
+            Which::P => self.transform.p.get(row, col),
+        };
+        entry.in_field();
+        entry
+    }
+
+    fn parts(&self) -> Result<TableauParts<F>, NoMemory> {
+        let s = self.transform.s.dense(self.alloc)?;
+        let v = self.v.dense(self.alloc)?;
+        let u = v.transposed()?;
+        let p = self.transform.p.dense(self.alloc)?;
+        Ok(TableauParts { s, u, p })
+    }
+}

@@ -1,0 +1,68 @@
+//! Row operations on a sparse matrix, with their own matrix.
+
+ghost use Rattle.std.specs.Prelude.{◌≡◌, ◌≢◌, ℕ, ◌+◌, ◌*◌, ◌%◌, ◌<◌};
+ghost use Rattle.sparse_q.specs.Tables.{row_count, number_in, HasSize, IsRowSet};
+ghost use Rattle.row_table.specs.Reductions.{IsReduced};
+
+use residue_field::Field;
+use sparse_q::SparseMat;
+
+// A matrix P to which row operations have led, and the matrix S of these operations.
+#[derive(Drop)]
+pub(crate) struct Transform<F: Field> {
+    pub(crate) p: SparseMat<F>,
+    pub(crate) s: SparseMat<F>,
+}
+
+impl<F: Field> Transform<F> {
+    // Multiplies a row by a factor that is not zero.
+    fn scale(&mut self, row: usize, factor: F)
+        requires row { row < row_count self.old.p }
+        requires same { row_count self.old.s ≡ row_count self.old.p }
+        requires factor { F.number factor ≢ 0 }
+        ensures p { IsRowSet self.old.p self.new.p row (λ j.
+            F.number factor * number_in self.old.p row j % F.modulus) }
+        ensures s { IsRowSet self.old.s self.new.s row (λ j.
+            F.number factor * number_in self.old.s row j % F.modulus) }
+    {
+        self.p.scale_row(row, factor);
+        self.s.scale_row(row, factor);
+    }
+
+    // Adds a multiple of row `source` to row `target`.
+    fn add(&mut self, target: usize, source: usize, factor: F)
+        requires target { target < row_count self.old.p }
+        requires source { source < row_count self.old.p }
+        requires same { row_count self.old.s ≡ row_count self.old.p }
+        ensures p { IsRowSet self.old.p self.new.p target (λ j.
+            (number_in self.old.p target j + F.number factor * number_in self.old.p source j) % F.modulus) }
+        ensures s { IsRowSet self.old.s self.new.s target (λ j.
+            (number_in self.old.s target j + F.number factor * number_in self.old.s source j) % F.modulus) }
+    {
+        self.p.add_row(target, source, factor);
+        self.s.add_row(target, source, factor);
+    }
+
+    // Makes a column of P the unit column of a row, by row operations.
+    pub(crate) fn pivot(&mut self, row: usize, col: usize)
+        requires row { row < row_count self.old.p }
+        requires same { row_count self.old.s ≡ row_count self.old.p }
+        requires entry { number_in self.old.p row col ≢ 0 }
+        ensures p_size { HasSize (row_count self.old.p) self.old.p.width self.new.p }
+        ensures s_size { HasSize (row_count self.old.s) self.old.s.width self.new.s }
+        ensures p_reduced { IsReduced F.modulus (row_count self.old.p) self.old.p.width (number_in self.old.p)
+            (number_in self.new.p) row (λ i. number_in self.old.p i col) }
+        ensures s_reduced { IsReduced F.modulus (row_count self.old.s) self.old.s.width (number_in self.old.s)
+            (number_in self.new.s) row (λ i. number_in self.old.p i col) }
+    {
+        let entry = self.p.get(row, col);
+        let inverse = entry.inv().unwrap();
+        self.scale(row, inverse);
+        for i in 0..self.p.rows() {
+            let entry = self.p.get(i, col);
+            if i != row && !entry.is_zero() {
+                self.add(i, row, entry.neg());
+            }
+        }
+    }
+}
