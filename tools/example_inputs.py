@@ -5,8 +5,9 @@ Usage, at the top of the repository: tools/example_inputs.py [--check]   (--chec
 has broken its lines)
 """
 import pathlib
-import re
 import sys
+
+from generated import deliver
 
 KINDS = {".txt": "matrix", ".cir": "netlist", ".toml": "flowsheet"}
 HEAD = """//! The files of examples/, each with its kind. Written by tools/example_inputs.py.
@@ -22,11 +23,6 @@ def literal(text):
     return f'"{text}"'
 
 
-def unbroken(text):
-    """The text without line breaks and spaces, and without the commas that stand before a bracket where a line ends."""
-    return re.sub(r"\s+", "", text).replace(",)", ")")
-
-
 def main():
     top = pathlib.Path(__file__).resolve().parent.parent
     files = sorted(it for it in (top / "examples").iterdir() if it.suffix in KINDS)
@@ -36,12 +32,7 @@ def main():
     ]
     text = HEAD % len(rows) + "".join(rows) + "];\n"
     to = top / "crates/check_tables/src/inputs.rt"
-    if "--check" in sys.argv[1:]:
-        same = unbroken(to.read_text(encoding="utf-8")) == unbroken(text)
-        print("inputs.rt has the files of examples/" if same else "run tools/example_inputs.py")
-        return 0 if same else 1
-    to.write_text(text, encoding="utf-8")
-    return 0
+    return deliver(text, to, "the files of examples/")
 
 
 if __name__ == "__main__":

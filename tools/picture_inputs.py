@@ -8,7 +8,8 @@ broken its lines)
 import pathlib
 import sys
 
-from example_inputs import literal, unbroken
+from example_inputs import literal
+from generated import deliver
 
 HEAD = """//! The certificates and the pictures of docs/pictures/. Written by tools/picture_inputs.py.
 
@@ -27,12 +28,7 @@ def main():
     ]
     text = HEAD % len(rows) + "".join(rows) + "];\n"
     to = top / "crates/picture_tables/src/pictures.rt"
-    if "--check" in sys.argv[1:]:
-        same = unbroken(to.read_text(encoding="utf-8")) == unbroken(text)
-        print("pictures.rt has the files of docs/pictures/" if same else "run tools/picture_inputs.py")
-        return 0 if same else 1
-    to.write_text(text, encoding="utf-8")
-    return 0
+    return deliver(text, to, "the files of docs/pictures/")
 
 
 if __name__ == "__main__":

@@ -21,6 +21,8 @@ import pathlib
 import re
 import sys
 
+from generated import deliver
+
 HEAD = "//! The rows of docs/refusals.md. Written by tools/refusal_rows.py.\n"
 MARK = re.compile(r"<!-- rows: (\d) (.*?)(?:, (behind|in) the block)? -->$")
 PIECE = re.compile(r"`([^`]*)`(?: for n from (\d+) to (\d+))?$")
@@ -140,11 +142,6 @@ def written(found):
     )
 
 
-def unbroken(text):
-    """The text without line breaks and spaces, and without the commas that stand before a bracket where a line ends."""
-    return re.sub(r"\s+", "", text).replace(",)", ")")
-
-
 def main():
     top = pathlib.Path(__file__).resolve().parent.parent
     text = written(list(rows(top / "docs/refusals.md")))
@@ -154,12 +151,7 @@ def main():
         if f"&{name})" not in tests and f"&{name} " not in tests:
             print(f"tests.rt has no test of {name}")
             return 1
-    if "--check" in sys.argv[1:]:
-        same = unbroken(to.read_text(encoding="utf-8")) == unbroken(text)
-        print("rows.rt has the rows of refusals.md" if same else "run tools/refusal_rows.py")
-        return 0 if same else 1
-    to.write_text(text, encoding="utf-8")
-    return 0
+    return deliver(text, to, "the rows of refusals.md")
 
 
 if __name__ == "__main__":

@@ -138,13 +138,26 @@ module _ (p : ℕ) (prime : IsPrime p) (odd : 2 < p) (of : Layers) (layers_ok : 
         symbols = mate-symbols p of t matching reached solution tableau base mates pair.base_is matched P prints.p_is;
         differ = pair-columns-differ p of t matching reached solution tableau base mates pair.base_is matched P prints.p_is;
       };
-      counted = let size = pair-size p of t matching reached solution tableau base mates pair.base_is matched P prints.p_is in omega (arith, size, ranked.1, are.count, laid.columns);
-      columns = columns-once p of t matching reached solution tableau base mates pair.base_is matched P prints.p_is v decomposed parts.placing parts.columns parts.q_are t_placed first last blocks parts.first_is parts.count parts.blocks_are parts.last_is;
+      counted = let size =
+          pair-size p of t matching reached solution tableau base mates pair.base_is matched P prints.p_is in omega
+          (arith, size, ranked.1, are.count, laid.columns);
+      columns =
+          columns-once p of t matching reached solution tableau base mates pair.base_is matched P prints.p_is v
+          decomposed parts.placing parts.columns parts.q_are t_placed first last blocks parts.first_is parts.count
+          parts.blocks_are parts.last_is;
       checked = record {
-        q_rows = q_rows-once p of t matching reached solution tableau base mates pair.base_is matched P prints.p_is v decomposed parts.placing parts.columns parts.q_are t_placed first last blocks parts.first_is parts.count parts.blocks_are parts.last_is;
-        t_rows = t_rows-once p of t matching reached solution tableau base mates pair.base_is matched P prints.p_is v decomposed parts.placing parts.columns parts.q_are t_placed first last blocks parts.first_is parts.count parts.blocks_are parts.last_is;
+        q_rows =
+            q_rows-once p of t matching reached solution tableau base mates pair.base_is matched P prints.p_is v
+            decomposed parts.placing parts.columns parts.q_are t_placed first last blocks parts.first_is parts.count
+            parts.blocks_are parts.last_is;
+        t_rows =
+            t_rows-once p of t matching reached solution tableau base mates pair.base_is matched P prints.p_is v
+            decomposed parts.placing parts.columns parts.q_are t_placed first last blocks parts.first_is parts.count
+            parts.blocks_are parts.last_is;
         below = v.below;
-        parts = parts-printed p of t matching reached solution tableau base mates pair.base_is matched P prints.p_is v decomposed parts.placing parts.columns parts.q_are t_placed first last blocks parts.first_is parts.count parts.blocks_are parts.last_is;
+        parts = parts-printed p of t matching reached solution tableau base mates pair.base_is matched P prints.p_is
+            v decomposed parts.placing parts.columns parts.q_are t_placed first last blocks parts.first_is
+            parts.count parts.blocks_are parts.last_is;
       };
     }
 
@@ -152,8 +165,12 @@ module _ (p : ℕ) (prime : IsPrime p) (odd : 2 < p) (of : Layers) (layers_ok : 
     block-ranges k d kb =
         let block = parts.blocks_are k d kb in
         record {
-          part = part-ranges t.rows (length of.t.rows) t.columns contents.shape.equations contents.shape.unknowns parts.placing (Block k) (get_or blocks k d).part (parts.columns.count ∙ decomposed.places) parts.q_are.count parts.t_are.count block.part;
-          some = block-some p of t matching reached solution tableau base mates pair.base_is matched P prints.p_is v decomposed parts.placing parts.columns parts.q_are t_placed first last blocks parts.first_is parts.count parts.blocks_are parts.last_is k d kb;
+          part = part-ranges t.rows (length of.t.rows) t.columns contents.shape.equations contents.shape.unknowns
+              parts.placing (Block k) (get_or blocks k d).part (parts.columns.count ∙ decomposed.places)
+              parts.q_are.count parts.t_are.count block.part;
+          some = block-some p of t matching reached solution tableau base mates pair.base_is matched P prints.p_is v
+              decomposed parts.placing parts.columns parts.q_are t_placed first last blocks parts.first_is
+              parts.count parts.blocks_are parts.last_is k d kb;
           lower = block.lower.rising;
         }
 
@@ -179,9 +196,13 @@ module _ (p : ℕ) (prime : IsPrime p) (odd : 2 < p) (of : Layers) (layers_ok : 
       u = prints.u_is.is;
       p = prints.p_is.is;
       t = subst (λ n. IsPattern (length of.t.rows) n T) width_is prints_t.is;
-      first = part-ranges t.rows (length of.t.rows) t.columns contents.shape.equations contents.shape.unknowns parts.placing First first (parts.columns.count ∙ decomposed.places) parts.q_are.count parts.t_are.count parts.first_is;
+      first = part-ranges t.rows (length of.t.rows) t.columns contents.shape.equations contents.shape.unknowns
+          parts.placing First first (parts.columns.count ∙ decomposed.places) parts.q_are.count parts.t_are.count
+          parts.first_is;
       blocks = block-ranges;
-      last = part-ranges t.rows (length of.t.rows) t.columns contents.shape.equations contents.shape.unknowns parts.placing Last last (parts.columns.count ∙ decomposed.places) parts.q_are.count parts.t_are.count parts.last_is;
+      last = part-ranges t.rows (length of.t.rows) t.columns contents.shape.equations contents.shape.unknowns
+          parts.placing Last last (parts.columns.count ∙ decomposed.places) parts.q_are.count parts.t_are.count
+          parts.last_is;
     }
 
     right : IsRightCcf p (mixed_matrix_of model) (layered_matrix_of of) O contents

@@ -13,3 +13,6 @@ pub mod Tabulating
 pub mod PlacedRows
 pub mod PrintedRows
 pub mod NextBlock
+pub mod PartTables
+pub mod TakenLists
+pub mod PlacedParts

@@ -1,11 +1,13 @@
 -- The part of each column and of each row, and the lists of a part.
-use Rattle.std.specs.Prelude.{ℕ, ◌<◌, ◌≡◌, ◌↔◌, true, List, length, slice_get, slice_index_or, Some}
+use Rattle.std.specs.Prelude.{ℕ, ◌<◌, ◌≡◌, ◌≢◌, ◌↔◌, true, List, [], ◌∷◌, ◌++◌, length, slice_get, slice_index_or, Some}
+use Rattle.std.specs.Global.{Vec}
 use Rattle.cert_text.specs.Ranges.{AreRising}
 use Rattle.residue_theory.specs.Sets.{has}
 use Rattle.cert_text.specs.Readings.{pair_at}
 use Rattle.cert_text.specs.declared.part.CcfPart.{CcfPart}
 use Rattle.cert_text.specs.declared.part.CcfBlock.{CcfBlock}
 use Rattle.ccf_builder.specs.Tabulations.{Tabulates}
+use Rattle.ccf_builder.specs.declared.part_lists.PartLists.{PartLists}
 use Rattle.minimiser_lattice.specs.Parts.{Parts, part_in}
 use Rattle.minimiser_lattice.specs.declared.lattice.Part.{Part}
 use Rattle.minimiser_lattice.specs.declared.lattice.Part.TheVariants.{First, Block, Last}
@@ -30,6 +32,37 @@ pub record ListsBelow (P : ℕ → Type 0) (n : ℕ) (list : List ℕ) : Type 0 
 abbrev pub ListsPart : List Part → Part → List ℕ → Type 0
 ListsPart parts part = ListsBelow (λ x. slice_get parts x ≡ Some part) (length parts)
 
+-- the numbers below n that stand in each part, where there are so many blocks
+pub record ListsParts (parts : List Part) (n blocks : ℕ) (lists : PartLists) : Type 0 where
+  pub first : ListsBelow (λ x. slice_get parts x ≡ Some First) n lists.first.items
+  pub count : length lists.blocks.items ≡ blocks
+  pub blocks_are : (k : ℕ) (d : Vec ℕ) → k < blocks →
+      ListsBelow (λ x. slice_get parts x ≡ Some (Block k)) n (slice_index_or lists.blocks.items k d).items
+  pub last : ListsBelow (λ x. slice_get parts x ≡ Some Last) n lists.last.items
+
+-- no part has a number
+pub record AreEmpty (blocks : ℕ) (lists : PartLists) : Type 0 where
+  pub first : lists.first.items ≡ []
+  pub count : length lists.blocks.items ≡ blocks
+  pub blocks_are : (k : ℕ) (d : Vec ℕ) → k < blocks → (slice_index_or lists.blocks.items k d).items ≡ []
+  pub last : lists.last.items ≡ []
+
+-- list k, where there is one, has the number at its end, and the others are as before
+pub record IsPushed (old new : List (Vec ℕ)) (k number : ℕ) : Type 0 where
+  pub count : length new ≡ length old
+  pub here : (d : Vec ℕ) → k < length old →
+      (slice_index_or new k d).items ≡ (slice_index_or old k d).items ++ number ∷ []
+  pub others : (j : ℕ) (d : Vec ℕ) → j ≢ k → slice_index_or new j d ≡ slice_index_or old j d
+
+-- the list of the part has the number at its end, and the others are as before
+abbrev pub IsEntered : PartLists → PartLists → Part → ℕ → Type 0
+IsEntered old new First number = (new.first.items ≡ old.first.items ++ number ∷ []) × (new.blocks ≡ old.blocks)
+    × (new.last ≡ old.last)
+IsEntered old new (Block k) number = (new.first ≡ old.first) × IsPushed old.blocks.items new.blocks.items k number
+    × (new.last ≡ old.last)
+IsEntered old new Last number = (new.first ≡ old.first) × (new.blocks ≡ old.blocks)
+    × (new.last.items ≡ old.last.items ++ number ∷ [])
+
 -- the parts of the columns, the Q rows and the T rows
 pub record Placing : Type 0 where
   pub columns : List Part
@@ -45,6 +78,13 @@ pub record HasPart (placing : Placing) (part : Part) (c : CcfPart) : Type 0 wher
 -- the blocks that block k covers
 abbrev pub ListsLower : Parts → ℕ → List ℕ → Type 0
 ListsLower v k = ListsBelow (λ j. v.covers k j ≡ true) k
+
+-- block k with list k of its columns, of its Q rows and of its T rows, and the blocks that it covers
+pub record IsBlockOf (v : Parts) (column_lists q_lists t_lists : List (Vec ℕ)) (k : ℕ) (block : CcfBlock) : Type 0 where
+  pub columns : (d : Vec ℕ) → block.part.columns ≡ (slice_index_or column_lists k d).items
+  pub q_rows : (d : Vec ℕ) → block.part.q_rows ≡ (slice_index_or q_lists k d).items
+  pub t_rows : (d : Vec ℕ) → block.part.t_rows ≡ (slice_index_or t_lists k d).items
+  pub lower : ListsLower v k block.lower
 
 -- block k: its columns and rows, and the blocks that it covers
 pub record HasBlock (placing : Placing) (v : Parts) (k : ℕ) (block : CcfBlock) : Type 0 where

@@ -12,6 +12,7 @@ ghost use Rattle.ccf_builder.specs.Finest.{IsFinest};
 ghost use Rattle.ccf_builder.specs.Printings.{IsDecomposed, IsPrinted};
 ghost use Rattle.ccf_builder.specs.Promises.{IsOfModel, OfEachModel};
 
+use crate::choice::has_few_entries;
 use crate::decomposition::decompose;
 use crate::matrices::{PrintedTableau, symbols_of, tableau_of};
 use crate::pairs::{PairLists, pair_of};
@@ -23,13 +24,14 @@ use minimiser_lattice::Lattice;
 use mixed_model::Layered;
 use out_of_memory::NoMemory;
 use residue_field::Field;
-use row_transform::Tableau;
+use row_transform::{DenseTableau, Tableau};
+use sparse_tableau::SparseTableau;
 use std::alloc::Global;
 
 /// The canonical form of the layered matrix of a model: it is right for each model of which this is the layered matrix, its
-/// parts are at least as fine as those of every form, and `cert_checker::check` accepts it. Any tableau does, as
-/// `build::<F, DenseTableau<F>>`. (Murota, chapters 2 and 4.)
-pub fn build<F: Field, T: Tableau<F>>(alloc: Global, l: &Layered<F>) -> Result<Ccf<F>, NoMemory>
+/// parts are at least as fine as those of every form, and `cert_checker::check` accepts it. Q is pivoted as a sparse matrix
+/// where it has few entries, else as a dense one. (Murota, chapters 2 and 4.)
+pub fn build<F: Field>(alloc: Global, l: &Layered<F>) -> Result<Ccf<F>, NoMemory>
     requires { IsOfModel F.modulus l.now }
     ensures shape { IfOk result (λ c.
         OfEachModel F.modulus l.now (λ M O. HasShape M (layered_matrix_of l.now) c)) }
@@ -42,14 +44,27 @@ pub fn build<F: Field, T: Tableau<F>>(alloc: Global, l: &Layered<F>) -> Result<C
     ensures finest { IfOk result (IsFinest F.modulus (layered_matrix_of l.now)) }
     ensures accepted { IfOk result (λ c. OfEachModel F.modulus l.now (λ M O. IsRightFor F.modulus M c)) }
 {
-    let form = built::<F, T>(alloc, l)?;
+    let form = built(alloc, l)?;
     // it tells the ranges of the lines
     let _shape = form.shape();
     Ok(form)
 }
 
 // The same, with all that makes it right in one.
-fn built<F: Field, T: Tableau<F>>(alloc: Global, l: &Layered<F>) -> Result<Ccf<F>, NoMemory>
+fn built<F: Field>(alloc: Global, l: &Layered<F>) -> Result<Ccf<F>, NoMemory>
+    requires { IsOfModel F.modulus l.now }
+    ensures { IfOk result (λ c.
+        OfEachModel F.modulus l.now (λ M O. IsRightCcf F.modulus M (layered_matrix_of l.now) O c)) }
+{
+    if has_few_entries(&l.q) {
+        built_over::<F, SparseTableau<F>>(alloc, l)
+    } else {
+        built_over::<F, DenseTableau<F>>(alloc, l)
+    }
+}
+
+// The same, over a tableau of this type.
+fn built_over<F: Field, T: Tableau<F>>(alloc: Global, l: &Layered<F>) -> Result<Ccf<F>, NoMemory>
     requires { IsOfModel F.modulus l.now }
     ensures { IfOk result (λ c.
         OfEachModel F.modulus l.now (λ M O. IsRightCcf F.modulus M (layered_matrix_of l.now) O c)) }

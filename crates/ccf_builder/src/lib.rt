@@ -2,9 +2,11 @@
 #![tactic(auto)]
 
 mod building;
+mod choice;
 mod decomposition;
 mod matrices;
 mod pairs;
+mod part_lists;
 mod parts;
 mod placing;
 mod solution;

@@ -1,53 +1,18 @@
 //! The printed parts.
 
-ghost use Rattle.std.specs.Prelude.{◌≡◌, ◌<◌, ◌≤◌, ℕ, IfOk, length, slice_index_or, slice_get, Some, IsTrue, ◌↔◌};
+ghost use Rattle.std.specs.Prelude.{◌≡◌, ◌<◌, ℕ, IfOk, length, vec_len, slice_index_or};
 ghost use Rattle.minimiser_lattice.specs.Views.{parts_in};
 ghost use Rattle.cert_text.specs.declared.part.CcfBlock.{CcfBlock};
 ghost use Rattle.ccf_builder.specs.Pairs.{AreWithin};
-ghost use Rattle.ccf_builder.specs.Placings.{HasBlock, HasPart, ListsLower, ListsPart, PrintsParts};
+ghost use Rattle.ccf_builder.specs.Placings.{IsBlockOf, ListsLower, PrintsParts};
 
 use crate::pairs::PairLists;
-use crate::placing::{Placing, column_parts, row_parts};
+use crate::part_lists::{PartLists, take_at};
+use crate::placing::{column_parts, row_parts};
 use cert_text::{CcfBlock, CcfPart, Items};
-use minimiser_lattice::{Lattice, Part};
+use minimiser_lattice::Lattice;
 use out_of_memory::NoMemory;
 use std::alloc::Global;
-
-// Whether a number stands in this part.
-fn stands_in(parts: &[Part], number: usize, part: Part) -> bool
-    requires { number < length parts.now }
-    ensures { IsTrue result ↔ (slice_get parts.now number ≡ Some part) }
-{
-    parts[number] == part
-}
-
-// The numbers that stand in this part, rising.
-fn numbers_in(alloc: Global, parts: &[Part], part: Part) -> Result<Items<usize>, NoMemory>
-    ensures { IfOk result (ListsPart parts.now part) }
-{
-    let mut numbers = Vec::new(alloc);
-    for number in 0..parts.len() {
-        if stands_in(parts, number, part) {
-            numbers.push(number)?;
-        }
-    }
-    Ok(Items::from_vec(numbers))
-}
-
-// The columns and the rows of this part.
-fn part_at(alloc: Global, placing: &Placing, part: Part) -> Result<CcfPart, NoMemory>
-    ensures { IfOk result (HasPart (record {
-      columns = placing.now.columns.items;
-      q_rows = placing.now.q_rows.items;
-      t_rows = placing.now.t_rows.items;
-    }) part) }
-{
-    Ok(CcfPart {
-        columns: numbers_in(alloc, &placing.columns, part)?,
-        q_rows: numbers_in(alloc, &placing.q_rows, part)?,
-        t_rows: numbers_in(alloc, &placing.t_rows, part)?,
-    })
-}
 
 // The blocks that block k covers, which stand before it.
 fn lower_blocks(alloc: Global, lattice: &Lattice, k: usize) -> Result<Items<usize>, NoMemory>
@@ -63,27 +28,43 @@ fn lower_blocks(alloc: Global, lattice: &Lattice, k: usize) -> Result<Items<usiz
     Ok(Items::from_vec(lower))
 }
 
-// The blocks, in their order.
+// The blocks, in their order: their columns and rows are taken out of these lists.
 fn blocks_of(
     alloc: Global,
     lattice: &Lattice,
-    placing: &Placing,
+    mut columns: Vec<Vec<usize>>,
+    mut q_rows: Vec<Vec<usize>>,
+    mut t_rows: Vec<Vec<usize>>,
 ) -> Result<Items<CcfBlock>, NoMemory>
+    requires columns { vec_len columns ≡ (parts_in lattice.now).blocks }
+    requires q_rows { vec_len q_rows ≡ (parts_in lattice.now).blocks }
+    requires t_rows { vec_len t_rows ≡ (parts_in lattice.now).blocks }
     ensures count { IfOk result (λ blocks. length blocks ≡ (parts_in lattice.now).blocks) }
-    ensures blocks { IfOk result (λ blocks. (k : ℕ) (d : CcfBlock) → k < length blocks → HasBlock (record {
-      columns = placing.now.columns.items;
-      q_rows = placing.now.q_rows.items;
-      t_rows = placing.now.t_rows.items;
-    }) (parts_in lattice.now) k (slice_index_or blocks k d)) }
+    ensures blocks { IfOk result (λ blocks. (k : ℕ) (d : CcfBlock) → k < length blocks →
+        IsBlockOf (parts_in lattice.now) columns.items q_rows.items t_rows.items k (slice_index_or blocks k d)) }
 {
     let mut blocks = Vec::with_capacity(alloc, lattice.blocks())?;
     for k in 0..lattice.blocks() {
-        blocks.push(CcfBlock {
-            part: part_at(alloc, placing, Part::Block(k))?,
-            lower: lower_blocks(alloc, lattice, k)?,
-        })?;
+        let part = CcfPart {
+            columns: take_at(alloc, &mut columns, k),
+            q_rows: take_at(alloc, &mut q_rows, k),
+            t_rows: take_at(alloc, &mut t_rows, k),
+        };
+        let lower = lower_blocks(alloc, lattice, k)?;
+        blocks.push(CcfBlock { part, lower })?;
     }
     Ok(Items::from_vec(blocks))
+}
+
+// The part with these columns and rows.
+fn part_with(columns: Vec<usize>, q_rows: Vec<usize>, t_rows: Vec<usize>) -> CcfPart
+    ensures { result ≡ record { columns = columns.items; q_rows = q_rows.items; t_rows = t_rows.items } }
+{
+    CcfPart {
+        columns: Items::from_vec(columns),
+        q_rows: Items::from_vec(q_rows),
+        t_rows: Items::from_vec(t_rows),
+    }
 }
 
 /// The printed parts: the two tails, and the blocks in their order.
@@ -114,14 +95,19 @@ pub fn parts_of(
     let column_places = column_parts(alloc, lattice, columns)?;
     let q_places = row_parts(alloc, q_rows, &pair.base, &column_places)?;
     let t_places = row_parts(alloc, t_rows, &pair.mates, &column_places)?;
-    let placing = Placing {
-        columns: column_places,
-        q_rows: q_places,
-        t_rows: t_places,
-    };
+    let blocks = lattice.blocks();
+    let column_lists = PartLists::of(alloc, &column_places, blocks)?;
+    let q_lists = PartLists::of(alloc, &q_places, blocks)?;
+    let t_lists = PartLists::of(alloc, &t_places, blocks)?;
     Ok(PrintedParts {
-        first: part_at(alloc, &placing, Part::First)?,
-        blocks: blocks_of(alloc, lattice, &placing)?,
-        last: part_at(alloc, &placing, Part::Last)?,
+        first: part_with(column_lists.first, q_lists.first, t_lists.first),
+        blocks: blocks_of(
+            alloc,
+            lattice,
+            column_lists.blocks,
+            q_lists.blocks,
+            t_lists.blocks,
+        )?,
+        last: part_with(column_lists.last, q_lists.last, t_lists.last),
     })
 }

@@ -9,14 +9,6 @@ use minimiser_lattice::{Lattice, Part};
 use out_of_memory::NoMemory;
 use std::alloc::Global;
 
-/// The part of each column, of each Q row and of each T row.
-#[derive(Drop)]
-pub struct Placing {
-    pub columns: Vec<Part>,
-    pub q_rows: Vec<Part>,
-    pub t_rows: Vec<Part>,
-}
-
 /// The part of each of these columns.
 pub fn column_parts(alloc: Global, lattice: &Lattice, columns: usize) -> Result<Vec<Part>, NoMemory>
     requires { columns ≡ lattice.now.places }

@@ -5,7 +5,6 @@ use cert_text::Ccf;
 use mixed_layering::layer;
 use mixed_model::Mixed;
 use residue_field::{Field, Res};
-use row_transform::DenseTableau;
 use std::alloc::Global;
 use std::process::Abort;
 use std::test::Fail;
@@ -27,7 +26,7 @@ fn form_of(alloc: Global, model: &Mixed<Res>) -> Result<Ccf<Res>, Fail> {
     // tells a proof that it is a model
     let _equations = model.equations();
     let layered = layer(alloc, model)?;
-    Ok(build::<Res, DenseTableau<Res>>(alloc, &layered)?)
+    Ok(build(alloc, &layered)?)
 }
 
 // It is one block, with an auxiliary column.

@@ -12,7 +12,7 @@ use crate::pair::Pair;
 use crate::row::Row;
 use out_of_memory::NoMemory;
 use residue_field::Field;
-use row_transform::Tableau;
+use row_transform::{Tableau, Which};
 use std::alloc::Global;
 
 // Marks of the free columns and of the ends, and what makes a column an end: whether a T row does that no column has,
@@ -148,6 +148,16 @@ impl Marks {
         None
     }
 
+    // Notes no column as touched.
+    fn untouch(&mut self)
+        ensures count { length self.new.touched.items ≡ length self.old.touched.items }
+        ensures rest { self.new ≡ record self.old { touched = self.new.touched } }
+    {
+        for mark in self.touched.iter_mut() {
+            *mark = false;
+        }
+    }
+
     /// Before a pivot at a Q row: notes the columns in which P has an entry there, since it changes no other ones.
     pub fn touch<F: Field, T: Tableau<F>>(&mut self, pair: &Pair<F, T>, row: usize)
         requires row { row < (T.state pair.now.tableau).rows }
@@ -156,8 +166,13 @@ impl Marks {
         ensures sized { IsKept (T.state pair.now.tableau).columns self.new }
         ensures rest { self.new ≡ record self.old { touched = self.new.touched } }
     {
-        for x in 0..self.touched.len() {
-            self.touched[x] = pair.has_entry(row, x);
+        // there are at most 8,192 columns, so that the sum below fits
+        let _columns = pair.tableau.columns();
+        self.untouch();
+        let mut from = 0;
+        while let Some(entry) = pair.tableau.next_in_row(Which::P, row, from) {
+            self.touched[entry.0] = true;
+            from = entry.0 + 1;
         }
     }
 

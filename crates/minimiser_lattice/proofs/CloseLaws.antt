@@ -12,7 +12,8 @@ use Rattle.number_ranges.specs.Ranges.{HasNone, IsLeast}
 use Rattle.minimiser_lattice.proofs.PathLaws.{path_top, base_top, last_below}
 
 -- the last place of the path is finished, and its group begins with it: the group is a component
-module _ (arc : ℕ → ℕ → Bool) (n : ℕ) (s : State) (d g : ℕ) (G : IsGoing arc n s) (more : s.depth ≡ d + 1) (last : s.groups ≡ g + 1) (begins : s.base g ≡ s.path d)
+module _ (arc : ℕ → ℕ → Bool) (n : ℕ) (s : State) (d g : ℕ) (G : IsGoing arc n s) (more : s.depth ≡ d + 1)
+    (last : s.groups ≡ g + 1) (begins : s.base g ≡ s.path d)
     (all : n ≤ s.next (s.stack (s.path d))) (done : ℕ → Bool) (number : ℕ → ℕ) (N : IsNumbered s done number (s.path d)) where
   abbrev InGroup : ℕ → Type 0
   InGroup y = (p : ℕ) × (s.path d ≤ p) × (p < s.height) × (s.stack p ≡ y)
@@ -31,7 +32,9 @@ module _ (arc : ℕ → ℕ → Bool) (n : ℕ) (s : State) (d g : ℕ) (G : IsG
 
   -- what a place of the group leads to is done, or of the group
   group_leads : (x y : ℕ) → InGroup x → y < n → arc x y ≡ true → (s.done y ≡ true) ⊎ InGroup y
-  group_leads x y (p, le, l, e) yl a = go (G.explored p y l yl (omega (arith, group_finished p le l)) (subst (λ v. arc v y ≡ true) (sym e) a)) (test_cases (s.done y))
+  group_leads x y (p, le, l, e) yl a =
+      go (G.explored p y l yl (omega (arith, group_finished p le l)) (subst (λ v. arc v y ≡ true) (sym e) a))
+      (test_cases (s.done y))
     where
       go : IsHandled s p y → (s.done y ≡ true) ⊎ (s.done y ≡ false) → (s.done y ≡ true) ⊎ InGroup y
       go _ (inl t) = inl t
@@ -114,7 +117,9 @@ module _ (arc : ℕ → ℕ → Bool) (n : ℕ) (s : State) (d g : ℕ) (G : IsG
       go : Kind x → Kind y → Reaches arc n x y
       go (inl (i, q)) _ = absurd (differ (empty_row (number y) number_small) (subst (λ v. s.strict v (number y) ≡ true) q e))
       go (inr (t, q, b)) (inl (j, r)) = absurd (omega (arith, G.told.falls (number x) (number y) (omega arith) number_small e))
-      go (inr (t, q, b)) (inr (u, r, c)) = G.told.tells x y xl yl t u (subst (λ v. s.strict (s.number x) v ≡ true) r (subst (λ v. s.strict v (number y) ≡ true) q e))
+      go (inr (t, q, b)) (inr (u, r, c)) =
+          G.told.tells x y xl yl t u
+          (subst (λ v. s.strict (s.number x) v ≡ true) r (subst (λ v. s.strict v (number y) ≡ true) q e))
 
   in_rows : (k l : ℕ) → k ≤ s.count → l < n → s.strict k l ≡ true → k < s.count
   in_rows k l le ll h = elim (nat_cases k s.count) [ inl q ↦ absurd (differ (empty_row l ll) (subst (λ v. s.strict v l ≡ true) q h)) | inr ne ↦ omega arith ]
@@ -124,7 +129,13 @@ module _ (arc : ℕ → ℕ → Bool) (n : ℕ) (s : State) (d g : ℕ) (G : IsG
     small = small;
     within = λ x xl h. elim (kinds x xl h) [ inl (i, q) ↦ omega arith | inr (t, q, b) ↦ omega arith ];
     member = λ k le. elim (nat_cases k s.count) [
-      | inl q ↦ (s.stack (s.path d), G.stack_below (s.path d) begins_below, N.done_here (s.path d) (omega arith) begins_below, N.number_here (s.path d) (omega arith) begins_below ∙ sym q)
+      | inl q ↦ (
+        s.stack (s.path d),
+        G.stack_below (s.path d) begins_below,
+        N.done_here (s.path d) (omega arith) begins_below,
+        N.number_here (s.path d) (omega arith) begins_below
+            ∙ sym q,
+      )
       | inr ne ↦ let m = G.told.member k (omega arith) in (m.0, m.1, still_done m.0 m.2, still_number m.0 m.2 ∙ m.3)
     ];
     leads = λ x y xl yl h less a. elim (kinds x xl h) [
@@ -174,9 +185,15 @@ module _ (arc : ℕ → ℕ → Bool) (n : ℕ) (s : State) (d g : ℕ) (G : IsG
     stack_waits = λ i l. done_is (s.stack i) (lower_spot i l) ∙ G.stack_waits i (omega (arith, begins_below));
     placed = λ i l. G.placed i (omega (arith, begins_below));
     on_stack = λ y yl h f. at y yl h f (test_cases (s.done y));
-    done_seen = λ y yl h. elim (kinds y yl h) [ inl ((p, le, l, e), q) ↦ subst (λ v. s.seen v ≡ true) e (G.stack_seen p l) | inr (t, q, b) ↦ G.done_seen y yl t ];
+    done_seen =
+        λ y yl h. elim (kinds y yl h) [
+          | inl ((p, le, l, e), q) ↦ subst (λ v. s.seen v ≡ true) e (G.stack_seen p l)
+          | inr (t, q, b) ↦ G.done_seen y
+              yl t
+        ];
     along = λ i j le l. G.along i j le (omega (arith, begins_below));
-    back = λ i j le l none. G.back i j le (omega (arith, begins_below)) (λ h hl a b. elim (nat_cases h g) [ inl q ↦ omega (arith, ap s.base q) | inr ne ↦ none h (omega arith) a b ]);
+    back = λ i j le l none. G.back i j le (omega (arith, begins_below))
+        (λ h hl a b. elim (nat_cases h g) [ inl q ↦ omega (arith, ap s.base q) | inr ne ↦ none h (omega arith) a b ]);
     explored = λ i y l yl less a. elim (G.explored i y (omega (arith, begins_below)) yl less a) [
       | inl t ↦ inl (still_done y t)
       | inr (h, low) ↦ inr (h, λ k kl. low k (omega arith))
@@ -190,14 +207,17 @@ module _ (arc : ℕ → ℕ → Bool) (n : ℕ) (s : State) (d g : ℕ) (G : IsG
       | inl q ↦ absurd (omega (arith, ap s.path q, e.2, G.base_rises h g l (omega arith)))
       | inr ne ↦ (e.0, omega (arith, e.1), e.2)
     ];
-    finished = λ i l none. G.finished i (omega (arith, begins_below)) (λ e el q. elim (nat_cases e d) [ inl r ↦ omega (arith, ap s.path r) | inr ne ↦ none e (omega arith) q ]);
+    finished =
+        λ i l none. G.finished i (omega (arith, begins_below))
+        (λ e el q. elim (nat_cases e d) [ inl r ↦ omega (arith, ap s.path r) | inr ne ↦ none e (omega arith) q ]);
     room = omega (arith, G.room, begins_below);
   }
     where
       lower_spot : (i : ℕ) → i < s.path d → InGroup (s.stack i) → ⊥
       lower_spot i l (p, le, pl, e) = omega (arith, G.placed p pl, G.placed i (omega (arith, begins_below)), ap s.position e)
 
-      at : (y : ℕ) → y < n → s.seen y ≡ true → done y ≡ false → (s.done y ≡ true) ⊎ (s.done y ≡ false) → (s.position y < s.path d) × (s.stack (s.position y) ≡ y)
+      at : (y : ℕ) → y < n → s.seen y ≡ true → done y ≡ false → (s.done y ≡ true) ⊎ (s.done y ≡ false) →
+          (s.position y < s.path d) × (s.stack (s.position y) ≡ y)
       at y yl h f (inl t) = absurd (differ f (still_done y t))
       at y yl h f (inr w) = let o = G.on_stack y yl h w in elim (lt_cases (s.position y) (s.path d)) [
         | inl low ↦ (low, o.1)
@@ -209,8 +229,11 @@ module _ (arc : ℕ → ℕ → Bool) (n : ℕ) (s : State) (d g : ℕ) (G : IsG
       first some (inr ne) = (omega arith, (G.first_base (omega (arith, begins_below))).1)
 
 -- a place of the component leads to y, of another one: its row gets that of y's component, and that component itself
-module _ (arc : ℕ → ℕ → Bool) (n : ℕ) (done : ℕ → Bool) (number : ℕ → ℕ) (count : ℕ) (strict joined now : ℕ → ℕ → Bool) (C : IsClosing arc n done number count strict) (x y : ℕ) (xl : x < n) (yl : y < n)
-    (hx : done x ≡ true) (ex : number x ≡ count) (a : arc x y ≡ true) (other : number y ≢ count) (J : IsJoined strict joined (strict (number y)) n count) (B : IsBitSet joined now n count (number y)) where
+module _ (arc : ℕ → ℕ → Bool) (n : ℕ) (done : ℕ → Bool) (number : ℕ → ℕ) (count : ℕ)
+    (strict joined now : ℕ → ℕ → Bool) (C : IsClosing arc n done number count strict) (x y : ℕ) (xl : x < n)
+    (yl : y < n)
+    (hx : done x ≡ true) (ex : number x ≡ count) (a : arc x y ≡ true) (other : number y ≢ count)
+    (J : IsJoined strict joined (strict (number y)) n count) (B : IsBitSet joined now n count (number y)) where
   hy : done y ≡ true
   hy = C.stays x y xl yl hx a
 
@@ -285,7 +308,11 @@ module _ (arc : ℕ → ℕ → Bool) (n : ℕ) (done : ℕ → Bool) (number : 
       row_lower : (l m : ℕ) → l < n → m < n → now count l ≡ true → now l m ≡ true → now count m ≡ true
       row_lower l m ll ml h e = elim (row_cases l ll h) [
         | inl q ↦ row_joined m ml (subst (λ w. strict w m ≡ true) q was)
-        | inr o ↦ elim o [ inl f ↦ row_kept m ml (C.lower count l m (omega arith) ll ml f was) | inr f ↦ row_joined m ml (C.lower (number y) l m (omega (arith, low)) ll ml f was) ]
+        | inr o ↦ elim o [
+          | inl f ↦ row_kept m ml (C.lower count l m (omega arith) ll ml f was)
+          | inr f ↦ row_joined m ml
+              (C.lower (number y) l m (omega (arith, low)) ll ml f was)
+        ]
       ]
         where
           was : strict l m ≡ true
@@ -316,18 +343,29 @@ module _ (arc : ℕ → ℕ → Bool) (n : ℕ) (s : State) (G : IsGoing arc n s
       go (inl q) (inl r) = inl (r ∙ q)
       go (inl q) (inr r) = inr (subst (λ v. s.strict v (s.number y) ≡ true) q r)
       go (inr q) (inl r) = inr (subst (λ v. s.strict (s.number x) v ≡ true) (sym r) q)
-      go (inr q) (inr r) = inr (G.told.lower (s.number x) (s.number z) (s.number y) (number_below x xl) (omega (arith, number_below z zl, fits)) (omega (arith, number_below y yl, fits)) q r)
+      go (inr q) (inr r) =
+          inr (G.told.lower (s.number x) (s.number z) (s.number y) (number_below x xl)
+          (omega (arith, number_below z zl, fits)) (omega (arith, number_below y yl, fits)) q r)
 
   pub quotient : IsQuotient arc n s.number s.count s.strict
   quotient = record {
-    numbering = record { fits = fits; below = number_below; member = λ k l. let m = G.told.member k l in (m.0, m.1, m.3); falls = G.told.falls; lower = G.told.lower };
+    numbering =
+        record {
+          fits = fits;
+          below = number_below;
+          member = λ k l. let m =
+              G.told.member k l in (m.0, m.1, m.3);
+          falls = G.told.falls;
+          lower = G.told.lower;
+        };
     same = λ x y xl yl e. G.told.same x y xl yl (all x xl) (all y yl) e;
     tells = λ x y xl yl h. G.told.tells x y xl yl (all x xl) (all y yl) h;
     made = λ x y xl yl (k, w). back_along (Leads y) (λ u v ul vl a. leads_step y u v yl ul vl a) k x y xl yl w (inl refl);
   }
 
 -- one place more has its number
-pub numbered-next : (s : State) (done more : ℕ → Bool) (number now : ℕ → ℕ) (at to place : ℕ) → IsNumberedTo s done number at to → at ≤ to → s.stack to ≡ place → more place ≡ true → now place ≡ s.count →
+pub numbered-next : (s : State) (done more : ℕ → Bool) (number now : ℕ → ℕ) (at to place : ℕ) →
+    IsNumberedTo s done number at to → at ≤ to → s.stack to ≡ place → more place ≡ true → now place ≡ s.count →
     ((y : ℕ) → y ≢ place → more y ≡ done y) → ((y : ℕ) → y ≢ place → now y ≡ number y) → IsNumberedTo s more now at (to + 1)
 numbered-next s done more number now at to place N le q d c same keep = record {
   done_here = λ p a l. elim (nat_cases (s.stack p) place) [
@@ -350,10 +388,17 @@ pub record IsAbsorbing (arc : ℕ → ℕ → Bool) (n : ℕ) (s : State) (place
   pub number : s.number place ≡ s.count
   pub told : (y : ℕ) → y < n → y < from → arc place y ≡ true → IsToldOf s y
 
-pub other_small : (arc : ℕ → ℕ → Bool) (n : ℕ) (s : State) (place from to : ℕ) → IsAbsorbing arc n s place from → IsLeast (arc place) from n to → s.number to < n
-other_small arc n s place from to A L = omega (arith, A.closing.small, A.closing.within to L.before_end (A.closing.stays place to A.below L.before_end A.done L.holds))
+pub other_small : (arc : ℕ → ℕ → Bool) (n : ℕ) (s : State) (place from to : ℕ) → IsAbsorbing arc n s place from →
+    IsLeast (arc place) from n to → s.number to < n
+other_small arc n s place from to A L =
+    omega (
+      arith,
+      A.closing.small,
+      A.closing.within to L.before_end (A.closing.stays place to A.below L.before_end A.done L.holds),
+    )
 
-pub absorbing-next : (arc : ℕ → ℕ → Bool) (n : ℕ) (s : State) (place from to : ℕ) (now : ℕ → ℕ → Bool) → IsAbsorbing arc n s place from → IsLeast (arc place) from n to → IsLed s.strict now n s.count (s.number to) →
+pub absorbing-next : (arc : ℕ → ℕ → Bool) (n : ℕ) (s : State) (place from to : ℕ) (now : ℕ → ℕ → Bool) →
+    IsAbsorbing arc n s place from → IsLeast (arc place) from n to → IsLed s.strict now n s.count (s.number to) →
     IsAbsorbing arc n (record s { strict = now }) place (to + 1) × ((l : ℕ) → l < n → s.strict s.count l ≡ true → now s.count l ≡ true)
 absorbing-next arc n s place from to now A L (inl (known, same)) = (
   subst (λ w. IsAbsorbing arc n (record s { strict = w }) place (to + 1)) (sym same) (record {
@@ -375,8 +420,17 @@ absorbing-next arc n s place from to now A L (inr (other, (joined, J, B))) = (
     done = A.done;
     number = A.number;
     told = λ y yl less a. elim (lt_cases y from) [
-      | inl l ↦ elim (A.told y yl l a) [ inl q ↦ inl q | inr h ↦ inr (kept (s.number y) (omega (arith, A.closing.small, A.closing.within y yl (A.closing.stays place y A.below yl A.done a))) h) ]
-      | inr ge ↦ elim (nat_cases y to) [ inl q ↦ inr (subst (λ v. now s.count (s.number v) ≡ true) (sym q) B.here) | inr ne ↦ absurd (differ (L.none_before y ge (omega arith)) a) ]
+      | inl l ↦ elim (A.told y yl l a) [
+        | inl q ↦ inl q
+        | inr h ↦ inr
+            (kept (s.number y)
+            (omega (arith, A.closing.small, A.closing.within y yl (A.closing.stays place y A.below yl A.done a))) h)
+      ]
+      | inr ge ↦ elim (nat_cases y to) [
+        | inl q ↦ inr (subst (λ v. now s.count (s.number v) ≡ true) (sym q) B.here)
+        | inr ne ↦ absurd
+            (differ (L.none_before y ge (omega arith)) a)
+      ]
     ];
   },
   kept,
@@ -385,23 +439,38 @@ absorbing-next arc n s place from to now A L (inr (other, (joined, J, B))) = (
     kept : (l : ℕ) → l < n → s.strict s.count l ≡ true → now s.count l ≡ true
     kept = row_kept arc n s.done s.number s.count s.strict joined now A.closing place to A.below L.before_end A.done A.number L.holds other J B
 
-pub absorbing-done : (arc : ℕ → ℕ → Bool) (n : ℕ) (s : State) (place from : ℕ) → IsAbsorbing arc n s place from → HasNone (arc place) from n → (y : ℕ) → y < n → arc place y ≡ true → IsToldOf s y
+pub absorbing-done : (arc : ℕ → ℕ → Bool) (n : ℕ) (s : State) (place from : ℕ) → IsAbsorbing arc n s place from →
+    HasNone (arc place) from n → (y : ℕ) → y < n → arc place y ≡ true → IsToldOf s y
 absorbing-done arc n s place from A none y yl a = elim (lt_cases y from) [ inl l ↦ A.told y yl l a | inr ge ↦ absurd (differ (none y ge yl) a) ]
 
 -- the last group begins with the last place of the path
-module _ (arc : ℕ → ℕ → Bool) (n : ℕ) (s : State) (at : ℕ) (G : IsGoing arc n s) (some : 0 < s.depth) (all : IsFinished n s) (begins : s.base (s.groups - 1) ≡ s.path (s.depth - 1)) (q : s.path (s.depth - 1) ≡ at) where
+module _ (arc : ℕ → ℕ → Bool) (n : ℕ) (s : State) (at : ℕ) (G : IsGoing arc n s) (some : 0 < s.depth)
+    (all : IsFinished n s) (begins : s.base (s.groups - 1) ≡ s.path (s.depth - 1)) (q : s.path (s.depth - 1) ≡ at) where
   some_group : s.groups ≡ s.groups - 1 + 1
   some_group = omega (arith, (G.first_base (omega (arith, (last_below arc n s G some).0))).0)
 
   pub closes-start : (done : ℕ → Bool) (number : ℕ → ℕ) → IsNumbered s done number at → IsClosing arc n done number s.count s.strict
-  closes-start done number N = closing-start arc n s (s.depth - 1) (s.groups - 1) G (omega arith) some_group begins all done number (subst (λ v. IsNumbered s done number v) (sym q) N)
+  closes-start done number N =
+      closing-start arc n s (s.depth - 1) (s.groups - 1) G (omega arith) some_group begins all done number
+      (subst (λ v. IsNumbered s done number v) (sym q) N)
 
   pub closes-end : (t : State) → IsNumbered s t.done t.number at → t ≡ record s { done = t.done; number = t.number; strict = t.strict } → Closes arc n t →
       ((p y : ℕ) → at ≤ p → p < t.height → y < n → arc (t.stack p) y ≡ true → IsToldOf t y) →
       IsGoing arc n (record t { height = at; groups = t.groups - 1; depth = t.depth - 1; count = t.count + 1 })
   closes-end t N kept C told = subst (λ v. IsGoing arc n (record v { height = at; groups = v.groups - 1; depth = v.depth - 1; count = v.count + 1 })) (sym kept)
-      (subst (λ v. IsGoing arc n (record s { done = t.done; number = t.number; strict = t.strict; height = v; groups = s.groups - 1; depth = s.depth - 1; count = s.count + 1 })) q
-      (closed-going arc n s (s.depth - 1) (s.groups - 1) G (omega arith) some_group begins all t.done t.number (subst (λ v. IsNumbered s t.done t.number v) (sym q) N) t.strict
+      (subst (λ v. IsGoing arc n
+      (record s {
+        done = t.done;
+        number = t.number;
+        strict = t.strict;
+        height = v;
+        groups = s.groups - 1;
+        depth =
+            s.depth - 1;
+        count = s.count + 1;
+      })) q
+      (closed-going arc n s (s.depth - 1) (s.groups - 1) G (omega arith) some_group begins all t.done t.number
+      (subst (λ v. IsNumbered s t.done t.number v) (sym q) N) t.strict
       (subst (λ v. IsClosing arc n t.done t.number v t.strict) count C)
       (λ p y le l yl a. elim (told p y (omega arith) (omega (arith, height)) yl (subst (λ v. arc v y ≡ true) (sym (ap (λ v. v.stack p) kept)) a)) [
         | inl e ↦ inl (e ∙ count)

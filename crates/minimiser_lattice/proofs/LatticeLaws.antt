@@ -18,13 +18,16 @@ use Rattle.minimiser_lattice.specs.Parts.{Parts, IsLattice}
 use Rattle.minimiser_lattice.specs.Views.{parts_from}
 use Rattle.minimiser_lattice.proofs.ListingLaws.{leads-same, leads-strict, leads-cases, leads-both}
 
-module _ (arc : ℕ → ℕ → Bool) (n : ℕ) (starts ends : ℕ → Bool) (number : ℕ → ℕ) (count : ℕ) (strict : ℕ → ℕ → Bool) (Q : IsQuotient arc n number count strict) (first last middle : ℕ → Bool)
+module _ (arc : ℕ → ℕ → Bool) (n : ℕ) (starts ends : ℕ → Bool) (number : ℕ → ℕ) (count : ℕ) (strict : ℕ → ℕ → Bool)
+    (Q : IsQuotient arc n number count strict) (first last middle : ℕ → Bool)
     (K : IsMarked n number count strict starts ends first last middle) where
   leads-reaches : (x y : ℕ) → x < n → y < n → table_of strict number x y ≡ true → Reaches arc n x y
   leads-reaches x y xl yl h = elim (leads-cases strict (number x) (number y) h) [ inl q ↦ Q.same x y xl yl q | inr s ↦ Q.tells x y xl yl s ]
 
   reaches-leads : (x y : ℕ) → x < n → y < n → Reaches arc n x y → table_of strict number x y ≡ true
-  reaches-leads x y xl yl r = elim (Q.made x y xl yl r) [ inl q ↦ leads-same strict (number x) (number y) (sym q) | inr s ↦ leads-strict strict (number x) (number y) s ]
+  reaches-leads x y xl yl r =
+      elim (Q.made x y xl yl r)
+      [ inl q ↦ leads-same strict (number x) (number y) (sym q) | inr s ↦ leads-strict strict (number x) (number y) s ]
 
   below : (x : ℕ) → x < n → number x < count
   below = Q.numbering.below
@@ -33,27 +36,27 @@ module _ (arc : ℕ → ℕ → Bool) (n : ℕ) (starts ends : ℕ → Bool) (nu
   first-set y yl = (to, from)
     where
       to : first (number y) ≡ true → FromSome arc n starts y
-      to h = let s = K.first_some (number y) (below y yl) h in (s.0, s.1, s.2, leads-reaches s.0 y s.1 yl s.3)
+      to h = let s = K.first_tail.some (number y) (below y yl) h in (s.0, s.1, s.2, leads-reaches s.0 y s.1 yl s.3)
 
       from : FromSome arc n starts y → first (number y) ≡ true
       from (s, sl, sh, r) = go (test_cases (first (number y)))
         where
           go : (first (number y) ≡ true) ⊎ (first (number y) ≡ false) → first (number y) ≡ true
           go (inl t) = t
-          go (inr f) = absurd (differ (K.first_none (number y) s (below y yl) f sl sh) (reaches-leads s y sl yl r))
+          go (inr f) = absurd (differ (K.first_tail.none (number y) s (below y yl) f sl sh) (reaches-leads s y sl yl r))
 
   pub last-set : (x : ℕ) → x < n → (last (number x) ≡ true ↔ ToSome arc n ends x)
   last-set x xl = (to, from)
     where
       to : last (number x) ≡ true → ToSome arc n ends x
-      to h = let e = K.last_some (number x) (below x xl) h in (e.0, e.1, e.2, leads-reaches x e.0 xl e.1 e.3)
+      to h = let e = K.last_tail.some (number x) (below x xl) h in (e.0, e.1, e.2, leads-reaches x e.0 xl e.1 e.3)
 
       from : ToSome arc n ends x → last (number x) ≡ true
       from (e, el, eh, r) = go (test_cases (last (number x)))
         where
           go : (last (number x) ≡ true) ⊎ (last (number x) ≡ false) → last (number x) ≡ true
           go (inl t) = t
-          go (inr f) = absurd (differ (K.last_none (number x) e (below x xl) f el eh) (reaches-leads x e xl el r))
+          go (inr f) = absurd (differ (K.last_tail.none (number x) e (below x xl) f el eh) (reaches-leads x e xl el r))
 
   pub middle-tells : Tells arc n starts ends (table_of strict number) (λ x. middle (number x))
   middle-tells = record {
@@ -65,10 +68,13 @@ module _ (arc : ℕ → ℕ → Bool) (n : ℕ) (starts ends : ℕ → Bool) (nu
       λ t. differ (not-true (last (number x)) (both-second (not (first (number x))) (not (last (number x))) both)) ((last-set x l).1 t),
     );
     in_middle = λ x m. K.others (number x) (below x m.0) ∙ both_true (not (first (number x))) (not (last (number x)))
-        (not-make (first (number x)) (not_true (first (number x)) (λ h. m.1 ((first-set x m.0).0 h)))) (not-make (last (number x)) (not_true (last (number x)) (λ h. m.2 ((last-set x m.0).0 h))));
+        (not-make (first (number x)) (not_true (first (number x)) (λ h. m.1 ((first-set x m.0).0 h))))
+        (not-make (last (number x)) (not_true (last (number x)) (λ h. m.2 ((last-set x m.0).0 h))));
   }
 
-  module _ (rank listed : ℕ → ℕ) (b : ℕ) (S : IsListing arc n starts ends (λ x. rank (number x)) b) (placed : ℕ → Bool) (H : HasPlaces count middle placed rank listed b) (between : ℕ → ℕ → Bool) (B : IsBetween n count strict between) where
+  module _ (rank listed : ℕ → ℕ) (b : ℕ) (S : IsListing arc n starts ends (λ x. rank (number x)) b)
+      (placed : ℕ → Bool) (H : HasPlaces count middle placed rank listed b) (between : ℕ → ℕ → Bool)
+      (B : IsBetween n count strict between) where
     abbrev lower : ℕ → ℕ → Bool
     lower k l = strict (listed l) (listed k)
 
@@ -84,15 +90,19 @@ module _ (arc : ℕ → ℕ → Bool) (n : ℕ) (starts ends : ℕ → Bool) (nu
         let j = S.below_b x m in
         let z = of_block (rank (number x)) j in
         let u = S.shared z.0 x z.1 m (ap rank z.2 ∙ H.ranks (rank (number x)) j) in
-        sym z.2 ∙ leads-both n number count strict Q.numbering middle placed z.0 x z.1.0 m.0 (reaches-leads z.0 x z.1.0 m.0 u.0) (reaches-leads x z.0 m.0 z.1.0 u.1)
+        sym z.2 ∙ leads-both n number count strict Q.numbering middle placed z.0 x z.1.0 m.0
+        (reaches-leads z.0 x z.1.0 m.0 u.0) (reaches-leads x z.0 m.0 z.1.0 u.1)
 
     pub blocks-below : IsBelow arc n starts ends (λ x. rank (number x)) b lower
     blocks-below = record {
       apart = λ k l kb lb h q. omega (arith, ap listed q, Q.numbering.falls (listed l) (listed k) (H.below l lb) (listed_small k kb) h);
-      tells = λ x y mx my h. Q.tells x y mx.0 my.0 (subst (λ v. strict v (number y) ≡ true) (listed_is x mx) (subst (λ v. strict (listed (rank (number x))) v ≡ true) (listed_is y my) h));
+      tells = λ x y mx my h. Q.tells x y mx.0 my.0
+          (subst (λ v. strict v (number y) ≡ true) (listed_is x mx)
+          (subst (λ v. strict (listed (rank (number x))) v ≡ true) (listed_is y my) h));
       made = λ x y mx my r ne. elim (Q.made x y mx.0 my.0 r) [
         | inl q ↦ absurd (ne (ap rank q))
-        | inr s ↦ subst (λ v. strict v (listed (rank (number y))) ≡ true) (sym (listed_is x mx)) (subst (λ v. strict (number x) v ≡ true) (sym (listed_is y my)) s)
+        | inr s ↦ subst (λ v. strict v (listed (rank (number y))) ≡ true) (sym (listed_is x mx))
+            (subst (λ v. strict (number x) v ≡ true) (sym (listed_is y my)) s)
       ];
     }
 
@@ -107,8 +117,11 @@ module _ (arc : ℕ → ℕ → Bool) (n : ℕ) (starts ends : ℕ → Bool) (nu
 
     cover_both : (l k : ℕ) → covers l k ≡ true → (strict (listed l) (listed k) ≡ true) × (between (listed l) (listed k) ≡ false)
     cover_both l k h =
-        let e = both-second (nat_lt k b && nat_lt l b) (strict (listed l) (listed k) && not (between (listed l) (listed k))) h in
-        (both-first (strict (listed l) (listed k)) (not (between (listed l) (listed k))) e, not-true (between (listed l) (listed k)) (both-second (strict (listed l) (listed k)) (not (between (listed l) (listed k))) e))
+        let e = both-second (nat_lt k b && nat_lt l b) (strict (listed l) (listed k) && not (between (listed l) (listed k))) h in (
+          both-first (strict (listed l) (listed k)) (not (between (listed l) (listed k))) e,
+          not-true (between (listed l) (listed k))
+              (both-second (strict (listed l) (listed k)) (not (between (listed l) (listed k))) e),
+        )
 
     pub covers-within : (k l : ℕ) → covers l k ≡ true → (k < b) × (l < b)
     covers-within k l h =
@@ -116,23 +129,38 @@ module _ (arc : ℕ → ℕ → Bool) (n : ℕ) (starts ends : ℕ → Bool) (nu
         (test_lt k b (both-first (nat_lt k b) (nat_lt l b) e), test_lt l b (both-second (nat_lt k b) (nat_lt l b) e))
 
     -- a component between two of the middle is of the middle, so a block stands between
-    block_between : (k l m : ℕ) → k < b → l < b → m < n → m < count → strict (listed l) m ≡ true → strict m (listed k) ≡ true → (j : ℕ) × (j < b) × (listed j ≡ m)
+    block_between : (k l m : ℕ) → k < b → l < b → m < n → m < count → strict (listed l) m ≡ true →
+        strict m (listed k) ≡ true → (j : ℕ) × (j < b) × (listed j ≡ m)
     block_between k l m kb lb mn mc s t =
         let x = of_block l lb in
         let y = of_block k kb in
         let z = Q.numbering.member m mc in
-        let xz : Reaches arc n x.0 z.0 = Q.tells x.0 z.0 x.1.0 z.1 (subst (λ v. strict v (number z.0) ≡ true) (sym x.2) (subst (λ v. strict (listed l) v ≡ true) (sym z.2) s)) in
-        let zy : Reaches arc n z.0 y.0 = Q.tells z.0 y.0 z.1 y.1.0 (subst (λ v. strict v (number y.0) ≡ true) (sym z.2) (subst (λ v. strict m v ≡ true) (sym y.2) t)) in
-        let mz : IsMiddle arc n starts ends z.0 = (z.1, (λ f. y.1.1 (from-reaches arc n starts z.0 y.0 f zy)), λ e. x.1.2 (reaches-to arc n ends x.0 z.0 xz e)) in
+        let xz : Reaches arc n x.0 z.0 =
+        Q.tells x.0 z.0 x.1.0 z.1
+        (subst (λ v. strict v (number z.0) ≡ true) (sym x.2)
+        (subst (λ v. strict (listed l) v ≡ true) (sym z.2) s)) in
+        let zy : Reaches arc n z.0 y.0 =
+        Q.tells z.0 y.0 z.1 y.1.0
+        (subst (λ v. strict v (number y.0) ≡ true) (sym z.2) (subst (λ v. strict m v ≡ true) (sym y.2) t)) in
+        let mz : IsMiddle arc n starts ends z.0 = (
+          z.1,
+          (λ f. y.1.1 (from-reaches arc n starts z.0 y.0 f zy)),
+          λ e. x.1.2 (reaches-to arc n ends x.0 z.0 xz e),
+        ) in
         (rank (number z.0), S.below_b z.0 mz, listed_is z.0 mz ∙ z.2)
 
     pub blocks-cover : IsCover lower b covers
     blocks-cover = record {
       is_below = λ k l kb lb h. (cover_both l k h).0;
       none_between = λ k m l kb mb lb h km ml. differ (cover_both l k h).1
-          ((B (listed l) (H.below l lb)).made (listed m) (listed k) (omega arith) (Q.numbering.falls (listed l) (listed m) (H.below l lb) (listed_small m mb) ml) (listed_small k kb) ml km);
-      all = λ k l kb lb h none. both_true (nat_lt k b && nat_lt l b) (strict (listed l) (listed k) && not (between (listed l) (listed k))) (both_true (nat_lt k b) (nat_lt l b) (lt_test k b kb) (lt_test l b lb))
-          (both_true (strict (listed l) (listed k)) (not (between (listed l) (listed k))) h (not-make (between (listed l) (listed k)) (not_true (between (listed l) (listed k)) (λ e.
+          ((B (listed l) (H.below l lb)).made (listed m) (listed k) (omega arith)
+          (Q.numbering.falls (listed l) (listed m) (H.below l lb) (listed_small m mb) ml) (listed_small k kb) ml
+          km);
+      all = λ k l kb lb h none. both_true (nat_lt k b && nat_lt l b)
+          (strict (listed l) (listed k) && not (between (listed l) (listed k)))
+          (both_true (nat_lt k b) (nat_lt l b) (lt_test k b kb) (lt_test l b lb))
+          (both_true (strict (listed l) (listed k)) (not (between (listed l) (listed k))) h
+          (not-make (between (listed l) (listed k)) (not_true (between (listed l) (listed k)) (λ e.
           let d = (B (listed l) (H.below l lb)).some (listed k) (listed_small k kb) e in
           let j = block_between k l d.0 kb lb (omega (arith, d.2, listed_small l lb)) (omega (arith, d.2, H.below l lb)) d.3 d.4 in
           none j.0 j.1 (subst (λ v. strict v (listed k) ≡ true) (sym j.2) d.4) (subst (λ v. strict (listed l) v ≡ true) (sym j.2) d.3)))));
@@ -147,8 +175,12 @@ module _ (arc : ℕ → ℕ → Bool) (n : ℕ) (starts ends : ℕ → Bool) (nu
     }
 
 -- the parts, with the covers of their order, keep the rules of printed parts
-pub lattice-keeps : (arc : ℕ → ℕ → Bool) (n : ℕ) (starts ends : ℕ → Bool) (v : Parts) → NoEndReached arc n starts ends → IsLattice arc n starts ends v → KeepsRules arc n starts ends v.first v.last v.block v.blocks v.covers
-lattice-keeps arc n starts ends v clear L = parts-keep arc n starts ends v.block v.blocks L.parts.listing v.below L.order v.first v.last clear L.parts.first (λ x l. (L.parts.last x l).0) (λ x l. (L.parts.last x l).1) v.covers L.covers L.within
+pub lattice-keeps : (arc : ℕ → ℕ → Bool) (n : ℕ) (starts ends : ℕ → Bool) (v : Parts) →
+    NoEndReached arc n starts ends → IsLattice arc n starts ends v →
+    KeepsRules arc n starts ends v.first v.last v.block v.blocks v.covers
+lattice-keeps arc n starts ends v clear L =
+    parts-keep arc n starts ends v.block v.blocks L.parts.listing v.below L.order v.first v.last clear L.parts.first
+    (λ x l. (L.parts.last x l).0) (λ x l. (L.parts.last x l).1) v.covers L.covers L.within
 
 -- how the code reads a cover
 pub cover_read : (k l b : ℕ) → k < b → l < b → (s t r : Bool) → s ≡ true → r ≡ t → not r ≡ ((nat_lt k b && nat_lt l b) && (s && not t))

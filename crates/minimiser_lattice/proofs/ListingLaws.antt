@@ -9,7 +9,7 @@ use Rattle.closed_sets.proofs.Listings.{Started, started-none}
 use Rattle.closed_sets.proofs.TableLaws.{started-same, table-next, table-done}
 use Rattle.minimiser_lattice.specs.Paths.{IsNumbering}
 use Rattle.minimiser_lattice.specs.Components.{leads_in}
-use Rattle.minimiser_lattice.specs.Listings.{HasPlaces, IsBetweenFrom, IsMarked, IsReadyAt, IsWatched, table_of}
+use Rattle.minimiser_lattice.specs.Listings.{HasPlaces, IsBetweenFrom, IsReadyAt, IsWatched, table_of}
 use Rattle.bit_table.specs.Bits.{IsJoined}
 use Rattle.minimiser_lattice.proofs.PathLaws.{size_misses}
 
@@ -157,33 +157,4 @@ pub between-same : (n : ℕ) (strict before now : ℕ → ℕ → Bool) (l from 
 between-same n strict before now l from same R = record {
   some = λ y yl h. R.some y yl (sym (same y yl) ∙ h);
   made = λ m y le ml yl s t. same y yl ∙ R.made m y le ml yl s t;
-}
-
--- one component more is marked
-pub marked-next : (n : ℕ) (number : ℕ → ℕ) (k : ℕ) (strict : ℕ → ℕ → Bool) (starts ends first last middle now_first now_last now_middle : ℕ → Bool) (f l : Bool) → IsMarked n number k strict starts ends first last middle →
-    now_first k ≡ f → now_last k ≡ l → now_middle k ≡ (not f && not l) → ((j : ℕ) → j ≢ k → now_first j ≡ first j) → ((j : ℕ) → j ≢ k → now_last j ≡ last j) → ((j : ℕ) → j ≢ k → now_middle j ≡ middle j) →
-    (f ≡ true → (s : ℕ) × (s < n) × (starts s ≡ true) × (leads_in strict (number s) k ≡ true)) → (f ≡ false → (s : ℕ) → s < n → starts s ≡ true → leads_in strict (number s) k ≡ false) →
-    (l ≡ true → (e : ℕ) × (e < n) × (ends e ≡ true) × (leads_in strict k (number e) ≡ true)) → (l ≡ false → (e : ℕ) → e < n → ends e ≡ true → leads_in strict k (number e) ≡ false) →
-    IsMarked n number (k + 1) strict starts ends now_first now_last now_middle
-marked-next n number k strict starts ends first last middle now_first now_last now_middle f l K fe le me fs ls ms f_some f_none l_some l_none = record {
-  first_some = λ j jl h. elim (nat_cases j k) [
-    | inl q ↦ subst (λ v. (s : ℕ) × (s < n) × (starts s ≡ true) × (leads_in strict (number s) v ≡ true)) (sym q) (f_some (sym fe ∙ (sym (ap now_first q) ∙ h)))
-    | inr ne ↦ K.first_some j (omega arith) (sym (fs j ne) ∙ h)
-  ];
-  first_none = λ j s jl h sl sh. elim (nat_cases j k) [
-    | inl q ↦ subst (λ v. leads_in strict (number s) v ≡ false) (sym q) (f_none (sym fe ∙ (sym (ap now_first q) ∙ h)) s sl sh)
-    | inr ne ↦ K.first_none j s (omega arith) (sym (fs j ne) ∙ h) sl sh
-  ];
-  last_some = λ j jl h. elim (nat_cases j k) [
-    | inl q ↦ subst (λ v. (e : ℕ) × (e < n) × (ends e ≡ true) × (leads_in strict v (number e) ≡ true)) (sym q) (l_some (sym le ∙ (sym (ap now_last q) ∙ h)))
-    | inr ne ↦ K.last_some j (omega arith) (sym (ls j ne) ∙ h)
-  ];
-  last_none = λ j e jl h el eh. elim (nat_cases j k) [
-    | inl q ↦ subst (λ v. leads_in strict v (number e) ≡ false) (sym q) (l_none (sym le ∙ (sym (ap now_last q) ∙ h)) e el eh)
-    | inr ne ↦ K.last_none j e (omega arith) (sym (ls j ne) ∙ h) el eh
-  ];
-  others = λ j jl. elim (nat_cases j k) [
-    | inl q ↦ ap now_middle q ∙ (me ∙ (ap (λ v. not v && not l) (sym (ap now_first q ∙ fe)) ∙ ap (λ v. not (now_first j) && not v) (sym (ap now_last q ∙ le))))
-    | inr ne ↦ ms j ne ∙ (K.others j (omega arith) ∙ (ap (λ v. not v && not (last j)) (sym (fs j ne)) ∙ ap (λ v. not (now_first j) && not v) (sym (ls j ne))))
-  ];
 }

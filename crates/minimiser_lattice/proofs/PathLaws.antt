@@ -25,7 +25,12 @@ moved arc n a b c d ab cd r = subst (λ v. Reaches arc n v c) (sym ab) (subst (�
 module _ (arc : ℕ → ℕ → Bool) (n : ℕ) (s : State) (G : IsGoing arc n s) where
   -- there is room for a place that was not seen
   pub enter_room : (place : ℕ) → place < n → s.seen place ≡ false → (s.height < n) × (s.groups < n) × (s.depth < n) × (s.count < n)
-  enter_room place l fresh = (height, at_most s.groups s.base G.base_rises G.base_below, at_most s.depth s.path G.path_rises G.path_below, omega (arith, G.room, small))
+  enter_room place l fresh = (
+    height,
+    at_most s.groups s.base G.base_rises G.base_below,
+    at_most s.depth s.path G.path_rises G.path_below,
+    omega (arith, G.room, small),
+  )
     where
       small : size_on s.seen n < n
       small = size_misses s.seen n place l fresh
@@ -74,7 +79,18 @@ module _ (arc : ℕ → ℕ → Bool) (n : ℕ) (s : State) (G : IsGoing arc n s
 module _ (arc : ℕ → ℕ → Bool) (n : ℕ) (s t : State) (to : ℕ) (G : IsGoing arc n s) (P : IsEntered s t to) (tl : to < n) (fresh : s.seen to ≡ false)
     (leads : (i : ℕ) → i < s.height → Reaches arc n (s.stack i) to) where
   abbrev u : State
-  u = record s { seen = t.seen; position = t.position; next = t.next; stack = t.stack; base = t.base; path = t.path; height = s.height + 1; groups = s.groups + 1; depth = s.depth + 1 }
+  u = record s {
+    seen = t.seen;
+    position = t.position;
+    next = t.next;
+    stack = t.stack;
+    base = t.base;
+    path = t.path;
+    height =
+        s.height + 1;
+    groups = s.groups + 1;
+    depth = s.depth + 1;
+  }
 
   spot : (i : ℕ) → i < s.height + 1 → ((i ≡ s.height) × (t.stack i ≡ to)) ⊎ ((i < s.height) × (t.stack i ≡ s.stack i))
   spot i l = elim (nat_cases i s.height) [ inl q ↦ inl (q, ap t.stack q ∙ P.stack) | inr ne ↦ inr (omega arith, P.stack_others i ne) ]
@@ -113,7 +129,9 @@ module _ (arc : ℕ → ℕ → Bool) (n : ℕ) (s t : State) (to : ℕ) (G : Is
   u_along : (i j : ℕ) → i ≤ j → j < s.height + 1 → Reaches arc n (t.stack i) (t.stack j)
   u_along i j le l = go (spot i (omega arith)) (spot j l)
     where
-      go : ((i ≡ s.height) × (t.stack i ≡ to)) ⊎ ((i < s.height) × (t.stack i ≡ s.stack i)) → ((j ≡ s.height) × (t.stack j ≡ to)) ⊎ ((j < s.height) × (t.stack j ≡ s.stack j)) → Reaches arc n (t.stack i) (t.stack j)
+      go : ((i ≡ s.height) × (t.stack i ≡ to)) ⊎ ((i < s.height) × (t.stack i ≡ s.stack i)) →
+          ((j ≡ s.height) × (t.stack j ≡ to)) ⊎ ((j < s.height) × (t.stack j ≡ s.stack j)) →
+          Reaches arc n (t.stack i) (t.stack j)
       go (inl (q, e)) (inl (r, f)) = moved arc n (t.stack i) to (t.stack j) to e f (reaches-self arc n to)
       go (inl (q, e)) (inr (r, f)) = absurd (omega arith)
       go (inr (q, e)) (inl (r, f)) = moved arc n (t.stack i) (s.stack i) (t.stack j) to e f (leads i q)
@@ -122,11 +140,16 @@ module _ (arc : ℕ → ℕ → Bool) (n : ℕ) (s t : State) (to : ℕ) (G : Is
   u_back : (i j : ℕ) → i ≤ j → j < s.height + 1 → ((g : ℕ) → g < s.groups + 1 → i < t.base g → t.base g ≤ j → ⊥) → Reaches arc n (t.stack j) (t.stack i)
   u_back i j le l none = go (spot i (omega arith)) (spot j l)
     where
-      go : ((i ≡ s.height) × (t.stack i ≡ to)) ⊎ ((i < s.height) × (t.stack i ≡ s.stack i)) → ((j ≡ s.height) × (t.stack j ≡ to)) ⊎ ((j < s.height) × (t.stack j ≡ s.stack j)) → Reaches arc n (t.stack j) (t.stack i)
+      go : ((i ≡ s.height) × (t.stack i ≡ to)) ⊎ ((i < s.height) × (t.stack i ≡ s.stack i)) →
+          ((j ≡ s.height) × (t.stack j ≡ to)) ⊎ ((j < s.height) × (t.stack j ≡ s.stack j)) →
+          Reaches arc n (t.stack j) (t.stack i)
       go (inl (q, e)) (inl (r, f)) = moved arc n (t.stack j) to (t.stack i) to f e (reaches-self arc n to)
       go (inl (q, e)) (inr (r, f)) = absurd (omega arith)
       go (inr (q, e)) (inl (r, f)) = absurd (none s.groups (omega arith) (omega (arith, P.base)) (omega (arith, P.base)))
-      go (inr (q, e)) (inr (r, f)) = moved arc n (t.stack j) (s.stack j) (t.stack i) (s.stack i) f e (G.back i j le r (λ g gl a b. none g (omega arith) (omega (arith, old_base g gl)) (omega (arith, old_base g gl))))
+      go (inr (q, e)) (inr (r, f)) =
+          moved arc n (t.stack j) (s.stack j) (t.stack i) (s.stack i) f e
+          (G.back i j le r
+          (λ g gl a b. none g (omega arith) (omega (arith, old_base g gl)) (omega (arith, old_base g gl))))
 
   u_explored : (i y : ℕ) → i < s.height + 1 → y < n → y < t.next (t.stack i) → arc (t.stack i) y ≡ true → IsHandled u i y
   u_explored i y l yl less a = go (spot i l)
@@ -175,18 +198,38 @@ module _ (arc : ℕ → ℕ → Bool) (n : ℕ) (s t : State) (to : ℕ) (G : Is
   entered-going = subst (λ v. IsGoing arc n v) (sym P.kept) (record {
     told = G.told;
     stack_below = λ i l. elim (spot i l) [ inl (q, e) ↦ subst (λ v. v < n) (sym e) tl | inr (il, e) ↦ subst (λ v. v < n) (sym e) (G.stack_below i il) ];
-    stack_seen = λ i l. elim (spot i l) [ inl (q, e) ↦ subst (λ v. t.seen v ≡ true) (sym e) P.seen | inr (il, e) ↦ subst (λ v. t.seen v ≡ true) (sym e) (still_seen (s.stack i) (G.stack_seen i il)) ];
+    stack_seen =
+        λ i l. elim (spot i l) [
+          | inl (q, e) ↦ subst (λ v. t.seen v ≡ true) (sym e) P.seen
+          | inr (il, e) ↦ subst (λ v. t.seen v ≡ true)
+              (sym e) (still_seen (s.stack i) (G.stack_seen i il))
+        ];
     stack_waits = λ i l. elim (spot i l) [ inl (q, e) ↦ ap s.done e ∙ to_waits | inr (il, e) ↦ ap s.done e ∙ G.stack_waits i il ];
-    placed = λ i l. elim (spot i l) [ inl (q, e) ↦ ap t.position e ∙ (P.position ∙ sym q) | inr (il, e) ↦ ap t.position e ∙ (pos_is (s.stack i) (G.stack_seen i il) ∙ G.placed i il) ];
+    placed =
+        λ i l. elim (spot i l) [
+          | inl (q, e) ↦ ap t.position e ∙ (P.position ∙ sym q)
+          | inr (il, e) ↦ ap t.position e
+              ∙ (pos_is (s.stack i) (G.stack_seen i il) ∙ G.placed i il)
+        ];
     on_stack = u_on_stack;
     done_seen = λ y l h. still_seen y (G.done_seen y l h);
     along = u_along;
     back = u_back;
     explored = u_explored;
-    base_below = λ g l. elim (nat_cases g s.groups) [ inl q ↦ omega (arith, ap t.base q, P.base) | inr ne ↦ omega (arith, old_base g (omega arith), G.base_below g (omega arith)) ];
+    base_below =
+        λ g l. elim (nat_cases g s.groups) [
+          | inl q ↦ omega (arith, ap t.base q, P.base)
+          | inr ne ↦ omega
+              (arith, old_base g (omega arith), G.base_below g (omega arith))
+        ];
     base_rises = u_base_rises;
     first_base = λ _. u_first_base;
-    path_below = λ d l. elim (nat_cases d s.depth) [ inl q ↦ omega (arith, ap t.path q, P.path) | inr ne ↦ omega (arith, old_path d (omega arith), G.path_below d (omega arith)) ];
+    path_below =
+        λ d l. elim (nat_cases d s.depth) [
+          | inl q ↦ omega (arith, ap t.path q, P.path)
+          | inr ne ↦ omega
+              (arith, old_path d (omega arith), G.path_below d (omega arith))
+        ];
     path_rises = u_path_rises;
     base_on_path = u_base_on_path;
     finished = λ i l none. elim (spot i l) [
@@ -197,7 +240,8 @@ module _ (arc : ℕ → ℕ → Bool) (n : ℕ) (s t : State) (to : ℕ) (G : Is
   })
 
 -- an arc leads from the last place of the path to one on the stack
-module _ (arc : ℕ → ℕ → Bool) (n : ℕ) (s : State) (d to groups : ℕ) (G : IsGoing arc n s) (more : s.depth ≡ d + 1) (tl : to < n) (h : s.seen to ≡ true) (w : s.done to ≡ false)
+module _ (arc : ℕ → ℕ → Bool) (n : ℕ) (s : State) (d to groups : ℕ) (G : IsGoing arc n s) (more : s.depth ≡ d + 1)
+    (tl : to < n) (h : s.seen to ≡ true) (w : s.done to ≡ false)
     (a : arc (s.stack (s.path d)) to ≡ true) (M : IsMerged s groups (s.position to)) where
   m_back : (i j : ℕ) → i ≤ j → j < s.height → ((g : ℕ) → g < groups → i < s.base g → s.base g ≤ j → ⊥) → Reaches arc n (s.stack j) (s.stack i)
   m_back i j le l none = elim (search_below s.groups (λ g. (i < s.base g) × (s.base g ≤ j)) (λ g gl. both g (lt_cases i (s.base g)) (lt_cases j (s.base g)))) [
@@ -205,7 +249,8 @@ module _ (arc : ℕ → ℕ → Bool) (n : ℕ) (s : State) (d to groups : ℕ) 
     | inl (g, gl, p) ↦ through g gl p.0 p.1 (lt_cases g groups)
   ]
     where
-      both : (g : ℕ) → (i < s.base g) ⊎ (s.base g ≤ i) → (j < s.base g) ⊎ (s.base g ≤ j) → ((i < s.base g) × (s.base g ≤ j)) ⊎ ((i < s.base g) × (s.base g ≤ j) → ⊥)
+      both : (g : ℕ) → (i < s.base g) ⊎ (s.base g ≤ i) → (j < s.base g) ⊎ (s.base g ≤ j) →
+          ((i < s.base g) × (s.base g ≤ j)) ⊎ ((i < s.base g) × (s.base g ≤ j) → ⊥)
       both g (inl x) (inr y) = inl (x, y)
       both g (inr x) _ = inr (λ p. omega (arith, p.0))
       both g (inl x) (inl y) = inr (λ p. omega (arith, p.1))
@@ -286,7 +331,8 @@ module _ (arc : ℕ → ℕ → Bool) (n : ℕ) (s : State) (d from : ℕ) (next
   }
 
 -- the last place of the path is finished, and its group does not begin with it
-module _ (arc : ℕ → ℕ → Bool) (n : ℕ) (s : State) (d g : ℕ) (G : IsGoing arc n s) (more : s.depth ≡ d + 1) (last : s.groups ≡ g + 1) (other : s.base g ≢ s.path d)
+module _ (arc : ℕ → ℕ → Bool) (n : ℕ) (s : State) (d g : ℕ) (G : IsGoing arc n s) (more : s.depth ≡ d + 1)
+    (last : s.groups ≡ g + 1) (other : s.base g ≢ s.path d)
     (all : n ≤ s.next (s.stack (s.path d))) where
   no_base : (h : ℕ) → h < s.groups → s.base h ≢ s.path d
   no_base h l q = elim (nat_cases h g) [
@@ -324,7 +370,11 @@ module _ (arc : ℕ → ℕ → Bool) (n : ℕ) (s : State) (d g : ℕ) (G : IsG
 
 -- what stands where fits the arrays
 pub going_fits : (arc : ℕ → ℕ → Bool) (n : ℕ) (s : State) → IsGoing arc n s → (s.height ≤ n) × (s.groups ≤ s.height) × (s.depth ≤ s.height)
-going_fits arc n s G = (omega (arith, G.room, size_on-bound s.seen n), at_most s.groups s.base G.base_rises G.base_below, at_most s.depth s.path G.path_rises G.path_below)
+going_fits arc n s G = (
+  omega (arith, G.room, size_on-bound s.seen n),
+  at_most s.groups s.base G.base_rises G.base_below,
+  at_most s.depth s.path G.path_rises G.path_below,
+)
   where
     at_most : (k : ℕ) (f : ℕ → ℕ) → ((i j : ℕ) → i < j → j < k → f i < f j) → ((i : ℕ) → i < k → f i < s.height) → k ≤ s.height
     at_most zero f rises below = omega arith
@@ -340,28 +390,41 @@ pub record IsAdvancing (arc : ℕ → ℕ → Bool) (n : ℕ) (s : State) (place
   pub last : last_of s ≡ place
   pub handled : (y : ℕ) → y < n → y < from → arc place y ≡ true → IsHandled s (s.path (s.depth - 1)) y
 
-pub advancing-first : (arc : ℕ → ℕ → Bool) (n : ℕ) (s : State) (place from : ℕ) → IsGoing arc n s → 0 < s.depth → last_of s ≡ place → s.next place ≡ from → IsAdvancing arc n s place from
+pub advancing-first : (arc : ℕ → ℕ → Bool) (n : ℕ) (s : State) (place from : ℕ) → IsGoing arc n s → 0 < s.depth →
+    last_of s ≡ place → s.next place ≡ from → IsAdvancing arc n s place from
 advancing-first arc n s place from G some q e = record {
   going = G;
   some = some;
   last = q;
-  handled = λ y yl less a. G.explored (s.path (s.depth - 1)) y (G.path_below (s.depth - 1) (omega arith)) yl (omega (arith, ap s.next q)) (subst (λ v. arc v y ≡ true) (sym q) a);
+  handled =
+      λ y yl less a. G.explored (s.path (s.depth - 1)) y (G.path_below (s.depth - 1) (omega arith)) yl
+      (omega (arith, ap s.next q)) (subst (λ v. arc v y ≡ true) (sym q) a);
 }
 
 -- all below `to` is handled
-handled_before : (arc : ℕ → ℕ → Bool) (n : ℕ) (s : State) (place from end to : ℕ) → IsAdvancing arc n s place from → ((y : ℕ) → from ≤ y → y < to → arc place y ≡ false) →
+handled_before : (arc : ℕ → ℕ → Bool) (n : ℕ) (s : State) (place from end to : ℕ) → IsAdvancing arc n s place from →
+    ((y : ℕ) → from ≤ y → y < to → arc place y ≡ false) →
     (y : ℕ) → y < n → y < to → arc place y ≡ true → IsHandled s (s.path (s.depth - 1)) y
-handled_before arc n s place from end to A none y yl less a = elim (lt_cases y from) [ inl l ↦ A.handled y yl l a | inr ge ↦ absurd (differ (none y ge less) a) ]
+handled_before arc n s place from end to A none y yl less a =
+    elim (lt_cases y from) [ inl l ↦ A.handled y yl l a | inr ge ↦ absurd (differ (none y ge less) a) ]
 
-pub advancing-done : (arc : ℕ → ℕ → Bool) (n : ℕ) (s : State) (place from to : ℕ) → IsAdvancing arc n s place from → IsLeast (arc place) from n to → s.done to ≡ true → IsAdvancing arc n s place (to + 1)
+pub advancing-done : (arc : ℕ → ℕ → Bool) (n : ℕ) (s : State) (place from to : ℕ) → IsAdvancing arc n s place from →
+    IsLeast (arc place) from n to → s.done to ≡ true → IsAdvancing arc n s place (to + 1)
 advancing-done arc n s place from to A L t = record {
   going = A.going;
   some = A.some;
   last = A.last;
-  handled = λ y yl less a. elim (nat_cases y to) [ inl q ↦ inl (subst (λ v. s.done v ≡ true) (sym q) t) | inr ne ↦ handled_before arc n s place from n to A L.none_before y yl (omega arith) a ];
+  handled =
+      λ y yl less a. elim (nat_cases y to) [
+        | inl q ↦ inl (subst (λ v. s.done v ≡ true) (sym q) t)
+        | inr ne ↦ handled_before arc n s place from n to A
+            L.none_before y yl (omega arith) a
+      ];
 }
 
-pub advancing-merge : (arc : ℕ → ℕ → Bool) (n : ℕ) (s : State) (place from to groups : ℕ) → IsAdvancing arc n s place from → IsLeast (arc place) from n to → s.seen to ≡ true → s.done to ≡ false → IsMerged s groups (s.position to) →
+pub advancing-merge : (arc : ℕ → ℕ → Bool) (n : ℕ) (s : State) (place from to groups : ℕ) →
+    IsAdvancing arc n s place from → IsLeast (arc place) from n to → s.seen to ≡ true → s.done to ≡ false →
+    IsMerged s groups (s.position to) →
     IsAdvancing arc n (record s { groups = groups }) place (to + 1)
 advancing-merge arc n s place from to groups A L h w M = record {
   going = merged-going arc n s (s.depth - 1) to groups A.going (omega (arith, A.some)) L.before_end h w (subst (λ v. arc v to ≡ true) (sym A.last) L.holds) M;
@@ -378,26 +441,38 @@ advancing-merge arc n s place from to groups A L h w M = record {
     fewer y (inr (e, f)) = inr (e, λ g gl le. f g (omega (arith, M.fewer)) le)
 
 -- the next look begins at `to`
-pub advancing-stop : (arc : ℕ → ℕ → Bool) (n : ℕ) (s : State) (place from to : ℕ) (next : ℕ → ℕ) → IsAdvancing arc n s place from → ((y : ℕ) → from ≤ y → y < to → arc place y ≡ false) →
+pub advancing-stop : (arc : ℕ → ℕ → Bool) (n : ℕ) (s : State) (place from to : ℕ) (next : ℕ → ℕ) →
+    IsAdvancing arc n s place from → ((y : ℕ) → from ≤ y → y < to → arc place y ≡ false) →
     next place ≡ to → ((y : ℕ) → y ≢ place → next y ≡ s.next y) → IsGoing arc n (record s { next = next })
 advancing-stop arc n s place from to next A none here others =
     next-going arc n s (s.depth - 1) to next A.going (omega (arith, A.some)) (ap next A.last ∙ here) (λ y ne. others y (λ q. ne (q ∙ sym A.last)))
     (λ y yl less a. handled_before arc n s place from n to A none y yl less (subst (λ v. arc v y ≡ true) A.last a))
 
 -- a place that the last one leads to is entered
-pub entered-next : (arc : ℕ → ℕ → Bool) (n : ℕ) (s t : State) (to : ℕ) → IsGoing arc n s → 0 < s.depth → IsEntered s t to → to < n → s.seen to ≡ false → arc (last_of s) to ≡ true → IsGoing arc n t
+pub entered-next : (arc : ℕ → ℕ → Bool) (n : ℕ) (s t : State) (to : ℕ) → IsGoing arc n s → 0 < s.depth →
+    IsEntered s t to → to < n → s.seen to ≡ false → arc (last_of s) to ≡ true → IsGoing arc n t
 entered-next arc n s t to G some P l fresh a = entered-going arc n s t to G P l fresh (reaches_next arc n s G (s.depth - 1) (omega arith) to a)
 
-pub entered-first : (arc : ℕ → ℕ → Bool) (n : ℕ) (s t : State) (to : ℕ) → IsGoing arc n s → s.depth ≡ 0 → IsEntered s t to → to < n → s.seen to ≡ false → IsGoing arc n t
+pub entered-first : (arc : ℕ → ℕ → Bool) (n : ℕ) (s t : State) (to : ℕ) → IsGoing arc n s → s.depth ≡ 0 →
+    IsEntered s t to → to < n → s.seen to ≡ false → IsGoing arc n t
 entered-first arc n s t to G none P l fresh = entered-going arc n s t to G P l fresh (λ i il. absurd (omega (arith, stack_empty arc n s G none)))
 
 pub entered-seen : (s t : State) (to y : ℕ) → IsEntered s t to → s.seen y ≡ true → t.seen y ≡ true
 entered-seen s t to y P h = elim (nat_cases y to) [ inl q ↦ subst (λ v. t.seen v ≡ true) (sym q) P.seen | inr ne ↦ P.seen_others y ne ∙ h ]
 
 -- fewer places are left, or as many and a shorter path
-pub entered-smaller : (n : ℕ) (s t : State) (to : ℕ) → IsEntered s t to → to < n → s.seen to ≡ false → t.depth ≡ s.depth + 1 → 2 * (n - size_on t.seen n) + t.depth < 2 * (n - size_on s.seen n) + s.depth
-entered-smaller n s t to P l fresh e = omega (arith, size_on-bound t.seen n, size_on-less t.seen s.seen n to (λ y yl h. entered-seen s t to y P h) l P.seen fresh)
+pub entered-smaller : (n : ℕ) (s t : State) (to : ℕ) → IsEntered s t to → to < n → s.seen to ≡ false →
+    t.depth ≡ s.depth + 1 → 2 * (n - size_on t.seen n) + t.depth < 2 * (n - size_on s.seen n) + s.depth
+entered-smaller n s t to P l fresh e =
+    omega (
+      arith,
+      size_on-bound t.seen n,
+      size_on-less t.seen s.seen n to (λ y yl h. entered-seen s t to y P h) l P.seen fresh,
+    )
 
 -- a last place that is finished, and does not begin its group, is left
-pub left-by : (arc : ℕ → ℕ → Bool) (n : ℕ) (s : State) → IsGoing arc n s → 0 < s.depth → IsFinished n s → s.base (s.groups - 1) ≢ s.path (s.depth - 1) → IsGoing arc n (record s { depth = s.depth - 1 })
-left-by arc n s G some all other = left-going arc n s (s.depth - 1) (s.groups - 1) G (omega arith) (omega (arith, (G.first_base (omega (arith, (last_below arc n s G some).0))).0)) other all
+pub left-by : (arc : ℕ → ℕ → Bool) (n : ℕ) (s : State) → IsGoing arc n s → 0 < s.depth → IsFinished n s →
+    s.base (s.groups - 1) ≢ s.path (s.depth - 1) → IsGoing arc n (record s { depth = s.depth - 1 })
+left-by arc n s G some all other =
+    left-going arc n s (s.depth - 1) (s.groups - 1) G (omega arith)
+    (omega (arith, (G.first_base (omega (arith, (last_below arc n s G some).0))).0)) other all

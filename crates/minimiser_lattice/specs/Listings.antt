@@ -16,21 +16,33 @@ pub record IsOpened (l : Listing) (n : ℕ) : Type 0 where
   pub rows : l.between.rows ≡ n
   pub size : l.between.size ≡ n
 
+-- of the components, those are marked to which a place of the set, of the places below n, is related
+pub record IsTail (n : ℕ) (set : ℕ → Bool) (relates : ℕ → ℕ → Bool) (count : ℕ) (marks : ℕ → Bool) : Type 0 where
+  pub some : (k : ℕ) → k < count → marks k ≡ true → (x : ℕ) × (x < n) × (set x ≡ true) × (relates x k ≡ true)
+  pub none : (k x : ℕ) → k < count → marks k ≡ false → x < n → set x ≡ true → relates x k ≡ false
+
+-- a start is related to the components that its own is or leads to
+abbrev pub IsFirstTail : ℕ → (ℕ → ℕ) → ℕ → (ℕ → ℕ → Bool) → (ℕ → Bool) → (ℕ → Bool) → Type 0
+IsFirstTail n number count strict starts first = IsTail n starts (λ s k. leads_in strict (number s) k) count first
+
+-- an end is related to the components that are its own or lead to it
+abbrev pub IsLastTail : ℕ → (ℕ → ℕ) → ℕ → (ℕ → ℕ → Bool) → (ℕ → Bool) → (ℕ → Bool) → Type 0
+IsLastTail n number count strict ends last = IsTail n ends (λ e k. leads_in strict k (number e)) count last
+
 -- the components that a start leads to, those that lead to an end, and the others
 pub record IsMarked (n : ℕ) (number : ℕ → ℕ) (count : ℕ) (strict : ℕ → ℕ → Bool)
     (starts ends first last middle : ℕ → Bool) : Type 0 where
-  pub first_some : (k : ℕ) → k < count → first k ≡ true → (s : ℕ) × (s < n) × (starts s ≡ true)
-      × (leads_in strict (number s) k ≡ true)
-  pub first_none : (k s : ℕ) → k < count → first k ≡ false → s < n → starts s ≡ true →
-      leads_in strict (number s) k ≡ false
-  pub last_some : (k : ℕ) → k < count → last k ≡ true → (e : ℕ) × (e < n) × (ends e ≡ true)
-      × (leads_in strict k (number e) ≡ true)
-  pub last_none : (k e : ℕ) → k < count → last k ≡ false → e < n → ends e ≡ true → leads_in strict k (number e) ≡ false
+  pub first_tail : IsFirstTail n number count strict starts first
+  pub last_tail : IsLastTail n number count strict ends last
   pub others : (k : ℕ) → k < count → middle k ≡ (not (first k) && not (last k))
 
 -- component l of the middle waits
 abbrev pub IsWaiting : (ℕ → Bool) → (ℕ → Bool) → ℕ → Type 0
 IsWaiting middle placed l = (middle l ≡ true) × (placed l ≡ false)
+
+-- no place below `from` has a component that waits
+abbrev pub NoneWaits : (ℕ → Bool) → (ℕ → Bool) → (ℕ → ℕ) → ℕ → Type 0
+NoneWaits middle placed number from = (j : ℕ) → j < from → IsWaiting middle placed (number j) → ⊥
 
 -- component k of the middle waits, and all that it leads to have been placed
 abbrev pub IsReadyAt : (ℕ → ℕ → Bool) → (ℕ → Bool) → (ℕ → Bool) → ℕ → Type 0

@@ -5,5 +5,6 @@
 mod components;
 mod lattice;
 mod listing;
+mod tails;
 
 pub use lattice::{Lattice, Part};

@@ -1,15 +1,16 @@
 //! The least topological order of the components, and the transitive reduction of their order.
 
-ghost use Rattle.std.specs.Prelude.{◌≡◌, ◌≢◌, ℕ, ◌+◌, ◌<◌, ◌≤◌, Bool, true, false, not, ◌&&◌, length, vec_len, IfOk, IfSome, IfNone, slice_index};
+ghost use Rattle.std.specs.Prelude.{◌≡◌, ◌≢◌, ◌↔◌, ℕ, ◌+◌, ◌<◌, ◌≤◌, Bool, true, false, not, ◌&&◌, length, vec_len, IsTrue, IfOk, IfSome, IfNone, slice_index};
 ghost use Rattle.exchange_graph.specs.Marks.{members_of};
 ghost use Rattle.closed_sets.specs.Tables.{Tells};
 ghost use Rattle.closed_sets.specs.Blocks.{IsListing};
 ghost use Rattle.bit_table.specs.Bits.{bit_in};
 ghost use Rattle.minimiser_lattice.specs.Paths.{IsNumbering};
-ghost use Rattle.minimiser_lattice.specs.Components.{IsStored, leads_in, number_of, places};
-ghost use Rattle.minimiser_lattice.specs.Listings.{HasPlaces, IsBetween, IsBetweenFrom, IsMarked, IsOpened, IsReadyAt, IsWatched, table_of, watch_of};
+ghost use Rattle.minimiser_lattice.specs.Components.{IsStored, number_of, places};
+ghost use Rattle.minimiser_lattice.specs.Listings.{HasPlaces, IsBetween, IsBetweenFrom, IsMarked, IsOpened, IsReadyAt, IsWaiting, IsWatched, NoneWaits, table_of, watch_of};
 
 use crate::components::Components;
+use crate::tails::{mark_ends, mark_starts};
 use bit_table::BitTable;
 use out_of_memory::NoMemory;
 use std::alloc::Global;
@@ -27,50 +28,6 @@ pub struct Listing {
     pub listed: Vec<usize>,
     pub between: BitTable,
     pub blocks: usize,
-}
-
-// Whether a start leads to component k.
-fn start_leads(components: &Components, starts: &[bool], k: usize) -> bool
-    requires stored { IsStored components.now }
-    requires starts { length starts.now ≡ places components.now }
-    requires k { k < places components.now }
-    requires numbers { (x : ℕ) → x < places components.now → number_of components.now x < places components.now }
-    ensures some { result ≡ true → (s : ℕ) × (s < places components.now) × (members_of starts.now s ≡ true)
-        × (leads_in (bit_in components.now.strict) (number_of components.now s) k ≡ true) }
-    ensures none { result ≡ false → (s : ℕ) → s < places components.now → members_of starts.now s ≡ true →
-        leads_in (bit_in components.now.strict) (number_of components.now s) k ≡ false }
-{
-    for (place, is_start) in starts.iter().enumerate() {
-        if *is_start {
-            let from = components.number[place];
-            if components.leads(from, k) {
-                return true;
-            }
-        }
-    }
-    false
-}
-
-// Whether component k leads to an end.
-fn leads_to_end(components: &Components, ends: &[bool], k: usize) -> bool
-    requires stored { IsStored components.now }
-    requires ends { length ends.now ≡ places components.now }
-    requires k { k < places components.now }
-    requires numbers { (x : ℕ) → x < places components.now → number_of components.now x < places components.now }
-    ensures some { result ≡ true → (e : ℕ) × (e < places components.now) × (members_of ends.now e ≡ true)
-        × (leads_in (bit_in components.now.strict) k (number_of components.now e) ≡ true) }
-    ensures none { result ≡ false → (e : ℕ) → e < places components.now → members_of ends.now e ≡ true →
-        leads_in (bit_in components.now.strict) k (number_of components.now e) ≡ false }
-{
-    for (place, is_end) in ends.iter().enumerate() {
-        if *is_end {
-            let to = components.number[place];
-            if components.leads(k, to) {
-                return true;
-            }
-        }
-    }
-    false
 }
 
 impl Listing {
@@ -99,8 +56,8 @@ impl Listing {
         requires stored { IsStored components.now }
         requires starts { length starts.now ≡ places components.now }
         requires ends { length ends.now ≡ places components.now }
-        requires numbers { (x : ℕ) → x < places components.now → number_of components.now x < places components.now }
-        requires count { components.now.count ≤ places components.now }
+        requires numbering { IsNumbering (places components.now) (number_of components.now) components.now.count
+            (bit_in components.now.strict) }
         ensures marked { IsMarked (places components.now) (number_of components.now) components.now.count
             (bit_in components.now.strict) (members_of starts.now) (members_of ends.now)
             (members_of self.new.first.items) (members_of self.new.last.items) (members_of self.new.middle.items) }
@@ -109,43 +66,54 @@ impl Listing {
         ensures blocks { self.new.blocks ≡ 0 }
         ensures opened { IsOpened self.new (places components.now) }
     {
+        self.clear(components);
+        mark_starts(&mut self.first, components, starts);
+        mark_ends(&mut self.last, components, ends);
+        self.mark_middle(components);
+    }
+
+    // Forgets what was told of the components: none is marked or placed.
+    fn clear(&mut self, components: &Components)
+        requires opened { IsOpened self.old (places components.now) }
+        requires count { components.now.count ≤ places components.now }
+        ensures first { (k : ℕ) → k < components.now.count → members_of self.new.first.items k ≡ false }
+        ensures last { (k : ℕ) → k < components.now.count → members_of self.new.last.items k ≡ false }
+        ensures placed { (k : ℕ) → k < components.now.count → members_of self.new.placed.items k ≡ false }
+        ensures watch { (k : ℕ) → k < components.now.count → slice_index self.new.watch.items k ≡ 0 }
+        ensures blocks { self.new.blocks ≡ 0 }
+        ensures opened { IsOpened self.new (places components.now) }
+    {
         self.blocks = 0;
         for k in 0..components.count {
-            let is_first = start_leads(components, starts, k);
-            let is_last = leads_to_end(components, ends, k);
-            self.mark_one(k, is_first, is_last);
+            self.first[k] = false;
+            self.last[k] = false;
+            self.placed[k] = false;
+            self.watch[k] = 0;
         }
     }
 
-    // Marks component k, which is not placed.
-    fn mark_one(&mut self, k: usize, is_first: bool, is_last: bool)
-        requires first { k < vec_len self.old.first }
-        requires last { k < vec_len self.old.last }
-        requires middle { k < vec_len self.old.middle }
-        requires placed { k < vec_len self.old.placed }
-        requires watch { k < vec_len self.old.watch }
-        ensures first { members_of self.new.first.items k ≡ is_first }
-        ensures last { members_of self.new.last.items k ≡ is_last }
-        ensures middle { members_of self.new.middle.items k ≡ (not is_first && not is_last) }
-        ensures placed { members_of self.new.placed.items k ≡ false }
-        ensures watch { slice_index self.new.watch.items k ≡ 0 }
-        ensures first_others { (j : ℕ) → j ≢ k → members_of self.new.first.items j ≡ members_of self.old.first.items j }
-        ensures last_others { (j : ℕ) → j ≢ k → members_of self.new.last.items j ≡ members_of self.old.last.items j }
-        ensures middle_others { (j : ℕ) → j ≢ k → members_of self.new.middle.items j
-            ≡ members_of self.old.middle.items j }
-        ensures placed_others { (j : ℕ) → j ≢ k → members_of self.new.placed.items j
-            ≡ members_of self.old.placed.items j }
-        ensures watch_others { (j : ℕ) → j ≢ k → slice_index self.new.watch.items j
-            ≡ slice_index self.old.watch.items j }
-        ensures blocks { self.new.blocks ≡ self.old.blocks }
-        ensures opened { (n : ℕ) → IsOpened self.old n → IsOpened self.new n }
+    // Marks the components of neither tail.
+    fn mark_middle(&mut self, components: &Components)
+        requires opened { IsOpened self.old (places components.now) }
+        requires count { components.now.count ≤ places components.now }
+        ensures middle { (k : ℕ) → k < components.now.count → members_of self.new.middle.items k
+            ≡ (not (members_of self.old.first.items k) && not (members_of self.old.last.items k)) }
+        ensures kept { self.new ≡ record self.old { middle = self.new.middle } }
+        ensures opened { IsOpened self.new (places components.now) }
     {
-        let is_middle = !is_first && !is_last;
-        self.first[k] = is_first;
-        self.last[k] = is_last;
-        self.middle[k] = is_middle;
-        self.placed[k] = false;
-        self.watch[k] = 0;
+        for k in 0..components.count {
+            let is_middle = !self.first[k] && !self.last[k];
+            self.middle[k] = is_middle;
+        }
+    }
+
+    // Whether component k is of the middle and waits.
+    fn is_waiting(&self, k: usize) -> bool
+        requires middle { k < vec_len self.now.middle }
+        requires placed { k < vec_len self.now.placed }
+        ensures { IsTrue result ↔ IsWaiting (members_of self.now.middle.items) (members_of self.now.placed.items) k }
+    {
+        self.middle[k] && !self.placed[k]
     }
 
     // Whether component l is of the middle, waits, and is led to from k.
@@ -177,7 +145,7 @@ impl Listing {
         ensures kept { self.new ≡ record self.old { watch = self.new.watch } }
         ensures opened { IsOpened self.new (places components.now) }
     {
-        if !self.middle[k] || self.placed[k] {
+        if !self.is_waiting(k) {
             return false;
         }
         let mut at = self.watch[k];
@@ -188,12 +156,31 @@ impl Listing {
         at >= k
     }
 
-    // The least place whose component is ready.
-    fn least_ready(&mut self, components: &Components) -> Option<usize>
+    // The first place from `from` on whose component waits; where there is none, how many places there are.
+    fn next_waiting(&self, components: &Components, from: usize) -> usize
+        requires opened { IsOpened self.now (places components.now) }
+        requires stored { IsStored components.now }
+        requires numbers { (x : ℕ) → x < places components.now → number_of components.now x < places components.now }
+        requires passed { NoneWaits (members_of self.now.middle.items) (members_of self.now.placed.items)
+            (number_of components.now) from }
+        ensures passed { NoneWaits (members_of self.now.middle.items) (members_of self.now.placed.items)
+            (number_of components.now) result }
+    {
+        let mut at = from;
+        while at < components.number.len() && !self.is_waiting(components.number[at]) {
+            at += 1;
+        }
+        at
+    }
+
+    // The least place whose component is ready, where none before `from` waits.
+    fn least_ready(&mut self, components: &Components, from: usize) -> Option<usize>
         requires opened { IsOpened self.old (places components.now) }
         requires stored { IsStored components.now }
         requires numbers { (x : ℕ) → x < places components.now → number_of components.now x < components.now.count }
         requires count { components.now.count ≤ places components.now }
+        requires passed { NoneWaits (members_of self.old.middle.items) (members_of self.old.placed.items)
+            (number_of components.now) from }
         requires watched { IsWatched components.now.count (bit_in components.now.strict)
             (members_of self.old.middle.items) (members_of self.old.placed.items) (watch_of self.old) }
         ensures below { IfSome result (λ x. x < places components.now) }
@@ -210,7 +197,7 @@ impl Listing {
         ensures kept { self.new ≡ record self.old { watch = self.new.watch } }
         ensures opened { IsOpened self.new (places components.now) }
     {
-        for place in 0..components.number.len() {
+        for place in from..components.number.len() {
             let k = components.number[place];
             if self.is_ready(components, k) {
                 return Some(place);
@@ -275,9 +262,11 @@ impl Listing {
         } }
         ensures opened { IsOpened self.new (places components.now) }
     {
-        while let Some(place) = self.least_ready(components) {
+        let mut from = 0;
+        while let Some(place) = self.least_ready(components, from) {
             let k = components.number[place];
             self.put(k);
+            from = self.next_waiting(components, from);
         }
     }
 

@@ -43,7 +43,6 @@ use out_of_memory::NoMemory;
 use port_io::{Sink, Source, WriteFault};
 use refusals::ReadModel;
 use residue_field::Res;
-use row_transform::DenseTableau;
 use solve_plan::{Plan, Report, plan, report};
 use std::alloc::Global;
 use text_writer::TextWriter;
@@ -155,7 +154,7 @@ impl Output {
         let layered = layer(alloc, &model)?;
         // it tells what the type of a model keeps
         let _ = model.equations();
-        let ccf = build::<Res, DenseTableau<Res>>(alloc, &layered)?;
+        let ccf = build(alloc, &layered)?;
         let told = report(alloc, &layered, &ccf)?;
         Ok(Output::Report(model, told))
     }
@@ -169,7 +168,7 @@ impl Output {
         is_whole(&layered);
         // it tells what the type of a model keeps
         let _ = model.equations();
-        let ccf = build::<Res, DenseTableau<Res>>(alloc, &layered)?;
+        let ccf = build(alloc, &layered)?;
         is_in_form(&ccf);
         let plan = plan(alloc, &layered, &ccf)?;
         Ok(Output::Plan(model, layered, plan))
@@ -185,7 +184,7 @@ impl Output {
         let Ok(layered) = layer(alloc, &model) else {
             return Err(ReadModel::NoMemory);
         };
-        let Ok(ccf) = build::<Res, DenseTableau<Res>>(alloc, &layered) else {
+        let Ok(ccf) = build(alloc, &layered) else {
             return Err(ReadModel::NoMemory);
         };
         is_in_form(&ccf);
@@ -203,7 +202,7 @@ impl Output {
     {
         let model = made_model::<Res>(alloc, size)?;
         let layered = layer(alloc, &model)?;
-        let ccf = build::<Res, DenseTableau<Res>>(alloc, &layered)?;
+        let ccf = build(alloc, &layered)?;
         is_in_form(&ccf);
         let split = layered.split();
         Ok(Output::Made(size, split, ccf))

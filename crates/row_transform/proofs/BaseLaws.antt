@@ -8,7 +8,9 @@ use Rattle.row_transform.specs.Bases.{PointsBack, BaseLists, IsConsistent, unlin
 same_item : (b : List (Option ℕ)) (j x i : ℕ) → slice_index_or b j None ≡ Some x → slice_index_or b j None ≡ Some i → x ≡ i
 same_item b j x i e h = cc
 
-unlink-points : (a b : List (Option ℕ)) (i j : ℕ) → PointsBack a b → i < length a → slice_index_or a i None ≡ Some j → slice_index_or b j None ≡ Some i → PointsBack (slice_set a i None) (slice_set b j None)
+unlink-points : (a b : List (Option ℕ)) (i j : ℕ) → PointsBack a b → i < length a →
+    slice_index_or a i None ≡ Some j → slice_index_or b j None ≡ Some i →
+    PointsBack (slice_set a i None) (slice_set b j None)
 unlink-points a b i j back il at_i at_j x y e = elim (nat_cases x i) [
   | inl q ↦ absurd (none (sym (subst (λ k. slice_index_or (slice_set a i None) k None ≡ None) (sym q) (get_or-set_same a i None None il)) ∙ e))
   | inr ne ↦ other ne (back x y (sym (get_or-set_other a i x None None ne) ∙ e))
@@ -17,10 +19,16 @@ unlink-points a b i j back il at_i at_j x y e = elim (nat_cases x i) [
     none : None ≡ Some y → ⊥
     none h = cc
 
-    other : x ≢ i → (y < length b) × (slice_index_or b y None ≡ Some x) → (y < length (slice_set b j None)) × (slice_index_or (slice_set b j None) y None ≡ Some x)
-    other ne (l, h) = (subst (λ n. y < n) (sym (length-set b j None)) l, get_or-set_other b j y None None (λ q. ne (same_item b y x i h (ap (λ k. slice_index_or b k None) q ∙ at_j))) ∙ h)
+    other : x ≢ i → (y < length b) × (slice_index_or b y None ≡ Some x) →
+        (y < length (slice_set b j None)) × (slice_index_or (slice_set b j None) y None ≡ Some x)
+    other ne (l, h) = (
+      subst (λ n. y < n) (sym (length-set b j None)) l,
+      get_or-set_other b j y None None (λ q. ne (same_item b y x i h (ap (λ k. slice_index_or b k None) q ∙ at_j)))
+          ∙ h,
+    )
 
-link-points : (a b : List (Option ℕ)) (i j : ℕ) → PointsBack a b → i < length a → j < length b → slice_index_or b j None ≡ None → PointsBack (slice_set a i (Some j)) (slice_set b j (Some i))
+link-points : (a b : List (Option ℕ)) (i j : ℕ) → PointsBack a b → i < length a → j < length b →
+    slice_index_or b j None ≡ None → PointsBack (slice_set a i (Some j)) (slice_set b j (Some i))
 link-points a b i j back il jl at_j x y e = elim (nat_cases x i) [
   | inl q ↦ here q (sym (get_or-set_same a i (Some j) None il) ∙ ap (λ k. slice_index_or (slice_set a i (Some j)) k None) (sym q) ∙ e)
   | inr ne ↦ other ne (back x y (sym (get_or-set_other a i x (Some j) None ne) ∙ e))
@@ -28,11 +36,18 @@ link-points a b i j back il jl at_j x y e = elim (nat_cases x i) [
   where
     here : x ≡ i → Some j ≡ Some y → (y < length (slice_set b j (Some i))) × (slice_index_or (slice_set b j (Some i)) y None ≡ Some x)
     here q h =
-        let s : j ≡ y = cc in
-        (subst (λ n. y < n) (sym (length-set b j (Some i))) (subst (λ k. k < length b) s jl), subst (λ k. slice_index_or (slice_set b j (Some i)) k None ≡ Some x) s (get_or-set_same b j (Some i) None jl ∙ ap (λ k. Some k) (sym q)))
+        let s : j ≡ y = cc in (
+          subst (λ n. y < n) (sym (length-set b j (Some i))) (subst (λ k. k < length b) s jl),
+          subst (λ k. slice_index_or (slice_set b j (Some i)) k None ≡ Some x) s
+              (get_or-set_same b j (Some i) None jl ∙ ap (λ k. Some k) (sym q)),
+        )
 
-    other : x ≢ i → (y < length b) × (slice_index_or b y None ≡ Some x) → (y < length (slice_set b j (Some i))) × (slice_index_or (slice_set b j (Some i)) y None ≡ Some x)
-    other ne (l, h) = (subst (λ n. y < n) (sym (length-set b j (Some i))) l, get_or-set_other b j y (Some i) None (λ q. taken (ap (λ k. slice_index_or b k None) (sym q) ∙ h)) ∙ h)
+    other : x ≢ i → (y < length b) × (slice_index_or b y None ≡ Some x) →
+        (y < length (slice_set b j (Some i))) × (slice_index_or (slice_set b j (Some i)) y None ≡ Some x)
+    other ne (l, h) = (
+      subst (λ n. y < n) (sym (length-set b j (Some i))) l,
+      get_or-set_other b j y (Some i) None (λ q. taken (ap (λ k. slice_index_or b k None) (sym q) ∙ h)) ∙ h,
+    )
       where
         taken : slice_index_or b j None ≡ Some x → ⊥
         taken w = cc
@@ -51,7 +66,9 @@ no_item : (o : Option ℕ) → is_some o ≡ false → o ≡ None
 no_item None e = refl
 no_item (Some x) e = absurd (cc)
 
-pub linked-consistent : (b : BaseLists) (r y : ℕ) → IsConsistent b → r < length b.columns → y < length b.rows → slice_index_or b.columns r None ≡ None → is_some (slice_index_or b.rows y None) ≡ false → IsConsistent (linked b r y)
+pub linked-consistent : (b : BaseLists) (r y : ℕ) → IsConsistent b → r < length b.columns → y < length b.rows →
+    slice_index_or b.columns r None ≡ None → is_some (slice_index_or b.rows y None) ≡ false →
+    IsConsistent (linked b r y)
 linked-consistent b r y same rl yl bare free = record {
   columns_point = link-points b.columns b.rows r y same.columns_point rl yl (no_item (slice_index_or b.rows y None) free);
   rows_point = link-points b.rows b.columns y r same.rows_point yl rl bare;

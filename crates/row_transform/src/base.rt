@@ -4,12 +4,14 @@ ghost use Rattle.std.specs.Prelude.{◌≡◌, ◌≢◌, ℕ, ◌<◌, ◌≤�
 ghost use Rattle.linear_algebra.specs.Bases.{IsBaseTaken};
 ghost use Rattle.row_transform.specs.Bases.{BaseLists, is_base, row_of, unlinked, linked, IsBaseDropped, IsRowCleared};
 
+use out_of_memory::NoMemory;
 use std::alloc::{AllocError, Global};
 use std::marker::Model;
 
-// Which column is the base column of which row.
+/// Which column is the base column of which row: a row has at most one, and a column at most one row. Rows and columns
+/// are counted from 0. (Murota 2000, chapter 2: bases of the matroid of columns.)
 #[derive(Drop)]
-pub(crate) struct Base {
+pub struct Base {
     columns: Vec<Option<usize>>,
     rows: Vec<Option<usize>>,
 }
@@ -25,8 +27,8 @@ impl Model for Base {
 }
 
 impl Base {
-    // The base of so many rows and columns with no column in it.
-    pub(crate) fn empty(alloc: Global, rows: usize, columns: usize) -> Result<Base, AllocError>
+    /// The base of so many rows and columns with no column in it.
+    pub fn empty(alloc: Global, rows: usize, columns: usize) -> Result<Base, NoMemory>
         ensures { IfOk result (λ b. b ≡ record { columns = replicate rows None; rows = replicate columns None }) }
     {
         Ok(Base {
@@ -35,8 +37,8 @@ impl Base {
         })
     }
 
-    // The base column of a row.
-    pub(crate) fn column_of(&self, row: usize) -> Option<usize>
+    /// The base column of a row.
+    pub fn column_of(&self, row: usize) -> Option<usize>
         requires { row < length self.now.columns }
         ensures none { IfNone result ((y : ℕ) → y < length self.now.rows → is_base self.now y ≡ true →
             row_of self.now y ≢ row) }
@@ -47,8 +49,8 @@ impl Base {
         self.columns[row]
     }
 
-    // The row whose base column a column is.
-    pub(crate) fn row_of(&self, column: usize) -> Option<usize>
+    /// The row whose base column a column is.
+    pub fn row_of(&self, column: usize) -> Option<usize>
         requires { column < length self.now.rows }
         ensures none { IfNone result (is_base self.now column ≡ false) }
         ensures member { IfSome result (λ r. is_base self.now column ≡ true) }
@@ -58,8 +60,8 @@ impl Base {
         self.rows[column]
     }
 
-    // Makes a column the base column of a row.
-    pub(crate) fn take(&mut self, row: usize, column: usize)
+    /// Makes a column that is no base column the base column of a row; the one that it had leaves the base.
+    pub fn take(&mut self, row: usize, column: usize)
         requires row { row < length self.old.columns }
         requires column { column < length self.old.rows }
         requires free { is_base self.old column ≡ false }
@@ -72,8 +74,8 @@ impl Base {
         self.link(row, column);
     }
 
-    // Takes a column out of the base.
-    pub(crate) fn leave(&mut self, column: usize)
+    /// Takes a column out of the base.
+    pub fn leave(&mut self, column: usize)
         requires column { column < length self.old.rows }
         ensures dropped { IsBaseDropped (length self.old.rows) (is_base self.old) (row_of self.old) (is_base self.new)
             (row_of self.new) column }

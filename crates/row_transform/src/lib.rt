@@ -7,6 +7,7 @@ mod dense;
 mod entries;
 mod tableau;
 
+pub use base::Base;
 pub use dense::DenseTableau;
 pub use out_of_memory::NoMemory;
 pub use tableau::{Tableau, TableauParts, Which};

@@ -6,8 +6,9 @@ use dense_q::Mat;
 use independent_matching::{Engine, Steps};
 use mixed_model::{Layered, Origin};
 use residue_field::{Field, Res};
-use row_transform::Tableau;
+use row_transform::{DenseTableau, Tableau};
 use sparse_t::Pattern;
+use sparse_tableau::SparseTableau;
 use std::alloc::Global;
 use std::marker::Brand;
 use std::process::Abort;
@@ -32,30 +33,35 @@ fn constants(alloc: Global, columns: usize, rows: &[&[u64]]) -> Result<Mat<Res>,
     Ok(q)
 }
 
-// An engine that has run on the layered matrix of q and t.
-fn solved<L: Ledger>(
-    alloc: Global,
-    q: Mat<Res>,
-    t: Pattern,
-    blank: Blank,
-) -> Result<Engine<Res>, Fail>
-    requires columns { t.width ≡ q.width }
-    requires name { blank.name ≡ L.name }
-    requires parts { blank.parts ≡ L.parts }
-    requires some { 0 < blank.parts }
+// The layered matrix of q and t.
+fn layered(alloc: Global, q: Mat<Res>, t: Pattern) -> Result<Layered<Res>, Fail>
+    requires { t.width ≡ q.width }
 {
     let q_origins = vec![in alloc; 0; q.rows()]?;
     let t_origins = vec![in alloc; 0; t.rows()]?;
     let column_origins = vec![in alloc; Origin::Unknown(0); q.cols()]?;
-    let layered = Layered::new(q, t, q_origins, t_origins, column_origins);
-    let mut engine = Engine::open(alloc, &layered)?;
+    Ok(Layered::new(q, t, q_origins, t_origins, column_origins))
+}
+
+// An engine that has run on a layered matrix, over a tableau of this type.
+fn solved<L: Ledger, T: Tableau<Res>>(
+    alloc: Global,
+    layered: &Layered<Res>,
+    blank: Blank,
+) -> Result<Engine<Res, T>, Fail>
+    requires name { blank.name ≡ L.name }
+    requires parts { blank.parts ≡ L.parts }
+    requires some { 0 < blank.parts }
+{
+    let tableau = T::open(alloc, &layered.q)?;
+    let mut engine = Engine::open_on(alloc, layered, tableau)?;
     engine.run(&mut Steps::<L>::new(blank));
     Ok(engine)
 }
 
 // What an engine tells of each column: `q` or `t` where it is in the pair and `.` where it is free, then `-` where it
 // is in the least minimiser and `!` where it is an end.
-fn told(alloc: Global, engine: &Engine<Res>) -> Result<String, Fail> {
+fn told<T: Tableau<Res>>(alloc: Global, engine: &Engine<Res, T>) -> Result<String, Fail> {
     let mut text = String::new(alloc);
     for col in 0..engine.tableau().columns() {
         if engine.in_q(col) {
@@ -77,6 +83,22 @@ fn told(alloc: Global, engine: &Engine<Res>) -> Result<String, Fail> {
     Ok(text)
 }
 
+fn assert_solved_over<T: Tableau<Res>>(
+    rt: &impl Abort,
+    alloc: Global,
+    layered: &Layered<Res>,
+    size: usize,
+    text: &str,
+) -> Result<(), Fail> {
+    let engine: Engine<Res, T> = solved::<Brand, T>(alloc, layered, Blank::new(1))?;
+    assert_eq!(rt; engine.size(), size);
+    assert_eq!(rt; engine.searches(), size.saturating_add(1));
+    let told = told(alloc, &engine)?;
+    assert_eq!(rt; told.as_str(), text);
+    Ok(())
+}
+
+// Over either tableau.
 fn assert_solved(
     rt: &impl Abort,
     alloc: Global,
@@ -87,12 +109,9 @@ fn assert_solved(
 ) -> Result<(), Fail>
     requires { t.width ≡ q.width }
 {
-    let engine = solved::<Brand>(alloc, q, t, Blank::new(1))?;
-    assert_eq!(rt; engine.size(), size);
-    assert_eq!(rt; engine.searches(), size.saturating_add(1));
-    let told = told(alloc, &engine)?;
-    assert_eq!(rt; told.as_str(), text);
-    Ok(())
+    let layered = layered(alloc, q, t)?;
+    assert_solved_over::<DenseTableau<Res>>(rt, alloc, &layered, size, text)?;
+    assert_solved_over::<SparseTableau<Res>>(rt, alloc, &layered, size, text)
 }
 
 #[test]
@@ -173,6 +192,18 @@ fn walks_where_a_greedy_pair_stops(rt: HostRuntime) -> Result<(), Fail> {
     assert_solved(&rt, rt.alloc(), q, t, 3, "ttt")
 }
 
+fn assert_pivots_over<T: Tableau<Res>>(
+    rt: &impl Abort,
+    alloc: Global,
+    layered: &Layered<Res>,
+    pivots: usize,
+) -> Result<(), Fail> {
+    let engine: Engine<Res, T> = solved::<Brand, T>(alloc, layered, Blank::new(1))?;
+    assert_eq!(rt; engine.pivots(), pivots);
+    Ok(())
+}
+
+// Over either tableau.
 fn assert_pivots(
     rt: &impl Abort,
     alloc: Global,
@@ -182,9 +213,9 @@ fn assert_pivots(
 ) -> Result<(), Fail>
     requires { t.width ≡ q.width }
 {
-    let engine = solved::<Brand>(alloc, q, t, Blank::new(1))?;
-    assert_eq!(rt; engine.pivots(), pivots);
-    Ok(())
+    let layered = layered(alloc, q, t)?;
+    assert_pivots_over::<DenseTableau<Res>>(rt, alloc, &layered, pivots)?;
+    assert_pivots_over::<SparseTableau<Res>>(rt, alloc, &layered, pivots)
 }
 
 // A column that takes a Q row takes a pivot, and one that takes a T row takes none.

@@ -8,9 +8,9 @@ use Rattle.residue_theory.proofs.SumLaws.{nat_cases}
 use Rattle.residue_theory.proofs.ResidueLaws.{agree-add, vanishes-mul}
 use Rattle.linear_algebra.specs.RowOperations.{IsPivoted}
 use Rattle.bit_table.specs.Bits.{Bits, bit_in, IsBitSet, IsJoined, IsRowCleared}
-use Rattle.sparse_q.specs.Tables.{SparseTable, row_count, number_in, has_number_in, HasSize}
-use Rattle.row_transform.proofs.EntryLaws.{set-keeps, zero_of}
-use Rattle.sparse_tableau.specs.Entries.{HasSizeOf, IsListed, IsFilled}
+use Rattle.sparse_q.specs.Tables.{SparseTable, row_count, number_in, has_number_in, HasSize, IsRowSet}
+use Rattle.row_transform.proofs.EntryLaws.{set-keeps, some_of, zero_of}
+use Rattle.sparse_tableau.specs.Entries.{AreListed, HasSizeOf, IsListed, IsFilled, has_number_at}
 use Rattle.row_table.specs.Reductions.{IsReduced}
 
 -- a column where a test fails has no number
@@ -58,11 +58,31 @@ listed-next m n a b c k so_far kl row kept i j il jl ne = elim (nat_cases i k) [
   | inr other ↦ kept i j (omega arith) (so_far i j (omega arith) jl ne)
 ]
 
-pub listed-all : (p : ℕ) (a : SparseTable) (b : Bits) (k : ℕ) → HasSizeOf a b → IsListedTo a.width (number_in a)
-    (bit_in b) k → row_count a ≤ k → IsListed p a b
-listed-all p a b k size done le = record {
+pub listed-all : (a : SparseTable) (b : Bits) (k : ℕ) → HasSizeOf a b → IsListedTo a.width (number_in a)
+    (bit_in b) k → row_count a ≤ k → AreListed a b
+listed-all a b k size done le = record {
   size = size;
-  listed = λ i j il jl ne. done i j (omega arith) jl (λ z. ne (ap (λ x. x % p) z ∙ zero-mod p));
+  listed = λ i j il jl ne. done i j (omega arith) jl ne;
+}
+
+-- an entry that is not zero modulo p is a number that is not zero
+pub listed-entries : (p : ℕ) (a : SparseTable) (b : Bits) → AreListed a b → IsListed p a b
+listed-entries p a b all = record {
+  size = all.size;
+  listed = λ i j il jl ne. all.listed i j il jl (λ z. ne (ap (λ x. x % p) z ∙ zero-mod p));
+}
+
+-- c is a with other numbers in row r, which are listed now too
+pub row_set-listed : (a c : SparseTable) (b d : Bits) (r : ℕ) (f : ℕ → ℕ) → AreListed a b → IsRowSet a c r f →
+    HasSizeOf c d → ((j : ℕ) → j < c.width → number_in c r j ≢ 0 → bit_in d j r ≡ true) →
+    ((i j : ℕ) → i < row_count c → bit_in b j i ≡ true → bit_in d j i ≡ true) → AreListed c d
+row_set-listed a c b d r f all set size row kept = record {
+  size = size;
+  listed = λ i j il jl ne. elim (nat_cases i r) [
+    | inl q ↦ subst (λ x. bit_in d j x ≡ true) (sym q) (row j jl (subst (λ x. number_in c x j ≢ 0) q ne))
+    | inr other ↦ kept i j il (all.listed i j (subst (λ x. i < x) set.size.rows_are il)
+        (subst (λ x. j < x) set.size.width_is jl) (λ z. ne (set.others i j other ∙ z)))
+  ];
 }
 
 -- ---- the loop of a pivot
@@ -179,18 +199,29 @@ module _ (p : ℕ) (old now : SparseTable) (b c : Bits) (r v : ℕ) (rl : r < ro
           ]
 
 -- ---- the next entry of a column
--- there is none between two rows that follow each other in the list
-pub none-between : (p : ℕ) (a : SparseTable) (b : Bits) (j from at row : ℕ) → IsListed p a b → j < a.width →
-    row ≤ row_count a →
-    HasNone (λ i. not (eqb (number_in a i j % p) 0)) from at → HasNone (bit_in b j) at row →
-    HasNone (λ i. not (eqb (number_in a i j % p) 0)) from row
-none-between p a b j from at row listed jl le before between i ge less = elim (lt_cases i at) [
+-- a test that holds of listed rows alone holds of none between two rows that follow each other in the list
+none-set : (test set : ℕ → Bool) (h from at row : ℕ) → ((i : ℕ) → i < h → test i ≡ true → set i ≡ true) → row ≤ h →
+    HasNone test from at → HasNone set at row → HasNone test from row
+none-set test set h from at row listed le before between i ge less = elim (lt_cases i at) [
   | inl l ↦ before i ge l
-  | inr g ↦ elim (nat_cases (number_in a i j % p) 0) [
-    | inl z ↦ ap (λ x. not (eqb x 0)) z
-    | inr some ↦ absurd (differ (sym (between i g less) ∙ listed.listed i j (omega arith) jl some))
-  ]
+  | inr g ↦ no (test i) (λ holds. differ (sym (between i g less) ∙ listed i (omega arith) holds))
 ]
   where
     differ : false ≡ true → ⊥
     differ e = cc
+
+    no : (b : Bool) → (b ≡ true → ⊥) → b ≡ false
+    no true wrong = absurd (wrong refl)
+    no false wrong = refl
+
+pub none-between : (p : ℕ) (a : SparseTable) (b : Bits) (j from at row : ℕ) → IsListed p a b → j < a.width →
+    row ≤ row_count a →
+    HasNone (λ i. not (eqb (number_in a i j % p) 0)) from at → HasNone (bit_in b j) at row →
+    HasNone (λ i. not (eqb (number_in a i j % p) 0)) from row
+none-between p a b j from at row all jl = none-set (λ i. not (eqb (number_in a i j % p) 0)) (bit_in b j) (row_count a)
+    from at row (λ i il holds. all.listed i j il jl (some_of (number_in a i j % p) holds))
+
+pub none-listed : (a : SparseTable) (b : Bits) (j from at row : ℕ) → AreListed a b → j < a.width → row ≤ row_count a →
+    HasNone (has_number_at a j) from at → HasNone (bit_in b j) at row → HasNone (has_number_at a j) from row
+none-listed a b j from at row all jl = none-set (has_number_at a j) (bit_in b j) (row_count a) from at row
+    (λ i il holds. all.listed i j il jl (some_of (number_in a i j) holds))

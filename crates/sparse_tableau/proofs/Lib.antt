@@ -1,4 +1,3 @@
-pub mod BaseLaws
 pub mod OpenLaws
 pub mod TransformLaws
 pub mod EntryLaws

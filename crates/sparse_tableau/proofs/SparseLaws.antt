@@ -52,7 +52,9 @@ module _ (p : ℕ) (m n : ℕ) (of : Table) (q pp s v : SparseTable) (base : Bas
   state_is = record {
     product_is = subst (λ h. Agree p h pp.width (number_in pp) (product h (number_in s) (λ i j. number_in q j i)))
         (sym rows_are) (opened-product p m pp.width (λ i j. number_in q j i) (number_in pp) (number_in s) (p_is ∙ sym same_q) alike);
-    inverse = subst (λ h. IsInverse p h (number_in s) (λ i j. number_in v j i)) (sym rows_are) (opened-inverse p m (number_in s) (number_in v) alike (λ i j il jl. v_is i j il));
+    inverse =
+        subst (λ h. IsInverse p h (number_in s) (λ i j. number_in v j i)) (sym rows_are)
+        (opened-inverse p m (number_in s) (number_in v) alike (λ i j il jl. v_is i j il));
     unit_columns = record {
       row_below = λ y _ h. absurd (differ y h);
       one = λ y _ h. absurd (differ y h);

@@ -1,5 +1,5 @@
 -- In which rows the columns of a sparse matrix have entries, kept as a row of bits for each column.
-use Rattle.std.specs.Prelude.{ℕ, ◌%◌, ◌<◌, ◌≡◌, ◌≢◌, Bool, true}
+use Rattle.std.specs.Prelude.{ℕ, ◌%◌, ◌<◌, ◌≡◌, ◌≢◌, Bool, true, eqb, not}
 use Rattle.bit_table.specs.Bits.{Bits, bit_in}
 use Rattle.sparse_q.specs.Tables.{SparseTable, row_count, number_in}
 
@@ -7,6 +7,15 @@ use Rattle.sparse_q.specs.Tables.{SparseTable, row_count, number_in}
 pub record HasSizeOf (a : SparseTable) (b : Bits) : Type 0 where
   pub columns_are : b.rows ≡ a.width
   pub rows_are : b.size ≡ row_count a
+
+-- whether row i of a has a number at column j that is not zero
+abbrev pub has_number_at : SparseTable → ℕ → ℕ → Bool
+has_number_at a j i = not (eqb (number_in a i j) 0)
+
+-- the bit is set wherever a has a number that is not zero; where it has none, the bit may be set too
+pub record AreListed (a : SparseTable) (b : Bits) : Type 0 where
+  pub size : HasSizeOf a b
+  pub listed : (i j : ℕ) → i < row_count a → j < a.width → number_in a i j ≢ 0 → bit_in b j i ≡ true
 
 -- the bit is set wherever a has an entry that is not zero modulo p; where it has none, the bit may be set too
 pub record IsListed (p : ℕ) (a : SparseTable) (b : Bits) : Type 0 where

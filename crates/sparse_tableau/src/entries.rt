@@ -4,7 +4,7 @@ ghost use Rattle.std.specs.Prelude.{◌≡◌, ◌≢◌, ℕ, ◌<◌, ◌≤�
 ghost use Rattle.number_ranges.specs.Ranges.{HasNone, IsLeast};
 ghost use Rattle.bit_table.specs.Bits.{bit_in};
 ghost use Rattle.sparse_q.specs.Tables.{row_count, number_in};
-ghost use Rattle.sparse_tableau.specs.Entries.{HasSizeOf, IsListed, IsFilled};
+ghost use Rattle.sparse_tableau.specs.Entries.{AreListed, HasSizeOf, IsFilled, has_number_at};
 
 use bit_table::BitTable;
 use out_of_memory::NoMemory;
@@ -22,7 +22,7 @@ pub(crate) struct Entries {
 impl Entries {
     // The entries of a matrix.
     pub(crate) fn of<F: Field>(alloc: Global, p: &SparseMat<F>) -> Result<Entries, NoMemory>
-        ensures { IfOk result (λ e. IsListed F.modulus p.now e.bits) }
+        ensures { IfOk result (λ e. AreListed p.now e.bits) }
     {
         let bits = BitTable::open(alloc, p.cols(), p.rows())?;
         let mut entries = Entries { bits };
@@ -33,7 +33,7 @@ impl Entries {
     }
 
     // Lists the entries of a row.
-    fn list_row<F: Field>(&mut self, p: &SparseMat<F>, row: usize)
+    pub(crate) fn list_row<F: Field>(&mut self, p: &SparseMat<F>, row: usize)
         requires row { row < row_count p.now }
         requires size { HasSizeOf p.now self.old.bits }
         ensures size { HasSizeOf p.now self.new.bits }
@@ -58,6 +58,30 @@ impl Entries {
         ensures least { IfSome result (IsLeast (bit_in self.now.bits col) from rows) }
     {
         self.bits.next(col, from, rows)
+    }
+
+    // The first row from `from` on where a matrix has an entry in a column. All its entries are listed.
+    pub(crate) fn next_in<F: Field>(
+        &self,
+        m: &SparseMat<F>,
+        col: usize,
+        from: usize,
+    ) -> Option<usize>
+        requires col { col < m.now.width }
+        requires listed { AreListed m.now self.now.bits }
+        ensures none { IfNone result (HasNone (has_number_at m.now col) from (row_count m.now)) }
+        ensures least { IfSome result (IsLeast (has_number_at m.now col) from (row_count m.now)) }
+    {
+        // there are at most 8,192 rows, so that the sum below fits
+        let rows = m.rows();
+        let mut at = from;
+        while let Some(row) = self.next(col, at, rows) {
+            if !m.get(row, col).is_zero() {
+                return Some(row);
+            }
+            at = row + 1;
+        }
+        None
     }
 
     // Lists what a pivot of P at a row and a column is about to make of the entries: it adds multiples of the row to

@@ -1,7 +1,6 @@
 //! A tableau of sparse matrices. It keeps Q, and puts columns of Q into U, so that a pivot writes one column of U.
 #![tactic(auto)]
 
-mod base;
 mod entries;
 mod sparse;
 mod transform;

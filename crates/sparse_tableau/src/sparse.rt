@@ -3,32 +3,33 @@
 ghost use Rattle.std.specs.Prelude.{◌≡◌, ◌≢◌, ℕ, ◌<◌, ◌≤◌, ◌%◌, true, false, IfOk};
 ghost use Rattle.sparse_tableau.specs.Sparse.{state_of};
 
-use crate::base::Base;
 use crate::entries::Entries;
 use crate::transform::Transform;
 use dense_q::Mat;
 use out_of_memory::NoMemory;
 use residue_field::Field;
-use row_transform::{Tableau, TableauParts, Which};
+use row_transform::{Base, Tableau, TableauParts, Which};
 use sparse_q::SparseMat;
 use std::alloc::Global;
 use std::marker::Model;
 
 /// A tableau that keeps of its matrices the entries that are not zero, and Q by columns: a pivot at a row and a column
-/// reduces P and S, and puts the column of Q into U. It takes no memory, since each row has room for all its columns.
+/// reduces P and S, and puts the column of Q into U, which is kept by its columns. It takes no memory, since each row has
+/// room for all its columns.
 #[derive(Drop)]
 pub struct SparseTableau<F: Field> {
     alloc: Global,
     columns: SparseMat<F>,
     transform: Transform<F>,
     v: SparseMat<F>,
+    u_entries: Entries,
     entries: Entries,
     base: Base,
 }
 
 impl<F: Field> Model for SparseTableau<F> {
     ghost use Rattle.sparse_tableau.specs.Sparse.{Sparse, IsSparse};
-    ghost use Rattle.sparse_tableau.specs.Entries.{IsListed};
+    ghost use Rattle.sparse_tableau.specs.Entries.{AreListed, IsListed};
 
     ghost Value = { Sparse };
 
@@ -46,7 +47,7 @@ impl<F: Field> Model for SparseTableau<F> {
       s = t.transform.s;
       v = t.v;
       base = t.base;
-    }) × IsListed F.modulus t.transform.p t.entries.bits };
+    }) × IsListed F.modulus t.transform.p t.entries.bits × AreListed t.v t.u_entries.bits };
 }
 
 impl<F: Field> Tableau<F> for SparseTableau<F> {
@@ -58,11 +59,14 @@ impl<F: Field> Tableau<F> for SparseTableau<F> {
         let p = SparseMat::of(alloc, q)?;
         let entries = Entries::of(alloc, &p)?;
         let s = SparseMat::identity(alloc, rows)?;
+        let v = SparseMat::identity(alloc, rows)?;
+        let u_entries = Entries::of(alloc, &v)?;
         Ok(SparseTableau {
             alloc,
             columns: SparseMat::columns_of(alloc, q)?,
             transform: Transform { p, s },
-            v: SparseMat::identity(alloc, rows)?,
+            v,
+            u_entries,
             entries,
             base: Base::empty(alloc, rows, columns)?,
         })
@@ -119,6 +123,7 @@ impl<F: Field> Tableau<F> for SparseTableau<F> {
         self.entries.pivot(&self.transform.p, row, col);
         self.transform.pivot(row, col);
         self.v.copy_row(row, &self.columns, col);
+        self.u_entries.list_row(&self.v, row);
         self.base.take(row, col);
     }
 
@@ -134,6 +139,15 @@ impl<F: Field> Tableau<F> for SparseTableau<F> {
         };
         entry.in_field();
         entry
+    }
+
+    fn next_in_row(&self, which: Which, row: usize, from: usize) -> Option<(usize, F)> {
+        let col = match which {
+            Which::S => self.transform.s.next(row, from)?,
+            Which::U => self.u_entries.next_in(&self.v, row, from)?,
+            Which::P => self.transform.p.next(row, from)?,
+        };
+        Some((col, self.entry_of(which, row, col)))
     }
 
     fn parts(&self) -> Result<TableauParts<F>, NoMemory> {

@@ -25,7 +25,11 @@ shape_of-requires-clause-rows g c =
     let rows = (c.rows-q_rows.ensures.rows ∙ ap (λ d. (g.T.Tableau.state d).rows) c.tableau.ensures) in
     subst (λ n. split_of of ≤ n + length of.t.rows) (sym rows)
     (split-rows p g.met.F.Field.prime g.met.F.Field.odd of c.split-split.ensures.layers S solved.engine.matching
-    (reached_of solved.engine.found) facts.solution tableau solved.pair.base.items solved.pair.mates.items facts.pair (numbered_rows number printed.tableau.s) (numbered_rows number printed.tableau.u) (numbered_rows number printed.tableau.p) lines.tableau printed.symbols lines.symbols (parts_in solved.lattice) facts.decomposed printed.parts.first printed.parts.blocks printed.parts.last lines.parts c.requires.model)
+    (reached_of solved.engine.found) facts.solution tableau solved.pair.base.items solved.pair.mates.items facts.pair
+    (numbered_rows number printed.tableau.s) (numbered_rows number printed.tableau.u)
+    (numbered_rows number printed.tableau.p) lines.tableau printed.symbols lines.symbols
+    (parts_in solved.lattice) facts.decomposed printed.parts.first printed.parts.blocks printed.parts.last
+    lines.parts c.requires.model)
 
 pub overflow_sub-size : goal.overflow_sub-size
 overflow_sub-size g c =
@@ -38,7 +42,13 @@ overflow_sub-size g c =
     let facts = c.requires.decomposed in
     let lines = c.requires.lines in
     let tableau = subst (λ d. IsTableau p (g.T.Tableau.state d)) c.tableau.ensures c.rows-q_rows.ensures.tableau in
-    let few = split-size p g.met.F.Field.prime g.met.F.Field.odd of c.split-split.ensures.layers S solved.engine.matching (reached_of solved.engine.found) facts.solution tableau solved.pair.base.items solved.pair.mates.items facts.pair (numbered_rows number printed.tableau.s) (numbered_rows number printed.tableau.u) (numbered_rows number printed.tableau.p) lines.tableau printed.symbols lines.symbols (parts_in solved.lattice) facts.decomposed printed.parts.first printed.parts.blocks printed.parts.last lines.parts c.requires.model in
+    let few =
+    split-size p g.met.F.Field.prime g.met.F.Field.odd of c.split-split.ensures.layers S solved.engine.matching
+    (reached_of solved.engine.found) facts.solution tableau solved.pair.base.items solved.pair.mates.items
+    facts.pair (numbered_rows number printed.tableau.s) (numbered_rows number printed.tableau.u)
+    (numbered_rows number printed.tableau.p) lines.tableau printed.symbols lines.symbols
+    (parts_in solved.lattice) facts.decomposed printed.parts.first printed.parts.blocks printed.parts.last
+    lines.parts c.requires.model in
     omega (arith, few, c.size.ensures.size, c.split-split.ensures.count)
 
 pub new-requires : goal.new-requires
@@ -75,7 +85,12 @@ new-requires g c =
     let rank : c.size.result - c.split-split.result ≡ size_of S solved.engine.matching - split_of of =
     omega (arith, c.size.ensures.size, c.split-split.ensures.count) in
     copied-fits p g.met.F.Field.prime g.met.F.Field.odd of c.split-split.ensures.layers S solved.engine.matching
-    (reached_of solved.engine.found) facts.solution tableau solved.pair.base.items solved.pair.mates.items facts.pair (numbered_rows number printed.tableau.s) (numbered_rows number printed.tableau.u) (numbered_rows number printed.tableau.p) lines.tableau printed.symbols lines.symbols (parts_in solved.lattice) facts.decomposed printed.parts.first printed.parts.blocks printed.parts.last lines.parts c.shape_of.result (c.size.result - c.split-split.result) c.from_vec.result c.from_vec-2.result shape rank c.from_vec.ensures c.from_vec-2.ensures c.requires.model
+    (reached_of solved.engine.found) facts.solution tableau solved.pair.base.items solved.pair.mates.items facts.pair
+    (numbered_rows number printed.tableau.s) (numbered_rows number printed.tableau.u)
+    (numbered_rows number printed.tableau.p) lines.tableau printed.symbols lines.symbols
+    (parts_in solved.lattice) facts.decomposed printed.parts.first printed.parts.blocks printed.parts.last
+    lines.parts c.shape_of.result (c.size.result - c.split-split.result) c.from_vec.result c.from_vec-2.result
+    shape rank c.from_vec.ensures c.from_vec-2.ensures c.requires.model
 
 pub returns : goal.returns
 returns g c =
@@ -112,4 +127,9 @@ returns g c =
     omega (arith, c.size.ensures.size, c.split-split.ensures.count) in
     subst (λ (k : Contents). OfEachModel p of (λ M O. IsRightCcf p M (layered_matrix_of of) O k)) (sym c.new.ensures)
     (copied-right p g.met.F.Field.prime g.met.F.Field.odd of c.split-split.ensures.layers S solved.engine.matching
-    (reached_of solved.engine.found) facts.solution tableau solved.pair.base.items solved.pair.mates.items facts.pair (numbered_rows number printed.tableau.s) (numbered_rows number printed.tableau.u) (numbered_rows number printed.tableau.p) lines.tableau printed.symbols lines.symbols (parts_in solved.lattice) facts.decomposed printed.parts.first printed.parts.blocks printed.parts.last lines.parts c.shape_of.result (c.size.result - c.split-split.result) c.from_vec.result c.from_vec-2.result shape rank c.from_vec.ensures c.from_vec-2.ensures)
+    (reached_of solved.engine.found) facts.solution tableau solved.pair.base.items solved.pair.mates.items facts.pair
+    (numbered_rows number printed.tableau.s) (numbered_rows number printed.tableau.u)
+    (numbered_rows number printed.tableau.p) lines.tableau printed.symbols lines.symbols
+    (parts_in solved.lattice) facts.decomposed printed.parts.first printed.parts.blocks printed.parts.last
+    lines.parts c.shape_of.result (c.size.result - c.split-split.result) c.from_vec.result c.from_vec-2.result
+    shape rank c.from_vec.ensures c.from_vec-2.ensures)

@@ -13,4 +13,5 @@ loop-row-preserved c =
     let same = c.in_ok-columns_of.ensures in
     subst (PrintsPattern (row + 1) n pattern) (sym c.in_ok-push.ensures.items)
     (subst (λ (list : List ℕ). PrintsPattern (row + 1) n pattern (c.loop-row.rows.items ++ list ∷ [])) (sym same)
-    (pattern-push row n pattern c.loop-row.rows.items c.row.result.now c.loop-row.invariant c.row.ensures.rising c.row.ensures.below (λ j _. ap (λ list. has list j) c.row.ensures.columns)))
+    (pattern-push row n pattern c.loop-row.rows.items c.row.result.now c.loop-row.invariant c.row.ensures.rising
+    c.row.ensures.below (λ j _. ap (λ list. has list j) c.row.ensures.columns)))

@@ -11,7 +11,8 @@ loop-row-preserved g c =
     let row = c.loop-row.row in
     let P : List (ℕ × ℕ) → Type 0 = λ pairs. ListsPairs (IsBaseColumn t) (row + 1) pairs in
     let one : (r y z : ℕ) → IsBaseColumn t r y → IsBaseColumn t r z → y ≡ z =
-    λ r y z first second. c.rows-row-end.ensures.tableau.unit_columns.distinct y z first.below second.below first.member second.member (first.at_row ∙ sym second.at_row) in
+    λ r y z first second. c.rows-row-end.ensures.tableau.unit_columns.distinct y z first.below second.below
+    first.member second.member (first.at_row ∙ sym second.at_row) in
     elim c.match-base_of.branch [
       | in-Some+in_ok-push w ↦ subst P (sym (ap (λ v. v.items) w.pairs-is ∙ w.in_ok-push.ensures.items))
           (lists-some (IsBaseColumn t) row w.in-Some.column c.loop-row.pairs.items one w.in-Some.ensures.some c.loop-row.invariant)

@@ -19,7 +19,8 @@ returns-in_err-next-clause-unread g c =
     c.from_residual.ensures.0
     c.from_residual.ensures.1
     (unread_by_error g.S.Source c.args.source.now c.loop-reader.source c.next.new.source c.loop-reader.pump c.next.new.self
-    (g.R.ModelReader.is_fed c.loop-reader.reader) c.loop-reader.invariant g.R.ModelReader.KIND c.next.result why c.in_err-next.was next.too_long.0 next.too_many next.untaken next.memory)
+    (g.R.ModelReader.is_fed c.loop-reader.reader) c.loop-reader.invariant g.R.ModelReader.KIND c.next.result why
+    c.in_err-next.was next.too_long.0 next.too_many next.untaken next.memory)
 
 pub returns-in_err-reader-clause-unread : goal.returns-in_err-reader-clause-unread
 returns-in_err-reader-clause-unread g c =

@@ -21,4 +21,6 @@ returns-in_err-model-clause-unread g c =
     (c.in_err-model.ensures.refused whole.input whole.holds))
 
 pub returns-clause-source : goal.returns-clause-source
-returns-clause-source g c = tells_still g.S.Source input_limit c.args.source.now c.feed_all.new.source c.in_ok-reader-2.reader c.in_ok-model.field-0 c.in_ok-reader-2.ensures.source
+returns-clause-source g c =
+    tells_still g.S.Source input_limit c.args.source.now c.feed_all.new.source c.in_ok-reader-2.reader
+    c.in_ok-model.field-0 c.in_ok-reader-2.ensures.source

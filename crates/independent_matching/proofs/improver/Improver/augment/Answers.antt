@@ -39,11 +39,14 @@ take-requires-clause-can g c =
     let at = step_of c.args.self.now.search in
     let i = c.loop-next.left - 1 in
     let I = c.loop-next.invariant in
-    let positive : 0 < c.loop-next.left = moving-positive p S₀ M₀ c.requires.pair at c.args.last c.args.end c.requires.route S M c.loop-next.next c.in-Some.row c.loop-next.left I.moving c.in-Some.is in
+    let positive : 0 < c.loop-next.left =
+    moving-positive p S₀ M₀ c.requires.pair at c.args.last c.args.end c.requires.route S M c.loop-next.next
+    c.in-Some.row c.loop-next.left I.moving c.in-Some.is in
     let here : i + 1 ≡ c.loop-next.left = omega (arith, positive) in
     let x_is : c.step-x.result ≡ at i = c.step-x.ensures ∙ ap (λ s. step_of s i) I.search in
     subst (λ x. CanTake p (layers_of S M) (tableau_of S M) c.in-Some.row x) (sym x_is)
-    (can-take p S₀ M₀ c.requires.pair at c.args.last c.args.end c.requires.route S M c.loop-next.next c.in-Some.row c.loop-next.left I.moving c.in-Some.is i here)
+    (can-take p S₀ M₀ c.requires.pair at c.args.last c.args.end c.requires.route S M c.loop-next.next c.in-Some.row
+    c.loop-next.left I.moving c.in-Some.is i here)
 
 pub loop-next-preserved : goal.loop-next-preserved
 loop-next-preserved g c =
@@ -57,13 +60,17 @@ loop-next-preserved g c =
     let at = step_of c.args.self.now.search in
     let i = c.loop-next.left - 1 in
     let I = c.loop-next.invariant in
-    let positive : 0 < c.loop-next.left = moving-positive p S₀ M₀ c.requires.pair at c.args.last c.args.end c.requires.route S M c.loop-next.next c.in-Some.row c.loop-next.left I.moving c.in-Some.is in
+    let positive : 0 < c.loop-next.left =
+    moving-positive p S₀ M₀ c.requires.pair at c.args.last c.args.end c.requires.route S M c.loop-next.next
+    c.in-Some.row c.loop-next.left I.moving c.in-Some.is in
     let here : i + 1 ≡ c.loop-next.left = omega (arith, positive) in
     let x_is : c.step-x.result ≡ at i = c.step-x.ensures ∙ ap (λ s. step_of s i) I.search in
     record {
       moving = subst (λ next. IsMoving p S₀ M₀ (route (tableau_of S₀ M₀) at c.args.last (in_q c.args.end)
           (number c.args.end)) S' M' next i) (sym (c.row_of-next.ensures ∙ ap (row_had (tableau_of S M)) x_is))
-          (moving-next p S₀ M₀ c.requires.pair at c.args.last c.args.end c.requires.route S M c.loop-next.next c.in-Some.row c.loop-next.left I.moving c.in-Some.is i here S' M' c.take.ensures.layers c.take.ensures.pattern
+          (moving-next p S₀ M₀ c.requires.pair at c.args.last c.args.end c.requires.route S M c.loop-next.next
+          c.in-Some.row c.loop-next.left I.moving c.in-Some.is i here S' M' c.take.ensures.layers
+          c.take.ensures.pattern
           (subst (λ x. Takes p (layers_of S M) (tableau_of S M) (tableau_of S' M') c.in-Some.row x) x_is c.take.ensures.takes));
       rows = subst (λ next. AreRowsMoving M₀ c.args.end M' next) (sym c.row_of-next.ensures)
           (move-rows p S S' M M' (omega (
@@ -76,12 +83,20 @@ loop-next-preserved g c =
           (ap (λ m. m.width) c.take.ensures.pattern) c.step-x.result
           (subst (λ n. c.step-x.result < n) (sym (ap (λ (L : LayeredMatrix). L.columns) I.moving.layers))
           (subst (λ x. x < S₀.columns) (sym x_is)
-          (moving-below p S₀ M₀ c.requires.pair at c.args.last c.args.end c.requires.route S M c.loop-next.next c.in-Some.row c.loop-next.left I.moving c.in-Some.is i here)))
+          (moving-below p S₀ M₀ c.requires.pair at c.args.last c.args.end c.requires.route S M c.loop-next.next
+          c.in-Some.row c.loop-next.left I.moving c.in-Some.is i here)))
           (subst (λ x. S.base x ≡ true → is_matched M x ≡ true → ⊥) (sym x_is)
-          (moving-apart p S₀ M₀ c.requires.pair at c.args.last c.args.end c.requires.route S M c.loop-next.next c.in-Some.row c.loop-next.left I.moving c.in-Some.is i here))
+          (moving-apart p S₀ M₀ c.requires.pair at c.args.last c.args.end c.requires.route S M c.loop-next.next
+          c.in-Some.row c.loop-next.left I.moving c.in-Some.is i here))
           c.in-Some.row c.take.ensures.takes M₀ c.args.end (subst (λ next. AreRowsMoving M₀ c.args.end M next) c.in-Some.is I.rows));
       marks = c.take.ensures.marks;
-      count = omega (arith, c.take.ensures.steps, I.count, moving-count p S₀ M₀ c.requires.pair at c.args.last c.args.end c.requires.route S M c.loop-next.next c.in-Some.row c.loop-next.left I.moving c.in-Some.is i here);
+      count = omega (
+        arith,
+        c.take.ensures.steps,
+        I.count,
+        moving-count p S₀ M₀ c.requires.pair at c.args.last c.args.end c.requires.route S M c.loop-next.next
+            c.in-Some.row c.loop-next.left I.moving c.in-Some.is i here,
+      );
       pivots = omega (arith, c.take.ensures.steps, c.take.ensures.pivots, I.pivots);
       search = c.take.ensures.search ∙ I.search;
       free = c.take.ensures.free ∙ I.free;
@@ -117,7 +132,8 @@ returns-clause-steps g c =
       c.loop-next.invariant.count,
       moving-pivots p S₀ M₀ c.requires.pair at c.args.last c.args.end c.requires.route,
       moving-none p S₀ M₀ c.requires.pair at c.args.last c.args.end c.requires.route
-          (g.T.Tableau.state c.loop-next.self.pair.tableau) c.loop-next.self.pair.mates c.loop-next.next c.loop-next.left c.loop-next.invariant.moving c.in_default.is,
+          (g.T.Tableau.state c.loop-next.self.pair.tableau) c.loop-next.self.pair.mates c.loop-next.next
+          c.loop-next.left c.loop-next.invariant.moving c.in_default.is,
     )
 
 pub take-requires-clause-few : goal.take-requires-clause-few
@@ -148,10 +164,13 @@ returns-clause-few g c =
     pivots-more (size_of S₀ M₀) (size_of S M) c.args.self.now.pivots (size_on S₀.base S₀.columns + 1) c.loop-next.self.pivots c.requires.few
     (omega (arith, c.loop-next.invariant.count, c.loop-next.invariant.pivots, moving-pivots p S₀ M₀ c.requires.pair at c.args.last c.args.end c.requires.route))
     (omega (arith, base-bound S₀ M₀))
-    (moving-size p S₀ M₀ c.requires.pair at c.args.last c.args.end c.requires.route S M c.loop-next.next c.loop-next.left c.loop-next.invariant.moving c.in_default.is)
+    (moving-size p S₀ M₀ c.requires.pair at c.args.last c.args.end c.requires.route S M c.loop-next.next
+    c.loop-next.left c.loop-next.invariant.moving c.in_default.is)
 
 pub returns-clause-rows : goal.returns-clause-rows
-returns-clause-rows g c = moved-rows c.args.self.now.pair.mates c.loop-next.self.pair.mates c.args.end c.loop-next.next c.in_default.is c.loop-next.invariant.rows
+returns-clause-rows g c =
+    moved-rows c.args.self.now.pair.mates c.loop-next.self.pair.mates c.args.end c.loop-next.next c.in_default.is
+    c.loop-next.invariant.rows
 
 pub returns-clause-taken : goal.returns-clause-taken
 returns-clause-taken g c =

@@ -22,14 +22,21 @@ pub take-requires-clause-few : goal.take-requires-clause-few
 take-requires-clause-few g c =
     let S = g.T.Tableau.state c.args.self.now.pair.tableau in
     let M = c.args.self.now.pair.mates in
-    let small : size_of S M ≤ 8192 = omega (arith, size-bound g.F.Field.modulus S M c.requires.pair, c.columns-columns.ensures.narrow, c.columns-columns.ensures.columns) in
+    let small : size_of S M ≤ 8192 =
+    omega (
+      arith,
+      size-bound g.F.Field.modulus S M c.requires.pair,
+      c.columns-columns.ensures.narrow,
+      c.columns-columns.ensures.columns,
+    ) in
     omega (arith, pivots-bound (size_of S M) c.args.self.now.pivots c.requires.few small)
 
 pub returns-clause-few : goal.returns-clause-few
 returns-clause-few g c =
     let S = g.T.Tableau.state c.args.self.now.pair.tableau in
     let M = c.args.self.now.pair.mates in
-    pivots-more (size_of S M) (size_of (g.T.Tableau.state c.take.new.self.pair.tableau) c.take.new.self.pair.mates) c.args.self.now.pivots 1 c.take.new.self.pivots c.requires.few
+    pivots-more (size_of S M) (size_of (g.T.Tableau.state c.take.new.self.pair.tableau) c.take.new.self.pair.mates)
+    c.args.self.now.pivots 1 c.take.new.self.pivots c.requires.few
     (omega (arith, c.take.ensures.pivots, c.take.ensures.steps, one-step c.args.row)) (omega arith)
     (one-size g.F.Field.modulus S M c.requires.pair c.args.x c.requires.x c.args.row c.requires.free c.requires.row
     (g.T.Tableau.state c.take.new.self.pair.tableau) c.take.new.self.pair.mates c.take.ensures.layers c.take.ensures.pattern c.take.ensures.takes)
@@ -37,7 +44,8 @@ returns-clause-few g c =
 pub returns-clause-rows : goal.returns-clause-rows
 returns-clause-rows g c = one-rows g.F.Field.modulus
     (g.T.Tableau.state c.args.self.now.pair.tableau) c.args.self.now.pair.mates c.requires.pair c.args.x c.requires.x c.args.row c.requires.free c.requires.row
-    (g.T.Tableau.state c.take.new.self.pair.tableau) c.take.new.self.pair.mates c.take.ensures.layers c.take.ensures.pattern c.take.ensures.takes c.requires.width
+    (g.T.Tableau.state c.take.new.self.pair.tableau) c.take.new.self.pair.mates c.take.ensures.layers
+    c.take.ensures.pattern c.take.ensures.takes c.requires.width
 
 pub returns-clause-taken : goal.returns-clause-taken
 returns-clause-taken g c = one-taken g.F.Field.modulus

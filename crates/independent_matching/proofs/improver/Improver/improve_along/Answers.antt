@@ -83,7 +83,16 @@ overflow_add-self-in-Some g c =
     let ready = c.requires.ready in
     let columns = c.augment.ensures.narrow in
     let size : c.args.self.now.size ≤ 8192 = omega (arith, ready.count, size-bound p S M ready.pair, columns) in
-    omega (arith, c.augment.ensures.looks, looks-bound c.args.self.now.size S.columns c.args.self.now.looks ready.few_looks size columns, c.looks.ensures, ap (λ (s : Found). s.looks) c.augment.ensures.search, c.in-Some.ensures.few, ready.search, columns)
+    omega (
+      arith,
+      c.augment.ensures.looks,
+      looks-bound c.args.self.now.size S.columns c.args.self.now.looks ready.few_looks size columns,
+      c.looks.ensures,
+      ap (λ (s : Found). s.looks) c.augment.ensures.search,
+      c.in-Some.ensures.few,
+      ready.search,
+      columns,
+    )
 
 pub returns-in-None-clause-no_walk : goal.returns-in-None-clause-no_walk
 returns-in-None-clause-no_walk g c =
@@ -130,7 +139,8 @@ returns-in-Some-clause-ready g c =
       count = sym grown;
       few = subst (λ n. c.augment.new.self.pivots ≤ n * n) grown E.few;
       few_looks = subst (λ n. c.augment.new.self.looks + c.looks.result ≤ (c.augment.new.self.size + 1) * n) (sym same)
-          (looks-more c.args.self.now.size (c.augment.new.self.size + 1) S.columns c.args.self.now.looks c.looks.result (c.augment.new.self.looks + c.looks.result) ready.few_looks
+          (looks-more c.args.self.now.size (c.augment.new.self.size + 1) S.columns c.args.self.now.looks
+          c.looks.result (c.augment.new.self.looks + c.looks.result) ready.few_looks
           (omega (arith, E.looks)) (omega (
             arith,
             c.looks.ensures,

@@ -89,12 +89,21 @@ loop-grown-preserved g c =
       few_looks = looks-next c.improve-grown.result N s (size_of S M)
           (size_of S' M') c.args.self.now.looks c.loop-grown.self.looks c.improve-grown.new.self.looks
           I.few_looks (λ t. omega (arith, E.few_looks t, ap (λ (L : LayeredMatrix). L.columns) I.layers)) E.size (λ f. (E.none_told f).1) same_size;
-      looked = λ t. looks-search c.args.self.now.search c.loop-grown.self.search c.improve-grown.new.self.search c.args.self.now.looks c.loop-grown.self.looks c.improve-grown.new.self.looks
+      looked =
+          λ t. looks-search c.args.self.now.search c.loop-grown.self.search c.improve-grown.new.self.search
+          c.args.self.now.looks c.loop-grown.self.looks c.improve-grown.new.self.looks
           (I.looked c.loop-grown-test.true) (E.searched t);
-      told_looks = λ f. subst (λ n. AreLooksOfSearches c.args.self.now.search c.improve-grown.new.self.search c.args.self.now.looks c.improve-grown.new.self.looks (size_on (reached_of c.improve-grown.new.self.search) n))
+      told_looks =
+          λ f. subst
+          (λ n. AreLooksOfSearches c.args.self.now.search c.improve-grown.new.self.search c.args.self.now.looks
+          c.improve-grown.new.self.looks (size_on (reached_of c.improve-grown.new.self.search) n))
           (ap (λ (L : LayeredMatrix). L.columns) I.layers)
-          (subst (λ k. AreLooksOfSearches c.args.self.now.search c.improve-grown.new.self.search c.args.self.now.looks k (size_on (reached_of c.improve-grown.new.self.search) S.columns)) (sym (E.none_told f).1)
-          (looks-last c.args.self.now.search c.loop-grown.self.search c.improve-grown.new.self.search c.args.self.now.looks c.loop-grown.self.looks (size_on (reached_of c.improve-grown.new.self.search) S.columns)
+          (subst (λ k. AreLooksOfSearches c.args.self.now.search c.improve-grown.new.self.search
+          c.args.self.now.looks k (size_on (reached_of c.improve-grown.new.self.search) S.columns))
+          (sym (E.none_told f).1)
+          (looks-last c.args.self.now.search c.loop-grown.self.search c.improve-grown.new.self.search
+          c.args.self.now.looks c.loop-grown.self.looks
+          (size_on (reached_of c.improve-grown.new.self.search) S.columns)
           (I.looked c.loop-grown-test.true) (E.last f)));
       count = λ f. run-count N s (size_of S M) (size_of S' M') c.args.steps.now c.loop-grown.steps c.improve-grown.new.steps
           (I.going c.loop-grown-test.true) (omega (arith, E.few f, ap (λ (L : LayeredMatrix). L.columns) I.layers))
@@ -109,7 +118,8 @@ overflow_add-made g c =
     let I = c.loop-grown.invariant in
     let small : c.loop-grown.made ≤ 8192 + 1 = omega (
       arith,
-      subst (λ b. c.loop-grown.made + size_of (g.T.Tableau.state c.args.self.now.pair.tableau) c.args.self.now.pair.mates ≡ size_of S M + cond b 0 1) c.loop-grown-test.true I.made,
+      subst (λ b. c.loop-grown.made + size_of (g.T.Tableau.state c.args.self.now.pair.tableau)
+          c.args.self.now.pair.mates ≡ size_of S M + cond b 0 1) c.loop-grown-test.true I.made,
       size-bound p S M I.ready.pair,
       ap (λ (L : LayeredMatrix). L.columns) I.layers,
       c.columns-columns.ensures.narrow,

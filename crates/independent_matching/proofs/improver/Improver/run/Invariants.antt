@@ -18,7 +18,9 @@ invariant-loop-grown g l =
     record {
       ready : IsReady p S M l.self.search.places l.self.marks l.self.size l.self.pivots l.self.looks;
       layers : layers_of S M ≡ layers_of S₀ M₀;
-      going : IsTrue l.grown → l.steps + (size_of S₀ M₀ * S₀.columns + size_of S₀ M₀ * size_of S₀ M₀) ≤ l.fn.steps + size_of S M * S₀.columns + size_of S M * size_of S M;
+      going : IsTrue l.grown →
+          l.steps + (size_of S₀ M₀ * S₀.columns + size_of S₀ M₀ * size_of S₀ M₀) ≤ l.fn.steps + size_of S M *
+          S₀.columns + size_of S M * size_of S M;
       told : IsTrue l.grown → l.steps + (l.fn.self.pivots + l.fn.self.looks) ≡ l.fn.steps + (l.self.pivots + l.self.looks);
       last : IsFalse l.grown → l.steps + (l.fn.self.pivots + l.fn.self.looks) ≡ l.fn.steps +
           (l.self.pivots + l.self.looks) + size_on (reached_of l.self.search) S₀.columns;

@@ -10,5 +10,6 @@ invariant-loop-position g l = record {
   kept : l.self ≡ record l.fn.self { done = l.self.done; number = l.self.number; strict = l.self.strict };
   numbered : IsNumbered (state_of l.fn.self) (members_of l.self.done.items) (number_of l.self) l.from;
   closing : Closes (g.A.Arcs.leads l.arcs) (places l.fn.self) (state_of l.self);
-  told : (p y : ℕ) → l.from ≤ p → p < l.position → y < places l.fn.self → g.A.Arcs.leads l.arcs ((state_of l.self).stack p) y ≡ true → IsToldOf (state_of l.self) y;
+  told : (p y : ℕ) → l.from ≤ p → p < l.position → y < places l.fn.self →
+      g.A.Arcs.leads l.arcs ((state_of l.self).stack p) y ≡ true → IsToldOf (state_of l.self) y;
 }

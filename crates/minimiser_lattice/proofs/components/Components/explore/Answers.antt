@@ -9,19 +9,36 @@ pub advance-requires-clause-places : goal.advance-requires-clause-places
 advance-requires-clause-places g c = omega (arith, c.requires.places, c.loop-self.invariant.same_places)
 
 pub advance-requires-clause-going : goal.advance-requires-clause-going
-advance-requires-clause-going g c = subst (λ (n : ℕ). IsGoing (g.A.Arcs.leads c.args.arcs.now) n (state_of c.loop-self.self)) (sym c.loop-self.invariant.same_places) c.loop-self.invariant.going
+advance-requires-clause-going g c =
+    subst (λ (n : ℕ). IsGoing (g.A.Arcs.leads c.args.arcs.now) n (state_of c.loop-self.self))
+    (sym c.loop-self.invariant.same_places) c.loop-self.invariant.going
 
 pub enter-requires-clause-height : goal.enter-requires-clause-height
 enter-requires-clause-height g c = let E = c.in-Some.ensures.found in let t = c.advance.new.self in
-    omega (arith, ap Rattle.std.specs.Prelude.vec_len c.advance.ensures.seen, (enter_room (g.A.Arcs.leads c.args.arcs.now) (places c.loop-self.self) (state_of t) c.advance.ensures.going c.in-Some.place E.0 E.1).0)
+    omega (
+      arith,
+      ap Rattle.std.specs.Prelude.vec_len c.advance.ensures.seen,
+      (enter_room (g.A.Arcs.leads c.args.arcs.now) (places c.loop-self.self) (state_of t) c.advance.ensures.going
+          c.in-Some.place E.0 E.1).0,
+    )
 
 pub enter-requires-clause-groups : goal.enter-requires-clause-groups
 enter-requires-clause-groups g c = let E = c.in-Some.ensures.found in let t = c.advance.new.self in
-    omega (arith, ap Rattle.std.specs.Prelude.vec_len c.advance.ensures.seen, (enter_room (g.A.Arcs.leads c.args.arcs.now) (places c.loop-self.self) (state_of t) c.advance.ensures.going c.in-Some.place E.0 E.1).1)
+    omega (
+      arith,
+      ap Rattle.std.specs.Prelude.vec_len c.advance.ensures.seen,
+      (enter_room (g.A.Arcs.leads c.args.arcs.now) (places c.loop-self.self) (state_of t) c.advance.ensures.going
+          c.in-Some.place E.0 E.1).1,
+    )
 
 pub enter-requires-clause-depth : goal.enter-requires-clause-depth
 enter-requires-clause-depth g c = let E = c.in-Some.ensures.found in let t = c.advance.new.self in
-    omega (arith, ap Rattle.std.specs.Prelude.vec_len c.advance.ensures.seen, (enter_room (g.A.Arcs.leads c.args.arcs.now) (places c.loop-self.self) (state_of t) c.advance.ensures.going c.in-Some.place E.0 E.1).2)
+    omega (
+      arith,
+      ap Rattle.std.specs.Prelude.vec_len c.advance.ensures.seen,
+      (enter_room (g.A.Arcs.leads c.args.arcs.now) (places c.loop-self.self) (state_of t) c.advance.ensures.going
+          c.in-Some.place E.0 E.1).2,
+    )
 
 pub loop-self-smaller-in-Some : goal.loop-self-smaller-in-Some
 loop-self-smaller-in-Some g c =
@@ -31,7 +48,9 @@ loop-self-smaller-in-Some g c =
       arith,
       c.advance.ensures.depth,
       ap (λ v. Rattle.residue_theory.specs.Sums.size_on (members_of v.items) n) c.advance.ensures.seen,
-      entered-smaller n (state_of c.advance.new.self) (state_of c.enter.new.self) c.in-Some.place c.enter.ensures.entered (omega (arith, E.0, c.loop-self.invariant.same_places)) E.1 (ap (λ v. v.depth) c.enter.ensures.entered.kept),
+      entered-smaller n (state_of c.advance.new.self) (state_of c.enter.new.self) c.in-Some.place
+          c.enter.ensures.entered (omega (arith, E.0, c.loop-self.invariant.same_places)) E.1
+          (ap (λ v. v.depth) c.enter.ensures.entered.kept),
     )
 
 pub loop-self-preserved-in-Some : goal.loop-self-preserved-in-Some
@@ -45,6 +64,9 @@ loop-self-preserved-in-Some g c =
       stored = c.enter.ensures.stored;
       same_places = c.enter.ensures.places ∙ (same ∙ I.same_places);
       going = entered-next (g.A.Arcs.leads c.args.arcs.now) n (state_of t) (state_of c.enter.new.self) c.in-Some.place
-          (subst (λ (m : ℕ). IsGoing (g.A.Arcs.leads c.args.arcs.now) m (state_of t)) I.same_places c.advance.ensures.going) (omega (arith, c.advance.ensures.depth, c.loop-self-test.true)) c.enter.ensures.entered (omega (arith, E.0, I.same_places)) E.1 E.2;
-      seen = λ y h. entered-seen (state_of t) (state_of c.enter.new.self) c.in-Some.place y c.enter.ensures.entered (ap (λ v. members_of v.items y) c.advance.ensures.seen ∙ I.seen y h);
+          (subst (λ (m : ℕ). IsGoing (g.A.Arcs.leads c.args.arcs.now) m (state_of t)) I.same_places
+          c.advance.ensures.going) (omega (arith, c.advance.ensures.depth, c.loop-self-test.true))
+          c.enter.ensures.entered (omega (arith, E.0, I.same_places)) E.1 E.2;
+      seen = λ y h. entered-seen (state_of t) (state_of c.enter.new.self) c.in-Some.place y c.enter.ensures.entered
+          (ap (λ v. members_of v.items y) c.advance.ensures.seen ∙ I.seen y h);
     }

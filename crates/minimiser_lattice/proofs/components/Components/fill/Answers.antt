@@ -35,7 +35,8 @@ explore-requires-clause-going g c = let I = c.loop-root.invariant in let s = c.l
     let below : c.loop-root.root < places c.args.self.now = omega (arith, c.clear.ensures.places) in
     let fresh = mark_read s.seen.items c.loop-root.root c.index.result.now (omega (arith, I.same_places, below)) c.index.ensures ∙ c.if-not-index.true in
     subst (λ (n : ℕ). IsGoing (g.A.Arcs.leads c.args.arcs.now) n (state_of c.enter.new.self)) (sym (c.enter.ensures.places ∙ I.same_places))
-    (entered-first (g.A.Arcs.leads c.args.arcs.now) (places c.args.self.now) (state_of s) (state_of c.enter.new.self) c.loop-root.root I.going I.depth c.enter.ensures.entered below fresh)
+    (entered-first (g.A.Arcs.leads c.args.arcs.now) (places c.args.self.now) (state_of s) (state_of c.enter.new.self)
+    c.loop-root.root I.going I.depth c.enter.ensures.entered below fresh)
 
 pub loop-root-preserved : goal.loop-root-preserved
 loop-root-preserved g c =
@@ -48,7 +49,8 @@ loop-root-preserved g c =
       | then-not-index w ↦ rw w.self-is (record {
         stored = w.explore.ensures.stored;
         same_places = w.explore.ensures.places ∙ (w.enter.ensures.places ∙ I.same_places);
-        going = subst (λ (n : ℕ). IsGoing (g.A.Arcs.leads c.args.arcs.now) n (state_of w.explore.new.self)) (w.enter.ensures.places ∙ I.same_places) w.explore.ensures.going;
+        going = subst (λ (n : ℕ). IsGoing (g.A.Arcs.leads c.args.arcs.now) n (state_of w.explore.new.self))
+            (w.enter.ensures.places ∙ I.same_places) w.explore.ensures.going;
         depth = w.explore.ensures.depth;
         seen = λ y l. w.explore.ensures.seen y (elim (nat_cases y root) [
           | inl q ↦ subst (λ v. members_of w.enter.new.self.seen.items v ≡ true) (sym q) w.enter.ensures.entered.seen
@@ -71,4 +73,5 @@ pub returns-clause-quotient : goal.returns-clause-quotient
 returns-clause-quotient g c =
     let I = c.loop-root.invariant in
     quotient (g.A.Arcs.leads c.args.arcs.now) (places c.args.self.now) (state_of c.loop-root.self) I.going
-    (λ y l. all_done (g.A.Arcs.leads c.args.arcs.now) (places c.args.self.now) (state_of c.loop-root.self) I.going I.depth y l (I.seen y (omega (arith, c.clear.ensures.places))))
+    (λ y l. all_done (g.A.Arcs.leads c.args.arcs.now) (places c.args.self.now) (state_of c.loop-root.self) I.going
+    I.depth y l (I.seen y (omega (arith, c.clear.ensures.places))))

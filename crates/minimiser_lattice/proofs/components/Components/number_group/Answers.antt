@@ -23,9 +23,25 @@ loop-position-preserved c =
     let is = item_is s.stack.items c.loop-position.position place fits c.index-place.ensures in
     let below : place < places c.args.self.now = omega (arith, read, is, height, c.requires.below c.loop-position.position (omega (arith, height))) in
     record {
-      stored = record { done = I.stored.done; number = I.stored.number; position = I.stored.position; next = I.stored.next; stack = I.stored.stack; base = I.stored.base; path = I.stored.path; rows = I.stored.rows; size = I.stored.size };
+      stored =
+          record {
+            done = I.stored.done;
+            number = I.stored.number;
+            position = I.stored.position;
+            next =
+                I.stored.next;
+            stack = I.stored.stack;
+            base = I.stored.base;
+            path = I.stored.path;
+            rows =
+                I.stored.rows;
+            size = I.stored.size;
+          };
       kept = ap (λ (v : Components). record v { done = with_item s.done place true; number = with_item s.number place s.count }) I.kept;
-      numbered = numbered-next (state_of c.args.self.now) (members_of s.done.items) (members_of (set s.done.items place true)) (number_of s) (λ y. Rattle.std.proofs.Common.get_or (set s.number.items place s.count) y 0)
+      numbered =
+          numbered-next (state_of c.args.self.now) (members_of s.done.items)
+          (members_of (set s.done.items place true)) (number_of s)
+          (λ y. Rattle.std.proofs.Common.get_or (set s.number.items place s.count) y 0)
           c.args.from c.loop-position.position place I.numbered (omega arith) (Rattle.std.proofs.Common.sym read ∙ is)
           (get_or-set_same s.done.items place true false (omega (arith, I.stored.done, same, below)))
           (get_or-set_same s.number.items place s.count 0 (omega (arith, I.stored.number, same, below)) ∙ ap (λ (v : Components). v.count) I.kept)
@@ -33,5 +49,7 @@ loop-position-preserved c =
     }
 
 pub returns-clause-numbered : goal.returns-clause-numbered
-returns-clause-numbered c = subst (λ (v : ℕ). IsNumberedTo (state_of c.args.self.now) (members_of c.loop-position.self.done.items) (number_of c.loop-position.self) c.args.from v)
+returns-clause-numbered c =
+    subst (λ (v : ℕ). IsNumberedTo (state_of c.args.self.now) (members_of c.loop-position.self.done.items)
+    (number_of c.loop-position.self) c.args.from v)
     (omega (arith, ap (λ (v : Components). v.height) c.loop-position.invariant.kept)) c.loop-position.invariant.numbered

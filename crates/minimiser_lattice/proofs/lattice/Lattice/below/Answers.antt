@@ -14,13 +14,25 @@ pub get-requires-clause-x : goal.get-requires-clause-x
 get-requires-clause-x c =
     let l = c.self.inside.listing in
     let less : c.args.l < l.blocks = omega (arith, c.requires.l, ap (λ (v : Kept). v.blocks) c.self.view_is) in
-    omega (arith, c.self.invariant.listed c.args.l less, item_is l.listed.items c.args.l c.index-2.result.now (omega (arith, less, c.self.invariant.fits, c.self.invariant.opened.listed)) c.index-2.ensures, c.self.invariant.stored.rows)
+    omega (
+      arith,
+      c.self.invariant.listed c.args.l less,
+      item_is l.listed.items c.args.l c.index-2.result.now
+          (omega (arith, less, c.self.invariant.fits, c.self.invariant.opened.listed)) c.index-2.ensures,
+      c.self.invariant.stored.rows,
+    )
 
 pub get-requires-clause-y : goal.get-requires-clause-y
 get-requires-clause-y c =
     let l = c.self.inside.listing in
     let less : c.args.k < l.blocks = omega (arith, c.requires.k, ap (λ (v : Kept). v.blocks) c.self.view_is) in
-    omega (arith, c.self.invariant.listed c.args.k less, item_is l.listed.items c.args.k c.index.result.now (omega (arith, less, c.self.invariant.fits, c.self.invariant.opened.listed)) c.index.ensures, c.self.invariant.stored.size)
+    omega (
+      arith,
+      c.self.invariant.listed c.args.k less,
+      item_is l.listed.items c.args.k c.index.result.now
+          (omega (arith, less, c.self.invariant.fits, c.self.invariant.opened.listed)) c.index.ensures,
+      c.self.invariant.stored.size,
+    )
 
 pub returns : goal.returns
 returns c =
@@ -29,6 +41,8 @@ returns c =
     let kb : c.args.k < l.blocks = omega (arith, c.requires.k, ap (λ (v : Kept). v.blocks) c.self.view_is) in
     let lb : c.args.l < l.blocks = omega (arith, c.requires.l, ap (λ (v : Kept). v.blocks) c.self.view_is) in
     let low = item_is l.listed.items c.args.k c.index.result.now (omega (arith, kb, c.self.invariant.fits, c.self.invariant.opened.listed)) c.index.ensures in
-    let high = item_is l.listed.items c.args.l c.index-2.result.now (omega (arith, lb, c.self.invariant.fits, c.self.invariant.opened.listed)) c.index-2.ensures in
+    let high =
+    item_is l.listed.items c.args.l c.index-2.result.now
+    (omega (arith, lb, c.self.invariant.fits, c.self.invariant.opened.listed)) c.index-2.ensures in
     subst (λ (v : Kept). c.get.result ≡ bit_in v.strict (get_or v.listed c.args.l 0) (get_or v.listed c.args.k 0)) c.self.view_is
     (c.get.ensures ∙ (ap (λ m. strict m c.index.result.now) (sym high) ∙ ap (strict (get_or l.listed.items c.args.l 0)) (sym low)))

@@ -1,9 +1,9 @@
-use Rattle.std.proofs.Common.{◌≡◌, ◌≢◌, ◌+◌, ◌-◌, ◌<◌, ℕ, true, false, get_or, ap, sym, subst, ◌∙◌, arith}
+use Rattle.std.proofs.Common.{◌≡◌, ◌≢◌, ◌+◌, ◌-◌, ◌<◌, ℕ, Bool, true, false, get_or, ap, sym, subst, ◌∙◌, arith}
 use Rattle.exchange_graph.specs.Marks.{members_of}
 use Rattle.closed_sets.proofs.SetLaws.{size_on-bound}
 use Rattle.bit_table.specs.Bits.{bit_in}
 use Rattle.minimiser_lattice.specs.Components.{number_of, places}
-use Rattle.minimiser_lattice.specs.Listings.{HasPlaces, IsOpened, IsReadyAt, IsWatched, watch_of}
+use Rattle.minimiser_lattice.specs.Listings.{HasPlaces, IsOpened, IsReadyAt, IsWatched, NoneWaits, watch_of}
 use Rattle.minimiser_lattice.specs.declared.listing.Listing.{Listing}
 use Rattle.bit_table.proofs.BitLaws.{item_is}
 use Rattle.minimiser_lattice.proofs.ListingLaws.{list-first, list-next, list-done, places-first, places-next, places-fit, watched-next}
@@ -17,6 +17,7 @@ loop-place-init c =
       opened = c.requires.opened;
       kept = Rattle.std.proofs.Common.refl;
       watched = λ k l kl less. absurd (omega (arith, c.requires.watch k kl));
+      passed = λ j less w. absurd (omega arith);
       has = places-first (places cs) (number_of cs) cs.count (bit_in cs.strict) c.requires.numbering (members_of s.middle.items) (members_of s.placed.items) (λ k. get_or s.rank.items k 0) (λ j. get_or s.listed.items j 0) s.blocks c.requires.blocks;
       started = λ arc starts ends D. list-first (places cs) (number_of cs) cs.count (bit_in cs.strict) c.requires.numbering (members_of s.middle.items) (members_of s.placed.items) arc starts ends (λ k. get_or s.rank.items k 0) s.blocks c.requires.blocks c.requires.none;
     }
@@ -95,6 +96,8 @@ loop-place-preserved c =
     λ j ne. P.listed_others j (λ q. ne (q ∙ blocks)) ∙ ap (λ (v : Listing). get_or v.listed.items j 0) c.least_ready.ensures.kept in
     let watched : IsWatched cs.count (bit_in cs.strict) (members_of old.middle.items) (members_of s.placed.items) (watch_of u) =
     subst (λ (v : Listing). IsWatched cs.count (bit_in cs.strict) (members_of v.middle.items) (members_of s.placed.items) (watch_of u)) I.kept c.least_ready.ensures.watched in
+    let middle_is : members_of t.middle.items ≡ members_of old.middle.items = ap (λ (v : Listing). members_of v.middle.items) P.kept
+    ∙ (ap (λ (v : Listing). members_of v.middle.items) c.least_ready.ensures.kept ∙ ap (λ (v : Listing). members_of v.middle.items) I.kept) in
     let still = watched-next (places cs) (number_of cs) cs.count (bit_in cs.strict) N (members_of old.middle.items) (members_of s.placed.items) (members_of t.placed.items) (λ l. get_or s.rank.items l 0) (λ l. get_or t.rank.items l 0) place s.blocks
     c.in-Some.ensures.below ready.0.1 put put_others here others (watch_of u) watched in
     record {
@@ -104,6 +107,7 @@ loop-place-preserved c =
           ∙ (ap (λ w. record old { placed = t.placed; watch = w; rank = t.rank; listed = t.listed; blocks = u.blocks + 1 }) (sym (ap (λ (v : Listing). v.watch) P.kept))
           ∙ ap (λ w. record old { placed = t.placed; watch = t.watch; rank = t.rank; listed = t.listed; blocks = w }) (sym (ap (λ (v : Listing). v.blocks) P.kept)))));
       watched = subst (λ (v : Listing). IsWatched cs.count (bit_in cs.strict) (members_of old.middle.items) (members_of t.placed.items) (watch_of v)) (sym P.kept) still;
+      passed = subst (λ (middle : ℕ → Bool). NoneWaits middle (members_of t.placed.items) (number_of cs) c.next_waiting-from.result) middle_is c.next_waiting-from.ensures.passed;
       has = subst (λ v. HasPlaces cs.count (members_of old.middle.items) (members_of t.placed.items) (λ l. get_or t.rank.items l 0) (λ j. get_or t.listed.items j 0) v) (sym more_blocks)
           (places-next (places cs) (number_of cs) cs.count (bit_in cs.strict) N (members_of old.middle.items) (members_of s.placed.items) (members_of t.placed.items) (λ l. get_or s.rank.items l 0) (λ l. get_or t.rank.items l 0) place s.blocks
           c.in-Some.ensures.below ready.0.1 put put_others here others (λ j. get_or s.listed.items j 0) (λ j. get_or t.listed.items j 0) I.has ready.0.0 new same);

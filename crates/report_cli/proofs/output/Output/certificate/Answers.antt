@@ -12,6 +12,7 @@ returns-clause-right g c =
       refl,
       subst (λ kind. IsRightFor g.R.ModelReader.KIND c.args.text.items
           (record { kind = kind; echo = c.from_vec.result; ccf = c.in-Ok-build.ccf })) (sym c.KIND.ensures)
-          (right_for g.R.ModelReader.KIND c.args.text.items c.in_ok-model.model c.in-Ok.layered c.from_vec.result c.in-Ok-build.ccf of_input c.in-Ok.ensures c.from_vec.ensures c.requires c.is_in_form.ensures
+          (right_for g.R.ModelReader.KIND c.args.text.items c.in_ok-model.model c.in-Ok.layered c.from_vec.result
+          c.in-Ok-build.ccf of_input c.in-Ok.ensures c.from_vec.ensures c.requires c.is_in_form.ensures
           promise.shape promise.transform promise.pair_and_rank promise.block_triangular_form promise.ideals promise.canonical_listing),
     )

@@ -5,7 +5,13 @@ use Rattle.row_transform.proofs.base.Base.unlink.Goals as goal
 
 pub index_mut-requires-2 : goal.index_mut-requires-2
 index_mut-requires-2 c =
-    omega (arith, c.self.inside.rows.ok.0, (c.self.invariant.columns_point c.args.row c.args.column (subst (λ (b : BaseLists). slice_index_or b.columns c.args.row None ≡ Some c.args.column) (sym c.self.view_is) c.requires)).0)
+    omega (
+      arith,
+      c.self.inside.rows.ok.0,
+      (c.self.invariant.columns_point c.args.row c.args.column
+          (subst (λ (b : BaseLists). slice_index_or b.columns c.args.row None ≡ Some c.args.column)
+          (sym c.self.view_is) c.requires)).0,
+    )
 
 pub invariant_of-self : goal.invariant_of-self
 invariant_of-self c =

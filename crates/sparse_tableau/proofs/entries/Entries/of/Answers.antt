@@ -4,5 +4,5 @@ use Rattle.sparse_tableau.proofs.entries.Entries.of.Goals as goal
 
 pub returns : goal.returns
 returns g c =
-    listed-all g.F.Field.modulus c.args.p.now c.loop-row.entries.bits c.loop-row.row c.loop-row.invariant.size
+    listed-all c.args.p.now c.loop-row.entries.bits c.loop-row.row c.loop-row.invariant.size
     c.loop-row.invariant.listed (omega (arith, c.rows-row-end.ensures.rows, c.loop-row-test.false))

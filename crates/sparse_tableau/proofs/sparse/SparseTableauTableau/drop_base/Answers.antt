@@ -15,4 +15,5 @@ invariant_of-self g c =
           })
           c.leave.new.self _ c.self.invariant.0 c.leave.ensures.rows c.leave.ensures.columns c.leave.ensures.dropped,
       c.self.invariant.1,
+      c.self.invariant.2,
     )

@@ -1,23 +1,45 @@
+use Rattle.std.proofs.Common.{sym, subst}
+use Rattle.sparse_q.specs.Tables.{SparseTable}
+use Rattle.row_transform.specs.Tableaus.{IsOpened}
+use Rattle.dense_q.specs.Tables.{height, entry}
+use Rattle.sparse_tableau.specs.Entries.{AreListed, IsListed}
+use Rattle.sparse_tableau.specs.Sparse.{IsSparse, state_of}
+use Rattle.sparse_tableau.proofs.EntryLaws.{listed-entries}
 use Rattle.sparse_tableau.proofs.SparseLaws.{opened-sparse, opened-state}
 use Rattle.sparse_tableau.proofs.sparse.SparseTableauTableau.open.Goals as goal
 
-pub invariant_of-result : goal.invariant_of-result
-invariant_of-result g c = (
-  opened-sparse g.F.Field.modulus c.rows-rows.result c.cols-columns.result c.args.q.now c.in_ok-columns_of.field-0
-      c.in_ok-p.p
-      c.in_ok-s.s c.in_ok-identity.field-0 c.in_ok-empty.field-0 c.rows-rows.ensures.rows c.cols-columns.ensures.cols
-      c.in_ok-p.ensures.size c.in_ok-p.ensures.numbers c.in_ok-columns_of.ensures.size
-      c.in_ok-columns_of.ensures.numbers
-      c.in_ok-s.ensures.size c.in_ok-s.ensures.numbers c.in_ok-identity.ensures.size c.in_ok-identity.ensures.numbers
-      c.in_ok-empty.ensures,
-  c.in_ok-entries.ensures,
-)
+pub invariant_of-result-2 : goal.invariant_of-result-2
+invariant_of-result-2 g c =
+    let m = g.F.Field.modulus in
+    let p = c.in_ok-p.p in
+    subst (λ (v : SparseTable). IsSparse m (record {
+      q = c.in_ok-columns_of.field-0;
+      p = p;
+      s = c.in_ok-s.s;
+      v = v;
+      base = c.in_ok-empty.field-0;
+    }) × IsListed m p c.in_ok-entries.entries.bits × AreListed v c.in_ok-u_entries.u_entries.bits) (sym c.v.view_is) (
+      opened-sparse m c.rows-rows.result c.cols-columns.result c.args.q.now c.in_ok-columns_of.field-0 p c.in_ok-s.s
+          c.in_ok-v.v c.in_ok-empty.field-0 c.rows-rows.ensures.rows c.cols-columns.ensures.cols
+          c.in_ok-p.ensures.size c.in_ok-p.ensures.numbers c.in_ok-columns_of.ensures.size
+          c.in_ok-columns_of.ensures.numbers c.in_ok-s.ensures.size c.in_ok-s.ensures.numbers c.in_ok-v.ensures.size
+          c.in_ok-v.ensures.numbers c.in_ok-empty.ensures,
+      listed-entries m p c.in_ok-entries.entries.bits c.in_ok-entries.ensures,
+      c.in_ok-u_entries.ensures,
+    )
 
 pub returns : goal.returns
 returns g c =
-    opened-state g.F.Field.modulus c.rows-rows.result c.cols-columns.result c.args.q.now c.in_ok-columns_of.field-0
-    c.in_ok-p.p
-    c.in_ok-s.s c.in_ok-identity.field-0 c.in_ok-empty.field-0 c.rows-rows.ensures.rows c.cols-columns.ensures.cols
-    c.in_ok-p.ensures.size c.in_ok-p.ensures.numbers c.in_ok-columns_of.ensures.size c.in_ok-columns_of.ensures.numbers
-    c.in_ok-s.ensures.size c.in_ok-s.ensures.numbers c.in_ok-identity.ensures.size c.in_ok-identity.ensures.numbers
-    c.in_ok-empty.ensures
+    let m = g.F.Field.modulus in
+    let of = c.args.q.now in
+    subst (λ (v : SparseTable). IsOpened m (height of) of.width (entry of) (state_of (record {
+      q = c.in_ok-columns_of.field-0;
+      p = c.in_ok-p.p;
+      s = c.in_ok-s.s;
+      v = v;
+      base = c.in_ok-empty.field-0;
+    }))) (sym c.v.view_is)
+    (opened-state m c.rows-rows.result c.cols-columns.result of c.in_ok-columns_of.field-0 c.in_ok-p.p c.in_ok-s.s
+    c.in_ok-v.v c.in_ok-empty.field-0 c.rows-rows.ensures.rows c.cols-columns.ensures.cols c.in_ok-p.ensures.size
+    c.in_ok-p.ensures.numbers c.in_ok-columns_of.ensures.size c.in_ok-columns_of.ensures.numbers c.in_ok-s.ensures.size
+    c.in_ok-s.ensures.numbers c.in_ok-v.ensures.size c.in_ok-v.ensures.numbers c.in_ok-empty.ensures)

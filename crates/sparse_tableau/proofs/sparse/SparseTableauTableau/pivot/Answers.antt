@@ -1,7 +1,7 @@
 use Rattle.std.proofs.Common.{◌≢◌, ◌%◌, ◌<◌, sym, subst}
 use Rattle.sparse_q.specs.Tables.{row_count, number_in}
 use Rattle.sparse_tableau.specs.Sparse.{Sparse}
-use Rattle.sparse_tableau.proofs.EntryLaws.{pivot-listed}
+use Rattle.sparse_tableau.proofs.EntryLaws.{pivot-listed, row_set-listed}
 use Rattle.sparse_tableau.proofs.SparseLaws.{pivot-pivoted, pivoted-sparse, pivoted-state}
 use Rattle.sparse_tableau.proofs.sparse.SparseTableauTableau.pivot.Goals as goal
 
@@ -32,6 +32,9 @@ invariant_of-self g c =
           c.pivot-2.ensures.p_size c.pivot-2.ensures.s_size c.pivot-2.ensures.p_reduced c.pivot-2.ensures.s_reduced
           c.copy_row.ensures c.take.ensures.taken)
           c.pivot-2.ensures.p_reduced c.pivot.ensures.size c.pivot-2.ensures.p_size,
+      row_set-listed inside.v c.copy_row.new.self inside.u_entries.bits c.list_row.new.self.bits c.args.row
+          (number_in inside.columns c.args.col) c.self.invariant.2 c.copy_row.ensures c.list_row.ensures.size
+          c.list_row.ensures.listed c.list_row.ensures.kept,
     )
 
 pub returns : goal.returns

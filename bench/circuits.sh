@@ -1,0 +1,49 @@
+#!/usr/bin/env bash
+# What `mixed analyse netlist` takes of circuits of common shapes, and how that grows: ladders of resistors and capacitors, and
+# square grids of resistors, each behind a source. Instructions are counted by valgrind's callgrind, which repeats.
+# Usage: bench/circuits.sh [ladder|grid [SIZE ..]]; without words ladders of 25, 50 and 100 sections, and grids of 6, 9 and 12 nodes
+# a side. program.sh says what is to be built first.
+set -eu
+. "$(dirname "$0")/program.sh"
+
+# A ladder of so many sections: a resistor to the next node, and a capacitor from there to ground.
+ladder() {
+    awk -v sections="$1" 'BEGIN {
+        print "V1 a0 0 5"
+        for (k = 0; k < sections; k++) print "R" k " a" k " a" k + 1 " 1k\nC" k " a" k + 1 " 0 1u"
+    }'
+}
+
+# A square grid of so many nodes a side, with a resistor between neighbours and one from the last node to ground.
+grid() {
+    awk -v side="$1" '
+        function resistor(from, to) { print "R" ++count " " from " " to " 1k" }
+        function node(i, j) { return "n" i "_" j }
+
+        BEGIN {
+            print "V1 " node(0, 0) " 0 5"
+            for (i = 0; i < side; i++) for (j = 0; j < side; j++) {
+                if (j + 1 < side) resistor(node(i, j), node(i, j + 1))
+                if (i + 1 < side) resistor(node(i, j), node(i + 1, j))
+            }
+            resistor(node(side - 1, side - 1), 0)
+        }'
+}
+
+row() {
+    "$1" "$2" > "$work/netlist"
+    "$program" analyse netlist < "$work/netlist" > "$work/certificate" || true
+    awk -v shape="$1" -v size="$2" -v devices="$(wc -l < "$work/netlist")" \
+        -v equations="$(awk '/^shape/ { print $2 }' "$work/certificate")" \
+        -v count="$(instructions "$work/netlist" analyse netlist)" 'BEGIN {
+            printf "| %s | %d | %d | %d | %.1f |\n", shape, size, devices, equations, count / 1e6
+        }'
+}
+
+echo "| shape | size | devices | equations | million instructions |"
+echo "|---|---|---|---|---|"
+for shape in ${1:-ladder grid}; do
+    sizes=${*:2}
+    if [ "$shape" = ladder ]; then sizes=${sizes:-25 50 100}; else sizes=${sizes:-6 9 12}; fi
+    for size in $sizes; do row "$shape" "$size"; done
+done

@@ -1,0 +1,37 @@
+//! Which tableau suits a matrix.
+
+ghost use Rattle.std.specs.Prelude.{◌≤◌, ◌<◌};
+ghost use Rattle.limits.specs.Limits.{column_limit};
+ghost use Rattle.dense_q.specs.Tables.{height};
+
+use dense_q::Mat;
+use residue_field::Field;
+
+/// Whether a matrix has at most as many entries that are not zero as it has rows and columns. As the edges of a graph on the
+/// rows and columns these make little more than a forest, in which pivots fill nothing in; so a sparse tableau suits it.
+/// Where there are more, pivots fill the matrix in, and a dense tableau is faster.
+pub fn has_few_entries<F: Field>(q: &Mat<F>) -> bool {
+    let most = q.rows() + q.cols();
+    let mut entries = 0;
+    for row in 0..q.rows() {
+        entries += entries_in_row(q, row);
+        if most < entries {
+            return false;
+        }
+    }
+    true
+}
+
+// How many entries of a row are not zero.
+fn entries_in_row<F: Field>(q: &Mat<F>, row: usize) -> usize
+    requires { row < height q.now }
+    ensures { result ≤ column_limit }
+{
+    let mut entries = 0;
+    for col in 0..q.cols() {
+        if !q.get(row, col).is_zero() {
+            entries += 1;
+        }
+    }
+    entries
+}

@@ -1,4 +1,0 @@
-use Rattle.search_tables.proofs.pairs.assert_solved.Given as goal
-
-abbrev pub ghosts-solved : goal.ghosts-solved
-ghosts-solved g a = record { name = a.blank.name; parts = a.blank.parts }
