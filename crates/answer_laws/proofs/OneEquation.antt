@@ -111,7 +111,13 @@ module _ (c : Certificate) (right : IsRightFor Matrix one_equation c) where
   mates-are = empty-pairs c.ccf.shape.t_rows c.ccf.shape.columns c.ccf.mates (ap (λ (s : Shape). s.t_rows) shape-is) (right.form).mates
 
   rank-is : (base : List (ℕ × ℕ)) → c.ccf.base ≡ base → c.ccf.rank ≡ length base
-  rank-is base is = omega (arith, ((right.right).pair_and_rank).size, no-split right.model right.gives right.layered right.origins right.layers, ap length mates-are, ap length is)
+  rank-is base is = omega (
+    arith,
+    ((right.right).pair_and_rank).size,
+    no-split right.model right.gives right.layered right.origins right.layers,
+    ap length mates-are,
+    ap length is,
+  )
 
   text-is : (base : List (ℕ × ℕ)) → c.ccf.base ≡ base →
       certificate_text c ≡ text_with Matrix one_equation (record { equations = 1; unknowns = 1; q_rows = 1; t_rows = 0; columns = 1 }) (length base) base []

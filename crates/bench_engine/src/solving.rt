@@ -48,7 +48,7 @@ pub(crate) fn solve<L: Ledger>(
     Ok(Found {
         columns,
         pair: engine.size(),
-        free: (0..columns).filter(|col| engine.free(*col)).count(),
+        free: engine.free_columns().iter().filter(|free| **free).count(),
         least,
         searches: engine.searches(),
         // the last one looked at each column that it reached

@@ -44,6 +44,8 @@ impl Arcs for Shape {
 
     ghost leads = { λ s x y. leads_of s.kind s.places x y };
 
+    ghost turn = { λ _ _ y. y };
+
     fn arc(&self, x: usize, y: usize) -> bool {
         let places = self.places;
         match self.kind {
@@ -53,5 +55,14 @@ impl Arcs for Shape {
             Kind::Dense => x < y,
             Kind::Halves => x < places / 2 && y >= places / 2,
         }
+    }
+
+    fn next_arc(&self, x: usize, from: usize) -> Option<(usize, usize)> {
+        for y in from..self.places {
+            if self.arc(x, y) {
+                return Some((y, y + 1));
+            }
+        }
+        None
     }
 }

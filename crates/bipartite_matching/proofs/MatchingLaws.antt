@@ -34,7 +34,8 @@ none-replicate n i = elim (lt_cases i n) [
   | inr ge ↦ get_or_past (replicate n nobody) i nobody (omega (arith, length-replicate n nobody))
 ]
 
-pub stored-empty : (p : Incidence) (columns mates : List (Option ℕ)) → columns ≡ replicate (row_count p) None → mates ≡ replicate p.width None → IsStored p columns mates
+pub stored-empty : (p : Incidence) (columns mates : List (Option ℕ)) → columns ≡ replicate (row_count p) None →
+    mates ≡ replicate p.width None → IsStored p columns mates
 stored-empty p columns mates e f = record {
   matching = record {
     count = ap length f ∙ length-replicate p.width None;
@@ -52,7 +53,8 @@ stored-empty p columns mates e f = record {
     none r c h = none_is_no_some r (sym (ap (λ xs. get_or xs c None) f ∙ none-replicate p.width c) ∙ h)
 
 -- a row and a column, neither of them matched, are linked
-module _ (p : Incidence) (columns mates : List (Option ℕ)) (row col : ℕ) (S : IsStored p columns mates) (rl : row < row_count p) (cl : col < p.width) (symbol : touches p row col ≡ true)
+module _ (p : Incidence) (columns mates : List (Option ℕ)) (row col : ℕ) (S : IsStored p columns mates)
+    (rl : row < row_count p) (cl : col < p.width) (symbol : touches p row col ≡ true)
     (row_free : IsRowFree (paired p mates) row) (col_free : mate_at (paired p mates) col ≡ None) where
   linked : List (Option ℕ)
   linked = slice_set mates col (Some row)
@@ -80,11 +82,14 @@ module _ (p : Incidence) (columns mates : List (Option ℕ)) (row col : ℕ) (S 
     };
     rows = length-set columns row (Some col) ∙ S.rows;
     column = λ r c h. elim (new_or_old r c h) [
-      | inl q ↦ ap (λ k. get_or (slice_set columns row (Some col)) k None) q.0 ∙ (get_or-set_same columns row (Some col) None (omega (arith, S.rows, rl)) ∙ ap Some (sym q.1))
+      | inl q ↦ ap (λ k. get_or (slice_set columns row (Some col)) k None) q.0
+          ∙ (get_or-set_same columns row (Some col) None (omega (arith, S.rows, rl)) ∙ ap Some (sym q.1))
       | inr old ↦ get_or-set_other columns row r (Some col) None (λ q. row_free c (subst (λ k. HasPair (paired p mates) k c) q old)) ∙ S.column r c old
     ];
     pair = λ r c h. elim (nat_cases r row) [
-      | inl q ↦ let same : col ≡ c = same_some col c (sym (get_or-set_same columns row (Some col) None (omega (arith, S.rows, rl))) ∙ (ap (λ k. get_or (slice_set columns row (Some col)) k None) (sym q) ∙ h)) in
+      | inl q ↦ let same : col ≡ c = same_some col c
+          (sym (get_or-set_same columns row (Some col) None (omega (arith, S.rows, rl)))
+          ∙ (ap (λ k. get_or (slice_set columns row (Some col)) k None) (sym q) ∙ h)) in
           subst (λ k. get_or (slice_set mates col (Some row)) k None ≡ Some r) same (at_col ∙ ap Some (sym q))
       | inr ne ↦ let old : HasPair (paired p mates) r c = S.pair r c (sym (get_or-set_other columns row r (Some col) None ne) ∙ h) in
           get_or-set_other mates col c (Some row) None (λ q. none_is_no_some r (sym col_free ∙ (ap (λ k. get_or mates k None) (sym q) ∙ old))) ∙ old
@@ -122,9 +127,13 @@ module _ (p : Incidence) (columns mates : List (Option ℕ)) (row col : ℕ) (S 
     };
     rows = length-set columns row None ∙ S.rows;
     column = λ r c h. let old = still r c h in
-        get_or-set_other columns row r None None (λ q. old.0 (S.matching.one_column row c col (subst (λ k. HasPair (paired p mates) k c) q old.1) matched)) ∙ S.column r c old.1;
+        get_or-set_other columns row r None None
+        (λ q. old.0 (S.matching.one_column row c col (subst (λ k. HasPair (paired p mates) k c) q old.1) matched))
+        ∙ S.column r c old.1;
     pair = λ r c h. elim (nat_cases r row) [
-      | inl q ↦ absurd (none_is_no_some c (sym (get_or-set_same columns row None None row_at) ∙ (ap (λ k. get_or (slice_set columns row None) k None) (sym q) ∙ h)))
+      | inl q ↦ absurd (none_is_no_some c
+          (sym (get_or-set_same columns row None None row_at)
+          ∙ (ap (λ k. get_or (slice_set columns row None) k None) (sym q) ∙ h)))
       | inr ne ↦ let old : HasPair (paired p mates) r c = S.pair r c (sym (get_or-set_other columns row r None None ne) ∙ h) in
           get_or-set_other mates col c None None (λ q. ne (same_some r row (sym old ∙ (ap (λ k. get_or mates k None) q ∙ matched)))) ∙ old
     ];

@@ -40,7 +40,8 @@ mate-touches m M col h = M.symbol (unwrap_or (mate_at m col) 0) col (matched-pai
 
 pub mates-differ : (m : Matching) → IsMatching m → (col other : ℕ) → is_some (mate_at m col) ≡ true → is_some (mate_at m other) ≡ true →
     unwrap_or (mate_at m col) 0 ≡ unwrap_or (mate_at m other) 0 → col ≡ other
-mates-differ m M col other h k q = M.one_column (unwrap_or (mate_at m col) 0) col other (matched-pair m col h) (subst (λ r. HasPair m r other) (sym q) (matched-pair m other k))
+mates-differ m M col other h k q = M.one_column (unwrap_or (mate_at m col) 0) col other (matched-pair m col h)
+    (subst (λ r. HasPair m r other) (sym q) (matched-pair m other k))
 
 -- what a link and a parting leave at a column
 pub linked-here : (m : Matching) → IsMatching m → (row col : ℕ) → col < m.pattern.width → mate_at (with_pair m row col) col ≡ Some row

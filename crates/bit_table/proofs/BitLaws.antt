@@ -40,7 +40,11 @@ or_bit a b i = max_bit (bit_at a i) (bit_at b i) (bit_at (bit_or a b) i) (bit_at
 pub rows_apart : (w x y : ℕ) → (x * w ≡ y * w) ⊎ ((x * w + w ≤ y * w) ⊎ (y * w + w ≤ x * w))
 rows_apart w x y = elim (lt_cases x y) [
   | inl less ↦ inr (inl (omega (arith, mul-le-mul_left w less)))
-  | inr ge ↦ elim (nat_cases x y) [ inl q ↦ inl (ap (λ v. v * w) q) | inr ne ↦ let more : y + 1 ≤ x = omega arith in inr (inr (omega (arith, mul-le-mul_left w more))) ]
+  | inr ge ↦ elim (nat_cases x y) [
+    | inl q ↦ inl (ap (λ v. v * w) q)
+    | inr ne ↦ let more : y + 1 ≤ x = omega arith in
+        inr (inr (omega (arith, mul-le-mul_left w more)))
+  ]
 ]
 
 pub in_row : (n w x i : ℕ) → x < n → i < w → x * w + i < n * w
@@ -56,7 +60,9 @@ word_fits m n w x y width xl yl = in_row m w x (y / 64) xl (half_below n w y wid
 pub set_bit : (xs : List ℕ) (m n w x y v : ℕ) → length xs ≡ m * w → w ≡ n / 64 + 1 → x < m → y < n → v ≡ get_or xs (x * w + y / 64) v →
     IsBitSet (bit_of xs w) (bit_of (set xs (x * w + y / 64) (bit_or v (1 * 2 ^ (y % 64) % 2 ^ 64))) w) n x y
 set_bit xs m n w x y v len width xl yl e = record {
-  here = ap (λ m. bit_at m (y % 64) == 1) (get_or-set_same xs (x * w + y / 64) (bit_or v (1 * 2 ^ (y % 64) % 2 ^ 64)) 0 fits) ∙ ap (λ m. m == 1) (bit_at_set_same w64 v (y % 64) small);
+  here = ap (λ m. bit_at m (y % 64) == 1)
+      (get_or-set_same xs (x * w + y / 64) (bit_or v (1 * 2 ^ (y % 64) % 2 ^ 64)) 0 fits)
+      ∙ ap (λ m. m == 1) (bit_at_set_same w64 v (y % 64) small);
   row = λ j jl ne. row j jl ne (nat_cases (j / 64) (y / 64));
   others = λ i j jl ne. elsewhere i j (λ q. ne (same_from_place i (j / 64) x (y / 64) w (half_below n w j width jl) (half_below n w y width yl) q).0);
 }
@@ -73,13 +79,17 @@ set_bit xs m n w x y v len width xl yl e = record {
     elsewhere : (i j : ℕ) → i * w + j / 64 ≢ x * w + y / 64 → bit_of (set xs (x * w + y / 64) (bit_or v (1 * 2 ^ (y % 64) % 2 ^ 64))) w i j ≡ bit_of xs w i j
     elsewhere i j ne = ap (λ m. bit_at m (j % 64) == 1) (get_or-set_other xs (x * w + y / 64) (i * w + j / 64) (bit_or v (1 * 2 ^ (y % 64) % 2 ^ 64)) 0 ne)
 
-    row : (j : ℕ) → j < n → j ≢ y → (j / 64 ≡ y / 64) ⊎ (j / 64 ≢ y / 64) → bit_of (set xs (x * w + y / 64) (bit_or v (1 * 2 ^ (y % 64) % 2 ^ 64))) w x j ≡ bit_of xs w x j
+    row : (j : ℕ) → j < n → j ≢ y → (j / 64 ≡ y / 64) ⊎ (j / 64 ≢ y / 64) →
+        bit_of (set xs (x * w + y / 64) (bit_or v (1 * 2 ^ (y % 64) % 2 ^ 64))) w x j ≡ bit_of xs w x j
     row j jl ne (inr other) = elsewhere x j (λ q. omega arith)
     row j jl ne (inl same) =
         let apart : j % 64 ≢ y % 64 = λ q. ne (omega arith) in
         let place : x * w + j / 64 ≡ x * w + y / 64 = ap (λ m. x * w + m) same in
-        ap (λ m. bit_at m (j % 64) == 1) (ap (λ m. get_or (set xs (x * w + y / 64) (bit_or v (1 * 2 ^ (y % 64) % 2 ^ 64))) m 0) place ∙ get_or-set_same xs (x * w + y / 64) (bit_or v (1 * 2 ^ (y % 64) % 2 ^ 64)) 0 fits)
-        ∙ (ap (λ m. m == 1) (bit_at_set_other w64 v (y % 64) small (j % 64) apart) ∙ ap (λ m. bit_at m (j % 64) == 1) (sym was ∙ ap (λ m. get_or xs m 0) (sym place)))
+        ap (λ m. bit_at m (j % 64) == 1)
+        (ap (λ m. get_or (set xs (x * w + y / 64) (bit_or v (1 * 2 ^ (y % 64) % 2 ^ 64))) m 0) place
+        ∙ get_or-set_same xs (x * w + y / 64) (bit_or v (1 * 2 ^ (y % 64) % 2 ^ 64)) 0 fits)
+        ∙ (ap (λ m. m == 1) (bit_at_set_other w64 v (y % 64) small (j % 64) apart)
+        ∙ ap (λ m. bit_at m (j % 64) == 1) (sym was ∙ ap (λ m. get_or xs m 0) (sym place)))
 
 -- a word of another row stands before or behind this row
 outside : (n w x i j : ℕ) → w ≡ n / 64 + 1 → j < n → i ≢ x → (i * w + j / 64 < x * w) ⊎ (x * w + w ≤ i * w + j / 64)
@@ -90,15 +100,18 @@ outside n w x i j width jl ne = apart (half_below n w j width jl) (lt_cases i x)
     apart fits (inr ge) = let more : x + 1 ≤ i = omega arith in inr (omega (arith, mul-le-mul_left w more))
 
 -- the words of a row are joined with those of another, which stand in rows of v words
-pub join_bits : (xs ys zs : List ℕ) (n w v x y : ℕ) → w ≡ n / 64 + 1 → ((i : ℕ) → i < w → get_or ys (x * w + i) 0 ≡ bit_or (get_or xs (x * w + i) 0) (get_or zs (y * v + i) 0)) →
+pub join_bits : (xs ys zs : List ℕ) (n w v x y : ℕ) → w ≡ n / 64 + 1 →
+    ((i : ℕ) → i < w → get_or ys (x * w + i) 0 ≡ bit_or (get_or xs (x * w + i) 0) (get_or zs (y * v + i) 0)) →
     ((k : ℕ) → (k < x * w) ⊎ (x * w + w ≤ k) → get_or ys k 0 ≡ get_or xs k 0) → IsJoined (bit_of xs w) (bit_of ys w) (bit_of zs v y) n x
 join_bits xs ys zs n w v x y width joined rest = record {
-  here = λ j jl. ap (λ m. bit_at m (j % 64) == 1) (joined (j / 64) (half_below n w j width jl)) ∙ or_bit (get_or xs (x * w + j / 64) 0) (get_or zs (y * v + j / 64) 0) (j % 64);
+  here = λ j jl. ap (λ m. bit_at m (j % 64) == 1) (joined (j / 64) (half_below n w j width jl))
+      ∙ or_bit (get_or xs (x * w + j / 64) 0) (get_or zs (y * v + j / 64) 0) (j % 64);
   others = λ i j jl ne. ap (λ m. bit_at m (j % 64) == 1) (rest (i * w + j / 64) (outside n w x i j width jl ne));
 }
 
 -- the words of a row are cleared
-pub clear_bits : (xs ys : List ℕ) (n w x : ℕ) → w ≡ n / 64 + 1 → ((i : ℕ) → i < w → get_or ys (x * w + i) 0 ≡ 0) → ((k : ℕ) → (k < x * w) ⊎ (x * w + w ≤ k) → get_or ys k 0 ≡ get_or xs k 0) →
+pub clear_bits : (xs ys : List ℕ) (n w x : ℕ) → w ≡ n / 64 + 1 → ((i : ℕ) → i < w → get_or ys (x * w + i) 0 ≡ 0) →
+    ((k : ℕ) → (k < x * w) ⊎ (x * w + w ≤ k) → get_or ys k 0 ≡ get_or xs k 0) →
     IsRowCleared (bit_of xs w) (bit_of ys w) n x
 clear_bits xs ys n w x width zeros rest = record {
   here = λ j jl. ap (λ m. bit_at m (j % 64) == 1) (zeros (j / 64) (half_below n w j width jl)) ∙ zero_bit (j % 64);
@@ -111,22 +124,30 @@ pub record JoinedTo (xs ys zs : List ℕ) (into from i : ℕ) : Type 0 where
   pub rest : (k : ℕ) → (k < into) ⊎ (into + i ≤ k) → get_or ys k 0 ≡ get_or xs k 0
 
 -- one word more; `u` is the word that is read
-pub join_step : (xs ys zs : List ℕ) (into from i v u : ℕ) → JoinedTo xs ys zs into from i → into + i < length ys → v ≡ get_or ys (into + i) v → u ≡ get_or zs (from + i) 0 →
+pub join_step : (xs ys zs : List ℕ) (into from i v u : ℕ) → JoinedTo xs ys zs into from i → into + i < length ys →
+    v ≡ get_or ys (into + i) v → u ≡ get_or zs (from + i) 0 →
     JoinedTo xs (set ys (into + i) (bit_or v u)) zs into from (i + 1)
 join_step xs ys zs into from i v u J l ve ue = record {
   joined = λ j jl. at j jl (nat_cases j i);
-  rest = λ k out. get_or-set_other ys (into + i) k (bit_or v u) 0 (λ q. elim out [ inl a ↦ omega arith | inr b ↦ omega arith ]) ∙ J.rest k (elim out [ inl a ↦ inl a | inr b ↦ inr (omega arith) ]);
+  rest = λ k out. get_or-set_other ys (into + i) k (bit_or v u) 0
+      (λ q. elim out [ inl a ↦ omega arith | inr b ↦ omega arith ])
+      ∙ J.rest k (elim out [ inl a ↦ inl a | inr b ↦ inr (omega arith) ]);
 }
   where
-    at : (j : ℕ) → j < i + 1 → (j ≡ i) ⊎ (j ≢ i) → get_or (set ys (into + i) (bit_or v u)) (into + j) 0 ≡ bit_or (get_or xs (into + j) 0) (get_or zs (from + j) 0)
+    at : (j : ℕ) → j < i + 1 → (j ≡ i) ⊎ (j ≢ i) →
+        get_or (set ys (into + i) (bit_or v u)) (into + j) 0 ≡ bit_or (get_or xs (into + j) 0) (get_or zs (from + j) 0)
     at j jl (inr ne) = get_or-set_other ys (into + i) (into + j) (bit_or v u) 0 (λ q. ne (omega arith)) ∙ J.joined j (omega arith)
     at j jl (inl q) = subst (λ m. get_or (set ys (into + i) (bit_or v u)) (into + m) 0 ≡ bit_or (get_or xs (into + m) 0) (get_or zs (from + m) 0)) (sym q)
-        (get_or-set_same ys (into + i) (bit_or v u) 0 l ∙ (ap (λ m. bit_or m u) (sym (item_is ys (into + i) v l ve) ∙ J.rest (into + i) (inr (omega arith))) ∙ ap (bit_or (get_or xs (into + i) 0)) ue))
+        (get_or-set_same ys (into + i) (bit_or v u) 0 l
+        ∙ (ap (λ m. bit_or m u) (sym (item_is ys (into + i) v l ve) ∙ J.rest (into + i) (inr (omega arith)))
+        ∙ ap (bit_or (get_or xs (into + i) 0)) ue))
 
 -- the word that is read is that of the beginning, in a row that is the same one or apart
 pub still_there : (xs ys : List ℕ) (into from w i u : ℕ) → JoinedTo xs ys xs into from i → (into ≡ from) ⊎ ((into + w ≤ from) ⊎ (from + w ≤ into)) → i < w →
     from + i < length ys → u ≡ get_or ys (from + i) u → u ≡ get_or xs (from + i) 0
-still_there xs ys into from w i u J apart il l e = sym (item_is ys (from + i) u l e) ∙ J.rest (from + i) (elim apart [ inl q ↦ inr (omega arith) | inr o ↦ elim o [ inl a ↦ inr (omega arith) | inr b ↦ inl (omega arith) ] ])
+still_there xs ys into from w i u J apart il l e = sym (item_is ys (from + i) u l e)
+    ∙ J.rest (from + i) (elim apart
+    [ inl q ↦ inr (omega arith) | inr o ↦ elim o [ inl a ↦ inr (omega arith) | inr b ↦ inl (omega arith) ] ])
 
 -- what the words of a row are while they are cleared, from the first one on
 pub record ClearedTo (xs ys : List ℕ) (first i : ℕ) : Type 0 where
@@ -137,7 +158,8 @@ pub record ClearedTo (xs ys : List ℕ) (first i : ℕ) : Type 0 where
 pub clear_step : (xs ys : List ℕ) (first i : ℕ) → ClearedTo xs ys first i → first + i < length ys → ClearedTo xs (set ys (first + i) 0) first (i + 1)
 clear_step xs ys first i C l = record {
   cleared = λ j jl. at j jl (nat_cases j i);
-  rest = λ k out. get_or-set_other ys (first + i) k 0 0 (λ q. elim out [ inl a ↦ omega arith | inr b ↦ omega arith ]) ∙ C.rest k (elim out [ inl a ↦ inl a | inr b ↦ inr (omega arith) ]);
+  rest = λ k out. get_or-set_other ys (first + i) k 0 0 (λ q. elim out [ inl a ↦ omega arith | inr b ↦ omega arith ])
+      ∙ C.rest k (elim out [ inl a ↦ inl a | inr b ↦ inr (omega arith) ]);
 }
   where
     at : (j : ℕ) → j < i + 1 → (j ≡ i) ⊎ (j ≢ i) → get_or (set ys (first + i) 0) (first + j) 0 ≡ 0
@@ -149,7 +171,9 @@ bit_from : (word s k : ℕ) → s ≤ k → bit_at word k ≡ bit_at (word / 2 ^
 bit_from word s k le = ap (λ m. m % 2) (ap (λ m. word / 2 ^ m) (omega (arith, le)) ∙ sym (shr-shr word s (k - s)))
 
 -- where a word is 0 from the bit of a place on, no bit is set up to the next word
-pub none_in_word : (xs : List ℕ) (w x from at next v : ℕ) → HasNone (bit_of xs w x) from at → x * w + at / 64 < length xs → v ≡ get_or xs (x * w + at / 64) v → v / 2 ^ (at % 64) ≡ 0 → next ≤ at + (64 - at % 64) →
+pub none_in_word : (xs : List ℕ) (w x from at next v : ℕ) → HasNone (bit_of xs w x) from at →
+    x * w + at / 64 < length xs → v ≡ get_or xs (x * w + at / 64) v → v / 2 ^ (at % 64) ≡ 0 →
+    next ≤ at + (64 - at % 64) →
     HasNone (bit_of xs w x) from next
 none_in_word xs w x from at next v before fits e zero le y yf yl = by (lt_cases y at)
   where
@@ -158,10 +182,13 @@ none_in_word xs w x from at next v before fits e zero le y yf yl = by (lt_cases 
     by (inr ge) =
         let same : y / 64 ≡ at / 64 = omega arith in
         ap (λ m. bit_at (get_or xs (x * w + m) 0) (y % 64) == 1) same
-        ∙ (ap (λ m. m == 1) (ap (λ m. bit_at m (y % 64)) (item_is xs (x * w + at / 64) v fits e) ∙ (bit_from v (at % 64) (y % 64) (omega arith) ∙ ap (λ m. bit_at m (y % 64 - at % 64)) zero)) ∙ zero_bit (y % 64 - at % 64))
+        ∙ (ap (λ m. m == 1) (ap (λ m. bit_at m (y % 64)) (item_is xs (x * w + at / 64) v fits e)
+        ∙ (bit_from v (at % 64) (y % 64) (omega arith) ∙ ap (λ m. bit_at m (y % 64 - at % 64)) zero))
+        ∙ zero_bit (y % 64 - at % 64))
 
 -- the bit that is found: the lowest one that is set in a word from the bit of a place on
-pub found_bit : (xs : List ℕ) (w x from at v t : ℕ) → from ≤ at → HasNone (bit_of xs w x) from at → x * w + at / 64 < length xs → v ≡ get_or xs (x * w + at / 64) v → at % 64 + t < 64 →
+pub found_bit : (xs : List ℕ) (w x from at v t : ℕ) → from ≤ at → HasNone (bit_of xs w x) from at →
+    x * w + at / 64 < length xs → v ≡ get_or xs (x * w + at / 64) v → at % 64 + t < 64 →
     bit_at (v / 2 ^ (at % 64)) t ≡ 1 → ((i : ℕ) → i < t → bit_at (v / 2 ^ (at % 64)) i ≡ 0) → IsLeast (bit_of xs w x) from (at + t + 1) (at + t)
 found_bit xs w x from at v t fl before fits e tl one zeros = record {
   from_on = omega arith;
@@ -175,7 +202,8 @@ found_bit xs w x from at v t fl before fits e tl one zeros = record {
         let same : y / 64 ≡ at / 64 = omega arith in
         let place : y % 64 - at % 64 ≡ y - at = omega arith in
         ap (λ m. bit_at (get_or xs (x * w + m) 0) (y % 64) == 1) same
-        ∙ ap (λ m. m == 1) (ap (λ m. bit_at m (y % 64)) (item_is xs (x * w + at / 64) v fits e) ∙ (bit_from v (at % 64) (y % 64) (omega arith) ∙ ap (bit_at (v / 2 ^ (at % 64))) place))
+        ∙ ap (λ m. m == 1) (ap (λ m. bit_at m (y % 64)) (item_is xs (x * w + at / 64) v fits e)
+        ∙ (bit_from v (at % 64) (y % 64) (omega arith) ∙ ap (bit_at (v / 2 ^ (at % 64))) place))
 
     by : (y : ℕ) → from ≤ y → y < at + t → (y < at) ⊎ (at ≤ y) → bit_of xs w x y ≡ false
     by y yf yl (inl less) = before y yf less
@@ -183,7 +211,8 @@ found_bit xs w x from at v t fl before fits e tl one zeros = record {
 
 -- the lowest bit that is set from bit s on
 pub lowest_from : (v s : ℕ) → v < 2 ^ 64 → v / 2 ^ s ≢ 0 →
-    (s + trailing_zeros w64 (v / 2 ^ s) < 64) × (bit_at (v / 2 ^ s) (trailing_zeros w64 (v / 2 ^ s)) ≡ 1) × ((i : ℕ) → i < trailing_zeros w64 (v / 2 ^ s) → bit_at (v / 2 ^ s) i ≡ 0)
+    (s + trailing_zeros w64 (v / 2 ^ s) < 64) × (bit_at (v / 2 ^ s) (trailing_zeros w64 (v / 2 ^ s)) ≡ 1)
+    × ((i : ℕ) → i < trailing_zeros w64 (v / 2 ^ s) → bit_at (v / 2 ^ s) i ≡ 0)
 lowest_from v s small some = (within (lt_cases (s + t) 64), L.1, L.2)
   where
     t : ℕ

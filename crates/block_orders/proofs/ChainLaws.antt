@@ -55,7 +55,8 @@ none_joined b lower bit none = record {
 leads_on : (b : ℕ) (lower : List (ℕ × ℕ)) (i m k : ℕ) → i ≤ length lower → m < b → LeadsBy b lower i m k → ReachesOn (arc_in lower) b m k
 leads_on b lower i m k il ml (j, jl, e, f) = from_step (arc_in lower) b m (right lower j) k ml (arc_in-is lower j m (right lower j) (omega arith) e refl) f
 
-leads_by : (b : ℕ) (lower : List (ℕ × ℕ)) (i m k : ℕ) → ((j : ℕ) → j < length lower → left lower j ≡ m → j < i) → ReachesOn (arc_in lower) b m k → LeadsBy b lower i m k
+leads_by : (b : ℕ) (lower : List (ℕ × ℕ)) (i m k : ℕ) → ((j : ℕ) → j < length lower → left lower j ≡ m → j < i) →
+    ReachesOn (arc_in lower) b m k → LeadsBy b lower i m k
 leads_by b lower i m k all chain =
     let s : (w : ℕ) × (arc_in lower m w ≡ true) × IsFrom (arc_in lower) b w k = first_step (arc_in lower) b m k chain in
     let p : (j : ℕ) × (j < length lower) × (left lower j ≡ m) × (right lower j ≡ s.0) = arc_in-place lower m s.0 s.1 in
@@ -71,7 +72,8 @@ all_joined b lower bit i e J l k ll kl = (
 more : (b : ℕ) (lower : List (ℕ × ℕ)) (i l k : ℕ) → LeadsBy b lower i l k → LeadsBy b lower (i + 1) l k
 more b lower i l k (j, jl, e, f) = (j, omega arith, e, f)
 
-less : (b : ℕ) (lower : List (ℕ × ℕ)) (i l k : ℕ) → LeadsBy b lower (i + 1) l k → LeadsBy b lower i l k ⊎ ((left lower i ≡ l) × IsFrom (arc_in lower) b (right lower i) k)
+less : (b : ℕ) (lower : List (ℕ × ℕ)) (i l k : ℕ) → LeadsBy b lower (i + 1) l k → LeadsBy b lower i l k
+    ⊎ ((left lower i ≡ l) × IsFrom (arc_in lower) b (right lower i) k)
 less b lower i l k (j, jl, e, f) = elim (nat_cases j i) [
   | inl q ↦ inr (subst (λ v. left lower v ≡ l) q e, subst (λ v. IsFrom (arc_in lower) b (right lower v) k) q f)
   | inr ne ↦ inl (j, omega arith, e, f)
@@ -109,7 +111,9 @@ module _ (b : ℕ) (lower : List (ℕ × ℕ)) (t u v : ℕ → ℕ → Bool) (n
       own g (inl same) = by_item k (inl (sym same))
       own g (inr nm) = elim (either_cases (t r k) (t m k) (sym (own_row k kl nm) ∙ g)) [
         | inl old ↦ more b lower i r k (before.sound r k rb kl old)
-        | inr new ↦ by_item k (inr (leads_on b lower i m k (omega arith) (let x : m < r = mr in let y : r < b = rb in omega arith) (before.sound m k (let x : m < r = mr in let y : r < b = rb in omega arith) kl new)))
+        | inr new ↦ by_item k (inr
+            (leads_on b lower i m k (omega arith) (let x : m < r = mr in let y : r < b = rb in omega arith)
+            (before.sound m k (let x : m < r = mr in let y : r < b = rb in omega arith) kl new)))
       ]
 
   complete : (l k : ℕ) → l < b → k < b → LeadsBy b lower (i + 1) l k → v l k ≡ true

@@ -25,7 +25,8 @@ no_arcs arcs part b bit none = record {
 }
 
 pub put_more : (arcs : List (ℕ × ℕ)) (part : ℕ → ℕ) (b : ℕ) (t u : ℕ → ℕ → Bool) (i s e : ℕ) → s ≡ part (left arcs i) → e ≡ part (right arcs i) →
-    ((l k : ℕ) → l < b → k < b → (u l k ≡ true) ↔ ((t l k ≡ true) ⊎ ((s ≡ l + 2) × (e ≡ k + 2)))) → ArcsArePut arcs part b t i → ArcsArePut arcs part b u (i + 1)
+    ((l k : ℕ) → l < b → k < b → (u l k ≡ true) ↔ ((t l k ≡ true) ⊎ ((s ≡ l + 2) × (e ≡ k + 2)))) →
+    ArcsArePut arcs part b t i → ArcsArePut arcs part b u (i + 1)
 put_more arcs part b t u i s e se ee P before = record {
   sound = λ l k ll kl h. elim ((P l k ll kl).0 h) [
     | inl old ↦ earlier l k (before.sound l k ll kl old)
@@ -43,7 +44,8 @@ put_more arcs part b t u i s e se ee P before = record {
       | inr ne ↦ inl (before.complete l k ll kl (j, omega arith, x, y))
     ]
 
-pub all_put : (arcs : List (ℕ × ℕ)) (part : ℕ → ℕ) (n b : ℕ) (bit : ℕ → ℕ → Bool) (i : ℕ) → AreArcs n arcs → i ≡ length arcs → ArcsArePut arcs part b bit i → TellsArcs (arc_in arcs) n part b bit
+pub all_put : (arcs : List (ℕ × ℕ)) (part : ℕ → ℕ) (n b : ℕ) (bit : ℕ → ℕ → Bool) (i : ℕ) → AreArcs n arcs →
+    i ≡ length arcs → ArcsArePut arcs part b bit i → TellsArcs (arc_in arcs) n part b bit
 all_put arcs part n b bit i A e P l k ll kl = ((λ h. found (P.sound l k ll kl h)), (λ w. P.complete l k ll kl (placed w)))
   where
     found : LeadsByArc arcs part i l k → (x y : ℕ) × (x < n) × (y < n) × (part x ≡ l + 2) × (part y ≡ k + 2) × (arc_in arcs x y ≡ true)
@@ -72,7 +74,8 @@ none_deep lower b below bit none = record {
   complete = λ l k _ _ (j, jl, _, _). absurd (omega arith);
 }
 
-pub deep_more : (lower : List (ℕ × ℕ)) (b : ℕ) (below t u : ℕ → ℕ → Bool) (n i r m : ℕ) → n ≡ b → left lower i ≡ r → right lower i ≡ m → IsJoined t u (below m) n r → DeepAreJoined lower b below t i →
+pub deep_more : (lower : List (ℕ × ℕ)) (b : ℕ) (below t u : ℕ → ℕ → Bool) (n i r m : ℕ) → n ≡ b → left lower i ≡ r →
+    right lower i ≡ m → IsJoined t u (below m) n r → DeepAreJoined lower b below t i →
     DeepAreJoined lower b below u (i + 1)
 deep_more lower b below t u n i r m ne re me J before = record {
   sound = λ l k ll kl h. elim (nat_cases l r) [
@@ -103,7 +106,8 @@ deep_more lower b below t u n i r m ne re me J before = record {
       | inr ne ↦ inl (before.complete l k ll kl (j, omega arith, x, y))
     ]
 
-pub all_deep : (lower : List (ℕ × ℕ)) (b : ℕ) (below bit : ℕ → ℕ → Bool) (i : ℕ) → i ≡ length lower → DeepAreJoined lower b below bit i → TellsDeep (arc_in lower) b below bit
+pub all_deep : (lower : List (ℕ × ℕ)) (b : ℕ) (below bit : ℕ → ℕ → Bool) (i : ℕ) → i ≡ length lower →
+    DeepAreJoined lower b below bit i → TellsDeep (arc_in lower) b below bit
 all_deep lower b below bit i e D l k ll kl = ((λ h. found (D.sound l k ll kl h)), (λ w. D.complete l k ll kl (placed w)))
   where
     found : IsDeepBy lower below i l k → (m : ℕ) × (arc_in lower l m ≡ true) × (below m k ≡ true)
@@ -117,7 +121,8 @@ all_deep lower b below bit i e D l k ll kl = ((λ h. found (D.sound l k ll kl h)
 -- ---- the lists
 -- what is tested of each item is so of each block of a list
 pub items_are_blocks : (lower : List (ℕ × ℕ)) (direct deep : ℕ → ℕ → Bool) →
-    ((j : ℕ) → j < length lower → (direct (left lower j) (right lower j) ≡ true) × (deep (left lower j) (right lower j) ≡ false)) → AreOnlyDirect (arc_in lower) direct deep
+    ((j : ℕ) → j < length lower → (direct (left lower j) (right lower j) ≡ true)
+    × (deep (left lower j) (right lower j) ≡ false)) → AreOnlyDirect (arc_in lower) direct deep
 items_are_blocks lower direct deep each l k h =
     let p : (j : ℕ) × (j < length lower) × (left lower j ≡ l) × (right lower j ≡ k) = arc_in-place lower l k h in (
       subst (λ v. direct v k ≡ true) p.2 (subst (λ v. direct (left lower p.0) v ≡ true) p.3 (each p.0 p.1).0),
@@ -138,14 +143,18 @@ item_ends b lower l k L h =
     let f : right lower p.0 ≡ k = p.3 in
     (omega arith, omega arith)
 
-pub only_direct_are_covers : (arc : ℕ → ℕ → Bool) (n : ℕ) (part : ℕ → ℕ) (b : ℕ) (lower : List (ℕ × ℕ)) (below direct deep : ℕ → ℕ → Bool) → AreLowerItems b lower → TellsChains (arc_in lower) b below → TellsArcs arc n part b direct →
+pub only_direct_are_covers : (arc : ℕ → ℕ → Bool) (n : ℕ) (part : ℕ → ℕ) (b : ℕ) (lower : List (ℕ × ℕ))
+    (below direct deep : ℕ → ℕ → Bool) → AreLowerItems b lower → TellsChains (arc_in lower) b below →
+    TellsArcs arc n part b direct →
     TellsDeep (arc_in lower) b below deep → AreOnlyDirect (arc_in lower) direct deep ↔ AreCovers arc n part b (arc_in lower)
 only_direct_are_covers arc n part b lower below direct deep L C A D = (there, back)
   where
     there : AreOnlyDirect (arc_in lower) direct deep → AreCovers arc n part b (arc_in lower)
     there all = record {
       direct = λ k l lb h. (A l k lb (item_ends b lower l k L h).1).0 (all l k h).0;
-      none_between = λ k m l lb h hm chain. differ (all l k h).1 ((D l k lb (item_ends b lower l k L h).1).1 (m, hm, (C m k (item_ends b lower l m L hm).1 (item_ends b lower l k L h).1).1 chain));
+      none_between = λ k m l lb h hm chain. differ (all l k h).1
+          ((D l k lb (item_ends b lower l k L h).1).1
+          (m, hm, (C m k (item_ends b lower l m L hm).1 (item_ends b lower l k L h).1).1 chain));
     }
 
     back : AreCovers arc n part b (arc_in lower) → AreOnlyDirect (arc_in lower) direct deep

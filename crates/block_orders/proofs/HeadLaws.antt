@@ -21,7 +21,8 @@ none_from n part b head = record {
 }
 
 -- a place that is of no block
-pub passed : (n : ℕ) (part : ℕ → ℕ) (b : ℕ) (head : ℕ → ℕ) (place : ℕ) → ((k : ℕ) → k < b → part place ≡ k + 2 → ⊥) → AreFirstFrom n part b head (place + 1) → AreFirstFrom n part b head place
+pub passed : (n : ℕ) (part : ℕ → ℕ) (b : ℕ) (head : ℕ → ℕ) (place : ℕ) → ((k : ℕ) → k < b → part place ≡ k + 2 → ⊥) →
+    AreFirstFrom n part b head (place + 1) → AreFirstFrom n part b head place
 passed n part b head place none F = record {
   member = λ k x kb from to e. F.member k x kb (later k x kb from e) to e;
   least = λ k x kb from to e. F.least k x kb (later k x kb from e) to e;
@@ -34,7 +35,8 @@ passed n part b head place none F = record {
     ]
 
 -- a place of block p is the first one of it from there on
-pub put_head : (n : ℕ) (part : ℕ → ℕ) (b : ℕ) (heads : List ℕ) (place p : ℕ) → length heads ≡ b → place < n → p < b → part place ≡ p + 2 → AreFirstFrom n part b (slice_index heads) (place + 1) →
+pub put_head : (n : ℕ) (part : ℕ → ℕ) (b : ℕ) (heads : List ℕ) (place p : ℕ) → length heads ≡ b → place < n → p < b →
+    part place ≡ p + 2 → AreFirstFrom n part b (slice_index heads) (place + 1) →
     AreFirstFrom n part b (slice_index (set heads p place)) place
 put_head n part b heads place p count pn pb pe F = record {
   member = λ k x kb from to e. member k x kb from to e (nat_cases k p);
@@ -53,7 +55,8 @@ put_head n part b heads place p count pn pb pe F = record {
       | inr l ↦ omega arith
     ]
 
-    member : (k x : ℕ) → k < b → place ≤ x → x < n → part x ≡ k + 2 → (k ≡ p) ⊎ (k ≢ p) → (slice_index (set heads p place) k < n) × (part (slice_index (set heads p place) k) ≡ k + 2)
+    member : (k x : ℕ) → k < b → place ≤ x → x < n → part x ≡ k + 2 → (k ≡ p) ⊎ (k ≢ p) →
+        (slice_index (set heads p place) k < n) × (part (slice_index (set heads p place) k) ≡ k + 2)
     member k x kb from to e (inl q) = subst (λ w. (slice_index (set heads p place) w < n) × (part (slice_index (set heads p place) w) ≡ w + 2)) (sym q)
         (subst (λ w. (w < n) × (part w ≡ p + 2)) (sym here) (pn, pe))
     member k x kb from to e (inr ne) = subst (λ w. (w < n) × (part w ≡ k + 2)) (sym (there k ne)) (F.member k x kb (later k x ne from e) to e)
@@ -62,7 +65,9 @@ put_head n part b heads place p count pn pb pe F = record {
     least k x kb from to e (inl q) = subst (λ w. slice_index (set heads p place) w ≤ x) (sym q) (subst (λ w. w ≤ x) (sym here) from)
     least k x kb from to e (inr ne) = subst (λ w. w ≤ x) (sym (there k ne)) (F.least k x kb (later k x ne from e) to e)
 
-pub first_places_are : (n : ℕ) (part : ℕ → ℕ) (b : ℕ) (head : ℕ → ℕ) (place : ℕ) → place ≡ 0 → ((k : ℕ) → k < b → (x : ℕ) × (x < n) × (part x ≡ k + 2)) → AreFirstFrom n part b head place → AreFirstPlaces n part b head
+pub first_places_are : (n : ℕ) (part : ℕ → ℕ) (b : ℕ) (head : ℕ → ℕ) (place : ℕ) → place ≡ 0 →
+    ((k : ℕ) → k < b → (x : ℕ) × (x < n) × (part x ≡ k + 2)) → AreFirstFrom n part b head place →
+    AreFirstPlaces n part b head
 first_places_are n part b head place zero some F = record {
   heads = λ k kb. let s : (x : ℕ) × (x < n) × (part x ≡ k + 2) = some k kb in F.member k s.0 kb (omega arith) s.1 s.2;
   least = λ k x kb xl e. let le : head k ≤ x = F.least k x kb (omega arith) xl e in omega arith;
@@ -82,7 +87,8 @@ fewer : (lower : List (ℕ × ℕ)) (i l k : ℕ) → IsBehind lower (i + 1) l k
 fewer lower i l k B j jl e = B j (omega arith) e
 
 -- an item whose block is behind already
-pub ready_kept : (lower : List (ℕ × ℕ)) (b : ℕ) (ready : ℕ → ℕ) (i r m : ℕ) → left lower i ≡ r → right lower i ≡ m → m < ready r → IsReadyBy lower b ready i → IsReadyBy lower b ready (i + 1)
+pub ready_kept : (lower : List (ℕ × ℕ)) (b : ℕ) (ready : ℕ → ℕ) (i r m : ℕ) → left lower i ≡ r → right lower i ≡ m →
+    m < ready r → IsReadyBy lower b ready i → IsReadyBy lower b ready (i + 1)
 ready_kept lower b ready i r m re me less R = record {
   behind = λ l lb j jl e. elim (nat_cases j i) [
     | inl q ↦ let same : r ≡ l = sym re ∙ subst (λ v. left lower v ≡ l) q e in
@@ -93,7 +99,8 @@ ready_kept lower b ready i r m re me less R = record {
 }
 
 -- an item whose block is not yet behind
-pub ready_put : (lower : List (ℕ × ℕ)) (b : ℕ) (ready : List ℕ) (i r m : ℕ) → length ready ≡ b → r < b → left lower i ≡ r → right lower i ≡ m → slice_index ready r ≤ m → IsReadyBy lower b (slice_index ready) i →
+pub ready_put : (lower : List (ℕ × ℕ)) (b : ℕ) (ready : List ℕ) (i r m : ℕ) → length ready ≡ b → r < b →
+    left lower i ≡ r → right lower i ≡ m → slice_index ready r ≤ m → IsReadyBy lower b (slice_index ready) i →
     IsReadyBy lower b (slice_index (set ready r (m + 1))) (i + 1)
 ready_put lower b ready i r m count rb re me le R = record {
   behind = λ l lb j jl e. behind l lb j jl e (nat_cases l r) (nat_cases j i);
@@ -109,10 +116,13 @@ ready_put lower b ready i r m count rb re me le R = record {
     at : (l : ℕ) → l ≡ r → slice_index (set ready r (m + 1)) l ≡ m + 1
     at l q = ap (slice_index (set ready r (m + 1))) q ∙ here
 
-    behind : (l : ℕ) → l < b → (j : ℕ) → j < i + 1 → left lower j ≡ l → (l ≡ r) ⊎ (l ≢ r) → (j ≡ i) ⊎ (j ≢ i) → right lower j < slice_index (set ready r (m + 1)) l
-    behind l lb j jl e (inl same) (inl q) = subst (λ v. right lower j < v) (sym (at l same)) (let x : right lower j ≡ m = ap (right lower) q ∙ me in omega arith)
+    behind : (l : ℕ) → l < b → (j : ℕ) → j < i + 1 → left lower j ≡ l → (l ≡ r) ⊎ (l ≢ r) → (j ≡ i) ⊎ (j ≢ i) →
+        right lower j < slice_index (set ready r (m + 1)) l
+    behind l lb j jl e (inl same) (inl q) = subst (λ v. right lower j < v) (sym (at l same))
+        (let x : right lower j ≡ m = ap (right lower) q ∙ me in omega arith)
     behind l lb j jl e (inl same) (inr ne) = subst (λ v. right lower j < v) (sym (at l same))
-        (let x : right lower j < slice_index ready l = R.behind l lb j (omega arith) e in let y : slice_index ready l ≡ slice_index ready r = ap (slice_index ready) same in omega arith)
+        (let x : right lower j < slice_index ready l = R.behind l lb j (omega arith) e in
+        let y : slice_index ready l ≡ slice_index ready r = ap (slice_index ready) same in omega arith)
     behind l lb j jl e (inr other) (inl q) = absurd (other (sym (subst (λ v. left lower v ≡ l) q e) ∙ re))
     behind l lb j jl e (inr other) (inr ne) = subst (λ v. right lower j < v) (sym (there l other)) (R.behind l lb j (omega arith) e)
 
@@ -138,8 +148,10 @@ all_ready lower b ready i e R l k lb = (there, back)
 abbrev pub IsFirstFrom : (ℕ → ℕ) → (ℕ → ℕ) → ℕ → Type 0
 IsFirstFrom ready head l = (k : ℕ) → ready l ≤ k → k < l → head k < head l
 
-pub least_first : (lower : List (ℕ × ℕ)) (b : ℕ) (ready head : ℕ → ℕ) → AreReadyFrom b (arc_in lower) ready → ((l k : ℕ) → l < b → ready l ≤ k → k < l → head k < head l) → IsLeastFirst b (arc_in lower) head
+pub least_first : (lower : List (ℕ × ℕ)) (b : ℕ) (ready head : ℕ → ℕ) → AreReadyFrom b (arc_in lower) ready →
+    ((l k : ℕ) → l < b → ready l ≤ k → k < l → head k < head l) → IsLeastFirst b (arc_in lower) head
 least_first lower b ready head R all k l kl lb behind = all l k lb ((R l k lb).1 behind) kl
 
-pub each_first : (lower : List (ℕ × ℕ)) (b : ℕ) (ready head : ℕ → ℕ) (l : ℕ) → AreReadyFrom b (arc_in lower) ready → l < b → IsLeastFirst b (arc_in lower) head → IsFirstFrom ready head l
+pub each_first : (lower : List (ℕ × ℕ)) (b : ℕ) (ready head : ℕ → ℕ) (l : ℕ) → AreReadyFrom b (arc_in lower) ready →
+    l < b → IsLeastFirst b (arc_in lower) head → IsFirstFrom ready head l
 each_first lower b ready head l R lb all k le kl = all k l kl lb ((R l k lb).0 le)

@@ -22,7 +22,8 @@ arc_in-place (arc ∷ arcs) x y h = elim (either_cases (eqb arc.0 x && eqb arc.1
 
 arc_in-at : (arcs : List (ℕ × ℕ)) (j : ℕ) → j < length arcs → arc_in arcs (left arcs j) (right arcs j) ≡ true
 arc_in-at [] j l = absurd (omega arith)
-arc_in-at (arc ∷ arcs) zero l = either-first (eqb arc.0 arc.0 && eqb arc.1 arc.1) (arc_in arcs arc.0 arc.1) (both_true (eqb arc.0 arc.0) (eqb arc.1 arc.1) (eqb_from arc.0 arc.0 refl) (eqb_from arc.1 arc.1 refl))
+arc_in-at (arc ∷ arcs) zero l = either-first (eqb arc.0 arc.0 && eqb arc.1 arc.1) (arc_in arcs arc.0 arc.1)
+    (both_true (eqb arc.0 arc.0) (eqb arc.1 arc.1) (eqb_from arc.0 arc.0 refl) (eqb_from arc.1 arc.1 refl))
 arc_in-at (arc ∷ arcs) (suc j) l =
     either-second (eqb arc.0 (left arcs j) && eqb arc.1 (right arcs j)) (arc_in arcs (left arcs j) (right arcs j)) (arc_in-at arcs j (omega arith))
 

@@ -16,3 +16,4 @@ pub mod NextBlock
 pub mod PartTables
 pub mod TakenLists
 pub mod PlacedParts
+pub mod EntryCounts

@@ -1,3 +1,4 @@
+pub mod Choices
 pub mod Tabulations
 pub mod Promises
 pub mod Pairs

@@ -2,7 +2,7 @@
 
 ghost use Rattle.std.specs.Prelude.{◌≡◌, ◌≤◌, ◌+◌, ◌-◌, length, IfOk};
 ghost use Rattle.limits.specs.Limits.{column_limit};
-ghost use Rattle.exchange_graph.specs.Results.{reached_of};
+ghost use Rattle.exchange_graph.specs.Results.{vain_of};
 ghost use Rattle.mixed_model.specs.Layers.{layered_matrix_of, split_of};
 ghost use Rattle.cert_checker.specs.Answers.{IsRightFor};
 ghost use Rattle.cert_text.specs.Contents.{numbered_rows};
@@ -96,7 +96,7 @@ fn decomposed<F: Field, T: Tableau<F>>(
     l: &Layered<F>,
 ) -> Result<Solved<F, T>, NoMemory>
     ensures { IfOk result (λ s.
-        IsDecomposed F.modulus l.now (T.state s.engine.tableau) s.engine.matching (reached_of s.engine.found)
+        IsDecomposed F.modulus l.now (T.state s.engine.tableau) s.engine.matching (vain_of s.engine.found)
         (parts_in s.lattice) s.pair.base.items s.pair.mates.items) }
 {
     let engine = solve(alloc, l)?;
@@ -116,7 +116,7 @@ fn print<F: Field, T: Tableau<F>>(
     solved: &Solved<F, T>,
 ) -> Result<Printed<F>, NoMemory>
     requires { IsDecomposed F.modulus l.now (T.state solved.now.engine.tableau) solved.now.engine.matching
-        (reached_of solved.now.engine.found) (parts_in solved.now.lattice)
+        (vain_of solved.now.engine.found) (parts_in solved.now.lattice)
         solved.now.pair.base.items solved.now.pair.mates.items }
     ensures { IfOk result (λ c.
         IsPrinted F.modulus l.now (T.state solved.now.engine.tableau) (parts_in solved.now.lattice)
@@ -147,7 +147,7 @@ fn assembled<F: Field, T: Tableau<F>>(
 ) -> Ccf<F>
     requires model { IsOfModel F.modulus l.now }
     requires decomposed { IsDecomposed F.modulus l.now (T.state solved.engine.tableau) solved.engine.matching
-        (reached_of solved.engine.found) (parts_in solved.lattice) solved.pair.base.items solved.pair.mates.items }
+        (vain_of solved.engine.found) (parts_in solved.lattice) solved.pair.base.items solved.pair.mates.items }
     requires lines { IsPrinted F.modulus l.now (T.state solved.engine.tableau) (parts_in solved.lattice)
         solved.pair.base.items solved.pair.mates.items
         (numbered_rows F.number printed.tableau.s) (numbered_rows F.number printed.tableau.u)

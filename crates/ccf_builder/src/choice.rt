@@ -1,8 +1,10 @@
 //! Which tableau suits a matrix.
 
-ghost use Rattle.std.specs.Prelude.{◌≤◌, ◌<◌};
+ghost use Rattle.std.specs.Prelude.{◌≡◌, ◌≤◌, ◌<◌, ◌↔◌, IsTrue};
 ghost use Rattle.limits.specs.Limits.{column_limit};
-ghost use Rattle.dense_q.specs.Tables.{height};
+ghost use Rattle.residue_theory.specs.Sums.{size_on};
+ghost use Rattle.dense_q.specs.Tables.{entry, height};
+ghost use Rattle.ccf_builder.specs.Choices.{HasFewEntries, has_entry_at};
 
 use dense_q::Mat;
 use residue_field::Field;
@@ -10,7 +12,9 @@ use residue_field::Field;
 /// Whether a matrix has at most as many entries that are not zero as it has rows and columns. As the edges of a graph on the
 /// rows and columns these make little more than a forest, in which pivots fill nothing in; so a sparse tableau suits it.
 /// Where there are more, pivots fill the matrix in, and a dense tableau is faster.
-pub fn has_few_entries<F: Field>(q: &Mat<F>) -> bool {
+pub fn has_few_entries<F: Field>(q: &Mat<F>) -> bool
+    ensures { IsTrue result ↔ HasFewEntries (entry q.now) (height q.now) q.now.width }
+{
     let most = q.rows() + q.cols();
     let mut entries = 0;
     for row in 0..q.rows() {
@@ -25,7 +29,8 @@ pub fn has_few_entries<F: Field>(q: &Mat<F>) -> bool {
 // How many entries of a row are not zero.
 fn entries_in_row<F: Field>(q: &Mat<F>, row: usize) -> usize
     requires { row < height q.now }
-    ensures { result ≤ column_limit }
+    ensures count { result ≡ size_on (has_entry_at (entry q.now) row) q.now.width }
+    ensures few { result ≤ column_limit }
 {
     let mut entries = 0;
     for col in 0..q.cols() {

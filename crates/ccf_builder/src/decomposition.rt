@@ -1,11 +1,8 @@
 //! The parts of the engine's arcs.
 
-ghost use Rattle.std.specs.Prelude.{◌≡◌, IfOk};
-ghost use Rattle.mixed_matrices.specs.Arcs.{is_end, is_free};
-ghost use Rattle.independent_matching.specs.Sides.{layers_of, tableau_of};
+ghost use Rattle.std.specs.Prelude.{IfOk};
 ghost use Rattle.minimiser_lattice.specs.Views.{parts_in};
 ghost use Rattle.ccf_builder.specs.Decompositions.{IsDecomposition};
-ghost use Rattle.ccf_builder.specs.Tabulations.{Tabulates};
 
 use independent_matching::Engine;
 use minimiser_lattice::Lattice;
@@ -24,44 +21,6 @@ pub fn decompose<F: Field, T: Tableau<F>>(
         IsDecomposition F.modulus (T.state engine.now.tableau) engine.now.matching (parts_in l)) }
 {
     let mut lattice = Lattice::open(alloc, engine.tableau().columns())?;
-    let free = free_marks(alloc, engine)?;
-    let ends = end_marks(alloc, engine)?;
-    lattice.fill(engine, &free, &ends);
+    lattice.fill(engine, engine.free_columns(), engine.end_columns());
     Ok(lattice)
-}
-
-// A mark for each column, set where it is free.
-fn free_marks<F: Field, T: Tableau<F>>(
-    alloc: Global,
-    engine: &Engine<F, T>,
-) -> Result<Vec<bool>, NoMemory>
-    ensures { IfOk result (λ marks.
-        Tabulates (is_free (tableau_of (T.state engine.now.tableau) engine.now.matching))
-        (T.state engine.now.tableau).columns marks.items) }
-{
-    let columns = engine.tableau().columns();
-    let mut marks = Vec::with_capacity(alloc, columns)?;
-    for column in 0..columns {
-        marks.push(engine.free(column))?;
-    }
-    Ok(marks)
-}
-
-// A mark for each column, set where it is an end.
-fn end_marks<F: Field, T: Tableau<F>>(
-    alloc: Global,
-    engine: &Engine<F, T>,
-) -> Result<Vec<bool>, NoMemory>
-    ensures { IfOk result (λ marks.
-        Tabulates
-        (is_end F.modulus (layers_of (T.state engine.now.tableau) engine.now.matching)
-        (tableau_of (T.state engine.now.tableau) engine.now.matching))
-        (T.state engine.now.tableau).columns marks.items) }
-{
-    let columns = engine.tableau().columns();
-    let mut marks = Vec::with_capacity(alloc, columns)?;
-    for column in 0..columns {
-        marks.push(engine.end(column))?;
-    }
-    Ok(marks)
 }

@@ -1,7 +1,7 @@
 //! The engine that is run on a layered matrix.
 
 ghost use Rattle.std.specs.Prelude.{◌≡◌, ◌<◌, IfOk};
-ghost use Rattle.exchange_graph.specs.Results.{reached_of};
+ghost use Rattle.exchange_graph.specs.Results.{vain_of};
 ghost use Rattle.ccf_builder.specs.Solutions.{IsSolution};
 
 use exchange_graph::Steps;
@@ -20,7 +20,7 @@ pub fn solve<F: Field, T: Tableau<F>>(
     layered: &Layered<F>,
 ) -> Result<Engine<F, T>, NoMemory>
     ensures { IfOk result (λ e.
-        IsSolution F.modulus layered.now (T.state e.tableau) e.matching (reached_of e.found)) }
+        IsSolution F.modulus layered.now (T.state e.tableau) e.matching (vain_of e.found)) }
 {
     solve_counting::<F, T, Brand>(alloc, layered, Blank::new(1))
 }
@@ -35,7 +35,7 @@ fn solve_counting<F: Field, T: Tableau<F>, L: Ledger>(
     requires parts { blank.parts ≡ L.parts }
     requires some { 0 < blank.parts }
     ensures { IfOk result (λ e.
-        IsSolution F.modulus layered.now (T.state e.tableau) e.matching (reached_of e.found)) }
+        IsSolution F.modulus layered.now (T.state e.tableau) e.matching (vain_of e.found)) }
 {
     let mut engine = Engine::open(alloc, layered)?;
     engine.run(&mut Steps::<L>::new(blank));

@@ -10,7 +10,8 @@ use Rattle.residue_theory.proofs.SetLaws.{differ}
 use Rattle.closed_sets.proofs.WalkLaws.{reaches-self, reaches-arc, reaches-join, reaches-to, from-arc}
 use Rattle.closed_sets.proofs.Covers.{below-chain}
 
-module _ (arc : ℕ → ℕ → Bool) (n : ℕ) (starts ends : ℕ → Bool) (block : ℕ → ℕ) (b : ℕ) (S : IsListing arc n starts ends block b) (below : ℕ → ℕ → Bool) (W : IsBelow arc n starts ends block b below) where
+module _ (arc : ℕ → ℕ → Bool) (n : ℕ) (starts ends : ℕ → Bool) (block : ℕ → ℕ) (b : ℕ)
+    (S : IsListing arc n starts ends block b) (below : ℕ → ℕ → Bool) (W : IsBelow arc n starts ends block b below) where
   -- what is below stands before
   pub below-before : (k l : ℕ) → k < b → l < b → below k l ≡ true → k < l
   below-before k l kb lb h = go (S.each k kb) (S.each l lb)
@@ -39,8 +40,10 @@ module _ (arc : ℕ → ℕ → Bool) (n : ℕ) (starts ends : ℕ → Bool) (bl
           ap (λ v. below v l) (sym ey) ∙ (ap (λ v. below (block y) v) (sym ex) ∙ W.made x y mx my (reaches-join arc n x z y xz zy) (λ q. omega arith))
 
   -- canonical parts, with their covers, keep the rules
-  module _ (F L : ℕ → Bool) (clear : NoEndReached arc n starts ends) (first : IsReachedSet arc n starts F) (last_from : (x : ℕ) → x < n → L x ≡ true → ToSome arc n ends x)
-      (last_to : (x : ℕ) → x < n → ToSome arc n ends x → L x ≡ true) (covers : ℕ → ℕ → Bool) (C : IsCover below b covers) (in_range : (k l : ℕ) → covers l k ≡ true → (k < b) × (l < b)) where
+  module _ (F L : ℕ → Bool) (clear : NoEndReached arc n starts ends) (first : IsReachedSet arc n starts F)
+      (last_from : (x : ℕ) → x < n → L x ≡ true → ToSome arc n ends x)
+      (last_to : (x : ℕ) → x < n → ToSome arc n ends x → L x ≡ true) (covers : ℕ → ℕ → Bool)
+      (C : IsCover below b covers) (in_range : (k l : ℕ) → covers l k ≡ true → (k < b) × (l < b)) where
     in_middle : (x : ℕ) → InBlock n F L x → IsMiddle arc n starts ends x
     in_middle x i = (i.below, (λ f. differ i.not_first ((first x i.below).1 f)), λ t. differ i.not_last (last_to x i.below t))
 
@@ -55,7 +58,8 @@ module _ (arc : ℕ → ℕ → Bool) (n : ℕ) (starts ends : ℕ → Bool) (bl
         at_last true e = absurd (m.2 (last_from x m.0 e))
         at_last false e = e
 
-    leads : (x y : ℕ) → InBlock n F L x → y < n → arc x y ≡ true → (F y ≡ true) ⊎ (InBlock n F L y × ((block y ≡ block x) ⊎ ReachesOn covers b (block x) (block y)))
+    leads : (x y : ℕ) → InBlock n F L x → y < n → arc x y ≡ true → (F y ≡ true)
+        ⊎ (InBlock n F L y × ((block y ≡ block x) ⊎ ReachesOn covers b (block x) (block y)))
     leads x y i yl a = go (F y) refl
       where
         r : Reaches arc n x y

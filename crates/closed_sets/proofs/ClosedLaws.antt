@@ -65,7 +65,8 @@ module _ (arc : ℕ → ℕ → Bool) (n : ℕ) (starts ends : ℕ → Bool) whe
         ((X : ℕ → Bool) → IsClosed arc n starts ends X → X y ≡ true → X x ≡ true) → Reaches arc n y x ⊎ FromSome arc n starts x
     holds_with y x yl xl none all = held_with-tells y x xl (all (reached_with y) (closed_with y none) (held_with y yl))
 
-    pub with_holds : (y x : ℕ) → y < n → x < n → Reaches arc n y x ⊎ FromSome arc n starts x → (X : ℕ → Bool) → IsClosed arc n starts ends X → X y ≡ true → X x ≡ true
+    pub with_holds : (y x : ℕ) → y < n → x < n → Reaches arc n y x ⊎ FromSome arc n starts x → (X : ℕ → Bool) →
+        IsClosed arc n starts ends X → X y ≡ true → X x ≡ true
     with_holds y x yl xl (inl r) X c h = closed-reaches X c y x yl xl h r
     with_holds y x yl xl (inr f) X c h = closed-from X c x xl f
 
@@ -74,7 +75,8 @@ module _ (arc : ℕ → ℕ → Bool) (n : ℕ) (starts ends : ℕ → Bool) whe
         ((X : ℕ → Bool) → IsClosed arc n starts ends X → X x ≡ X y) → Mutual arc n x y
     together-mutual x y mx my same = (half x y mx my same, half y x my mx (λ X c. sym (same X c)))
       where
-        half : (x y : ℕ) → IsMiddle arc n starts ends x → IsMiddle arc n starts ends y → ((X : ℕ → Bool) → IsClosed arc n starts ends X → X x ≡ X y) → Reaches arc n x y
+        half : (x y : ℕ) → IsMiddle arc n starts ends x → IsMiddle arc n starts ends y →
+            ((X : ℕ → Bool) → IsClosed arc n starts ends X → X x ≡ X y) → Reaches arc n x y
         half x y mx my same = elim (holds_with x y mx.0 my.0 mx.2 (λ X c h. subst (λ v. v ≡ true) (same X c) h)) [ inl r ↦ r | inr f ↦ absurd (my.1 f) ]
 
     pub mutual-together : (x y : ℕ) → x < n → y < n → Mutual arc n x y → (X : ℕ → Bool) → IsClosed arc n starts ends X → X x ≡ X y

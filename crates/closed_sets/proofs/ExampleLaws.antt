@@ -59,7 +59,8 @@ example-shared x y xl yl e = go (lt_cases x 2)
   where
     go : (x < 2) ⊎ (2 ≤ x) → Mutual example_arc 3 x y
     go (inl less) = let h : y < 2 = grind (arith, nat_tests, e) in (pair-reaches x y less h, pair-reaches y x h less)
-    go (inr two) = let same : x ≡ y = grind (arith, nat_tests, e) in subst (λ v. Mutual example_arc 3 x v) same (reaches-self example_arc 3 x, reaches-self example_arc 3 x)
+    go (inr two) = let same : x ≡ y = grind (arith, nat_tests, e) in
+        subst (λ v. Mutual example_arc 3 x v) same (reaches-self example_arc 3 x, reaches-self example_arc 3 x)
 
 pub example-listing : IsListing example_arc 3 nothing nothing example_block 2
 example-listing = record {

@@ -43,7 +43,10 @@ out_or_follows arc n X (suc k) le = go (first_on (λ y. X k && (arc k y && not (
         inl (record { from = k; to = y; from_below = omega arith; to_below = l; inside = outer.0; along = inner.0; outside = not-true (X y) inner.1 })
     go (inr none) (inl out) = inl out
     go (inr none) (inr before) = inr (λ x y xl yl xh ah. elim (nat_cases x k) [
-      | inl q ↦ not-false (X y) (both-refused (arc k y) (not (X y)) (both-refused (X k) (arc k y && not (X y)) (none y yl) (subst (λ w. X w ≡ true) q xh)) (subst (λ w. arc w y ≡ true) q ah))
+      | inl q ↦ not-false (X y)
+          (both-refused (arc k y) (not (X y))
+          (both-refused (X k) (arc k y && not (X y)) (none y yl) (subst (λ w. X w ≡ true) q xh))
+          (subst (λ w. arc w y ≡ true) q ah))
       | inr ne ↦ before x y (omega arith) yl xh ah
     ])
 
@@ -119,14 +122,16 @@ reaches_or_not arc n x y xl yl = elim (test_cases (reaches arc n x y)) [
 pub to_or_not : (arc : ℕ → ℕ → Bool) (n : ℕ) (E : ℕ → Bool) (x : ℕ) → x < n → ToSome arc n E x ⊎ (ToSome arc n E x → ⊥)
 to_or_not arc n E x xl = go (first_on (λ e. E e && reaches arc n x e) n)
   where
-    go : ((e : ℕ) × (e < n) × ((E e && reaches arc n x e) ≡ true)) ⊎ ((e : ℕ) → e < n → (E e && reaches arc n x e) ≡ false) → ToSome arc n E x ⊎ (ToSome arc n E x → ⊥)
+    go : ((e : ℕ) × (e < n) × ((E e && reaches arc n x e) ≡ true))
+        ⊎ ((e : ℕ) → e < n → (E e && reaches arc n x e) ≡ false) → ToSome arc n E x ⊎ (ToSome arc n E x → ⊥)
     go (inl (e, l, h)) = let b = and-both (E e) (reaches arc n x e) h in inl (e, l, b.0, reaches-tells arc n x e l b.1)
     go (inr none) = inr (λ (e, l, h, r). differ (both-refused (E e) (reaches arc n x e) (none e l) h) (reaches-make arc n x e xl l r))
 
 pub middle_or_not : (arc : ℕ → ℕ → Bool) (n : ℕ) (starts ends : ℕ → Bool) (x : ℕ) → x < n → IsMiddle arc n starts ends x ⊎ (IsMiddle arc n starts ends x → ⊥)
 middle_or_not arc n starts ends x l = go (from_or_not arc n starts x l) (to_or_not arc n ends x l)
   where
-    go : FromSome arc n starts x ⊎ (FromSome arc n starts x → ⊥) → ToSome arc n ends x ⊎ (ToSome arc n ends x → ⊥) → IsMiddle arc n starts ends x ⊎ (IsMiddle arc n starts ends x → ⊥)
+    go : FromSome arc n starts x ⊎ (FromSome arc n starts x → ⊥) → ToSome arc n ends x ⊎ (ToSome arc n ends x → ⊥) →
+        IsMiddle arc n starts ends x ⊎ (IsMiddle arc n starts ends x → ⊥)
     go (inl f) _ = inr (λ m. m.1 f)
     go (inr f) (inl t) = inr (λ m. m.2 t)
     go (inr f) (inr t) = inl (l, f, t)

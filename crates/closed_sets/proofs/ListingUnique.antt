@@ -60,7 +60,8 @@ module _ (arc : ℕ → ℕ → Bool) (n : ℕ) (starts ends : ℕ → Bool) whe
     back = half g f c b k G F (same-swap f g k s);
   }
 
-  pub listing-same : (f g : ℕ → ℕ) (b c : ℕ) → IsListing arc n starts ends f b → IsListing arc n starts ends g c → (x : ℕ) → IsMiddle arc n starts ends x → f x ≡ g x
+  pub listing-same : (f g : ℕ → ℕ) (b c : ℕ) → IsListing arc n starts ends f b → IsListing arc n starts ends g c →
+      (x : ℕ) → IsMiddle arc n starts ends x → f x ≡ g x
   listing-same f g b c F G x m = sym ((same_below f g b c (suc (f x)) F G).to x m (omega arith))
 
   listing-le : (f g : ℕ → ℕ) (b c : ℕ) → IsListing arc n starts ends f b → IsListing arc n starts ends g c → b ≤ c

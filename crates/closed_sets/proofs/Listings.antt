@@ -36,7 +36,8 @@ module _ (arc : ℕ → ℕ → Bool) (n : ℕ) (starts ends : ℕ → Bool) whe
     pub none_lower : (y : ℕ) → y < n → IsLower placed x y → ⊥
 
   lower_or_not : (placed : ℕ → Bool) (x y : ℕ) → x < n → y < n → IsLower placed x y ⊎ (IsLower placed x y → ⊥)
-  lower_or_not placed x y xl yl = go (middle_or_not arc n starts ends y yl) (reaches_or_not arc n x y xl yl) (reaches_or_not arc n y x yl xl) (test_cases (placed y))
+  lower_or_not placed x y xl yl = go (middle_or_not arc n starts ends y yl) (reaches_or_not arc n x y xl yl)
+      (reaches_or_not arc n y x yl xl) (test_cases (placed y))
     where
       go : IsMiddle arc n starts ends y ⊎ (IsMiddle arc n starts ends y → ⊥) → Reaches arc n x y ⊎ (Reaches arc n x y → ⊥) →
           Reaches arc n y x ⊎ (Reaches arc n y x → ⊥) → (placed y ≡ true) ⊎ (placed y ≡ false) → IsLower placed x y ⊎ (IsLower placed x y → ⊥)
@@ -55,7 +56,8 @@ module _ (arc : ℕ → ℕ → Bool) (n : ℕ) (starts ends : ℕ → Bool) whe
   ready_or_not : (placed : ℕ → Bool) (x : ℕ) → x < n → IsReady placed x ⊎ (IsReady placed x → ⊥)
   ready_or_not placed x l = go (middle_or_not arc n starts ends x l) (test_cases (placed x))
     where
-      go : IsMiddle arc n starts ends x ⊎ (IsMiddle arc n starts ends x → ⊥) → (placed x ≡ true) ⊎ (placed x ≡ false) → IsReady placed x ⊎ (IsReady placed x → ⊥)
+      go : IsMiddle arc n starts ends x ⊎ (IsMiddle arc n starts ends x → ⊥) → (placed x ≡ true) ⊎ (placed x ≡ false) →
+          IsReady placed x ⊎ (IsReady placed x → ⊥)
       go (inr m) _ = inr (λ r. m r.middle)
       go (inl m) (inl t) = inr (λ r. differ r.waiting t)
       go (inl m) (inr w) = elim (ready_or_lower placed x m w) [ inl r ↦ inl r | inr (y, yl, low) ↦ inr (λ r. r.none_lower y yl low) ]
@@ -70,12 +72,14 @@ module _ (arc : ℕ → ℕ → Bool) (n : ℕ) (starts ends : ℕ → Bool) whe
       at true e = absurd (never (reaches-tells arc n y x xl e))
       at false e = e
 
-  pub find_ready : (placed : ℕ → Bool) (fuel x : ℕ) → IsMiddle arc n starts ends x → placed x ≡ false → size_on (reaches arc n x) n < fuel → (y : ℕ) × (y < n) × IsReady placed y
+  pub find_ready : (placed : ℕ → Bool) (fuel x : ℕ) → IsMiddle arc n starts ends x → placed x ≡ false →
+      size_on (reaches arc n x) n < fuel → (y : ℕ) × (y < n) × IsReady placed y
   find_ready placed zero x m w less = absurd (omega arith)
   find_ready placed (suc fuel) x m w less = go (ready_or_lower placed x m w) (λ y. find_ready placed fuel y)
     where
       go : IsReady placed x ⊎ ((y : ℕ) × (y < n) × IsLower placed x y) →
-          ((y : ℕ) → IsMiddle arc n starts ends y → placed y ≡ false → size_on (reaches arc n y) n < fuel → (z : ℕ) × (z < n) × IsReady placed z) → (y : ℕ) × (y < n) × IsReady placed y
+          ((y : ℕ) → IsMiddle arc n starts ends y → placed y ≡ false → size_on (reaches arc n y) n < fuel → (z : ℕ)
+          × (z < n) × IsReady placed z) → (y : ℕ) × (y < n) × IsReady placed y
       go (inl r) _ = (x, m.0, r)
       go (inr (y, yl, low)) again = again y low.middle low.waiting (omega (arith, reach_less x y m.0 yl low.along low.never_back))
 
@@ -130,7 +134,8 @@ module _ (arc : ℕ → ℕ → Bool) (n : ℕ) (starts ends : ℕ → Bool) whe
   middle-mutual x y yl m r = (yl, (λ f. m.1 (from-reaches arc n starts y x f r.1)), λ t. m.2 (reaches-to arc n ends x y r.0 t))
 
   -- one block more
-  module _ (k : ℕ) (placed : ℕ → Bool) (block : ℕ → ℕ) (S : Started k placed block) (r : ℕ) (rl : r < n) (ready : IsReady placed r) (before : (j : ℕ) → j < r → IsReady placed j → ⊥) where
+  module _ (k : ℕ) (placed : ℕ → Bool) (block : ℕ → ℕ) (S : Started k placed block) (r : ℕ) (rl : r < n)
+      (ready : IsReady placed r) (before : (j : ℕ) → j < r → IsReady placed j → ⊥) where
     abbrev Was : ℕ → Type 0
     Was y = (placed y ≡ true) ⊎ ((placed y ≡ false) × Mutual arc n r y)
 
@@ -156,7 +161,8 @@ module _ (arc : ℕ → ℕ → Bool) (n : ℕ) (starts ends : ℕ → Bool) whe
         go (inl q) = (r, rl, put placed r r rl rl (reaches-self arc n r, reaches-self arc n r), now r ready.waiting ∙ sym q)
         go (inr ne) = keep (S.each j (omega arith))
 
-    next-shared : (x y : ℕ) → x < n → y < n → placed_with placed r x ≡ true → placed_with placed r y ≡ true → block_with placed block k x ≡ block_with placed block k y → Mutual arc n x y
+    next-shared : (x y : ℕ) → x < n → y < n → placed_with placed r x ≡ true → placed_with placed r y ≡ true →
+        block_with placed block k x ≡ block_with placed block k y → Mutual arc n x y
     next-shared x y xl yl hx hy e = go (kinds placed r x rl xl hx) (kinds placed r y rl yl hy)
       where
         go : Was x → Was y → Mutual arc n x y
@@ -165,7 +171,8 @@ module _ (arc : ℕ → ℕ → Bool) (n : ℕ) (starts ends : ℕ → Bool) whe
         go (inr (f, m)) (inl q) = absurd (omega (arith, S.below_k y yl q, old y q, now x f))
         go (inr (f, m)) (inr (g, o)) = mutual-join arc n x r y (mutual-sym arc n r x m) o
 
-    next-joined : (x y : ℕ) → x < n → y < n → placed_with placed r x ≡ true → placed_with placed r y ≡ true → Mutual arc n x y → block_with placed block k x ≡ block_with placed block k y
+    next-joined : (x y : ℕ) → x < n → y < n → placed_with placed r x ≡ true → placed_with placed r y ≡ true →
+        Mutual arc n x y → block_with placed block k x ≡ block_with placed block k y
     next-joined x y xl yl hx hy u = go (kinds placed r x rl xl hx) (kinds placed r y rl yl hy)
       where
         go : Was x → Was y → block_with placed block k x ≡ block_with placed block k y
@@ -178,14 +185,18 @@ module _ (arc : ℕ → ℕ → Bool) (n : ℕ) (starts ends : ℕ → Bool) whe
         (placed_with placed r y ≡ true) × (block_with placed block k y ≤ block_with placed block k x)
     next-down x y xl hx my u = go (kinds placed r x rl xl hx) (test_cases (placed y)) (reaches_or_not arc n y r my.0 rl)
       where
-        go : Was x → (placed y ≡ true) ⊎ (placed y ≡ false) → Reaches arc n y r ⊎ (Reaches arc n y r → ⊥) → (placed_with placed r y ≡ true) × (block_with placed block k y ≤ block_with placed block k x)
+        go : Was x → (placed y ≡ true) ⊎ (placed y ≡ false) → Reaches arc n y r ⊎ (Reaches arc n y r → ⊥) →
+            (placed_with placed r y ≡ true) × (block_with placed block k y ≤ block_with placed block k x)
         go (inl p) _ _ = let d = S.down x y xl p my u in (kept placed r y d.0, omega (arith, old x p, old y d.0, d.1))
         go (inr (f, m)) (inl q) _ = (kept placed r y q, omega (arith, now x f, old y q, S.below_k y my.0 q))
         go (inr (f, m)) (inr w) (inl b) = (put placed r y rl my.0 (reaches-join arc n r x y m.0 u, b), omega (arith, now x f, now y w))
-        go (inr (f, m)) (inr w) (inr never) = absurd (ready.none_lower y my.0 (record { middle = my; along = reaches-join arc n r x y m.0 u; never_back = never; waiting = w }))
+        go (inr (f, m)) (inr w) (inr never) = absurd
+            (ready.none_lower y my.0 (record
+            { middle = my; along = reaches-join arc n r x y m.0 u; never_back = never; waiting = w }))
 
     next-least : (x j : ℕ) → IsMiddle arc n starts ends x → j < suc k → (placed_with placed r x ≡ true → j < block_with placed block k x) →
-        ((y : ℕ) → IsMiddle arc n starts ends y → Reaches arc n x y → ((placed_with placed r y ≡ true) × (block_with placed block k y < j)) ⊎ Mutual arc n x y) →
+        ((y : ℕ) → IsMiddle arc n starts ends y → Reaches arc n x y →
+        ((placed_with placed r y ≡ true) × (block_with placed block k y < j)) ⊎ Mutual arc n x y) →
         (z : ℕ) × (z < x) × (z < n) × (placed_with placed r z ≡ true) × (block_with placed block k z ≡ j)
     next-least x j mx jl after lower = go (nat_cases j k)
       where
@@ -195,7 +206,8 @@ module _ (arc : ℕ → ℕ → Bool) (n : ℕ) (starts ends : ℕ → Bool) whe
           | inr m ↦ inr m
         ]
 
-        keep : ((z : ℕ) × (z < x) × (z < n) × (placed z ≡ true) × (block z ≡ j)) → (z : ℕ) × (z < x) × (z < n) × (placed_with placed r z ≡ true) × (block_with placed block k z ≡ j)
+        keep : ((z : ℕ) × (z < x) × (z < n) × (placed z ≡ true) × (block z ≡ j)) → (z : ℕ) × (z < x) × (z < n)
+            × (placed_with placed r z ≡ true) × (block_with placed block k z ≡ j)
         keep (z, zx, zl, p, e) = (z, zx, zl, kept placed r z p, old z p ∙ e)
 
         outside : j ≡ k → placed_with placed r x ≡ true → ⊥
@@ -217,11 +229,19 @@ module _ (arc : ℕ → ℕ → Bool) (n : ℕ) (starts ends : ℕ → Bool) whe
 
         r_less : j ≡ k → (x < r) ⊎ (r ≤ x) → (x ≡ r) ⊎ (x ≢ r) → r < x
         r_less q (inl l) _ = absurd (before x l (x_ready q))
-        r_less q (inr le) (inl e) = absurd (outside q (subst (λ v. placed_with placed r v ≡ true) (sym e) (put placed r r rl rl (reaches-self arc n r, reaches-self arc n r))))
+        r_less q (inr le) (inl e) = absurd
+            (outside q (subst (λ v. placed_with placed r v ≡ true) (sym e)
+            (put placed r r rl rl (reaches-self arc n r, reaches-self arc n r))))
         r_less q (inr le) (inr ne) = omega arith
 
         go : (j ≡ k) ⊎ (j ≢ k) → (z : ℕ) × (z < x) × (z < n) × (placed_with placed r z ≡ true) × (block_with placed block k z ≡ j)
-        go (inl q) = (r, r_less q (lt_cases x r) (nat_cases x r), rl, put placed r r rl rl (reaches-self arc n r, reaches-self arc n r), now r ready.waiting ∙ sym q)
+        go (inl q) = (
+          r,
+          r_less q (lt_cases x r) (nat_cases x r),
+          rl,
+          put placed r r rl rl (reaches-self arc n r, reaches-self arc n r),
+          now r ready.waiting ∙ sym q,
+        )
         go (inr ne) = let less : j < k = omega arith in keep (S.least x j mx less (λ p. omega (arith, old x p, after (kept placed r x p))) (lower_old less))
 
     pub started-next : Started (suc k) (placed_with placed r) (block_with placed block k)
@@ -236,7 +256,8 @@ module _ (arc : ℕ → ℕ → Bool) (n : ℕ) (starts ends : ℕ → Bool) whe
     }
 
     pub placed-more : size_on placed n < size_on (placed_with placed r) n
-    placed-more = size_on-less (placed_with placed r) placed n r (λ y l h. kept placed r y h) rl (put placed r r rl rl (reaches-self arc n r, reaches-self arc n r)) ready.waiting
+    placed-more = size_on-less (placed_with placed r) placed n r (λ y l h. kept placed r y h) rl
+        (put placed r r rl rl (reaches-self arc n r, reaches-self arc n r)) ready.waiting
 
   pub started-none : Started 0 (λ _. false) (λ _. 0)
   started-none = record {
@@ -250,7 +271,8 @@ module _ (arc : ℕ → ℕ → Bool) (n : ℕ) (starts ends : ℕ → Bool) whe
   }
 
   -- where every middle place stands, this is the listing
-  pub started-all : (k : ℕ) (placed : ℕ → Bool) (block : ℕ → ℕ) → Started k placed block → ((x : ℕ) → IsMiddle arc n starts ends x → placed x ≡ true) → IsListing arc n starts ends block k
+  pub started-all : (k : ℕ) (placed : ℕ → Bool) (block : ℕ → ℕ) → Started k placed block →
+      ((x : ℕ) → IsMiddle arc n starts ends x → placed x ≡ true) → IsListing arc n starts ends block k
   started-all k placed block S all = record {
     below_b = λ x m. S.below_k x m.0 (all x m);
     each = λ j l. let e = S.each j l in (e.0, S.middle e.0 e.1 e.2, e.3);
@@ -264,7 +286,8 @@ module _ (arc : ℕ → ℕ → Bool) (n : ℕ) (starts ends : ℕ → Bool) whe
       found : {x j : ℕ} → ((z : ℕ) × (z < x) × (z < n) × (placed z ≡ true) × (block z ≡ j)) → (z : ℕ) × (z < x) × IsMiddle arc n starts ends z × (block z ≡ j)
       found (z, zx, zl, p, e) = (z, zx, S.middle z zl p, e)
 
-  pub waiting_or_all : (placed : ℕ → Bool) → ((x : ℕ) × (x < n) × IsMiddle arc n starts ends x × (placed x ≡ false)) ⊎ ((x : ℕ) → IsMiddle arc n starts ends x → placed x ≡ true)
+  pub waiting_or_all : (placed : ℕ → Bool) → ((x : ℕ) × (x < n) × IsMiddle arc n starts ends x × (placed x ≡ false))
+      ⊎ ((x : ℕ) → IsMiddle arc n starts ends x → placed x ≡ true)
   waiting_or_all placed = go (search_below n (λ x. IsMiddle arc n starts ends x × (placed x ≡ false)) decide)
     where
       decide : (x : ℕ) → x < n → (IsMiddle arc n starts ends x × (placed x ≡ false)) ⊎ (IsMiddle arc n starts ends x × (placed x ≡ false) → ⊥)
@@ -276,11 +299,13 @@ module _ (arc : ℕ → ℕ → Bool) (n : ℕ) (starts ends : ℕ → Bool) whe
           both (inl m) (inl t) = inr (λ p. differ p.1 t)
           both (inr m) _ = inr (λ p. m p.0)
 
-      at : (x : ℕ) → IsMiddle arc n starts ends x → (IsMiddle arc n starts ends x × (placed x ≡ false) → ⊥) → (placed x ≡ true) ⊎ (placed x ≡ false) → placed x ≡ true
+      at : (x : ℕ) → IsMiddle arc n starts ends x → (IsMiddle arc n starts ends x × (placed x ≡ false) → ⊥) →
+          (placed x ≡ true) ⊎ (placed x ≡ false) → placed x ≡ true
       at x m never (inl t) = t
       at x m never (inr w) = absurd (never (m, w))
 
-      go : ((x : ℕ) × (x < n) × (IsMiddle arc n starts ends x × (placed x ≡ false))) ⊎ ((x : ℕ) → x < n → (IsMiddle arc n starts ends x × (placed x ≡ false)) → ⊥) →
+      go : ((x : ℕ) × (x < n) × (IsMiddle arc n starts ends x × (placed x ≡ false)))
+          ⊎ ((x : ℕ) → x < n → (IsMiddle arc n starts ends x × (placed x ≡ false)) → ⊥) →
           ((x : ℕ) × (x < n) × IsMiddle arc n starts ends x × (placed x ≡ false)) ⊎ ((x : ℕ) → IsMiddle arc n starts ends x → placed x ≡ true)
       go (inl (x, l, p)) = inl (x, l, p.0, p.1)
       go (inr none) = inr (λ x m. at x m (none x m.0) (test_cases (placed x)))
@@ -298,7 +323,9 @@ module _ (arc : ℕ → ℕ → Bool) (n : ℕ) (starts ends : ℕ → Bool) whe
       go (inl (x, l, m, w)) again = at (least_of (IsReady placed) n (λ y. ready_or_not placed y))
         where
           at : ((r : ℕ) × (r < n) × IsReady placed r × ((j : ℕ) → j < r → IsReady placed j → ⊥)) ⊎ ((r : ℕ) → r < n → IsReady placed r → ⊥) → Listed
-          at (inl (r, rl, ready, before)) = again (suc k) (placed_with placed r) (block_with placed block k) (started-next k placed block S r rl ready before) (omega (arith, placed-more k placed block S r rl ready before))
+          at (inl (r, rl, ready, before)) = again (suc k) (placed_with placed r) (block_with placed block k)
+              (started-next k placed block S r rl ready before)
+              (omega (arith, placed-more k placed block S r rl ready before))
           at (inr none) = let found = find_ready placed (suc (size_on (reaches arc n x) n)) x m w (omega arith) in absurd (none found.0 found.1 found.2)
 
   pub listing_exists : (b : ℕ) × (block : ℕ → ℕ) × IsListing arc n starts ends block b

@@ -37,7 +37,9 @@ module _ (arc : ℕ → ℕ → Bool) (n : ℕ) (starts ends : ℕ → Bool) whe
     ready-from placed x l R = record {
       middle = D.middle x l R.member;
       waiting = R.waiting;
-      none_lower = λ y yl low. differ low.waiting (R.none_lower y yl (D.in_middle y low.middle) (D.reached x y l yl low.along) (never (T y x) refl yl low.never_back));
+      none_lower = λ y yl low. differ low.waiting
+          (R.none_lower y yl (D.in_middle y low.middle) (D.reached x y l yl low.along)
+          (never (T y x) refl yl low.never_back));
     }
       where
         never : {y : ℕ} → (b : Bool) → T y x ≡ b → y < n → (Reaches arc n y x → ⊥) → T y x ≡ false
@@ -53,7 +55,14 @@ module _ (arc : ℕ → ℕ → Bool) (n : ℕ) (starts ends : ℕ → Bool) whe
       where
         at : (y : ℕ) → y < n → M y ≡ true → T x y ≡ true → T y x ≡ false → (placed y ≡ true) ⊎ (placed y ≡ false) → placed y ≡ true
         at y yl m xy yx (inl t) = t
-        at y yl m xy yx (inr w) = absurd (R.none_lower y yl (record { middle = D.middle y yl m; along = D.reaches x y l yl xy; never_back = λ r. differ yx (D.reached y x yl l r); waiting = w }))
+        at y yl m xy yx (inr w) = absurd
+            (R.none_lower y yl (record {
+              middle = D.middle y yl m;
+              along = D.reaches x y l yl xy;
+              never_back =
+                  λ r. differ yx (D.reached y x yl l r);
+              waiting = w;
+            }))
 
     -- one block more
     pub table-next : (k r : ℕ) (placed more : ℕ → Bool) (block now : ℕ → ℕ) → Started arc n starts ends k placed block → r < n → IsReadyIn n T M placed r →
@@ -88,15 +97,20 @@ module _ (arc : ℕ → ℕ → Bool) (n : ℕ) (starts ends : ℕ → Bool) whe
         ]
 
     -- where none is ready, the listing is whole
-    pub table-done : (k : ℕ) (placed : ℕ → Bool) (block : ℕ → ℕ) → Started arc n starts ends k placed block → ((x : ℕ) → x < n → IsReadyIn n T M placed x → ⊥) → IsListing arc n starts ends block k
+    pub table-done : (k : ℕ) (placed : ℕ → Bool) (block : ℕ → ℕ) → Started arc n starts ends k placed block →
+        ((x : ℕ) → x < n → IsReadyIn n T M placed x → ⊥) → IsListing arc n starts ends block k
     table-done k placed block S none = go (waiting_or_all arc n starts ends placed)
       where
-        go : ((x : ℕ) × (x < n) × IsMiddle arc n starts ends x × (placed x ≡ false)) ⊎ ((x : ℕ) → IsMiddle arc n starts ends x → placed x ≡ true) → IsListing arc n starts ends block k
+        go : ((x : ℕ) × (x < n) × IsMiddle arc n starts ends x × (placed x ≡ false))
+            ⊎ ((x : ℕ) → IsMiddle arc n starts ends x → placed x ≡ true) → IsListing arc n starts ends block k
         go (inr all) = started-all arc n starts ends k placed block S all
-        go (inl (x, l, m, w)) = let f = find_ready arc n starts ends placed (suc (size_on (reaches arc n x) n)) x m w (omega arith) in absurd (none f.0 f.1 (ready-to placed f.0 f.1 f.2))
+        go (inl (x, l, m, w)) = let f = find_ready arc n starts ends placed (suc (size_on (reaches arc n x) n)) x m w
+            (omega arith) in absurd (none f.0 f.1 (ready-to placed f.0 f.1 f.2))
 
 -- a block that is put has a place that waited
-pub block-grows : (n : ℕ) (T : ℕ → ℕ → Bool) (r k : ℕ) (placed more : ℕ → Bool) (block now : ℕ → ℕ) → IsBlockPut n T r k placed more block now → r < n → placed r ≡ false → T r r ≡ true → size_on placed n < size_on more n
+pub block-grows : (n : ℕ) (T : ℕ → ℕ → Bool) (r k : ℕ) (placed more : ℕ → Bool) (block now : ℕ → ℕ) →
+    IsBlockPut n T r k placed more block now → r < n → placed r ≡ false → T r r ≡ true →
+    size_on placed n < size_on more n
 block-grows n T r k placed more block now P l w t = size_on-less more placed n r P.kept l (P.put r l t t) w
 
 -- what is reached from the one place x

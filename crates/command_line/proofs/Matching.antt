@@ -1,4 +1,4 @@
--- The request of a parse.
+-- What the words ask for, by the matches that clap tells of them.
 use Rattle.std.proofs.Common.{◌≡◌, ℕ, List, [], Option, Some, None, MatchOption, option_map, codes, true, inl, inr, refl, ap, subst, sym, ◌∙◌}
 use Rattle.clap.specs.Walk.{Row, Text, first_of}
 use Rattle.clap.specs.Faults.{fault_of, is_simple_and_free}

@@ -79,7 +79,7 @@ impl Request {
         }
     }
 
-    // The request of the matches of a parse.
+    // What is asked for by the matches of words that clap has read.
     fn matched(matches: &ArgMatches<'_>) -> Option<Request>
         ensures { MatchOption result (NamesNone (subcommand_rows_of matches.now))
             (Names (subcommand_rows_of matches.now)) }

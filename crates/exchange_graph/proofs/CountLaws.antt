@@ -29,15 +29,18 @@ first-holds order (suc h) j l = elim (nat_cases j h) [
   | inr ne ↦ with_one-member (first_places order h) (order h) (order j) (first-holds order h j (omega arith))
 ]
 
-first-size : (order : ℕ → ℕ) (n h : ℕ) → h ≤ n → ((i : ℕ) → i < n → order i < n) → ((i j : ℕ) → i < n → j < n → order i ≡ order j → i ≡ j) → size_on (first_places order h) n ≡ h
+first-size : (order : ℕ → ℕ) (n h : ℕ) → h ≤ n → ((i : ℕ) → i < n → order i < n) →
+    ((i j : ℕ) → i < n → j < n → order i ≡ order j → i ≡ j) → size_on (first_places order h) n ≡ h
 first-size order n zero le below distinct = size-zero nothing n (λ _ _. refl)
 first-size order n (suc h) le below distinct =
     let waits : first_places order h (order h) ≡ false = not_true (first_places order h (order h)) (λ e. let f = first-from order h (order h) e in
     let same : f.0 ≡ h = distinct f.0 h (omega (arith, f.1)) (omega arith) f.2 in omega (arith, f.1, same)) in
-    let more : size_on (first_places order (suc h)) n ≡ size_on (first_places order h) n + 1 = sum-with_one (first_places order h) n (order h) (λ _. 1) (below h (omega arith)) waits in
+    let more : size_on (first_places order (suc h)) n ≡ size_on (first_places order h) n + 1 =
+    sum-with_one (first_places order h) n (order h) (λ _. 1) (below h (omega arith)) waits in
     omega (arith, more, first-size order n h (omega arith) below distinct)
 
-module _ (arc : ℕ → ℕ → Bool) (n : ℕ) (starts ends : ℕ → Bool) (s : State) (head filled : ℕ) (S : IsSearch arc n s head filled) (F : HasStarts n starts s) (N : NoEndBefore ends s head) where
+module _ (arc : ℕ → ℕ → Bool) (n : ℕ) (starts ends : ℕ → Bool) (s : State) (head filled : ℕ)
+    (S : IsSearch arc n s head filled) (F : HasStarts n starts s) (N : NoEndBefore ends s head) where
   -- a reached place is as many arcs away as it is deep
   deep : (d y : ℕ) → y < n → s.reached y ≡ true → s.depth y ≡ d → (v : ℕ) × (v < n) × (starts v ≡ true) × Walk arc n v y d
   deep zero y yl h e = elim (S.origin y yl h) [ inl z ↦ (y, yl, F.only y yl h z, refl) | inr led ↦ absurd (omega (arith, led.deeper)) ]

@@ -1,8 +1,7 @@
 -- What the arrays of a search mean.
-use Rattle.std.specs.Prelude.{ℕ, ◌<◌, ◌≤◌, ◌≡◌, true, false, vec_len, slice_index}
+use Rattle.std.specs.Prelude.{ℕ, ◌^◌, ◌<◌, ◌≤◌, ◌≡◌, false, vec_len, slice_index}
 use Rattle.search_laws.specs.Searches.{State}
 use Rattle.exchange_graph.specs.Marks.{members_of}
-use Rattle.exchange_graph.specs.Waitings.{IsLeading, Waits}
 use Rattle.exchange_graph.specs.declared.scan.Scan.{Scan}
 
 -- how many places there are
@@ -31,10 +30,9 @@ pub record IsSized (s : Scan) : Type 0 where
   pub depth : vec_len s.depth ≡ places s
   pub before : vec_len s.before ≡ places s
   pub walk : vec_len s.walk ≡ places s
-  pub waiting : vec_len s.waiting.ahead ≡ places s
 
 -- `order` and `position` are each other's inverse, no place behind the `filled` first ones is reached, `before` holds
--- places, and what is not reached waits
+-- places, and the count of looks has 64 bits
 pub record IsStored (s : Scan) : Type 0 where
   pub sized : IsSized s
   pub order_below : (i : ℕ) → i < places s → slice_index s.order.items i < places s
@@ -44,6 +42,4 @@ pub record IsStored (s : Scan) : Type 0 where
   pub filled_le : s.filled ≤ places s
   pub behind : (y : ℕ) → y < places s → s.filled ≤ position_of s y → members_of s.reached.items y ≡ false
   pub before_below : (y : ℕ) → y < places s → slice_index s.before.items y < places s
-  pub leading : IsLeading s.waiting.ahead.items
-  pub waits : (y : ℕ) → y < places s → members_of s.reached.items y ≡ false → Waits s.waiting.ahead.items y
-  pub reached : (y : ℕ) → y < places s → members_of s.reached.items y ≡ true → y < slice_index s.waiting.ahead.items y
+  pub count_fits : s.all_looks < 2 ^ 64

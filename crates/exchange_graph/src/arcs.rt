@@ -1,13 +1,16 @@
 //! Directed graphs, as the arcs between numbered places.
 
-ghost use Rattle.std.specs.Prelude.{◌≡◌, ℕ, ◌<◌, ◌≤◌, Bool, IfSome, IfNone};
-ghost use Rattle.number_ranges.specs.Ranges.{HasNone, IsLeast};
+ghost use Rattle.std.specs.Prelude.{◌≡◌, ℕ, ◌<◌, Bool, IfSome, IfNone};
+ghost use Rattle.exchange_graph.specs.Turns.{HaveHadTurns, HasNextTurn};
 
-/// Arcs between places, which are the numbers below `places`.
+/// Arcs between places, which are the numbers below `places`. What a place leads to is told one place after another,
+/// each in its turn.
 pub trait Arcs {
     ghost places: { Self → ℕ };
 
     ghost leads: { Self → ℕ → ℕ → Bool };
+
+    ghost turn: { Self → ℕ → ℕ → ℕ };
 
     /// Whether x leads to y.
     fn arc(&self, x: usize, y: usize) -> bool
@@ -15,19 +18,11 @@ pub trait Arcs {
         requires y { y < places self.now }
         ensures { result ≡ leads self.now x y };
 
-    /// The least place from `from` on and below `end` that x leads to. Give it a body where what x leads to is listed:
-    /// this one asks for each arc in turn.
-    fn successor(&self, x: usize, from: usize, end: usize) -> Option<usize>
+    /// The next place that x leads to, from turn `from` on, and the turn to go on with after it; or `None` where no
+    /// place is left. All that x leads to is told in one pass: begin with turn 0.
+    fn next_arc(&self, x: usize, from: usize) -> Option<(usize, usize)>
         requires x { x < places self.now }
-        requires end { end ≤ places self.now }
-        ensures none { IfNone result (HasNone (leads self.now x) from end) }
-        ensures least { IfSome result (λ y. IsLeast (leads self.now x) from end y) }
-    {
-        for y in from..end {
-            if self.arc(x, y) {
-                return Some(y);
-            }
-        }
-        None
-    }
+        ensures none { IfNone result (HaveHadTurns (leads self.now x) (turn self.now x) (places self.now) from) }
+        ensures some { IfSome result (λ (y, next). HasNextTurn (leads self.now x) (turn self.now x) (places self.now)
+            from y next) };
 }

@@ -3,10 +3,11 @@
 #![tactic(auto)]
 
 mod arcs;
+mod outside;
 mod scan;
 mod search;
 mod steps;
-mod waiting;
+mod sweep;
 
 pub use arcs::Arcs;
 pub use out_of_memory::NoMemory;

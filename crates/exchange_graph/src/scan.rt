@@ -1,6 +1,7 @@
 //! Breadth-first search from several places at once, each place looked at once.
 
 ghost use Rattle.std.specs.Prelude.{◌≡◌, ℕ, ◌+◌, ◌<◌, ◌≤◌, Bool, true, false, length, IfOk, IfSome, IfNone, slice_index};
+ghost use Rattle.residue_theory.specs.Sets.{only};
 ghost use Rattle.residue_theory.specs.Sums.{size_on};
 ghost use Rattle.closed_sets.specs.Closed.{IsClosed, IsReachedSet};
 ghost use Rattle.search_laws.specs.Searches.{IsShortest, IsSearch, IsPut, IsGrown, HasStarts};
@@ -10,7 +11,6 @@ ghost use Rattle.exchange_graph.specs.Scans.{IsStored, places, state_of, walk_of
 
 use crate::arcs::Arcs;
 use crate::steps::Steps;
-use crate::waiting::Waiting;
 use std::alloc::{AllocError, Global};
 use std::sync::ledger::Ledger;
 
@@ -26,7 +26,6 @@ pub struct Scan {
     pub depth: Vec<usize>,
     pub before: Vec<usize>,
     pub walk: Vec<usize>,
-    pub waiting: Waiting,
     pub filled: usize,
     pub looks: usize,
     pub all_looks: u64,
@@ -61,7 +60,6 @@ impl Scan {
             depth,
             before,
             walk,
-            waiting: Waiting::open(alloc, n)?,
             filled: 0,
             looks: 0,
             all_looks: 0,
@@ -94,7 +92,6 @@ impl Scan {
         self.reached[place] = true;
         self.depth[place] = depth;
         self.before[place] = from;
-        self.waiting.take(place);
         self.filled = filled + 1;
     }
 
@@ -112,7 +109,6 @@ impl Scan {
         for at in 0..self.filled {
             let place = self.order[at];
             self.reached[place] = false;
-            self.waiting.put_back(place);
         }
         self.filled = 0;
     }
@@ -137,23 +133,20 @@ impl Scan {
         }
     }
 
-    /// The least place from `from` on that waits, or the number of places where none does.
-    pub fn first_waiting(&mut self, from: usize) -> usize
+    // Starts over: reaches one place alone.
+    fn start_at(&mut self, place: usize)
         requires stored { IsStored self.old }
-        requires from { from ≤ places self.old }
-        ensures from_on { from ≤ result }
-        ensures within { result ≤ places self.old }
-        ensures none_before { (y : ℕ) → from ≤ y → y < result → members_of self.old.reached.items y ≡ true }
-        ensures waits { result < places self.old → members_of self.old.reached.items result ≡ false }
-        ensures state { state_of self.new ≡ state_of self.old }
-        ensures filled { self.new.filled ≡ self.old.filled }
+        requires place { place < places self.old }
+        ensures search { (arc : ℕ → ℕ → Bool) → IsSearch arc (places self.old) (state_of self.new) 0 self.new.filled }
+        ensures starts { HasStarts (places self.old) (only place) (state_of self.new) }
         ensures looks { self.new.looks ≡ self.old.looks }
         ensures walk { self.new.walk ≡ self.old.walk }
         ensures all_looks { self.new.all_looks ≡ self.old.all_looks }
         ensures stored { IsStored self.new }
         ensures places { places self.new ≡ places self.old }
     {
-        self.waiting.first_from(from)
+        self.clear();
+        self.put(place, place, 0);
     }
 
     /// Looks at the place at `head` of the order: reaches all that it leads to.
@@ -172,14 +165,13 @@ impl Scan {
     {
         let place = self.order[head];
         let depth = self.depth[place] + 1;
-        let places = self.order.len();
         self.all_looks = self.all_looks.saturating_add(1);
-        let mut from = self.first_waiting(0);
-        while let Some(next) = arcs.successor(place, from, places) {
-            if !self.reached[next] {
-                self.put(next, place, depth);
+        let mut from = 0;
+        while let Some((to, next)) = arcs.next_arc(place, from) {
+            if !self.reached[to] {
+                self.put(to, place, depth);
             }
-            from = self.first_waiting(next + 1);
+            from = next;
         }
     }
 
@@ -226,6 +218,57 @@ impl Scan {
         }
     }
 
+    // Goes on from the places that are reached, all of them starts: the least number of arcs from one to an end.
+    fn follow<A: Arcs, L: Ledger>(
+        &mut self,
+        arcs: &A,
+        ends: &[bool],
+        steps: &mut Steps<L>,
+    ) -> Option<usize>
+        requires stored { IsStored self.old }
+        requires places { A.places arcs.now ≡ places self.old }
+        requires ends { length ends.now ≡ places self.old }
+        requires search { IsSearch (A.leads arcs.now) (places self.old) (state_of self.old) 0 self.old.filled }
+        ensures found { (starts : ℕ → Bool) → HasStarts (places self.old) starts (state_of self.old) →
+            IfSome result (λ k. IsShortest (A.leads arcs.now) (places self.old) starts (members_of ends.now)
+            (walk_of self.new) k) }
+        ensures closed { (starts : ℕ → Bool) → HasStarts (places self.old) starts (state_of self.old) →
+            IfNone result (IsClosed (A.leads arcs.now) (places self.old) starts (members_of ends.now)
+            (members_of self.new.reached.items)) }
+        ensures reached { (starts : ℕ → Bool) → HasStarts (places self.old) starts (state_of self.old) →
+            IfNone result (IsReachedSet (A.leads arcs.now) (places self.old) starts
+            (members_of self.new.reached.items)) }
+        ensures looked { (starts : ℕ → Bool) → HasStarts (places self.old) starts (state_of self.old) →
+            IfSome result (λ k. AreLookedAt (A.leads arcs.now) (places self.old) starts (members_of ends.now)
+            k self.new.looks) }
+        ensures size { IfNone result (size_on (members_of self.new.reached.items) (places self.old)
+            ≡ self.new.looks) }
+        ensures listed { IfNone result ((i : ℕ) → i < self.new.filled →
+            members_of self.new.reached.items (slice_index self.new.order.items i) ≡ true) }
+        ensures told { steps.new ≡ steps.old + self.new.looks }
+        ensures walk { IfNone result (self.new.walk ≡ self.old.walk) }
+        ensures all_looks { self.new.all_looks ≡ counted_on self.old.all_looks self.new.looks }
+        ensures few { self.new.looks ≤ places self.old }
+        ensures stored { IsStored self.new }
+        ensures places { places self.new ≡ places self.old }
+    {
+        let mut head = 0;
+        while head < self.filled {
+            let place = self.order[head];
+            if ends[place] {
+                let depth = self.depth[place];
+                self.trace(place, depth);
+                self.looks = head;
+                return Some(depth);
+            }
+            steps.tick();
+            self.look(arcs, head);
+            head += 1;
+        }
+        self.looks = self.filled;
+        None
+    }
+
     /// The least number of arcs from a start to an end.
     pub fn shortest<A: Arcs, L: Ledger>(
         &mut self,
@@ -244,9 +287,8 @@ impl Scan {
             (members_of ends.now) (members_of self.new.reached.items)) }
         ensures reached { IfNone result (IsReachedSet (A.leads arcs.now) (places self.old) (members_of starts.now)
             (members_of self.new.reached.items)) }
-        ensures looks { IfNone result (steps.new ≡ steps.old
-            + size_on (members_of self.new.reached.items) (places self.old)) }
-        ensures count { steps.new ≤ steps.old + places self.old }
+        ensures size { IfNone result (size_on (members_of self.new.reached.items) (places self.old)
+            ≡ self.new.looks) }
         ensures told { steps.new ≡ steps.old + self.new.looks }
         ensures looked { IfSome result (λ k. AreLookedAt (A.leads arcs.now) (places self.old) (members_of starts.now)
             (members_of ends.now) k self.new.looks) }
@@ -257,20 +299,42 @@ impl Scan {
         ensures places { places self.new ≡ places self.old }
     {
         self.start(starts);
-        let mut head = 0;
-        while head < self.filled {
-            let place = self.order[head];
-            if ends[place] {
-                let depth = self.depth[place];
-                self.trace(place, depth);
-                self.looks = head;
-                return Some(depth);
-            }
-            steps.tick();
-            self.look(arcs, head);
-            head += 1;
-        }
-        self.looks = self.filled;
-        None
+        self.follow(arcs, ends, steps)
+    }
+
+    /// The least number of arcs from one start to an end. It goes over no places but those that it reaches, and those
+    /// that were reached before.
+    pub fn shortest_from<A: Arcs, L: Ledger>(
+        &mut self,
+        arcs: &A,
+        start: usize,
+        ends: &[bool],
+        steps: &mut Steps<L>,
+    ) -> Option<usize>
+        requires stored { IsStored self.old }
+        requires places { A.places arcs.now ≡ places self.old }
+        requires start { start < places self.old }
+        requires ends { length ends.now ≡ places self.old }
+        ensures found { IfSome result (λ k. IsShortest (A.leads arcs.now) (places self.old) (only start)
+            (members_of ends.now) (walk_of self.new) k) }
+        ensures closed { IfNone result (IsClosed (A.leads arcs.now) (places self.old) (only start)
+            (members_of ends.now) (members_of self.new.reached.items)) }
+        ensures reached { IfNone result (IsReachedSet (A.leads arcs.now) (places self.old) (only start)
+            (members_of self.new.reached.items)) }
+        ensures size { IfNone result (size_on (members_of self.new.reached.items) (places self.old)
+            ≡ self.new.looks) }
+        ensures listed { IfNone result ((i : ℕ) → i < self.new.filled →
+            members_of self.new.reached.items (slice_index self.new.order.items i) ≡ true) }
+        ensures told { steps.new ≡ steps.old + self.new.looks }
+        ensures looked { IfSome result (λ k. AreLookedAt (A.leads arcs.now) (places self.old) (only start)
+            (members_of ends.now) k self.new.looks) }
+        ensures walk { IfNone result (self.new.walk ≡ self.old.walk) }
+        ensures all_looks { self.new.all_looks ≡ counted_on self.old.all_looks self.new.looks }
+        ensures few { self.new.looks ≤ places self.old }
+        ensures stored { IsStored self.new }
+        ensures places { places self.new ≡ places self.old }
+    {
+        self.start_at(start);
+        self.follow(arcs, ends, steps)
     }
 }

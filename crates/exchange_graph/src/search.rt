@@ -6,11 +6,12 @@ ghost use Rattle.closed_sets.specs.Closed.{IsClosed, IsReachedSet, NoEndReached}
 ghost use Rattle.search_laws.specs.Searches.{IsShortest};
 ghost use Rattle.exchange_graph.specs.Counts.{AreLookedAt, counted_on};
 ghost use Rattle.exchange_graph.specs.Marks.{members_of};
-ghost use Rattle.exchange_graph.specs.Results.{Found, reached_of, step_of};
+ghost use Rattle.exchange_graph.specs.Results.{Found, reached_of, step_of, vain_of};
+ghost use Rattle.exchange_graph.specs.Sweeps.{AreLookedAtInVain, IsShortestFromOne};
 
 use crate::arcs::Arcs;
-use crate::scan::Scan;
 use crate::steps::Steps;
+use crate::sweep::Sweep;
 use out_of_memory::NoMemory;
 use std::alloc::Global;
 use std::marker::Model;
@@ -19,24 +20,25 @@ use std::sync::ledger::Ledger;
 /// A search for a shortest walk, in memory that is taken once. It can be used again and again.
 #[derive(Drop)]
 pub struct Search {
-    scan: Scan,
+    sweep: Sweep,
 }
 
 impl Model for Search {
-    ghost use Rattle.exchange_graph.specs.Scans.{IsStored, places};
+    ghost use Rattle.exchange_graph.specs.SweepStates.{IsStored, places};
     ghost use Rattle.exchange_graph.specs.Results.{Found};
 
     ghost Value = { Found };
 
     ghost view = { λ s. record {
-      places = places s.scan;
-      marks = s.scan.reached.items;
-      walk = s.scan.walk.items;
-      looks = s.scan.looks;
-      all_looks = s.scan.all_looks;
+      places = places s.sweep;
+      marks = s.sweep.scan.reached.items;
+      vain = s.sweep.left.items;
+      walk = s.sweep.scan.walk.items;
+      looks = s.sweep.scan.looks;
+      all_looks = s.sweep.scan.all_looks;
     } };
 
-    ghost invariant = { λ s. IsStored s.scan };
+    ghost invariant = { λ s. IsStored s.sweep };
 }
 
 impl Search {
@@ -47,7 +49,7 @@ impl Search {
         ensures all_looks { IfOk result (λ s. s.all_looks ≡ 0) }
     {
         Ok(Search {
-            scan: Scan::open(alloc, n)?,
+            sweep: Sweep::open(alloc, n)?,
         })
     }
 
@@ -85,7 +87,45 @@ impl Search {
         ensures few { self.new.looks ≤ self.old.places }
         ensures places { self.new.places ≡ self.old.places }
     {
-        self.scan.shortest(arcs, starts, ends, steps)
+        self.sweep.scan.shortest(arcs, starts, ends, steps)
+    }
+
+    /// The number of arcs of a walk from a start to an end that is a shortest one from that start, or `None` where none
+    /// leads from a start to an end. After `Some`, `step` tells such a walk; after `None`, `reached_in_vain` tells what is
+    /// reached from the starts.
+    ///
+    /// It searches from one start after another, and begins after the one from which it found a walk last. What the
+    /// earlier ones reached in vain it leaves out of the later searches, so that all of them together look at each place
+    /// at most once, and at no end; it ticks once for each look, and tells by `looks` how many there were.
+    pub fn shortest_in_turn<A: Arcs, L: Ledger>(
+        &mut self,
+        arcs: &A,
+        starts: &[bool],
+        ends: &[bool],
+        steps: &mut Steps<L>,
+    ) -> Option<usize>
+        requires places { A.places arcs.now ≡ self.old.places }
+        requires starts { length starts.now ≡ self.old.places }
+        requires ends { length ends.now ≡ self.old.places }
+        ensures none { IsNone result ↔ NoEndReached (A.leads arcs.now) self.old.places (members_of starts.now)
+            (members_of ends.now) }
+        ensures found { IfSome result (λ k. IsShortestFromOne (A.leads arcs.now) self.old.places
+            (members_of starts.now) (members_of ends.now) (step_of self.new) k) }
+        ensures closed { IfNone result (IsClosed (A.leads arcs.now) self.old.places (members_of starts.now)
+            (members_of ends.now) (vain_of self.new)) }
+        ensures reached { IfNone result (IsReachedSet (A.leads arcs.now) self.old.places (members_of starts.now)
+            (vain_of self.new)) }
+        ensures looks { IfNone result (steps.new ≡ steps.old + size_on (vain_of self.new) self.old.places) }
+        ensures count { steps.new ≤ steps.old + self.old.places }
+        ensures told { steps.new ≡ steps.old + self.new.looks }
+        ensures looked { AreLookedAtInVain (A.leads arcs.now) self.old.places (members_of starts.now)
+            (members_of ends.now) self.new.looks }
+        ensures walk { IfNone result (self.new.walk ≡ self.old.walk) }
+        ensures all_looks { self.new.all_looks ≡ counted_on self.old.all_looks self.new.looks }
+        ensures few { self.new.looks ≤ self.old.places }
+        ensures places { self.new.places ≡ self.old.places }
+    {
+        self.sweep.search(arcs, starts, ends, steps)
     }
 
     /// Finds all that is reached from the starts: `reached` tells it. The walk of the last search that found one stays.
@@ -101,7 +141,7 @@ impl Search {
             ≡ counted_on self.old.all_looks (size_on (reached_of self.new) self.old.places) }
         ensures places { self.new.places ≡ self.old.places }
     {
-        self.scan.reach(arcs, starts);
+        self.sweep.scan.reach(arcs, starts);
     }
 
     /// The k-th place of the walk that was found last, from its start, which is place 0, to its end.
@@ -109,7 +149,7 @@ impl Search {
         requires { k < self.now.places }
         ensures { result ≡ step_of self.now k }
     {
-        self.scan.walk[k]
+        self.sweep.scan.walk[k]
     }
 
     /// Whether x is reached from a start, after a search that found no walk.
@@ -117,14 +157,22 @@ impl Search {
         requires { x < self.now.places }
         ensures { result ≡ reached_of self.now x }
     {
-        self.scan.reached[x]
+        self.sweep.scan.reached[x]
+    }
+
+    /// Whether x is reached from a start, after searches in turn that found no walk.
+    pub fn reached_in_vain(&self, x: usize) -> bool
+        requires { x < self.now.places }
+        ensures { result ≡ vain_of self.now x }
+    {
+        self.sweep.left[x]
     }
 
     /// How many places the last search for a shortest walk looked at: 0 before the first one.
     pub fn looks(&self) -> usize
         ensures { result ≡ self.now.looks }
     {
-        self.scan.looks
+        self.sweep.scan.looks
     }
 
     /// How many looks there have been since the search was opened, those of `reach` too. At the greatest `u64` it
@@ -132,6 +180,6 @@ impl Search {
     pub fn all_looks(&self) -> u64
         ensures { result ≡ self.now.all_looks }
     {
-        self.scan.all_looks
+        self.sweep.scan.all_looks
     }
 }

@@ -48,7 +48,8 @@ one_fraction = (_, refl, refl)
 abbrev tee_with : ℕ → ℕ → Sheet
 tee_with first second =
     let streams : List (List ℕ) = codes "s2" ∷ codes "s3" ∷ codes "s4" ∷ [] in
-    with_unit (sheet_without_units Two (codes "A" ∷ []) (codes "s1" ∷ streams)) (codes "T") (tee 65521 Two (codes "A" ∷ []) (codes "T") (codes "s1") streams (first ∷ second ∷ []))
+    with_unit (sheet_without_units Two (codes "A" ∷ []) (codes "s1" ∷ streams)) (codes "T")
+    (tee 65521 Two (codes "A" ∷ []) (codes "T") (codes "s1") streams (first ∷ second ∷ []))
 
 abbrev residue : ℕ → ℕ
 residue denominator = fraction_residue 65521 false (record { numerator = 1; denominator = denominator })
@@ -63,7 +64,8 @@ not_failed r failed = absurd (apart failed)
     apart e = let f : ⊥ = cc in f
 
 -- a number that is 1 over another
-one_over : (denominator r : ℕ) → (denominator % 65521 ≡ 0 → ⊥) → (r * denominator) % 65521 ≡ 1 → r < 65521 → residue_of 65521 false (Some (record { numerator = 1; denominator = denominator })) ≡ Ok r
+one_over : (denominator r : ℕ) → (denominator % 65521 ≡ 0 → ⊥) → (r * denominator) % 65521 ≡ 1 → r < 65521 →
+    residue_of 65521 false (Some (record { numerator = 1; denominator = denominator })) ≡ Ok r
 one_over denominator r stays is below = residue_read 65521 prime_65521 (λ n. n) false (record { numerator = 1; denominator = denominator }) (read r)
     (λ failed. not_failed r failed, λ why. absurd (none why)) is below
   where

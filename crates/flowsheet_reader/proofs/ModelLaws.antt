@@ -23,7 +23,8 @@ one_sheet p a b sheet other same first second =
 pub text_gives_one : (p : ℕ) (text : List ℕ) (a b : MixedModel) → GivesModel p text a → GivesModel p text b → a ≡ b
 text_gives_one p text a b gives_a gives_b =
     let documents = one_document text gives_b.document gives_a.document gives_b.parsed gives_a.parsed in
-    let sheets : gives_b.sheet ≡ gives_a.sheet = one_sheet p gives_b.document gives_a.document gives_b.sheet gives_a.sheet documents gives_b.kept gives_a.kept in
+    let sheets : gives_b.sheet ≡ gives_a.sheet =
+    one_sheet p gives_b.document gives_a.document gives_b.sheet gives_a.sheet documents gives_b.kept gives_a.kept in
     one_model p (gives_a.sheet).system a b gives_a.given (subst (λ sheet. IsModelOf p sheet.system b) sheets gives_b.given)
 
 pub gives-unrefused : (p : ℕ) (text : List ℕ) (model : MixedModel) (a : Refused) → GivesModel p text model → BreaksFirst p text a → ⊥

@@ -279,7 +279,9 @@ module _ (p : ℕ) (odd : 2 < p) (sheet : Sheet) (sound : IsSound sheet) (unit :
       (balance-part p odd sheet.components sheet.streams (sound.own ++ dotted (codes "q") unit ∷ []) unit sound.good sound.apart sound.short u streams is.0 is.1
       (has-right sound.own (dotted (codes "q") unit ∷ []) (dotted (codes "q") unit) (has-self [] (dotted (codes "q") unit) (dotted (codes "q") unit) refl)))
   part-kept Relation table part kept few =
-      let (names, first, last) = chain-Ok (due (codes "unknowns") table >>= list_with 1 >>= declared_names sheet.system.unknowns []) (λ names. Ok (relation unit names)) part kept in
+      let (names, first, last) = chain-Ok
+      (due (codes "unknowns") table >>= list_with 1 >>= declared_names sheet.system.unknowns [])
+      (λ names. Ok (relation unit names)) part kept in
       let (items, second, told) = chain-Ok (due (codes "unknowns") table >>= list_with 1) (declared_names sheet.system.unknowns []) names first in
       let is = declared_names-Ok sheet.system.unknowns [] items names tt told in
       let same : relation unit names ≡ part = cc in

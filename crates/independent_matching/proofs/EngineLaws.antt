@@ -1,8 +1,9 @@
 -- The pair of an engine, for the entries that its tableau came from.
-use Rattle.std.proofs.Common.{◌≡◌, ℕ, Bool, refl, sym, subst}
+use Rattle.std.proofs.Common.{◌≡◌, ℕ, Bool, ap, refl, sym, subst}
 use Rattle.closed_sets.proofs.ClosedLaws.{closed-from, reached-closed}
 use Rattle.closed_sets.specs.Closed.{IsReachedSet, NoEndReached}
 use Rattle.linear_algebra_laws.proofs.Kernels.{kernel-sym, kernel-trans, kernel_of-agree}
+use Rattle.linear_algebra.specs.Products.{Agree}
 use Rattle.residue_theory.specs.Residues.{IsPrime}
 use Rattle.bipartite_matching.specs.Matchings.{Matching}
 use Rattle.row_transform.specs.Tableaus.{State}
@@ -67,3 +68,10 @@ module _ (p : ℕ) (prime : IsPrime p) (S : State) (M : Matching) (kept : HasTab
     least = λ Y least j jl h. closed-from (leads_to p L F) L.columns (is_free F) (is_end p L F) Y
         (minimiser-closed p prime L F tableau (least_set p L F) closed Y least) j jl ((reached j jl).0 h);
   }
+
+-- where the layered matrix stays, it does with other entries, and the entries that it came from stay
+pub layers-kept : (q : ℕ → ℕ → ℕ) (S S₀ : State) (M M₀ : Matching) → layers_of S M ≡ layers_of S₀ M₀ → layers q S M ≡ layers q S₀ M₀
+layers-kept q S S₀ M M₀ same = ap (λ (L : LayeredMatrix). record L { q = q }) same
+
+pub entries-kept : (p : ℕ) (q : ℕ → ℕ → ℕ) (S S₀ : State) (M M₀ : Matching) → layers_of S M ≡ layers_of S₀ M₀ → AreEntries p S₀ q → AreEntries p S q
+entries-kept p q S S₀ M M₀ same = subst (λ (L : LayeredMatrix). Agree p L.q_rows L.columns L.q q) (sym same)

@@ -4,7 +4,8 @@ pub mod SearchLaws
 pub mod RunLaws
 pub mod OpenLaws
 pub mod EngineLaws
-pub mod NextLaws
+pub mod RisingLaws
 pub mod MarkLaws
 pub mod StepLaws
 pub mod LeftLaws
+pub mod NextLaws

@@ -1,5 +1,5 @@
 -- The moves along a walk, over a tableau and a matching.
-use Rattle.std.proofs.Common.{◌≡◌, ◌≢◌, ◌+◌, ◌%◌, ◌<◌, ◌≤◌, ◌∙◌, ℕ, zero, suc, Bool, true, false, not, ◌&&◌, ◌||◌}
+use Rattle.std.proofs.Common.{◌-◌, ◌≡◌, ◌≢◌, ◌+◌, ◌%◌, ◌<◌, ◌≤◌, ◌∙◌, ℕ, zero, suc, Bool, true, false, not, ◌&&◌, ◌||◌}
 use Rattle.std.proofs.Common.{Option, Some, None, cond, inl, inr, refl, sym, ap, subst, arith}
 use Rattle.residue_theory.proofs.SetLaws.{differ}
 use Rattle.residue_theory.specs.Sums.{size_on}
@@ -179,6 +179,10 @@ module _ (p : ℕ) (S₀ : State) (M₀ : Matching) (tableau : HasTableau p (lay
           none = none_left;
           some = row_left;
         }
+
+    -- the column that moves is one of the columns
+    pub step-below : (x : ℕ) → x ≡ at (left - 1) → x < S₀.columns
+    step-below x e = subst (λ y. y < S₀.columns) (sym e) (moving-below (left - 1) (omega (arith, moving-positive)))
 
   module _ (S : State) (M : Matching) (next : Option Row) (left : ℕ) (V : IsMoving p S₀ M₀ R S M next left) (done : next ≡ None) where
     moving-done : left ≡ 0

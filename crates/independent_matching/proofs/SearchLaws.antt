@@ -5,12 +5,14 @@ use Rattle.closed_sets.specs.Walks.{FromSome}
 use Rattle.bipartite_matching.specs.Matchings.{Matching}
 use Rattle.row_transform.specs.Tableaus.{State}
 use Rattle.search_laws.specs.Searches.{IsShortest}
+use Rattle.residue_theory.specs.Sets.{only}
 use Rattle.exchange_graph.specs.Marks.{members_of}
+use Rattle.exchange_graph.specs.Sweeps.{IsShortestFromOne}
 use Rattle.mixed_matrices.specs.Arcs.{HasNoWalk, IsReachedFromFree, is_end, is_free, leads_to}
 use Rattle.mixed_matrices.specs.LayeredMatrices.{LayeredMatrix}
 use Rattle.mixed_matrices.specs.Tableaus.{Tableau, HasTableau}
 use Rattle.mixed_augmentation.specs.Moves.{IsFreeRow, IsRoute, route}
-use Rattle.mixed_augmentation.proofs.Routes.{shortest-route}
+use Rattle.mixed_augmentation.proofs.Routes.{shortest_from-route}
 use Rattle.independent_matching.specs.declared.row.Row.{Row}
 use Rattle.independent_matching.specs.declared.marks.Marks.{Marks}
 use Rattle.independent_matching.specs.Marks.{AreMarks}
@@ -52,24 +54,28 @@ module _ (p : ℕ) (S : State) (M : Matching) (width : M.pattern.width ≡ S.col
   end_told : (x : ℕ) → x < S.columns → is_end p L F x ≡ true → members_of ends x ≡ true
   end_told x l h = ends_tell x l ∙ h
 
-  shortest-told : (at : ℕ → ℕ) (k : ℕ) → IsShortest (leads_to p L F) n (members_of free) (members_of ends) at k →
-      IsShortest (leads_to p L F) L.columns (is_free F) (is_end p L F) at k
-  shortest-told at k W = subst (λ m. IsShortest (leads_to p L F) m (is_free F) (is_end p L F) at k) same (record {
-    fewer = W.fewer;
-    begins = start (at 0) (low (at 0) (W.below 0 (omega arith))) W.begins;
-    stops = end_tells (at k) (low (at k) (W.below k (omega arith))) W.stops;
-    below = W.below;
-    follows = W.follows;
-    least = λ s e m sl el st en. W.least s e m sl el (started s (low s sl) st) (end_told e (low e el) en);
-  })
+  shortest-told : (at : ℕ → ℕ) (k : ℕ) → IsShortestFromOne (leads_to p L F) n (members_of free) (members_of ends) at k →
+      IsShortest (leads_to p L F) L.columns (only (at 0)) (is_end p L F) at k
+  shortest-told at k V = let W = V.shortest in
+      subst (λ m. IsShortest (leads_to p L F) m (only (at 0)) (is_end p L F) at k) same (record {
+        fewer = W.fewer;
+        begins = W.begins;
+        stops = end_tells (at k) (low (at k) (W.below k (omega arith))) W.stops;
+        below = W.below;
+        follows = W.follows;
+        least = λ s e m sl el st en. W.least s e m sl el st (end_told e (low e el) en);
+      })
 
-  pub walk-end : (at : ℕ → ℕ) (k x : ℕ) → IsShortest (leads_to p L F) n (members_of free) (members_of ends) at k → x ≡ at k → is_end p L F x ≡ true
-  walk-end at k x W e = subst (λ y. is_end p L F y ≡ true) (sym e) (end_tells (at k) (low (at k) (W.below k (omega arith))) W.stops)
+  pub walk-end : (at : ℕ → ℕ) (k x : ℕ) →
+      IsShortestFromOne (leads_to p L F) n (members_of free) (members_of ends) at k → x ≡ at k → is_end p L F x ≡ true
+  walk-end at k x W e = subst (λ y. is_end p L F y ≡ true) (sym e) (shortest-told at k W).stops
 
-  pub search-route : HasTableau p L F → (at : ℕ → ℕ) (k x : ℕ) → IsShortest (leads_to p L F) n (members_of free) (members_of ends) at k → x ≡ at k →
+  pub search-route : HasTableau p L F → (at : ℕ → ℕ) (k x : ℕ) →
+      IsShortestFromOne (leads_to p L F) n (members_of free) (members_of ends) at k → x ≡ at k →
       (row : Row) → IsFreeRow p L F x (in_q row) (number row) → IsRoute p L F (route F at k (in_q row) (number row))
-  search-route tableau at k x W e row E = shortest-route p L F tableau at k (shortest-told at k W) (in_q row)
-      (number row) (subst (λ y. IsFreeRow p L F y (in_q row) (number row)) e E)
+  search-route tableau at k x W e row E = shortest_from-route p L F tableau (only (at 0)) at k (shortest-told at k W)
+      (start (at 0) ((shortest-told at k W).below 0 (omega arith)) W.start) (in_q row) (number row)
+      (subst (λ y. IsFreeRow p L F y (in_q row) (number row)) e E)
 
   from-told : (x : ℕ) → FromSome (leads_to p L F) n (members_of free) x → FromSome (leads_to p L F) n (is_free F) x
   from-told x (s, l, h, w) = (s, l, start s (low s l) h, w)

@@ -1,10 +1,11 @@
 -- What callers see of an engine.
 use Rattle.std.specs.Prelude.{ℕ, ◌+◌, ◌*◌, ◌≤◌, ◌≡◌, ◌⊎◌, ◌↔◌, Bool, false}
 use Rattle.residue_theory.specs.Sets.{IsWithin}
+use Rattle.residue_theory.specs.Sums.{size_on}
 use Rattle.linear_algebra.specs.Products.{Agree}
 use Rattle.bipartite_matching.specs.Matchings.{Matching}
 use Rattle.exchange_graph.specs.Counts.{counted_on}
-use Rattle.exchange_graph.specs.Results.{Found}
+use Rattle.exchange_graph.specs.Results.{Found, vain_of}
 use Rattle.row_transform.specs.Tableaus.{State}
 use Rattle.mixed_matrices.specs.Arcs.{HasNoWalk, IsClosedIn, IsReachedFromFree}
 use Rattle.mixed_matrices.specs.LayeredMatrices.{LayeredMatrix}
@@ -12,7 +13,7 @@ use Rattle.mixed_matrices.specs.Pairs.{IsBest, pair_size}
 use Rattle.mixed_matrices.specs.SetFunctions.{IsMinimiser}
 use Rattle.mixed_matrices.specs.StructuralRanks.{IsLayeredRank}
 use Rattle.mixed_matrices.specs.Tableaus.{Tableau, HasTableau}
-use Rattle.independent_matching.specs.Sides.{layers_of}
+use Rattle.independent_matching.specs.Sides.{layers_of, size_of, tableau_of}
 
 -- the tableau of Q, the matching in T, what the last search found, how many pivots there were, how many looks of the
 -- searches that found a walk, and how many searches the last run made
@@ -74,3 +75,53 @@ AreFewPivots s m before after = after + s * s ≤ before + m * m
 -- while a pair grows from s columns to m, over n columns: the looks, for each column that it gains at most n
 abbrev pub AreFewLooks : ℕ → ℕ → ℕ → ℕ → ℕ → Type 0
 AreFewLooks n s m before after = after + s * n ≤ before + m * n
+
+-- what a run makes of an engine, over tableaus of type A that tell a state, while it takes the steps from `before` to
+-- `after`
+pub record HasRun (A : Type 0) (state : A → State) (p : ℕ) (old now : Standing A) (before after : ℕ) : Type 0 where
+  -- the layered matrix is as before, and so are the entries that the tableau came from
+  pub same : (q : ℕ → ℕ → ℕ) → layers q (state now.tableau) now.matching ≡ layers q (state old.tableau) old.matching
+  pub entries : (q : ℕ → ℕ → ℕ) → AreEntries p (state old.tableau) q → AreEntries p (state now.tableau) q
+  -- the pair is best, and what the last search reached is the least minimiser
+  pub solved : (q : ℕ → ℕ → ℕ) → AreEntries p (state now.tableau) q →
+      IsSolved p (layers q (state now.tableau) now.matching) (tableau_of (state now.tableau) now.matching)
+      (vain_of now.found)
+  -- the steps are few, and they are the pivots and the looks that are told, and the looks of the last search
+  pub steps : AreFewSteps (state old.tableau).columns (size_of (state old.tableau) old.matching)
+      (size_of (state now.tableau) now.matching) before after
+  pub told : after + (old.pivots + old.looks) ≡ before + (now.pivots + now.looks)
+      + size_on (vain_of now.found) (state old.tableau).columns
+  -- the pivots are few
+  pub few_pivots : AreFewPivots (size_of (state old.tableau) old.matching) (size_of (state now.tableau) now.matching)
+      old.pivots now.pivots
+  -- the looks that are told are few, and they are those of all searches but the last one
+  pub few_looks : AreFewLooks (state old.tableau).columns (size_of (state old.tableau) old.matching)
+      (size_of (state now.tableau) now.matching) old.looks now.looks
+  pub looked : AreLooksOfSearches old.found now.found old.looks now.looks
+      (size_on (vain_of now.found) (state old.tableau).columns)
+  -- there was a search for each column that the pair gained, and one more
+  pub searches : now.searches + size_of (state old.tableau) old.matching ≡ size_of (state now.tableau) now.matching + 1
+
+-- the pair has grown by a column, while an improvement took the steps from `before` to `after`
+pub record HasGrown (A : Type 0) (state : A → State) (old now : Standing A) (before after : ℕ) : Type 0 where
+  pub size : size_of (state now.tableau) now.matching ≡ size_of (state old.tableau) old.matching + 1
+  -- the steps are the pivots and the looks that are told
+  pub told : after + (old.pivots + old.looks) ≡ before + (now.pivots + now.looks)
+  pub few_pivots : now.pivots ≤ old.pivots + size_on (state old.tableau).base (state old.tableau).columns + 1
+  pub few_looks : now.looks ≤ old.looks + (state old.tableau).columns
+  pub searched : AreLooksOfSearch old.found now.found old.looks now.looks
+
+-- the pair is best and stays, which an improvement found by the steps from `before` to `after`
+pub record HasStayed (A : Type 0) (state : A → State) (p : ℕ) (old now : Standing A) (before after : ℕ) : Type 0 where
+  pub solved : (q : ℕ → ℕ → ℕ) → AreEntries p (state now.tableau) q →
+      IsSolved p (layers q (state now.tableau) now.matching) (tableau_of (state now.tableau) now.matching)
+      (vain_of now.found)
+  pub tableau : now.tableau ≡ old.tableau
+  pub matching : now.matching ≡ old.matching
+  pub pivots : now.pivots ≡ old.pivots
+  pub looks : now.looks ≡ old.looks
+  -- the steps are the looks of the search, one at each column that it reached
+  pub steps : after ≡ before + size_on (vain_of now.found) (state old.tableau).columns
+  pub few : after ≤ before + (state old.tableau).columns
+  pub all_looks : now.found.all_looks
+      ≡ counted_on old.found.all_looks (size_on (vain_of now.found) (state old.tableau).columns)

@@ -1,3 +1,4 @@
 pub mod Sides
+pub mod Turns
 pub mod Engines
 pub mod Marks

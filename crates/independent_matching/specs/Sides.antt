@@ -1,5 +1,5 @@
 -- A tableau of Q and a matching in T, read as a tableau of the layered matrix of Q and T.
-use Rattle.std.specs.Prelude.{ℕ, ◌+◌, ◌<◌, ◌≤◌, ◌≡◌, ◌≢◌, ◌%◌, ◌&&◌, ◌↔◌, Bool, eqb, not, true, false, Option, Some, None, cond, is_some, unwrap_or}
+use Rattle.std.specs.Prelude.{ℕ, ◌+◌, ◌<◌, ◌≡◌, ◌≢◌, ◌%◌, ◌&&◌, ◌↔◌, Bool, eqb, not, true, false, Option, Some, None, cond, is_some, unwrap_or}
 use Rattle.linear_algebra.specs.Bases.{HasNoBase}
 use Rattle.sparse_t.specs.Incidences.{row_count, touches}
 use Rattle.bipartite_matching.specs.Matchings.{Matching, mate_at}
@@ -31,13 +31,6 @@ t_arc M x y = not (eqb x y) && (is_matched M y && touches M.pattern (mate_of M y
 abbrev pub q_arc : ℕ → State → ℕ → ℕ → Bool
 q_arc p S x y = not (eqb x y) && (S.base y && has_entry p S (S.row y) x)
 
--- y is one of the columns, another one than x, from `from` on and below `least`
-pub record IsNearer (IsOne : ℕ → Type 0) (x from least y : ℕ) : Type 0 where
-  pub one : IsOne y
-  pub other : y ≢ x
-  pub from_on : from ≤ y
-  pub before : y < least
-
 -- no column has the Q row, and P has an entry in it in x
 pub record IsFreeQRow (p : ℕ) (S : State) (x row : ℕ) : Type 0 where
   pub below : row < S.rows
@@ -59,6 +52,10 @@ layers_of S M = record {
   q = S.q;
   t = λ i j. touches M.pattern i j;
 }
+
+-- how many columns Q and T have, where they have the same; else none is common to them
+abbrev pub common_columns : State → Matching → ℕ
+common_columns S M = cond (eqb S.columns M.pattern.width) S.columns 0
 
 -- the tableau of the base columns and of the matched ones
 abbrev pub tableau_of : State → Matching → Tableau

@@ -1,19 +1,17 @@
-//! The engine.
+//! The engine: a best pair of independent columns of Q and matched columns of T, and what it tells.
 
-ghost use Rattle.std.specs.Prelude.{◌≡◌, ◌≤◌, ℕ, ◌+◌, ◌*◌, ◌<◌, ◌%◌, Bool, false, IfOk, IsTrue, IsFalse, is_some, Option};
-ghost use Rattle.residue_theory.specs.Sums.{size_on};
+ghost use Rattle.std.specs.Prelude.{◌≡◌, ◌≤◌, ℕ, ◌+◌, ◌*◌, ◌<◌, IfOk, IsTrue, IsFalse, is_some, Option, length, IfSome, IfNone};
 ghost use Rattle.dense_q.specs.Tables.{entry, height};
-ghost use Rattle.std.specs.Prelude.{IfSome, IfNone};
 ghost use Rattle.sparse_t.specs.Incidences.{row_count};
 ghost use Rattle.bipartite_matching.specs.Matchings.{HasPair, IsMatching, IsRowFree, mate_at};
 ghost use Rattle.mixed_matrices.specs.Arcs.{is_end, is_free, leads_to};
-ghost use Rattle.exchange_graph.specs.Results.{reached_of};
+ghost use Rattle.exchange_graph.specs.Marks.{members_of};
+ghost use Rattle.exchange_graph.specs.Results.{vain_of};
 ghost use Rattle.mixed_matrices.specs.Tableaus.{HasTableau};
 ghost use Rattle.mixed_model.specs.Layers.{layered_matrix_of};
-ghost use Rattle.exchange_graph.specs.Counts.{counted_on};
-ghost use Rattle.independent_matching.specs.Engines.{Standing, AreEntries, AreFewLooks, AreFewPivots, AreFewSteps, IsBareOver};
-ghost use Rattle.independent_matching.specs.Engines.{AreLooksOfSearch, AreLooksOfSearches, IsSolved, layers};
+ghost use Rattle.independent_matching.specs.Engines.{Standing, AreEntries, HasGrown, HasRun, HasStayed, IsBareOver, layers};
 ghost use Rattle.independent_matching.specs.Sides.{layers_of, size_of, tableau_of};
+ghost use Rattle.independent_matching.specs.Turns.{turn_of};
 
 use crate::improver::Improver;
 use bipartite_matching::Match;
@@ -44,17 +42,17 @@ impl<F: Field, T: Tableau<F>> Model for Engine<F, T> {
     ghost Value = { Standing T };
 
     ghost view = { λ e. record {
-      tableau = e.improver.pair.tableau;
-      matching = e.improver.pair.mates;
+      tableau = e.improver.mover.pair.tableau;
+      matching = e.improver.mover.pair.mates;
       found = e.improver.search;
       pivots =
-          e.improver.pivots;
+          e.improver.mover.pivots;
       looks = e.improver.looks;
       searches = e.searches;
     } };
 
-    ghost invariant = { λ e. IsReady F.modulus (T.state e.improver.pair.tableau) e.improver.pair.mates
-        e.improver.search.places e.improver.marks e.improver.size e.improver.pivots e.improver.looks };
+    ghost invariant = { λ e. IsReady F.modulus (T.state e.improver.mover.pair.tableau) e.improver.mover.pair.mates
+        e.improver.search.places e.improver.mover.marks e.improver.size e.improver.mover.pivots e.improver.looks };
 }
 
 impl<F: Field, T: Tableau<F>> Engine<F, T> {
@@ -92,8 +90,8 @@ impl<F: Field, T: Tableau<F>> Engine<F, T> {
         })
     }
 
-    /// Searches once for a shortest walk from a free column to an end. Where there is one, the pair grows by a column
-    /// along it, from its end backwards; else the pair is best and stays. A free column that is an end is such a walk,
+    /// Searches once for a walk from a free column to an end, from one free column after another. Where there is one, the
+    /// pair grows by a column along it, from its end backwards; else the pair is best and stays. A free column that is an end is such a walk,
     /// and then no column is looked at.
     ///
     /// A step is a look at a column in the search or a pivot. Where the pair grows there is at most one look for each
@@ -108,26 +106,8 @@ impl<F: Field, T: Tableau<F>> Engine<F, T> {
             ≡ layers q (T.state self.old.tableau) self.old.matching }
         ensures entries { (q : ℕ → ℕ → ℕ) → AreEntries F.modulus (T.state self.old.tableau) q →
             AreEntries F.modulus (T.state self.new.tableau) q }
-        ensures grown { IsTrue result → size_of (T.state self.new.tableau) self.new.matching
-            ≡ size_of (T.state self.old.tableau) self.old.matching + 1 }
-        ensures few_pivots { IsTrue result → self.new.pivots ≤ self.old.pivots
-            + size_on (T.state self.old.tableau).base (T.state self.old.tableau).columns + 1 }
-        ensures few_looks { IsTrue result → self.new.looks ≤ self.old.looks + (T.state self.old.tableau).columns }
-        ensures searched { IsTrue result → AreLooksOfSearch self.old.found self.new.found
-            self.old.looks self.new.looks }
-        ensures last { IsFalse result → self.new.found.all_looks
-            ≡ counted_on self.old.found.all_looks (size_on (reached_of self.new.found) (T.state self.old.tableau).columns) }
-        ensures solved { IsFalse result → (q : ℕ → ℕ → ℕ) → AreEntries F.modulus (T.state self.new.tableau) q →
-            IsSolved F.modulus (layers q (T.state self.new.tableau) self.new.matching)
-            (tableau_of (T.state self.new.tableau) self.new.matching) (reached_of self.new.found) }
-        ensures kept { IsFalse result → (self.new.tableau ≡ self.old.tableau)
-            × (self.new.matching ≡ self.old.matching) }
-        ensures none_told { IsFalse result → (self.new.pivots ≡ self.old.pivots) × (self.new.looks ≡ self.old.looks) }
-        ensures looks { IsFalse result → steps.new ≡ steps.old
-            + size_on (reached_of self.new.found) (T.state self.old.tableau).columns }
-        ensures told { IsTrue result → steps.new + (self.old.pivots + self.old.looks) ≡ steps.old
-            + (self.new.pivots + self.new.looks) }
-        ensures few { IsFalse result → steps.new ≤ steps.old + (T.state self.old.tableau).columns }
+        ensures grown { IsTrue result → HasGrown T T.state self.old self.new steps.old steps.new }
+        ensures best { IsFalse result → HasStayed T T.state F.modulus self.old self.new steps.old steps.new }
         ensures searches { searches.new ≡ searches.old + 1 }
         ensures same_searches { self.new.searches ≡ self.old.searches }
     {
@@ -140,27 +120,7 @@ impl<F: Field, T: Tableau<F>> Engine<F, T> {
     /// most as many steps as `AreFewSteps` says: from the empty pair (m + 1) n + m m. These are the pivots and the
     /// looks that `pivots` and `looks` rise by, and a look at each column of the least minimiser.
     pub fn run<L: Ledger>(&mut self, steps: &mut Steps<L>)
-        ensures same { (q : ℕ → ℕ → ℕ) → layers q (T.state self.new.tableau) self.new.matching
-            ≡ layers q (T.state self.old.tableau) self.old.matching }
-        ensures entries { (q : ℕ → ℕ → ℕ) → AreEntries F.modulus (T.state self.old.tableau) q →
-            AreEntries F.modulus (T.state self.new.tableau) q }
-        ensures solved { (q : ℕ → ℕ → ℕ) → AreEntries F.modulus (T.state self.new.tableau) q →
-            IsSolved F.modulus (layers q (T.state self.new.tableau) self.new.matching)
-            (tableau_of (T.state self.new.tableau) self.new.matching) (reached_of self.new.found) }
-        ensures steps { AreFewSteps (T.state self.old.tableau).columns
-            (size_of (T.state self.old.tableau) self.old.matching)
-            (size_of (T.state self.new.tableau) self.new.matching) steps.old steps.new }
-        ensures told { steps.new + (self.old.pivots + self.old.looks) ≡ steps.old + (self.new.pivots + self.new.looks)
-            + size_on (reached_of self.new.found) (T.state self.old.tableau).columns }
-        ensures few_pivots { AreFewPivots (size_of (T.state self.old.tableau) self.old.matching)
-            (size_of (T.state self.new.tableau) self.new.matching) self.old.pivots self.new.pivots }
-        ensures few_looks { AreFewLooks (T.state self.old.tableau).columns
-            (size_of (T.state self.old.tableau) self.old.matching)
-            (size_of (T.state self.new.tableau) self.new.matching) self.old.looks self.new.looks }
-        ensures looked { AreLooksOfSearches self.old.found self.new.found self.old.looks self.new.looks
-            (size_on (reached_of self.new.found) (T.state self.old.tableau).columns) }
-        ensures searches { self.new.searches + size_of (T.state self.old.tableau) self.old.matching
-            ≡ size_of (T.state self.new.tableau) self.new.matching + 1 }
+        ensures run { HasRun T T.state F.modulus self.old self.new steps.old steps.new }
     {
         self.run_from::<L, Brand>(Blank::new(1), steps);
     }
@@ -170,27 +130,7 @@ impl<F: Field, T: Tableau<F>> Engine<F, T> {
         requires name { blank.name ≡ M.name }
         requires parts { blank.parts ≡ M.parts }
         requires some { 0 < blank.parts }
-        ensures same { (q : ℕ → ℕ → ℕ) → layers q (T.state self.new.tableau) self.new.matching
-            ≡ layers q (T.state self.old.tableau) self.old.matching }
-        ensures entries { (q : ℕ → ℕ → ℕ) → AreEntries F.modulus (T.state self.old.tableau) q →
-            AreEntries F.modulus (T.state self.new.tableau) q }
-        ensures solved { (q : ℕ → ℕ → ℕ) → AreEntries F.modulus (T.state self.new.tableau) q →
-            IsSolved F.modulus (layers q (T.state self.new.tableau) self.new.matching)
-            (tableau_of (T.state self.new.tableau) self.new.matching) (reached_of self.new.found) }
-        ensures steps { AreFewSteps (T.state self.old.tableau).columns
-            (size_of (T.state self.old.tableau) self.old.matching)
-            (size_of (T.state self.new.tableau) self.new.matching) steps.old steps.new }
-        ensures told { steps.new + (self.old.pivots + self.old.looks) ≡ steps.old + (self.new.pivots + self.new.looks)
-            + size_on (reached_of self.new.found) (T.state self.old.tableau).columns }
-        ensures few_pivots { AreFewPivots (size_of (T.state self.old.tableau) self.old.matching)
-            (size_of (T.state self.new.tableau) self.new.matching) self.old.pivots self.new.pivots }
-        ensures few_looks { AreFewLooks (T.state self.old.tableau).columns
-            (size_of (T.state self.old.tableau) self.old.matching)
-            (size_of (T.state self.new.tableau) self.new.matching) self.old.looks self.new.looks }
-        ensures looked { AreLooksOfSearches self.old.found self.new.found self.old.looks self.new.looks
-            (size_on (reached_of self.new.found) (T.state self.old.tableau).columns) }
-        ensures searches { self.new.searches + size_of (T.state self.old.tableau) self.old.matching
-            ≡ size_of (T.state self.new.tableau) self.new.matching + 1 }
+        ensures run { HasRun T T.state F.modulus self.old self.new steps.old steps.new }
     {
         self.run_counted(&mut Steps::<M>::new(blank), steps);
     }
@@ -201,27 +141,7 @@ impl<F: Field, T: Tableau<F>> Engine<F, T> {
         searches: &mut Steps<M>,
         steps: &mut Steps<L>,
     )
-        ensures same { (q : ℕ → ℕ → ℕ) → layers q (T.state self.new.tableau) self.new.matching
-            ≡ layers q (T.state self.old.tableau) self.old.matching }
-        ensures entries { (q : ℕ → ℕ → ℕ) → AreEntries F.modulus (T.state self.old.tableau) q →
-            AreEntries F.modulus (T.state self.new.tableau) q }
-        ensures solved { (q : ℕ → ℕ → ℕ) → AreEntries F.modulus (T.state self.new.tableau) q →
-            IsSolved F.modulus (layers q (T.state self.new.tableau) self.new.matching)
-            (tableau_of (T.state self.new.tableau) self.new.matching) (reached_of self.new.found) }
-        ensures steps { AreFewSteps (T.state self.old.tableau).columns
-            (size_of (T.state self.old.tableau) self.old.matching)
-            (size_of (T.state self.new.tableau) self.new.matching) steps.old steps.new }
-        ensures told { steps.new + (self.old.pivots + self.old.looks) ≡ steps.old + (self.new.pivots + self.new.looks)
-            + size_on (reached_of self.new.found) (T.state self.old.tableau).columns }
-        ensures few_pivots { AreFewPivots (size_of (T.state self.old.tableau) self.old.matching)
-            (size_of (T.state self.new.tableau) self.new.matching) self.old.pivots self.new.pivots }
-        ensures few_looks { AreFewLooks (T.state self.old.tableau).columns
-            (size_of (T.state self.old.tableau) self.old.matching)
-            (size_of (T.state self.new.tableau) self.new.matching) self.old.looks self.new.looks }
-        ensures looked { AreLooksOfSearches self.old.found self.new.found self.old.looks self.new.looks
-            (size_on (reached_of self.new.found) (T.state self.old.tableau).columns) }
-        ensures searches { self.new.searches + size_of (T.state self.old.tableau) self.old.matching
-            ≡ size_of (T.state self.new.tableau) self.new.matching + 1 }
+        ensures run { HasRun T T.state F.modulus self.old self.new steps.old steps.new }
         ensures counted { searches.new ≡ searches.old + self.new.searches }
     {
         let made = self.improver.run(searches, steps);
@@ -245,7 +165,7 @@ impl<F: Field, T: Tableau<F>> Engine<F, T> {
         ensures few { result ≤ size_of (T.state self.now.tableau) self.now.matching * size_of (T.state self.now.tableau)
             self.now.matching }
     {
-        self.improver.pivots
+        self.improver.mover.pivots
     }
 
     /// How many looks there have been since the engine was opened in the searches that found a walk: for each of these
@@ -271,7 +191,7 @@ impl<F: Field, T: Tableau<F>> Engine<F, T> {
         requires { col < (T.state self.now.tableau).columns }
         ensures { result ≡ (tableau_of (T.state self.now.tableau) self.now.matching).base col }
     {
-        self.improver.pair.tableau.row_of(col).is_some()
+        self.improver.mover.pair.tableau.row_of(col).is_some()
     }
 
     /// The T row that the column is matched with, if it is.
@@ -279,7 +199,7 @@ impl<F: Field, T: Tableau<F>> Engine<F, T> {
         requires { col < (T.state self.now.tableau).columns }
         ensures { result ≡ mate_at self.now.matching col }
     {
-        self.improver.pair.mates.mate_of_col(col)
+        self.improver.mover.pair.mates.mate_of_col(col)
     }
 
     /// The column that the T row is matched with, if it is.
@@ -290,7 +210,7 @@ impl<F: Field, T: Tableau<F>> Engine<F, T> {
         ensures none { IfNone result (IsRowFree self.now.matching row) }
         ensures matching { IsMatching self.now.matching }
     {
-        self.improver.pair.mates.mate_of_row(row)
+        self.improver.mover.pair.mates.mate_of_row(row)
     }
 
     /// Whether the column is free: not in the pair.
@@ -298,7 +218,7 @@ impl<F: Field, T: Tableau<F>> Engine<F, T> {
         requires { col < (T.state self.now.tableau).columns }
         ensures { result ≡ is_free (tableau_of (T.state self.now.tableau) self.now.matching) col }
     {
-        self.improver.marks.free[col]
+        self.improver.mover.marks.free[col]
     }
 
     /// Whether the column is an end: P has an entry in it at a Q row without base column, or it touches a T row that
@@ -308,22 +228,41 @@ impl<F: Field, T: Tableau<F>> Engine<F, T> {
         ensures { result ≡ is_end F.modulus (layers_of (T.state self.now.tableau) self.now.matching)
             (tableau_of (T.state self.now.tableau) self.now.matching) col }
     {
-        self.improver.marks.ends[col]
+        self.improver.mover.marks.ends[col]
+    }
+
+    /// A mark for each column, set where it is free.
+    pub fn free_columns(&self) -> &[bool]
+        ensures length { length result.now ≡ (T.state self.now.tableau).columns }
+        ensures marks { (col : ℕ) → col < (T.state self.now.tableau).columns →
+            members_of result.now col ≡ is_free (tableau_of (T.state self.now.tableau) self.now.matching) col }
+    {
+        &self.improver.mover.marks.free
+    }
+
+    /// A mark for each column, set where it is an end.
+    pub fn end_columns(&self) -> &[bool]
+        ensures length { length result.now ≡ (T.state self.now.tableau).columns }
+        ensures marks { (col : ℕ) → col < (T.state self.now.tableau).columns →
+            members_of result.now col ≡ is_end F.modulus (layers_of (T.state self.now.tableau) self.now.matching)
+            (tableau_of (T.state self.now.tableau) self.now.matching) col }
+    {
+        &self.improver.mover.marks.ends
     }
 
     /// Whether the column is in the least minimiser of p(X) = rho(X) + gamma(X) - |X|, after `run`.
     pub fn least_minimiser(&self, col: usize) -> bool
         requires { col < (T.state self.now.tableau).columns }
-        ensures { result ≡ reached_of self.now.found col }
+        ensures { result ≡ vain_of self.now.found col }
     {
-        self.improver.search.reached(col)
+        self.improver.search.reached_in_vain(col)
     }
 
     /// The tableau of Q whose base columns are the pair's independent columns.
     pub fn tableau(&self) -> &T
         ensures { result.now ≡ self.now.tableau }
     {
-        &self.improver.pair.tableau
+        &self.improver.mover.pair.tableau
     }
 }
 
@@ -333,11 +272,13 @@ impl<F: Field, T: Tableau<F>> Arcs for Engine<F, T> {
     ghost leads = { λ e. leads_to F.modulus (layers_of (T.state e.tableau) e.matching)
         (tableau_of (T.state e.tableau) e.matching) };
 
+    ghost turn = { λ e. turn_of (T.state e.tableau) e.matching };
+
     fn arc(&self, x: usize, y: usize) -> bool {
-        self.improver.pair.arc(x, y)
+        self.improver.mover.pair.arc(x, y)
     }
 
-    fn successor(&self, x: usize, from: usize, end: usize) -> Option<usize> {
-        self.improver.pair.successor(x, from, end)
+    fn next_arc(&self, x: usize, from: usize) -> Option<(usize, usize)> {
+        self.improver.mover.pair.next_arc(x, from)
     }
 }

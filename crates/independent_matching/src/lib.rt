@@ -5,6 +5,7 @@
 mod engine;
 mod improver;
 mod marks;
+mod mover;
 mod pair;
 mod row;
 

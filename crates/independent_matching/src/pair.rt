@@ -4,10 +4,12 @@ ghost use Rattle.std.specs.Prelude.{◌≡◌, ℕ, ◌+◌, ◌<◌, ◌≤◌,
 ghost use Rattle.sparse_t.specs.Incidences.{touches};
 ghost use Rattle.bipartite_matching.specs.Matchings.{HasPair, IsMatching};
 ghost use Rattle.row_transform.specs.Tableaus.{has_entry};
-ghost use Rattle.number_ranges.specs.Ranges.{HasNone, IsLeast};
+ghost use Rattle.exchange_graph.specs.Turns.{HaveHadTurns, HasNextTurn};
+ghost use Rattle.limits.specs.Limits.{column_limit};
 ghost use Rattle.mixed_matrices.specs.Arcs.{is_free, leads_to};
 ghost use Rattle.mixed_augmentation.specs.Moves.{IsUnlinked};
-ghost use Rattle.independent_matching.specs.Sides.{IsFreeQRow, IsFreeTRow, IsNearer, q_arc, t_arc, is_matched, mate_of, layers_of, tableau_of, in_q, row_had, CanTake, Takes};
+ghost use Rattle.independent_matching.specs.Turns.{t_turn, t_turns, turn_of};
+ghost use Rattle.independent_matching.specs.Sides.{IsFreeQRow, IsFreeTRow, common_columns, q_arc, t_arc, is_matched, mate_of, layers_of, tableau_of, in_q, row_had, CanTake, Takes};
 
 use crate::row::Row;
 use bipartite_matching::Match;
@@ -26,20 +28,26 @@ pub struct Pair<F: Field, T: Tableau<F>> {
 }
 
 impl<F: Field, T: Tableau<F>> Arcs for Pair<F, T> {
-    ghost places = { λ s. min (T.state s.tableau).columns s.mates.pattern.width };
+    // where both parts have the same columns, so that what either tells is a place
+    ghost places = { λ s. common_columns (T.state s.tableau) s.mates };
 
     ghost leads = { λ s. leads_to F.modulus (layers_of (T.state s.tableau) s.mates)
         (tableau_of (T.state s.tableau) s.mates) };
+
+    ghost turn = { λ s. turn_of (T.state s.tableau) s.mates };
 
     #[tactic(auto, unfolding(mixed_matrices::specs::Arcs::leads_to))]
     fn arc(&self, x: usize, y: usize) -> bool {
         x != y && (self.leads_in_q(x, y) || self.leads_in_t(x, y))
     }
 
-    fn successor(&self, x: usize, from: usize, end: usize) -> Option<usize> {
-        let in_t = self.next_in_t(x, from, end);
-        let in_q = self.next_in_q(x, from, in_t.unwrap_or(end));
-        if in_q.is_some() { in_q } else { in_t }
+    fn next_arc(&self, x: usize, from: usize) -> Option<(usize, usize)> {
+        if let Some(found) = self.next_in_t(x, from) {
+            return Some(found);
+        }
+        let count = self.mates.pattern().rows_of(x).len();
+        let (y, next) = self.next_in_q(x, from.saturating_sub(count))?;
+        Some((y, count + next))
     }
 }
 
@@ -76,38 +84,45 @@ impl<F: Field, T: Tableau<F>> Pair<F, T> {
         }
     }
 
-    // The least other column from `from` on and below `end` to which x leads by its T row. It goes over the rows that
-    // touch x.
-    fn next_in_t(&self, x: usize, from: usize, end: usize) -> Option<usize>
+    // The next other column to which x leads by its T row, where `from` of the T rows that touch x are gone over, and
+    // how many then are.
+    fn next_in_t(&self, x: usize, from: usize) -> Option<(usize, usize)>
         requires x { x < self.now.mates.pattern.width }
-        requires end { end ≤ self.now.mates.pattern.width }
-        ensures none { IfNone result (HasNone (t_arc self.now.mates x) from end) }
-        ensures least { IfSome result (IsLeast (t_arc self.now.mates x) from end) }
+        ensures none { IfNone result (HaveHadTurns (t_arc self.now.mates x) (t_turn self.now.mates x)
+            self.now.mates.pattern.width from) }
+        ensures some { IfSome result (λ (y, next). HasNextTurn (t_arc self.now.mates x) (t_turn self.now.mates x)
+            self.now.mates.pattern.width from y next) }
+        ensures few { IfSome result (λ (y, next). next ≤ t_turns self.now.mates x) }
     {
-        let mut least = end;
-        for row in self.mates.pattern().rows_of(x) {
-            least = nearer(self.mates.mate_of_row(*row as usize), x, from, least);
+        let rows = self.mates.pattern().rows_of(x);
+        for at in from..rows.len() {
+            match self.mates.mate_of_row(rows[at] as usize) {
+                Some(y) if y != x => return Some((y, at + 1)),
+                _ => {}
+            }
         }
-        if least < end { Some(least) } else { None }
+        None
     }
 
-    // The least other column from `from` on and below `end` to which x leads by its Q row. It goes over the rows where
-    // P has an entry in x.
-    fn next_in_q(&self, x: usize, from: usize, end: usize) -> Option<usize>
+    // The next other column to which x leads by its Q row, from row `from` on, and the row to go on with.
+    fn next_in_q(&self, x: usize, from: usize) -> Option<(usize, usize)>
         requires x { x < (T.state self.now.tableau).columns }
-        requires end { end ≤ (T.state self.now.tableau).columns }
-        ensures none { IfNone result (HasNone (q_arc F.modulus (T.state self.now.tableau) x) from end) }
-        ensures least { IfSome result (IsLeast (q_arc F.modulus (T.state self.now.tableau) x) from end) }
+        ensures none { IfNone result (HaveHadTurns (q_arc F.modulus (T.state self.now.tableau) x)
+            (T.state self.now.tableau).row (T.state self.now.tableau).columns from) }
+        ensures some { IfSome result (λ (y, next). HasNextTurn (q_arc F.modulus (T.state self.now.tableau) x)
+            (T.state self.now.tableau).row (T.state self.now.tableau).columns from y next) }
+        ensures few { IfSome result (λ (y, next). next ≤ column_limit) }
     {
         // there are at most 8,192 rows, so that the sum below fits
         let _rows = self.tableau.rows();
-        let mut least = end;
-        let mut start = 0;
+        let mut start = from;
         while let Some(row) = self.tableau.next_entry(x, start) {
-            least = nearer(self.tableau.base_of(row), x, from, least);
-            start = row + 1;
+            match self.tableau.base_of(row) {
+                Some(y) if y != x => return Some((y, row + 1)),
+                _ => start = row + 1,
+            }
         }
-        if least < end { Some(least) } else { None }
+        None
     }
 
     /// The row that column x has.
@@ -225,16 +240,5 @@ impl<F: Field, T: Tableau<F>> Pair<F, T> {
             Some(row) => Some(row),
             None => self.free_q_row_from(x, 0),
         }
-    }
-}
-
-// The column of a row where it is another one than x, from `from` on and below `least`; else `least`.
-fn nearer(column: Option<usize>, x: usize, from: usize, least: usize) -> usize
-    ensures found { (result ≡ least) ⊎ IsNearer (λ y. column ≡ Some y) x from least result }
-    ensures none { (y : ℕ) → IsNearer (λ z. column ≡ Some z) x from result y → ⊥ }
-{
-    match column {
-        Some(y) if y != x && from <= y && y < least => y,
-        _ => least,
     }
 }

@@ -94,7 +94,9 @@ uncommented-twice (byte ∷ line) = by (is_comment_sign byte) refl (uncommented-
     by false e rest = rw e (simp one-add (rw e (ap (λ bytes. byte ∷ bytes) rest)))
 
 -- What is kept of an ended line has the same bytes before a comment as the line without a carriage return.
-pub ended-same : (line : List ℕ) → uncommented (if list_any is_comment_sign line then uncommented line else strip_carriage_return (uncommented line)) ≡ uncommented (strip_carriage_return line)
+pub ended-same : (line : List ℕ) → uncommented
+    (if list_any is_comment_sign line then uncommented line else strip_carriage_return (uncommented line)) ≡ uncommented
+    (strip_carriage_return line)
 ended-same line = by (list_any is_comment_sign line) refl
   where
     by : (b : Bool) → list_any is_comment_sign line ≡ b →

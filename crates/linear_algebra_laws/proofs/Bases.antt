@@ -37,8 +37,10 @@ module _ (p : ℕ) (prime : IsPrime p) (P : ℕ → ℕ → ℕ) (m n : ℕ) (B 
       at_b = agree-mul p (c b) (P (row b) b) 1 (base.one b bl (within b bl bh) ∙ sym (mod-eq_of_lt prime.above_one)) ∙ ap (λ s. s % p) (omega arith)
 
   -- at a row of none of them, they combine to zero
-  pub base-no_row : (Y : ℕ → Bool) → IsWithin n Y B → (c : ℕ → ℕ) (i : ℕ) → i < m → ((b : ℕ) → b < n → Y b ≡ true → i ≢ row b) → sum_on Y n (λ j. c j * P i j) % p ≡ 0
-  base-no_row Y within c i il none = vanishes-sum p Y n (λ j. c j * P i j) (λ j jl jh. vanishes-mul p (c j) (P i j) (base.zero j i jl (within j jl jh) il (none j jl jh)))
+  pub base-no_row : (Y : ℕ → Bool) → IsWithin n Y B → (c : ℕ → ℕ) (i : ℕ) → i < m →
+      ((b : ℕ) → b < n → Y b ≡ true → i ≢ row b) → sum_on Y n (λ j. c j * P i j) % p ≡ 0
+  base-no_row Y within c i il none = vanishes-sum p Y n (λ j. c j * P i j)
+      (λ j jl jh. vanishes-mul p (c j) (P i j) (base.zero j i jl (within j jl jh) il (none j jl jh)))
 
   pub base-independent : (Y : ℕ → Bool) → IsWithin n Y B → IsIndependent p P m n Y
   base-independent Y within c s j jl jh = sym (base-row Y within c j jl jh) ∙ s (row j) (base.row_below j jl (within j jl jh))
@@ -46,7 +48,12 @@ module _ (p : ℕ) (prime : IsPrime p) (P : ℕ → ℕ → ℕ) (m n : ℕ) (B 
   -- a row has a base, or none
   pub base_or_none : (i : ℕ) → ((b : ℕ) × (b < n) × (B b ≡ true) × (row b ≡ i)) ⊎ HasNoBase n B row i
   base_or_none i = elim (first_on (λ b. B b && eqb (row b) i) n) [
-    | inl found ↦ inl (found.0, found.1, both-first (B found.0) (eqb (row found.0) i) found.2, eqb_true (row found.0) i (both-second (B found.0) (eqb (row found.0) i) found.2))
+    | inl found ↦ inl (
+      found.0,
+      found.1,
+      both-first (B found.0) (eqb (row found.0) i) found.2,
+      eqb_true (row found.0) i (both-second (B found.0) (eqb (row found.0) i) found.2),
+    )
     | inr none ↦ inr (λ b bl bh. eqb_false (row b) i (both-refused (B b) (eqb (row b) i) (none b bl) bh))
   ]
 
@@ -74,7 +81,8 @@ module _ (p : ℕ) (prime : IsPrime p) (P : ℕ → ℕ → ℕ) (m n : ℕ) (B 
       (λ j jl jh. combines_of-base p prime P m n (both B X) row part_base (λ i. P i j) (λ i il none. zeros i j il jl jh none))
 
   -- the same, where each entry that is not zero stands in the row of a base column of X
-  pub rank_of-base : ((j i : ℕ) → j < n → X j ≡ true → i < m → P i j % p ≢ 0 → (b : ℕ) × (b < n) × (both B X b ≡ true) × (row b ≡ i)) → IsRank p P m n X (size_on (both B X) n)
+  pub rank_of-base : ((j i : ℕ) → j < n → X j ≡ true → i < m → P i j % p ≢ 0 → (b : ℕ) × (b < n) × (both B X b ≡ true)
+      × (row b ≡ i)) → IsRank p P m n X (size_on (both B X) n)
   rank_of-base shown = rank_of-base_rows (λ i j il jl jh none. zero_or i j none (zero_cases (P i j % p)) (shown j i jl jh il))
     where
       zero_or : (i j : ℕ) → HasNoBase n (both B X) row i → (P i j % p ≡ 0) ⊎ (P i j % p ≢ 0) →

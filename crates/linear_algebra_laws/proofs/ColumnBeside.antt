@@ -17,7 +17,8 @@ module _ (p : ℕ) (m n : ℕ) (a : ℕ → ℕ → ℕ) (x : ℕ → ℕ) where
   sum-first c i =
       ap (λ k. sum_on (without everything n) k (λ j. c j * with_column n a x i j)) (let q : n + 1 ≡ suc n = omega arith in q)
       ∙ ap (λ b. sum_on (without everything n) n (λ j. c j * with_column n a x i j) + cond b (c n * with_column n a x i n) 0) (without-same everything n)
-      ∙ (let q : sum_on (without everything n) n (λ j. c j * with_column n a x i j) + 0 ≡ sum_on (without everything n) n (λ j. c j * with_column n a x i j) = omega arith in q)
+      ∙ (let q : sum_on (without everything n) n (λ j. c j * with_column n a x i j) + 0 ≡ sum_on (without everything n)
+      n (λ j. c j * with_column n a x i j) = omega arith in q)
       ∙ sum_on-same (without everything n) everything n (λ j. c j * with_column n a x i j) (λ j l. without-other everything n j (omega arith))
       ∙ sum_on-ext everything n (λ j. c j * with_column n a x i j) (λ j. c j * a i j) (λ j l _. ap (λ y. c j * y) (with_column-first n a x i j l))
 

@@ -42,7 +42,8 @@ module _ (p m n : ℕ) (a : ℕ → ℕ → ℕ) (v : ℕ) (vl : v < n) where
   skipped X k h = member-without X v (skip v k) h (skip-other v k)
 
   pub removed_column-independent : (X : ℕ → Bool) → IsIndependent p a m n (without X v) → IsIndependent p (without_column v a) m (n - 1) (λ k. X (skip v k))
-  removed_column-independent X ind c s k kl kh = sym (ap (λ i. c i % p) (unskip-skip v k)) ∙ ind (λ j. c (unskip v j)) solves (skip v k) (skip-below v k n vl kl) (skipped X k kh)
+  removed_column-independent X ind c s k kl kh = sym (ap (λ i. c i % p) (unskip-skip v k))
+      ∙ ind (λ j. c (unskip v j)) solves (skip v k) (skip-below v k n vl kl) (skipped X k kh)
     where
       solves : CombinesToZero p a m n (without X v) (λ j. c (unskip v j))
       solves i il = ap (λ y. y % p) (sum-skip X (λ j. c (unskip v j) * a i j)
@@ -53,7 +54,8 @@ module _ (p m n : ℕ) (a : ℕ → ℕ → ℕ) (v : ℕ) (vl : v < n) where
   whole_column-independent X ind c s j jl jh = at (without-member X v j jh)
     where
       at : (X j ≡ true) × (j ≢ v) → c j % p ≡ 0
-      at (member, ne) = sym (ap (λ i. c i % p) (skip-unskip v j ne)) ∙ ind (λ k. c (skip v k)) (λ i il. ap (λ y. y % p) (sym (sum-skip X (λ j. c j * a i j))) ∙ s i il)
+      at (member, ne) = sym (ap (λ i. c i % p) (skip-unskip v j ne))
+          ∙ ind (λ k. c (skip v k)) (λ i il. ap (λ y. y % p) (sym (sum-skip X (λ j. c j * a i j))) ∙ s i il)
           (unskip v j) (unskip-below v j n vl jl ne) (ap X (skip-unskip v j ne) ∙ member)
 
   -- the rank of the columns but v is the same in both
@@ -96,12 +98,14 @@ module _ (p m n : ℕ) (a : ℕ → ℕ → ℕ) (v : ℕ) (vl : v < n) where
               at : (spread v Z j ≡ true) × (j ≢ v) → without X v j ≡ true
               at (h, ne) = member-without X v j (sym (ap X (skip-unskip v j ne)) ∙ within (unskip v j) (unskip-below v j n vl jl ne) (spread-second v Z j h)) ne
 
-  module _ (prime : IsPrime p) (X : ℕ → Bool) (member : X v ≡ true) (r s : ℕ) (R : IsRank p a m n X r) (T : IsRank p (without_column v a) m (n - 1) (λ k. X (skip v k)) s) where
+  module _ (prime : IsPrime p) (X : ℕ → Bool) (member : X v ≡ true) (r s : ℕ) (R : IsRank p a m n X r)
+      (T : IsRank p (without_column v a) m (n - 1) (λ k. X (skip v k)) s) where
     others : IsRank p a m n (without X v) s
     others = go (rank_exists p prime a m n (without X v))
       where
         go : (t : ℕ) × IsRank p a m n (without X v) t → IsRank p a m n (without X v) s
-        go (t, K) = subst (λ u. IsRank p a m n (without X v) u) (rank-unique p (without_column v a) m (n - 1) (λ k. X (skip v k)) t s (removed_column-rank X t K) T) K
+        go (t, K) = subst (λ u. IsRank p a m n (without X v) u)
+            (rank-unique p (without_column v a) m (n - 1) (λ k. X (skip v k)) t s (removed_column-rank X t K) T) K
 
     in_x : IsWithin n (without X v) X
     in_x j _ h = (without-member X v j h).0
@@ -130,7 +134,8 @@ module _ (p m n : ℕ) (a : ℕ → ℕ → ℕ) (v : ℕ) (vl : v < n) where
           where
             spans : (j : ℕ) → j < n → X j ≡ true → IsCombination p a m n B.I j
             spans j jl jh = elim (nat_cases j v) [
-              | inl q ↦ subst (λ k. IsCombination p a m n B.I k) (sym q) (combines-through p m n a B.I (without X v) (λ i. a i v) (λ k kl kh. B.spans k kl kl kh) comb)
+              | inl q ↦ subst (λ k. IsCombination p a m n B.I k) (sym q)
+                  (combines-through p m n a B.I (without X v) (λ i. a i v) (λ k kl kh. B.spans k kl kl kh) comb)
               | inr ne ↦ B.spans j jl jl (member-without X v j jh ne)
             ]
 

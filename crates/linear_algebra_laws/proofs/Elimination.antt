@@ -33,7 +33,9 @@ module _ (a : ℕ → ℕ → ℕ) (X : ℕ → Bool) (n : ℕ) where
   sum-split : (v : ℕ) → v < n → X v ≡ true → (c : ℕ → ℕ) (i : ℕ) → sum_on X n (λ j. c j * a i j) ≡ sum_on (without X v) n (λ j. c j * a i j) + c v * a i v
   sum-split v l h c i = sum_on-without X n v (λ j. c j * a i j) l h
 
-  sum-clear : (r v w : ℕ) (c : ℕ → ℕ) (i : ℕ) → sum_on X n (λ j. c j * clear a r v w i j) ≡ sum_on X n (λ j. c j * a i j) + w * a i v * sum_on X n (λ j. c j * a r j)
+  sum-clear : (r v w : ℕ) (c : ℕ → ℕ) (i : ℕ) →
+      sum_on X n (λ j. c j * clear a r v w i j) ≡ sum_on X n (λ j. c j * a i j) + w * a i v * sum_on X n
+      (λ j. c j * a r j)
   sum-clear r v w c i =
       sum_on-ext X n (λ j. c j * clear a r v w i j) (λ j. c j * a i j + w * a i v * (c j * a r j)) (λ j _ _. omega arith)
       ∙ sum_on-add X n (λ j. c j * a i j) (λ j. w * a i v * (c j * a r j))
@@ -96,7 +98,8 @@ skip_row p a R X m n e (inr s) = inr (record { at = s.at; solves = extended; pla
     extended i l h = elim (nat_cases i m) [ inl q ↦ absurd (differ (subst (λ w. R w ≡ false) (sym q) e) h) | inr ne ↦ s.solves i (omega arith) h ]
 
 -- the last row vanishes on X
-zero_row : (p : ℕ) (a : ℕ → ℕ → ℕ) (R X : ℕ → Bool) (m n : ℕ) → R m ≡ true → ((j : ℕ) → j < n → X j ≡ true → a m j % p ≡ 0) → Dichotomy p a R m X n → Dichotomy p a R (suc m) X n
+zero_row : (p : ℕ) (a : ℕ → ℕ → ℕ) (R X : ℕ → Bool) (m n : ℕ) → R m ≡ true →
+    ((j : ℕ) → j < n → X j ≡ true → a m j % p ≡ 0) → Dichotomy p a R m X n → Dichotomy p a R (suc m) X n
 zero_row p a R X m n e zeros (inl (only, le)) = inl ((λ c s. only c (λ i l. s i (omega arith))), (grind (arith, le, e)))
 zero_row p a R X m n e zeros (inr s) = inr (record { at = s.at; solves = extended; place = s.place; below = s.below; member = s.member; non_zero = s.non_zero })
   where
@@ -129,7 +132,8 @@ pivot_row p prime a R X m n v w e vl vh z (inl (only, le)) = inl (zero_alone, (o
 
         at_v : c v % p ≡ 0
         at_v = pivot_free p (T m) (c v) (a m v) w (row m (omega arith) e)
-            (vanishes-sum p (without X v) n (λ k. c k * a m k) (λ k l h. vanishes_by p _ (a m k * c k) (omega arith) (vanishes-mul p (a m k) (c k) (rest k l h)))) z
+            (vanishes-sum p (without X v) n (λ k. c k * a m k)
+            (λ k l h. vanishes_by p _ (a m k * c k) (omega arith) (vanishes-mul p (a m k) (c k) (rest k l h)))) z
 pivot_row p prime a R X m n v w e vl vh z (inr s) = inr
     (record {
       at = extend a X n m v w s.at;
@@ -154,7 +158,10 @@ pivot_row p prime a R X m n v w e vl vh z (inr s) = inr
     last = vanishes_by p _ (S * (a m v * w + 1)) (sum-extend a X n m v w s.at m vl vh ∙ omega arith) (vanishes-mul p S (a m v * w + 1) z)
 
     extended : Solves p a R (suc m) X n (extend a X n m v w s.at)
-    extended i l h = elim (nat_cases i m) [ inl q ↦ subst (λ k. sum_on X n (λ j. extend a X n m v w s.at j * a k j) % p ≡ 0) (sym q) last | inr ne ↦ earlier i (omega arith) h ]
+    extended i l h = elim (nat_cases i m) [
+      | inl q ↦ subst (λ k. sum_on X n (λ j. extend a X n m v w s.at j * a k j) % p ≡ 0) (sym q) last
+      | inr ne ↦ earlier i (omega arith) h
+    ]
 
 pub dichotomy : (p : ℕ) → IsPrime p → (R : ℕ → Bool) (n m : ℕ) (a : ℕ → ℕ → ℕ) (X : ℕ → Bool) → Dichotomy p a R m X n
 dichotomy p prime R n zero a X = no_rows p prime a R X n
@@ -170,5 +177,6 @@ dichotomy p prime R n (suc m) a X = go (R m) refl (first_on (λ j. X j && not (e
         pivot_row p prime a R X m n v w.0 e l (pivot_member (X v) (a m v % p) h) w.1 (all (clear a m v w.0) (without X v))
 
 -- more unknowns than equations: a solution that is not all zero
-pub nonzero_solution : (p : ℕ) → IsPrime p → (a : ℕ → ℕ → ℕ) (R : ℕ → Bool) (m : ℕ) (X : ℕ → Bool) (n : ℕ) → size_on R m < size_on X n → NonZeroSolution p a R m X n
+pub nonzero_solution : (p : ℕ) → IsPrime p → (a : ℕ → ℕ → ℕ) (R : ℕ → Bool) (m : ℕ) (X : ℕ → Bool) (n : ℕ) →
+    size_on R m < size_on X n → NonZeroSolution p a R m X n
 nonzero_solution p prime a R m X n more = elim (dichotomy p prime R n m a X) [ inl few ↦ absurd (omega (arith, few.1)) | inr s ↦ s ]

@@ -34,7 +34,8 @@ product-row_scaled p m k n S T a t f scaled = record {
 }
 
 -- the same operation on entries that agree
-pub agree-row_added : (p m n : ℕ) (a b c d : ℕ → ℕ → ℕ) (t s f : ℕ) → t < m → s < m → Agree p m n a b → IsRowAdded p m n a c t s f → IsRowAdded p m n b d t s f → Agree p m n c d
+pub agree-row_added : (p m n : ℕ) (a b c d : ℕ → ℕ → ℕ) (t s f : ℕ) → t < m → s < m → Agree p m n a b →
+    IsRowAdded p m n a c t s f → IsRowAdded p m n b d t s f → Agree p m n c d
 agree-row_added p m n a b c d t s f tl sl same left right i j il jl = elim (nat_cases i t) [
   | inl q ↦ subst (λ k. c k j % p ≡ d k j % p) (sym q)
       (left.changed j jl ∙ agree-add p (a t j) (b t j) (f * a s j) (f * b s j) (same t j tl jl) (agree-mul p f (a s j) (b s j) (same s j sl jl))
@@ -42,7 +43,8 @@ agree-row_added p m n a b c d t s f tl sl same left right i j il jl = elim (nat_
   | inr ne ↦ left.others i j il jl ne ∙ same i j il jl ∙ sym (right.others i j il jl ne)
 ]
 
-pub agree-row_scaled : (p m n : ℕ) (a b c d : ℕ → ℕ → ℕ) (t f : ℕ) → t < m → Agree p m n a b → IsRowScaled p m n a c t f → IsRowScaled p m n b d t f → Agree p m n c d
+pub agree-row_scaled : (p m n : ℕ) (a b c d : ℕ → ℕ → ℕ) (t f : ℕ) → t < m → Agree p m n a b →
+    IsRowScaled p m n a c t f → IsRowScaled p m n b d t f → Agree p m n c d
 agree-row_scaled p m n a b c d t f tl same left right i j il jl = elim (nat_cases i t) [
   | inl q ↦ subst (λ k. c k j % p ≡ d k j % p) (sym q) (left.changed j jl ∙ agree-mul p f (a t j) (b t j) (same t j tl jl) ∙ sym (right.changed j jl))
   | inr ne ↦ left.others i j il jl ne ∙ same i j il jl ∙ sym (right.others i j il jl ne)
@@ -50,7 +52,8 @@ agree-row_scaled p m n a b c d t f tl same left right i j il jl = elim (nat_case
 
 -- ---- inverses
 -- f times row s of S added to row t, and g times row t of V added to row s, where f + g is zero
-module _ (p m : ℕ) (S T V W : ℕ → ℕ → ℕ) (t s f g : ℕ) (inv : IsInverse p m S (transposed V)) (left : IsRowAdded p m m S T t s f) (right : IsRowAdded p m m V W s t g)
+module _ (p m : ℕ) (S T V W : ℕ → ℕ → ℕ) (t s f g : ℕ) (inv : IsInverse p m S (transposed V))
+    (left : IsRowAdded p m m S T t s f) (right : IsRowAdded p m m V W s t g)
     (apart : t ≢ s) (tl : t < m) (sl : s < m) (opposite : (f + g) % p ≡ 0) where
   -- the entry of S * V transposed
   abbrev dot : (ℕ → ℕ) → (ℕ → ℕ) → ℕ
@@ -61,10 +64,12 @@ module _ (p m : ℕ) (S T V W : ℕ → ℕ → ℕ) (t s f g : ℕ) (inv : IsIn
 
   right-changed : (i : ℕ) → i < m → dot (S i) (W s) % p ≡ (identity i s + g * identity i t) % p
   right-changed i il = row_added-changed p m m V W s t g right everything (S i)
-      ∙ agree-add p (dot (S i) (V s)) (identity i s) (g * dot (S i) (V t)) (g * identity i t) (inv i s il sl) (agree-mul p g (dot (S i) (V t)) (identity i t) (inv i t il tl))
+      ∙ agree-add p (dot (S i) (V s)) (identity i s) (g * dot (S i) (V t)) (g * identity i t) (inv i s il sl)
+      (agree-mul p g (dot (S i) (V t)) (identity i t) (inv i t il tl))
 
   left-other : (i j : ℕ) → i < m → i ≢ t → dot (T i) (W j) % p ≡ dot (S i) (W j) % p
-  left-other i j il ne = ap (λ y. y % p) (commuted m (T i) (W j)) ∙ row_added-other p m m S T t s f left everything (W j) i il ne ∙ ap (λ y. y % p) (commuted m (W j) (S i))
+  left-other i j il ne = ap (λ y. y % p) (commuted m (T i) (W j))
+      ∙ row_added-other p m m S T t s f left everything (W j) i il ne ∙ ap (λ y. y % p) (commuted m (W j) (S i))
 
   left-changed : (j : ℕ) → dot (T t) (W j) % p ≡ (dot (S t) (W j) + f * dot (S s) (W j)) % p
   left-changed j = ap (λ y. y % p) (commuted m (T t) (W j)) ∙ row_added-changed p m m S T t s f left everything (W j)
@@ -101,13 +106,16 @@ module _ (p m : ℕ) (S T V W : ℕ → ℕ → ℕ) (t s f g : ℕ) (inv : IsIn
           zero_mod = sym (ap (λ y. y % p) (let e : 0 * (f + g) ≡ 0 = omega arith in e)) ∙ vanishes-mul p 0 (f + g) opposite
 
 -- row t of S multiplied by f, and row t of V by its inverse g
-module _ (p m : ℕ) (S T V W : ℕ → ℕ → ℕ) (t f g : ℕ) (inv : IsInverse p m S (transposed V)) (left : IsRowScaled p m m S T t f) (right : IsRowScaled p m m V W t g)
+module _ (p m : ℕ) (S T V W : ℕ → ℕ → ℕ) (t f g : ℕ) (inv : IsInverse p m S (transposed V))
+    (left : IsRowScaled p m m S T t f) (right : IsRowScaled p m m V W t g)
     (prime : IsPrime p) (tl : t < m) (opposite : (f * g) % p ≡ 1) where
   scaled-dot : (i j : ℕ) → i < m → j < m → i ≢ t → sum_below m (λ u. T i u * W j u) % p ≡ sum_below m (λ u. S i u * W j u) % p
-  scaled-dot i j il jl ne = ap (λ y. y % p) (commuted m (T i) (W j)) ∙ row_scaled-other p m m S T t f left everything (W j) i il ne ∙ ap (λ y. y % p) (commuted m (W j) (S i))
+  scaled-dot i j il jl ne = ap (λ y. y % p) (commuted m (T i) (W j))
+      ∙ row_scaled-other p m m S T t f left everything (W j) i il ne ∙ ap (λ y. y % p) (commuted m (W j) (S i))
 
   scaled-row : (j : ℕ) → sum_below m (λ u. T t u * W j u) % p ≡ f * sum_below m (λ u. S t u * W j u) % p
-  scaled-row j = ap (λ y. y % p) (commuted m (T t) (W j)) ∙ row_scaled-changed p m m S T t f left everything (W j) ∙ ap (λ y. f * y % p) (commuted m (W j) (S t))
+  scaled-row j = ap (λ y. y % p) (commuted m (T t) (W j)) ∙ row_scaled-changed p m m S T t f left everything (W j)
+      ∙ ap (λ y. f * y % p) (commuted m (W j) (S t))
 
   right-entry : (i j : ℕ) → i < m → j < m → j ≢ t → sum_below m (λ u. S i u * W j u) % p ≡ identity i j % p
   right-entry i j il jl ne = row_scaled-other p m m V W t g right everything (S i) j jl ne ∙ inv i j il jl

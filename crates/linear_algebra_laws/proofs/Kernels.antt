@@ -42,11 +42,13 @@ module _ (p m n : ℕ) (a b : ℕ → ℕ → ℕ) (t s k : ℕ) (added : IsRowA
   pub row_added-other : (X : ℕ → Bool) (c : ℕ → ℕ) (i : ℕ) → i < m → i ≢ t → sum_on X n (λ j. c j * b i j) % p ≡ sum_on X n (λ j. c j * a i j) % p
   row_added-other X c i il ne = agree-sum p X n (λ j. c j * b i j) (λ j. c j * a i j) (λ j jl _. agree-mul p (c j) (b i j) (a i j) (added.others i j il jl ne))
 
-  pub row_added-changed : (X : ℕ → Bool) (c : ℕ → ℕ) → sum_on X n (λ j. c j * b t j) % p ≡ (sum_on X n (λ j. c j * a t j) + k * sum_on X n (λ j. c j * a s j)) % p
+  pub row_added-changed : (X : ℕ → Bool) (c : ℕ → ℕ) →
+      sum_on X n (λ j. c j * b t j) % p ≡ (sum_on X n (λ j. c j * a t j) + k * sum_on X n (λ j. c j * a s j)) % p
   row_added-changed X c =
       agree-sum p X n (λ j. c j * b t j) (λ j. c j * a t j + k * (c j * a s j))
       (λ j jl _. agree-mul p (c j) (b t j) (a t j + k * a s j) (added.changed j jl) ∙ ap (λ w. w % p) (omega arith))
-      ∙ ap (λ w. w % p) (sum_on-add X n (λ j. c j * a t j) (λ j. k * (c j * a s j)) ∙ ap (λ w. sum_on X n (λ j. c j * a t j) + w) (sum_on-mul X n k (λ j. c j * a s j)))
+      ∙ ap (λ w. w % p) (sum_on-add X n (λ j. c j * a t j) (λ j. k * (c j * a s j))
+      ∙ ap (λ w. sum_on X n (λ j. c j * a t j) + w) (sum_on-mul X n k (λ j. c j * a s j)))
 
   module _ (apart : t ≢ s) (tl : t < m) (sl : s < m) where
     pub row_added-kernel : SameKernel p m n a b
@@ -78,11 +80,13 @@ module _ (p m n : ℕ) (a b : ℕ → ℕ → ℕ) (t s k : ℕ) (added : IsRowA
 -- ---- row t multiplied by k
 module _ (p m n : ℕ) (a b : ℕ → ℕ → ℕ) (t k : ℕ) (scaled : IsRowScaled p m n a b t k) where
   pub row_scaled-other : (X : ℕ → Bool) (c : ℕ → ℕ) (i : ℕ) → i < m → i ≢ t → sum_on X n (λ j. c j * b i j) % p ≡ sum_on X n (λ j. c j * a i j) % p
-  row_scaled-other X c i il ne = agree-sum p X n (λ j. c j * b i j) (λ j. c j * a i j) (λ j jl _. agree-mul p (c j) (b i j) (a i j) (scaled.others i j il jl ne))
+  row_scaled-other X c i il ne = agree-sum p X n (λ j. c j * b i j) (λ j. c j * a i j)
+      (λ j jl _. agree-mul p (c j) (b i j) (a i j) (scaled.others i j il jl ne))
 
   pub row_scaled-changed : (X : ℕ → Bool) (c : ℕ → ℕ) → sum_on X n (λ j. c j * b t j) % p ≡ k * sum_on X n (λ j. c j * a t j) % p
   row_scaled-changed X c =
-      agree-sum p X n (λ j. c j * b t j) (λ j. k * (c j * a t j)) (λ j jl _. agree-mul p (c j) (b t j) (k * a t j) (scaled.changed j jl) ∙ ap (λ w. w % p) (omega arith))
+      agree-sum p X n (λ j. c j * b t j) (λ j. k * (c j * a t j))
+      (λ j jl _. agree-mul p (c j) (b t j) (k * a t j) (scaled.changed j jl) ∙ ap (λ w. w % p) (omega arith))
       ∙ ap (λ w. w % p) (sum_on-mul X n k (λ j. c j * a t j))
 
   module _ (prime : IsPrime p) (tl : t < m) (ne_zero : k % p ≢ 0) where
@@ -91,7 +95,8 @@ module _ (p m n : ℕ) (a b : ℕ → ℕ → ℕ) (t k : ℕ) (scaled : IsRowSc
       where
         forward : (X : ℕ → Bool) (c : ℕ → ℕ) → CombinesToZero p a m n X c → CombinesToZero p b m n X c
         forward X c z i il = elim (nat_cases i t) [
-          | inl q ↦ subst (λ w. sum_on X n (λ j. c j * b w j) % p ≡ 0) (sym q) (row_scaled-changed X c ∙ vanishes-mul p k (sum_on X n (λ j. c j * a t j)) (z t tl))
+          | inl q ↦ subst (λ w. sum_on X n (λ j. c j * b w j) % p ≡ 0) (sym q)
+              (row_scaled-changed X c ∙ vanishes-mul p k (sum_on X n (λ j. c j * a t j)) (z t tl))
           | inr ne ↦ row_scaled-other X c i il ne ∙ z i il
         ]
 

@@ -30,7 +30,8 @@ spread : (A B c d y : ℕ) → (A * c + B * d) * y ≡ A * (c * y) + B * (d * y)
 spread A B c d y = omega arith
 
 -- what two vectors of coefficients combine a row to, each multiplied by a number
-sum-mixed : (X : ℕ → Bool) (n A B : ℕ) (c d f : ℕ → ℕ) → sum_on X n (λ j. (A * c j + B * d j) * f j) ≡ A * sum_on X n (λ j. c j * f j) + B * sum_on X n (λ j. d j * f j)
+sum-mixed : (X : ℕ → Bool) (n A B : ℕ) (c d f : ℕ → ℕ) →
+    sum_on X n (λ j. (A * c j + B * d j) * f j) ≡ A * sum_on X n (λ j. c j * f j) + B * sum_on X n (λ j. d j * f j)
 sum-mixed X n A B c d f =
     sum_on-ext X n (λ j. (A * c j + B * d j) * f j) (λ j. A * (c j * f j) + B * (d j * f j)) (λ j _ _. spread A B (c j) (d j) (f j))
     ∙ sum_on-add X n (λ j. A * (c j * f j)) (λ j. B * (d j * f j))
@@ -54,80 +55,86 @@ module _ (p : ℕ) (prime : IsPrime p) (m n : ℕ) (a : ℕ → ℕ → ℕ) (r 
         ∙ ap (λ s. rest c + c v * s) (with_entry-there a r v y)
 
     -- a combination to zero at the other rows is one at all, where it vanishes at row r
-    kernel_of-row : (c : ℕ → ℕ) → ((i : ℕ) → i < m → i ≢ r → sum_on Y n (λ j. c j * a i j) % p ≡ 0) → (rest c + c v * a r v) % p ≡ 0 → CombinesToZero p a m n Y c
+    kernel_of-row : (c : ℕ → ℕ) → ((i : ℕ) → i < m → i ≢ r → sum_on Y n (λ j. c j * a i j) % p ≡ 0) →
+        (rest c + c v * a r v) % p ≡ 0 → CombinesToZero p a m n Y c
     kernel_of-row c rows last i il = elim (nat_cases i r) [
-      | inl q ↦ subst (λ k. sum_on Y n (λ j. c j * a k j) % p ≡ 0) (sym q) (vanishes_by p _ (rest c + c v * a r v) (sum_on-without Y n v (λ j. c j * a r j) vl vh) last)
+      | inl q ↦ subst (λ k. sum_on Y n (λ j. c j * a k j) % p ≡ 0) (sym q)
+          (vanishes_by p _ (rest c + c v * a r v) (sum_on-without Y n v (λ j. c j * a r j) vl vh) last)
       | inr ne ↦ rows i il ne
     ]
 
-    module _ (rl : r < m) (ind : IsIndependent p a m n Y) (c d : ℕ → ℕ) (s : CombinesToZero p (with_entry a r v x) m n Y c) (t : CombinesToZero p (with_entry a r v (x + 1)) m n Y d) where
-      c_rows : (i : ℕ) → i < m → i ≢ r → sum_on Y n (λ j. c j * a i j) % p ≡ 0
-      c_rows i il ne = vanishes_by p _ _ (sym (other-row x c i ne)) (s i il)
+    module _ (rl : r < m) (ind : IsIndependent p a m n Y) (c d : ℕ → ℕ)
+        (s : CombinesToZero p (with_entry a r v x) m n Y c) (t : CombinesToZero p (with_entry a r v (x + 1)) m n Y d)
+      where
+        c_rows : (i : ℕ) → i < m → i ≢ r → sum_on Y n (λ j. c j * a i j) % p ≡ 0
+        c_rows i il ne = vanishes_by p _ _ (sym (other-row x c i ne)) (s i il)
 
-      d_rows : (i : ℕ) → i < m → i ≢ r → sum_on Y n (λ j. d j * a i j) % p ≡ 0
-      d_rows i il ne = vanishes_by p _ _ (sym (other-row (x + 1) d i ne)) (t i il)
+        d_rows : (i : ℕ) → i < m → i ≢ r → sum_on Y n (λ j. d j * a i j) % p ≡ 0
+        d_rows i il ne = vanishes_by p _ _ (sym (other-row (x + 1) d i ne)) (t i il)
 
-      c_rest : (rest c + c v * x) % p ≡ 0
-      c_rest = vanishes_by p _ _ (sym (its-row x c)) (s r rl)
+        c_rest : (rest c + c v * x) % p ≡ 0
+        c_rest = vanishes_by p _ _ (sym (its-row x c)) (s r rl)
 
-      d_rest : (rest d + d v * (x + 1)) % p ≡ 0
-      d_rest = vanishes_by p _ _ (sym (its-row (x + 1) d)) (t r rl)
+        d_rest : (rest d + d v * (x + 1)) % p ≡ 0
+        d_rest = vanishes_by p _ _ (sym (its-row (x + 1) d)) (t r rl)
 
-      abbrev A : ℕ
-      A = (a r v + (p - 1) * (x + 1)) * d v
+        abbrev A : ℕ
+        A = (a r v + (p - 1) * (x + 1)) * d v
 
-      abbrev B : ℕ
-      B = (p - 1) * (a r v + (p - 1) * x) * c v
+        abbrev B : ℕ
+        B = (p - 1) * (a r v + (p - 1) * x) * c v
 
-      -- the row of the place
-      last : ((A * rest c + B * rest d) + (A * c v + B * d v) * a r v) % p ≡ 0
-      last = vanishes-rest p (z + (p - 1) * z) ((A * rest c + B * rest d) + (A * c v + B * d v) * a r v)
-          (vanishes_by p _ ((A * (rest c + c v * x) + B * (rest d + d v * (x + 1))) + (w + (p - 1) * w))
-          (commute (z + (p - 1) * z) ((A * rest c + B * rest d) + (A * c v + B * d v) * a r v)
-          ∙ row_identity (rest c) (rest d) (c v) (d v) (a r v) (p - 1) x (x + 1))
-          (vanishes-add p (A * (rest c + c v * x) + B * (rest d + d v * (x + 1))) (w + (p - 1) * w)
-          (vanishes-add p (A * (rest c + c v * x)) (B * (rest d + d v * (x + 1))) (vanishes-mul p A (rest c + c v * x) c_rest) (vanishes-mul p B (rest d + d v * (x + 1)) d_rest))
-          (lacks p prime w)))
-          (lacks p prime z)
-        where
-          z : ℕ
-          z = A * c v * x + B * d v * (x + 1)
+        -- the row of the place
+        last : ((A * rest c + B * rest d) + (A * c v + B * d v) * a r v) % p ≡ 0
+        last = vanishes-rest p (z + (p - 1) * z) ((A * rest c + B * rest d) + (A * c v + B * d v) * a r v)
+            (vanishes_by p _ ((A * (rest c + c v * x) + B * (rest d + d v * (x + 1))) + (w + (p - 1) * w))
+            (commute (z + (p - 1) * z) ((A * rest c + B * rest d) + (A * c v + B * d v) * a r v)
+            ∙ row_identity (rest c) (rest d) (c v) (d v) (a r v) (p - 1) x (x + 1))
+            (vanishes-add p (A * (rest c + c v * x) + B * (rest d + d v * (x + 1))) (w + (p - 1) * w)
+            (vanishes-add p (A * (rest c + c v * x)) (B * (rest d + d v * (x + 1)))
+            (vanishes-mul p A (rest c + c v * x) c_rest) (vanishes-mul p B (rest d + d v * (x + 1)) d_rest))
+            (lacks p prime w)))
+            (lacks p prime z)
+          where
+            z : ℕ
+            z = A * c v * x + B * d v * (x + 1)
 
-          w : ℕ
-          w = (a r v + (p - 1) * (x + 1)) * (a r v + (p - 1) * x) * c v * d v
+            w : ℕ
+            w = (a r v + (p - 1) * (x + 1)) * (a r v + (p - 1) * x) * c v * d v
 
-          commute : (u y : ℕ) → u + y ≡ y + u
-          commute u y = omega arith
+            commute : (u y : ℕ) → u + y ≡ y + u
+            commute u y = omega arith
 
-      at_v : (A * c v + B * d v) % p ≡ 0
-      at_v = ind (λ j. A * c j + B * d j)
-          (kernel_of-row (λ j. A * c j + B * d j)
-          (λ i il ne. vanishes_by p _ _ (sum-mixed Y n A B c d (a i)) (vanishes-add p (A * sum_on Y n (λ j. c j * a i j)) (B * sum_on Y n (λ j. d j * a i j))
-          (vanishes-mul p A (sum_on Y n (λ j. c j * a i j)) (c_rows i il ne)) (vanishes-mul p B (sum_on Y n (λ j. d j * a i j)) (d_rows i il ne))))
-          (vanishes_by p _ _ (ap (λ s. s + (A * c v + B * d v) * a r v) (sum-mixed (without Y v) n A B c d (a r))) last))
-          v vl vh
+        at_v : (A * c v + B * d v) % p ≡ 0
+        at_v = ind (λ j. A * c j + B * d j)
+            (kernel_of-row (λ j. A * c j + B * d j)
+            (λ i il ne. vanishes_by p _ _ (sum-mixed Y n A B c d (a i)) (vanishes-add p (A * sum_on Y n (λ j. c j * a i j)) (B * sum_on Y n (λ j. d j * a i j))
+            (vanishes-mul p A (sum_on Y n (λ j. c j * a i j)) (c_rows i il ne)) (vanishes-mul p B (sum_on Y n (λ j. d j * a i j)) (d_rows i il ne))))
+            (vanishes_by p _ _ (ap (λ s. s + (A * c v + B * d v) * a r v) (sum-mixed (without Y v) n A B c d (a r))) last))
+            v vl vh
 
-      factor : (d v * c v) % p ≡ 0
-      factor = vanishes-rest p (A * c v + B * d v) (d v * c v)
-          (vanishes_by p _ (multiple * p) (place_identity (c v) (d v) (a r v) (p - 1) x
-          ∙ ap (λ s. multiple * s) (let e : p - 1 + 1 ≡ p = omega (arith, prime.above_one) in e)) (vanishes-mul p multiple p (mod_self p)))
-          at_v
-        where
-          multiple : ℕ
-          multiple = d v * c v * (a r v + (p - 1) * x + 1)
+        factor : (d v * c v) % p ≡ 0
+        factor = vanishes-rest p (A * c v + B * d v) (d v * c v)
+            (vanishes_by p _ (multiple * p) (place_identity (c v) (d v) (a r v) (p - 1) x
+            ∙ ap (λ s. multiple * s) (let e : p - 1 + 1 ≡ p = omega (arith, prime.above_one) in e)) (vanishes-mul p multiple p (mod_self p)))
+            at_v
+          where
+            multiple : ℕ
+            multiple = d v * c v * (a r v + (p - 1) * x + 1)
 
-      -- where the coefficient at the place vanishes, the value there does not matter
-      any_value : (e : ℕ → ℕ) (y : ℕ) → e v % p ≡ 0 → (rest e + e v * y) % p ≡ 0 → (rest e + e v * a r v) % p ≡ 0
-      any_value e y z h = vanishes-add p (rest e) (e v * a r v)
-          (vanishes-rest p (e v * y) (rest e) (vanishes_by p _ (rest e + e v * y) (omega arith) h) (vanishes_by p _ (y * e v) (omega arith) (vanishes-mul p y (e v) z)))
-          (vanishes_by p _ (a r v * e v) (omega arith) (vanishes-mul p (a r v) (e v) z))
+        -- where the coefficient at the place vanishes, the value there does not matter
+        any_value : (e : ℕ → ℕ) (y : ℕ) → e v % p ≡ 0 → (rest e + e v * y) % p ≡ 0 → (rest e + e v * a r v) % p ≡ 0
+        any_value e y z h = vanishes-add p (rest e) (e v * a r v)
+            (vanishes-rest p (e v * y) (rest e) (vanishes_by p _ (rest e + e v * y) (omega arith) h)
+            (vanishes_by p _ (y * e v) (omega arith) (vanishes-mul p y (e v) z)))
+            (vanishes_by p _ (a r v * e v) (omega arith) (vanishes-mul p (a r v) (e v) z))
 
-      -- so one of the two combines the columns to zero with u there
-      clash : CombinesToZero p a m n Y c ⊎ CombinesToZero p a m n Y d
-      clash = elim (zero_cases (d v % p)) [
-        | inl z ↦ inr (kernel_of-row d d_rows (any_value d (x + 1) z d_rest))
-        | inr ne ↦ inl (kernel_of-row c c_rows (any_value c x (vanishes_factor p prime (d v) (c v) ne factor) c_rest))
-      ]
+        -- so one of the two combines the columns to zero with u there
+        clash : CombinesToZero p a m n Y c ⊎ CombinesToZero p a m n Y d
+        clash = elim (zero_cases (d v % p)) [
+          | inl z ↦ inr (kernel_of-row d d_rows (any_value d (x + 1) z d_rest))
+          | inr ne ↦ inl (kernel_of-row c c_rows (any_value c x (vanishes_factor p prime (d v) (c v) ne factor) c_rest))
+        ]
 
   pub one_of_next : r < m → IsIndependent p a m n Y → IsIndependent p (with_entry a r v x) m n Y ⊎ IsIndependent p (with_entry a r v (x + 1)) m n Y
   one_of_next rl ind = go (Y v) refl (lt_cases v n)
@@ -145,7 +152,8 @@ module _ (p : ℕ) (prime : IsPrime p) (m n : ℕ) (a : ℕ → ℕ → ℕ) (r 
         | inr k ↦ absurd (t.non_zero (ind t.at k t.place t.below t.member))
       ]
 
-      here : v < n → Y v ≡ true → Dichotomy p (with_entry a r v x) everything m Y n → IsIndependent p (with_entry a r v x) m n Y ⊎ IsIndependent p (with_entry a r v (x + 1)) m n Y
+      here : v < n → Y v ≡ true → Dichotomy p (with_entry a r v x) everything m Y n →
+          IsIndependent p (with_entry a r v x) m n Y ⊎ IsIndependent p (with_entry a r v (x + 1)) m n Y
       here vl vh (inl (only, _)) = inl (λ c t. only c (λ i il _. t i il))
       here vl vh (inr s) = inr (first vl vh s (dichotomy p prime everything n m (with_entry a r v (x + 1)) Y))
 

@@ -40,10 +40,16 @@ part-independent p prime m n a R X Y ind c s = part-only_zero p m n a R X Y (par
 
 -- so it has at most the rank of the whole
 pub part-rank : (p : ℕ) → IsPrime p → (m n : ℕ) (a : ℕ → ℕ → ℕ) (R X Y : ℕ → Bool) (r s : ℕ) → IsRank p a m n Y r → IsRank p (part R X a) m n Y s → s ≤ r
-part-rank p prime m n a R X Y r s K S = omega (arith, S.reached.3, K.greatest S.reached.0 S.reached.1 (part-independent p prime m n a R X S.reached.0 S.reached.2))
+part-rank p prime m n a R X Y r s K S = omega (
+  arith,
+  S.reached.3,
+  K.greatest S.reached.0 S.reached.1
+      (part-independent p prime m n a R X S.reached.0 S.reached.2),
+)
 
 -- the columns of X alone have on Y the rank of the columns of both
-pub part_columns-rank : (p : ℕ) → IsPrime p → (m n : ℕ) (a : ℕ → ℕ → ℕ) (X Y : ℕ → Bool) (r : ℕ) → IsRank p a m n (both Y X) r → IsRank p (part everything X a) m n Y r
+pub part_columns-rank : (p : ℕ) → IsPrime p → (m n : ℕ) (a : ℕ → ℕ → ℕ) (X Y : ℕ → Bool) (r : ℕ) →
+    IsRank p a m n (both Y X) r → IsRank p (part everything X a) m n Y r
 part_columns-rank p prime m n a X Y r K = record {
   reached = (
     K.reached.0,

@@ -68,7 +68,9 @@ pivot_exists p prime m n a r v w rl inv = record {
     forward X c z i il = elim (nat_cases i r) [
       | inl q ↦ subst (λ k. sum_on X n (λ j. c j * pivoted p w a r v k j) % p ≡ 0) (sym q)
           (ap (λ y. y % p) (sum-row p w a r v n X c) ∙ vanishes-mul p w (sum_on X n (λ j. c j * a r j)) (z r rl))
-      | inr ne ↦ ap (λ y. y % p) (sum-other p w a r v n X c i ne) ∙ vanishes-add p (sum_on X n (λ j. c j * a i j)) ((p - 1) * a i v * w * sum_on X n (λ j. c j * a r j)) (z i il)
+      | inr ne ↦ ap (λ y. y % p) (sum-other p w a r v n X c i ne)
+          ∙ vanishes-add p (sum_on X n (λ j. c j * a i j)) ((p - 1) * a i v * w * sum_on X n (λ j. c j * a r j))
+          (z i il)
           (vanishes-mul p ((p - 1) * a i v * w) (sum_on X n (λ j. c j * a r j)) (z r rl))
     ]
 
@@ -85,7 +87,8 @@ pivot_exists p prime m n a r v w rl inv = record {
 
     zero_at : (i : ℕ) → i < m → i ≢ r → pivoted p w a r v i v % p ≡ 0
     zero_at i il ne = ap (λ y. y % p) (elsewhere p w a r v i v ne ∙ ap (λ y. a i v + y) (regrouped (p - 1) (a i v) w (a r v)))
-        ∙ agree-add p (a i v) (a i v) ((p - 1) * a i v * (a r v * w)) ((p - 1) * a i v * 1) refl (agree-mul p ((p - 1) * a i v) (a r v * w) 1 (inv ∙ sym (mod-eq_of_lt prime.above_one)))
+        ∙ agree-add p (a i v) (a i v) ((p - 1) * a i v * (a r v * w)) ((p - 1) * a i v * 1) refl
+        (agree-mul p ((p - 1) * a i v) (a r v * w) 1 (inv ∙ sym (mod-eq_of_lt prime.above_one)))
         ∙ ap (λ y. (a i v + y) % p) (single ((p - 1) * a i v)) ∙ lacks p prime (a i v)
       where
         regrouped : (k x w y : ℕ) → k * x * w * y ≡ k * x * (y * w)
@@ -119,7 +122,9 @@ module _ (p : ℕ) (prime : IsPrime p) (m n : ℕ) (a : ℕ → ℕ → ℕ) whe
   -- a column that may join the base is not zero at some row without base
   new_row : (B : ℕ → Bool) (T : PivotedBase p m n a B) (k : ℕ) → k < n → B k ≡ false → IsIndependent p a m n (with_one B k) →
       (i : ℕ) × (i < m) × (HasNoBase n B T.row i × (T.P i k % p ≢ 0))
-  new_row B T k kl new ind = go (search_below m (λ i. HasNoBase n B T.row i × (T.P i k % p ≢ 0)) (λ i il. at i (base_or_none p prime T.P m n B T.row T.base i) (zero_cases (T.P i k % p))))
+  new_row B T k kl new ind = go
+      (search_below m (λ i. HasNoBase n B T.row i × (T.P i k % p ≢ 0))
+      (λ i il. at i (base_or_none p prime T.P m n B T.row T.base i) (zero_cases (T.P i k % p))))
     where
       at : (i : ℕ) → ((b : ℕ) × (b < n) × (B b ≡ true) × (T.row b ≡ i)) ⊎ HasNoBase n B T.row i → (T.P i k % p ≡ 0) ⊎ (T.P i k % p ≢ 0) →
           (HasNoBase n B T.row i × (T.P i k % p ≢ 0)) ⊎ (HasNoBase n B T.row i × (T.P i k % p ≢ 0) → ⊥)
@@ -130,7 +135,8 @@ module _ (p : ℕ) (prime : IsPrime p) (m n : ℕ) (a : ℕ → ℕ → ℕ) whe
       free : IsIndependent p T.P m n (with_one B k)
       free = independent_of-kernel p m n a T.P (with_one B k) T.kernel ind
 
-      zero_or : ((i : ℕ) → i < m → HasNoBase n B T.row i × (T.P i k % p ≢ 0) → ⊥) → (i : ℕ) → i < m → HasNoBase n B T.row i → (T.P i k % p ≡ 0) ⊎ (T.P i k % p ≢ 0) → T.P i k % p ≡ 0
+      zero_or : ((i : ℕ) → i < m → HasNoBase n B T.row i × (T.P i k % p ≢ 0) → ⊥) → (i : ℕ) → i < m →
+          HasNoBase n B T.row i → (T.P i k % p ≡ 0) ⊎ (T.P i k % p ≢ 0) → T.P i k % p ≡ 0
       zero_or never i il none (inl z) = z
       zero_or never i il none (inr ne) = absurd (never i il (none, ne))
 
@@ -140,7 +146,8 @@ module _ (p : ℕ) (prime : IsPrime p) (m n : ℕ) (a : ℕ → ℕ → ℕ) whe
       go (inr never) = absurd (omega (
         arith,
         rank-unique p T.P m n (with_one B k) (size_on B n) (size_on (with_one B k) n)
-            (rank_of-basis p prime T.P m n (with_one B k) B (λ j _ h. with_one-member B k j h) (base-independent p prime T.P m n B T.row T.base B (λ j _ h. h)) spans)
+            (rank_of-basis p prime T.P m n (with_one B k) B (λ j _ h. with_one-member B k j h)
+            (base-independent p prime T.P m n B T.row T.base B (λ j _ h. h)) spans)
             (rank_of-independent p T.P m n (with_one B k) free),
         sum-with_one B n k (λ _. 1) kl new,
       ))

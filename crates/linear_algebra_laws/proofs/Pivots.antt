@@ -43,7 +43,8 @@ module _ (p : ℕ) (a b : ℕ → ℕ → ℕ) (m n : ℕ) (B : ℕ → Bool) (r
       one : (c : ℕ) → c < n → with_one B v c ≡ true → b (row_set row v r c) c % p ≡ 1
       one c cl ch = elim (nat_cases c v) [
         | inl q ↦ subst (λ x. b (row_set row v r x) x % p ≡ 1) (sym q) (ap (λ x. b x v % p) (row_set-same row v r) ∙ pivoted.one)
-        | inr ne ↦ ap (λ x. b x c % p) (row_set-other row v r c ne) ∙ stays c (row c) cl (old c ch ne) (base.row_below c cl (old c ch ne)) ∙ base.one c cl (old c ch ne)
+        | inr ne ↦ ap (λ x. b x c % p) (row_set-other row v r c ne)
+            ∙ stays c (row c) cl (old c ch ne) (base.row_below c cl (old c ch ne)) ∙ base.one c cl (old c ch ne)
       ]
 
       zero_at : (c i : ℕ) → c < n → with_one B v c ≡ true → i < m → i ≢ row_set row v r c → b i c % p ≡ 0
@@ -57,9 +58,14 @@ module _ (p : ℕ) (a b : ℕ → ℕ → ℕ) (m n : ℕ) (B : ℕ → Bool) (r
         where
           both_cases : (c ≡ v) ⊎ (c ≢ v) → (d ≡ v) ⊎ (d ≢ v) → c ≡ d
           both_cases (inl q) (inl s) = q ∙ sym s
-          both_cases (inl q) (inr ne) = absurd (free d dl (old d dh ne) (sym (row_set-same row v r) ∙ ap (λ x. row_set row v r x) (sym q) ∙ e ∙ row_set-other row v r d ne))
-          both_cases (inr ne) (inl s) = absurd (free c cl (old c ch ne) (sym (row_set-same row v r) ∙ ap (λ x. row_set row v r x) (sym s) ∙ sym e ∙ row_set-other row v r c ne))
-          both_cases (inr ne) (inr other) = base.distinct c d cl dl (old c ch ne) (old d dh other) (sym (row_set-other row v r c ne) ∙ e ∙ row_set-other row v r d other)
+          both_cases (inl q) (inr ne) = absurd
+              (free d dl (old d dh ne) (sym (row_set-same row v r) ∙ ap (λ x. row_set row v r x) (sym q) ∙ e
+              ∙ row_set-other row v r d ne))
+          both_cases (inr ne) (inl s) = absurd
+              (free c cl (old c ch ne) (sym (row_set-same row v r) ∙ ap (λ x. row_set row v r x) (sym s) ∙ sym e
+              ∙ row_set-other row v r c ne))
+          both_cases (inr ne) (inr other) = base.distinct c d cl dl (old c ch ne) (old d dh other)
+              (sym (row_set-other row v r c ne) ∙ e ∙ row_set-other row v r d other)
 
 -- ---- the steps of a pivot
 -- a pivot at row r and column v that has cleared the rows below i
@@ -90,7 +96,8 @@ module _ (p m n : ℕ) (a b : ℕ → ℕ → ℕ) (r v i : ℕ) (so_far : IsPiv
     zero = λ k less kl ne. so_far.zero k (omega arith) kl ne;
   }
 
-  pub pivot-add : (d : ℕ → ℕ → ℕ) (k : ℕ) → i ≢ r → i < m → r < m → v < n → IsRowAdded p m n b d i r k → (k + b i v) % p ≡ 0 → IsPivotedBelow p m n a d r v (i + 1)
+  pub pivot-add : (d : ℕ → ℕ → ℕ) (k : ℕ) → i ≢ r → i < m → r < m → v < n → IsRowAdded p m n b d i r k →
+      (k + b i v) % p ≡ 0 → IsPivotedBelow p m n a d r v (i + 1)
   pivot-add d k apart il rl vl added cancels = record {
     kernel = kernel-trans p m n a b d so_far.kernel (row_added-kernel p m n b d i r k added apart il rl);
     one = added.others r v rl vl (λ q. apart (sym q)) ∙ so_far.one;

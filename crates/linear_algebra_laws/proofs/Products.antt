@@ -25,7 +25,8 @@ zero_not_prime prime = absurd (no_such prime.above_one)
 pub sum-product : (k n : ℕ) (S a : ℕ → ℕ → ℕ) (X : ℕ → Bool) (c : ℕ → ℕ) (i : ℕ) →
     sum_on X n (λ j. c j * product k S a i j) ≡ sum_below k (λ t. S i t * sum_on X n (λ j. c j * a t j))
 sum-product k n S a X c i =
-    sum_on-ext X n (λ j. c j * product k S a i j) (λ j. sum_below k (λ t. c j * (S i t * a t j))) (λ j _ _. sym (sum_on-mul everything k (c j) (λ t. S i t * a t j)))
+    sum_on-ext X n (λ j. c j * product k S a i j) (λ j. sum_below k (λ t. c j * (S i t * a t j)))
+    (λ j _ _. sym (sum_on-mul everything k (c j) (λ t. S i t * a t j)))
     ∙ sum_on-swap X everything n k (λ t j. c j * (S i t * a t j))
     ∙ sum_on-ext everything k (λ t. sum_on X n (λ j. c j * (S i t * a t j))) (λ t. S i t * sum_on X n (λ j. c j * a t j)) (λ t _ _. one_row t)
   where
@@ -34,7 +35,8 @@ sum-product k n S a X c i =
 
 pub product-assoc : (k l : ℕ) (U S a : ℕ → ℕ → ℕ) (i j : ℕ) → product k U (product l S a) i j ≡ product l (product k U S) a i j
 product-assoc k l U S a i j =
-    sum_on-ext everything k (λ t. U i t * product l S a t j) (λ t. sum_below l (λ s. U i t * (S t s * a s j))) (λ t _ _. sym (sum_on-mul everything l (U i t) (λ s. S t s * a s j)))
+    sum_on-ext everything k (λ t. U i t * product l S a t j) (λ t. sum_below l (λ s. U i t * (S t s * a s j)))
+    (λ t _ _. sym (sum_on-mul everything l (U i t) (λ s. S t s * a s j)))
     ∙ sum_on-swap everything everything k l (λ s t. U i t * (S t s * a s j))
     ∙ sum_on-ext everything l (λ s. sum_below k (λ t. U i t * (S t s * a s j))) (λ s. product k U S i s * a s j) (λ s _ _. one s)
   where
@@ -49,10 +51,12 @@ sum-identity k i f l = sum_on-without everything k i (λ t. identity i t * f t) 
   where
     rest : sum_on (without everything i) k (λ t. identity i t * f t) ≡ 0
     rest = sum_on-ext (without everything i) k (λ t. identity i t * f t) (λ _. 0)
-        (λ t _ h. ap (λ s. s * f t) (identity-other i t (λ q. (without-member everything i t h).1 (sym q))) ∙ omega arith) ∙ sum_on-none (without everything i) k
+        (λ t _ h. ap (λ s. s * f t) (identity-other i t (λ q. (without-member everything i t h).1 (sym q)))
+        ∙ omega arith) ∙ sum_on-none (without everything i) k
 
 pub sum-identity_right : (k j : ℕ) (f : ℕ → ℕ) → j < k → sum_below k (λ t. f t * identity t j) ≡ f j
-sum-identity_right k j f l = sum_on-ext everything k (λ t. f t * identity t j) (λ t. identity j t * f t) (λ t _ _. grind (arith, nat_tests)) ∙ sum-identity k j f l
+sum-identity_right k j f l = sum_on-ext everything k (λ t. f t * identity t j) (λ t. identity j t * f t)
+    (λ t _ _. grind (arith, nat_tests)) ∙ sum-identity k j f l
 
 -- entries that agree make the same columns independent
 pub independent-agree : (p m n : ℕ) (a b : ℕ → ℕ → ℕ) (X : ℕ → Bool) → Agree p m n a b → IsIndependent p a m n X → IsIndependent p b m n X
@@ -67,7 +71,9 @@ independent_of-product p l m n S a X ind c s = ind c (λ i _.
 
 -- with an inverse on the left, a product keeps independence
 pub product-independent : (p m n : ℕ) (U S a : ℕ → ℕ → ℕ) (X : ℕ → Bool) → IsInverse p m U S → IsIndependent p a m n X → IsIndependent p (product m S a) m n X
-product-independent p m n U S a X inv ind = independent_of-product p m m n U (product m S a) X (independent-agree p m n a (product m U (product m S a)) X agree ind)
+product-independent p m n U S a X inv ind =
+    independent_of-product p m m n U (product m S a) X
+    (independent-agree p m n a (product m U (product m S a)) X agree ind)
   where
     agree : Agree p m n a (product m U (product m S a))
     agree i j il jl = sym (ap (λ s. s % p) (product-assoc m m U S a i j)
@@ -83,7 +89,9 @@ kernel-zero p prime m S U inv x zeros = go (dichotomy p prime everything (suc m)
     go : Dichotomy p (with_column m U x) everything m everything (suc m) → (i : ℕ) → i < m → x i % p ≡ 0
     go (inl (_, le)) i l = absurd (omega (arith, size-everything m, size-everything (suc m)))
     go (inr s) i l = vanishes_factor p prime (s.at m) (x i) at_m (vanishes-rest p (sum_below m (λ j. s.at j * U i j)) (s.at m * x i) (row i l)
-        (vanishes-sum p everything m (λ j. s.at j * U i j) (λ j jl _. vanishes_by p _ (U i j * s.at j) (omega arith) (vanishes-mul p (U i j) (s.at j) (at_zero j jl)))))
+        (vanishes-sum p everything m (λ j. s.at j * U i j)
+        (λ j jl _. vanishes_by p _ (U i j * s.at j) (omega arith)
+        (vanishes-mul p (U i j) (s.at j) (at_zero j jl)))))
       where
         row : (t : ℕ) → t < m → (sum_below m (λ j. s.at j * U t j) + s.at m * x t) % p ≡ 0
         row t tl = vanishes_by p _ (sum_below m (λ j. s.at j * with_column m U x t j) + s.at m * with_column m U x t m)
@@ -127,9 +135,15 @@ inverse-swap (suc k) prime m S U inv i j il jl =
     (vanishes_by (suc k) _ (identity i j * suc k) (omega arith) (vanishes-mul (suc k) (identity i j) (suc k) (mod_self (suc k))))
   where
     parts : (t : ℕ) → sum_below m (λ s. S t s * (product m U S s j + k * identity s j)) ≡ product m (product m S U) S t j + k * S t j
-    parts t = sum_on-ext everything m (λ s. S t s * (product m U S s j + k * identity s j)) (λ s. S t s * product m U S s j + k * (S t s * identity s j)) (λ s _ _. omega arith)
+    parts t = sum_on-ext everything m (λ s. S t s * (product m U S s j + k * identity s j))
+        (λ s. S t s * product m U S s j + k * (S t s * identity s j)) (λ s _ _. omega arith)
         ∙ sum_on-add everything m (λ s. S t s * product m U S s j) (λ s. k * (S t s * identity s j))
-        ∙ omega (arith, product-assoc m m S U S t j, sum_on-mul everything m k (λ s. S t s * identity s j), ap (λ y. k * y) (sum-identity_right m j (λ s. S t s) jl))
+        ∙ omega (
+          arith,
+          product-assoc m m S U S t j,
+          sum_on-mul everything m k (λ s. S t s * identity s j),
+          ap (λ y. k * y) (sum-identity_right m j (λ s. S t s) jl),
+        )
 
     back : (t : ℕ) → t < m → product m (product m S U) S t j % suc k ≡ S t j % suc k
     back t tl = agree-sum (suc k) everything m (λ s. product m S U t s * S s j) (λ s. identity t s * S s j)
@@ -153,7 +167,8 @@ rank_of-product p prime m n S U a P X r inv same R = record {
     down Y ind = independent_of-product p m m n S a Y (independent-agree p m n P (product m S a) Y same ind)
 
     up : (Y : ℕ → Bool) → IsIndependent p a m n Y → IsIndependent p P m n Y
-    up Y ind = independent-agree p m n (product m S a) P Y (λ i j il jl. sym (same i j il jl)) (product-independent p m n U S a Y (inverse-swap p prime m S U inv) ind)
+    up Y ind = independent-agree p m n (product m S a) P Y (λ i j il jl. sym (same i j il jl))
+        (product-independent p m n U S a Y (inverse-swap p prime m S U inv) ind)
 
 -- a product with an invertible matrix keeps the kernel
 pub product-kernel : (p : ℕ) → IsPrime p → (m n : ℕ) (S U a P : ℕ → ℕ → ℕ) → IsInverse p m S U → Agree p m n P (product m S a) → SameKernel p m n a P
@@ -164,7 +179,8 @@ product-kernel p prime m n S U a P inv same = record {
 }
   where
     through : (X : ℕ → Bool) (c : ℕ → ℕ) (i : ℕ) → i < m → sum_on X n (λ j. c j * P i j) % p ≡ sum_below m (λ t. S i t * sum_on X n (λ j. c j * a t j)) % p
-    through X c i il = agree-sum p X n (λ j. c j * P i j) (λ j. c j * product m S a i j) (λ j jl _. agree-mul p (c j) (P i j) (product m S a i j) (same i j il jl))
+    through X c i il = agree-sum p X n (λ j. c j * P i j) (λ j. c j * product m S a i j)
+        (λ j jl _. agree-mul p (c j) (P i j) (product m S a i j) (same i j il jl))
         ∙ ap (λ s. s % p) (sum-product m n S a X c i)
 
 -- ---- combinations in a product
@@ -176,7 +192,8 @@ combines-product p m n S a P X x same (c, s) = (
   λ i il.
       agree-sum p X n (λ j. c j * P i j) (λ j. c j * product m S a i j) (λ j jl _. agree-mul p (c j) (P i j) (product m S a i j) (same i j il jl))
       ∙ ap (λ y. y % p) (sum-product m n S a X c i)
-      ∙ agree-sum p everything m (λ t. S i t * sum_on X n (λ j. c j * a t j)) (λ t. S i t * x t) (λ t tl _. agree-mul p (S i t) (sum_on X n (λ j. c j * a t j)) (x t) (s t tl)),
+      ∙ agree-sum p everything m (λ t. S i t * sum_on X n (λ j. c j * a t j)) (λ t. S i t * x t)
+      (λ t tl _. agree-mul p (S i t) (sum_on X n (λ j. c j * a t j)) (x t) (s t tl)),
 )
 
 -- and back, for an invertible S
@@ -202,7 +219,8 @@ combines_of-product p prime m n S U a P X x inv same (c, s) = (
         spread u y k z = omega arith
 
     at_row : (i : ℕ) → i < m → sum_on X n (λ j. c j * product m S a i j) % p ≡ sum_below m (λ t. S i t * x t) % p
-    at_row i il = agree-sum p X n (λ j. c j * product m S a i j) (λ j. c j * P i j) (λ j jl _. agree-mul p (c j) (product m S a i j) (P i j) (sym (same i j il jl))) ∙ s i il
+    at_row i il = agree-sum p X n (λ j. c j * product m S a i j) (λ j. c j * P i j)
+        (λ j jl _. agree-mul p (c j) (product m S a i j) (P i j) (sym (same i j il jl))) ∙ s i il
 
     sent : (i : ℕ) → i < m → sum_below m (λ t. S i t * (sum_on X n (λ j. c j * a t j) + (p - 1) * x t)) % p ≡ 0
     sent i il = ap (λ y. y % p) (parts i)

@@ -50,8 +50,10 @@ rank-submodular p prime a m n X Y r s u v RX RY RU RV = go (basis p prime a m n 
       RV.reached.3,
       size_on-within (both B.I (both X Y)) I n (λ j l h. both_true (B.I j) (both X Y j) (B.keeps j l h) (within_both j l h)),
       size-parts B.I X Y n B.within,
-      RX.greatest (both B.I X) (λ j l h. both-second (B.I j) (X j) h) (independent-within p a m n (both B.I X) B.I (λ j l h. both-first (B.I j) (X j) h) B.independent),
-      RY.greatest (both B.I Y) (λ j l h. both-second (B.I j) (Y j) h) (independent-within p a m n (both B.I Y) B.I (λ j l h. both-first (B.I j) (Y j) h) B.independent),
+      RX.greatest (both B.I X) (λ j l h. both-second (B.I j) (X j) h)
+          (independent-within p a m n (both B.I X) B.I (λ j l h. both-first (B.I j) (X j) h) B.independent),
+      RY.greatest (both B.I Y) (λ j l h. both-second (B.I j) (Y j) h)
+          (independent-within p a m n (both B.I Y) B.I (λ j l h. both-first (B.I j) (Y j) h) B.independent),
     )
 
 pub rank-subadditive : (p : ℕ) → IsPrime p → (a : ℕ → ℕ → ℕ) (m n : ℕ) (X Y : ℕ → Bool) (r s u : ℕ) →
@@ -62,7 +64,8 @@ rank-subadditive p prime a m n X Y r s u RX RY RU = go (rank_exists p prime a m 
     go (v, RV) = omega (arith, rank-submodular p prime a m n X Y r s u v RX RY RU RV)
 
 -- one more column adds at most one
-pub rank-one_more : (p : ℕ) (a : ℕ → ℕ → ℕ) (m n : ℕ) (X : ℕ → Bool) (v r s : ℕ) → v < n → IsRank p a m n X r → IsRank p a m n (with_one X v) s → (r ≤ s) × (s ≤ r + 1)
+pub rank-one_more : (p : ℕ) (a : ℕ → ℕ → ℕ) (m n : ℕ) (X : ℕ → Bool) (v r s : ℕ) → v < n → IsRank p a m n X r →
+    IsRank p a m n (with_one X v) s → (r ≤ s) × (s ≤ r + 1)
 rank-one_more p a m n X v r s vl R S = (
   rank-monotone p a m n X (with_one X v) r s (λ j _ h. with_one-member X v j h) R S,
   omega (
@@ -76,7 +79,8 @@ rank-one_more p a m n X v r s vl R S = (
 )
 
 -- an independent set grows within X to one of the rank's size
-pub independent-extends : (p : ℕ) → IsPrime p → (a : ℕ → ℕ → ℕ) (m n : ℕ) (X Z : ℕ → Bool) (r : ℕ) → IsWithin n Z X → IsIndependent p a m n Z → IsRank p a m n X r →
+pub independent-extends : (p : ℕ) → IsPrime p → (a : ℕ → ℕ → ℕ) (m n : ℕ) (X Z : ℕ → Bool) (r : ℕ) → IsWithin n Z X →
+    IsIndependent p a m n Z → IsRank p a m n X r →
     (I : ℕ → Bool) × IsWithin n Z I × IsWithin n I X × IsIndependent p a m n I × (size_on I n ≡ r)
 independent-extends p prime a m n X Z r inside free R = go (basis p prime a m n X Z inside free n)
   where
@@ -101,7 +105,8 @@ rank-rows p prime a m n R X r zeros K = omega
     (arith, K.reached.3, independent-rows p prime a m n R K.reached.0 (λ i j il jl e h. zeros i j il jl e (K.reached.1 j jl h)) K.reached.2)
 
 -- an independent set has no zero column
-pub no_zero_column : (p : ℕ) → IsPrime p → (a : ℕ → ℕ → ℕ) (m n : ℕ) (Y : ℕ → Bool) → IsIndependent p a m n Y → (v : ℕ) → v < n → Y v ≡ true → ((i : ℕ) → i < m → a i v % p ≡ 0) → ⊥
+pub no_zero_column : (p : ℕ) → IsPrime p → (a : ℕ → ℕ → ℕ) (m n : ℕ) (Y : ℕ → Bool) → IsIndependent p a m n Y →
+    (v : ℕ) → v < n → Y v ≡ true → ((i : ℕ) → i < m → a i v % p ≡ 0) → ⊥
 no_zero_column p prime a m n Y ind v vl vh zeros = one_non_zero p prime (mark v) (identity-same v)
     (ind mark (λ i il. vanishes-sum p Y n (λ j. mark j * a i j) (λ j _ _. term i il j)) v vl vh)
   where

@@ -16,12 +16,14 @@ use Rattle.linear_algebra_laws.proofs.Elimination.{Dichotomy, dichotomy}
 module _ (p m n : ℕ) (a : ℕ → ℕ → ℕ) (I Y : ℕ → Bool) (c : ℕ → ℕ) (D : ℕ → ℕ → ℕ) where
   pub regroup : (t : ℕ) → sum_on Y n (λ j. c j * sum_on I n (λ i. D j i * a t i)) ≡ sum_on I n (λ i. a t i * sum_on Y n (λ j. c j * D j i))
   regroup t =
-      sum_on-ext Y n (λ j. c j * sum_on I n (λ i. D j i * a t i)) (λ j. sum_on I n (λ i. c j * (D j i * a t i))) (λ j _ _. sym (sum_on-mul I n (c j) (λ i. D j i * a t i)))
+      sum_on-ext Y n (λ j. c j * sum_on I n (λ i. D j i * a t i)) (λ j. sum_on I n (λ i. c j * (D j i * a t i)))
+      (λ j _ _. sym (sum_on-mul I n (c j) (λ i. D j i * a t i)))
       ∙ sum_on-swap Y I n n (λ i j. c j * (D j i * a t i))
       ∙ sum_on-ext I n (λ i. sum_on Y n (λ j. c j * (D j i * a t i))) (λ i. a t i * sum_on Y n (λ j. c j * D j i)) (λ i _ _. one_column t i)
     where
       one_column : (t i : ℕ) → sum_on Y n (λ j. c j * (D j i * a t i)) ≡ a t i * sum_on Y n (λ j. c j * D j i)
-      one_column t i = sum_on-ext Y n (λ j. c j * (D j i * a t i)) (λ j. a t i * (c j * D j i)) (λ j _ _. omega arith) ∙ sum_on-mul Y n (a t i) (λ j. c j * D j i)
+      one_column t i = sum_on-ext Y n (λ j. c j * (D j i * a t i)) (λ j. a t i * (c j * D j i)) (λ j _ _. omega arith)
+          ∙ sum_on-mul Y n (a t i) (λ j. c j * D j i)
 
   pub combined : ((i : ℕ) → i < n → I i ≡ true → sum_on Y n (λ j. c j * D j i) % p ≡ 0) →
       ((j : ℕ) → j < n → Y j ≡ true → (t : ℕ) → t < m → sum_on I n (λ i. D j i * a t i) % p ≡ a t j % p) →
@@ -71,7 +73,8 @@ solved_for p m n a I v prime c ne eq = go (negative_inverse p prime (c v) ne)
     go (w, h) = (
       (λ j. w * c j),
       λ i l. ap (λ s. s % p) (scaled i) ∙ agree_of p (w * sum_on I n (λ j. c j * a i j)) (w * (c v * a i v)) (a i v)
-          (vanishes_by p _ (w * (sum_on I n (λ j. c j * a i j) + c v * a i v)) (omega arith) (vanishes-mul p w (sum_on I n (λ j. c j * a i j) + c v * a i v) (eq i l)))
+          (vanishes_by p _ (w * (sum_on I n (λ j. c j * a i j) + c v * a i v)) (omega arith)
+          (vanishes-mul p w (sum_on I n (λ j. c j * a i j) + c v * a i v) (eq i l)))
           (vanishes_by p _ (a i v * (c v * w + 1)) (omega arith) (vanishes-mul p (a i v) (c v * w + 1) h)),
     )
       where
@@ -137,7 +140,8 @@ with_one-independent p prime a m n I v l ind never = go (I v) refl
     go false e = elim (join_or_combination p prime a m n I v l e ind) [ inl joined ↦ joined | inr comb ↦ absurd (never comb) ]
 
 -- what the columns of X combine to, any set combines to that combines to each of them
-pub combines-through : (p m n : ℕ) (a : ℕ → ℕ → ℕ) (I X : ℕ → Bool) (x : ℕ → ℕ) → ((j : ℕ) → j < n → X j ≡ true → IsCombination p a m n I j) → Combines p a m n X x →
+pub combines-through : (p m n : ℕ) (a : ℕ → ℕ → ℕ) (I X : ℕ → Bool) (x : ℕ → ℕ) →
+    ((j : ℕ) → j < n → X j ≡ true → IsCombination p a m n I j) → Combines p a m n X x →
     Combines p a m n I x
 combines-through p m n a I X x combs (c, s) = go (choice n X (λ j d. (i : ℕ) → i < m → sum_on I n (λ k. d k * a i k) % p ≡ a i j % p) combs)
   where
@@ -153,7 +157,8 @@ combines-through p m n a I X x combs (c, s) = go (choice n X (λ j d. (i : ℕ) 
     )
 
 -- a part of X that is as large as its rank, and independent, combines to each column of X
-pub combination_of-largest : (p : ℕ) → IsPrime p → (a : ℕ → ℕ → ℕ) (m n : ℕ) (X I : ℕ → Bool) → IsWithin n I X → IsIndependent p a m n I → IsRank p a m n X (size_on I n) →
+pub combination_of-largest : (p : ℕ) → IsPrime p → (a : ℕ → ℕ → ℕ) (m n : ℕ) (X I : ℕ → Bool) → IsWithin n I X →
+    IsIndependent p a m n I → IsRank p a m n X (size_on I n) →
     (v : ℕ) → v < n → X v ≡ true → IsCombination p a m n I v
 combination_of-largest p prime a m n X I within ind R v vl vh = go (I v) refl
   where
@@ -161,7 +166,9 @@ combination_of-largest p prime a m n X I within ind R v vl vh = go (I v) refl
     joined h free = omega (
       arith,
       sum-with_one I n v (λ _. 1) vl h,
-      R.greatest (with_one I v) (λ j jl jh. elim (nat_cases j v) [ inl q ↦ subst (λ k. X k ≡ true) (sym q) vh | inr ne ↦ within j jl (with_one-other I v j jh ne) ]) free,
+      R.greatest (with_one I v)
+          (λ j jl jh. elim (nat_cases j v)
+          [ inl q ↦ subst (λ k. X k ≡ true) (sym q) vh | inr ne ↦ within j jl (with_one-other I v j jh ne) ]) free,
     )
 
     go : (b : Bool) → I v ≡ b → IsCombination p a m n I v

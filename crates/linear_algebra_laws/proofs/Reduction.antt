@@ -82,7 +82,8 @@ module _ (p m n : ℕ) (a0 a : ℕ → ℕ → ℕ) (X : ℕ → Bool) (v r : �
     kernel = kernel-trans p m n a0 a b so_far.kernel (row_added-kernel p m n a b t s k added apart tl sl);
     base = record {
       row_below = so_far.base.row_below;
-      one = λ c l h. added.others (so_far.row c) c (so_far.base.row_below c l h) l (let less : so_far.row c < r = so_far.rows c l h in omega arith) ∙ so_far.base.one c l h;
+      one = λ c l h. added.others (so_far.row c) c (so_far.base.row_below c l h) l
+          (let less : so_far.row c < r = so_far.rows c l h in omega arith) ∙ so_far.base.one c l h;
       zero = λ c i l h il ne. stays c i l il (so_far.base.zero c t l h tl (let less : so_far.row c < r = so_far.rows c l h in omega arith))
           (so_far.base.zero c s l h sl (let less : so_far.row c < r = so_far.rows c l h in omega arith)) (so_far.base.zero c i l h il ne);
       distinct = so_far.base.distinct;
@@ -133,8 +134,14 @@ module _ (p m n : ℕ) (a0 a : ℕ → ℕ → ℕ) (X : ℕ → Bool) (v r : �
         | inr ne ↦ earlier (so_far.each_row i (omega arith))
       ]
         where
-          earlier : (c : ℕ) × (c < n) × (so_far.B c ≡ true) × (so_far.row c ≡ i) → (c : ℕ) × (c < n) × (with_one so_far.B v c ≡ true) × (row_set so_far.row v r c ≡ i)
-          earlier (c, cl, ch, e) = (c, cl, with_one-member so_far.B v c ch, row_set-other so_far.row v r c (λ q. differ fresh (subst (λ x. so_far.B x ≡ true) q ch)) ∙ e)
+          earlier : (c : ℕ) × (c < n) × (so_far.B c ≡ true) × (so_far.row c ≡ i) → (c : ℕ) × (c < n)
+              × (with_one so_far.B v c ≡ true) × (row_set so_far.row v r c ≡ i)
+          earlier (c, cl, ch, e) = (
+            c,
+            cl,
+            with_one-member so_far.B v c ch,
+            row_set-other so_far.row v r c (λ q. differ fresh (subst (λ x. so_far.B x ≡ true) q ch)) ∙ e,
+          )
 
       zero : (i j : ℕ) → r + 1 ≤ i → i < m → j < n → j < v + 1 → X j ≡ true → b i j % p ≡ 0
       zero i j le il jl jv jh = elim (nat_cases j v) [

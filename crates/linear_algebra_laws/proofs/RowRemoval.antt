@@ -80,7 +80,9 @@ module _ (p : ℕ) (prime : IsPrime p) (m k n : ℕ) (a b : ℕ → ℕ → ℕ)
   )
     where
       stacked : IsIndependent p (above k b (λ _ j. a e j)) (k + 1) n R.reached.0
-      stacked c z = R.reached.2 c (whole-zero R.reached.0 c (top-zero p k 1 n b (λ _ j. a e j) R.reached.0 c z) (low-zero p k 1 n b (λ _ j. a e j) R.reached.0 c z 0 (omega arith)))
+      stacked c z = R.reached.2 c
+          (whole-zero R.reached.0 c (top-zero p k 1 n b (λ _ j. a e j) R.reached.0 c z)
+          (low-zero p k 1 n b (λ _ j. a e j) R.reached.0 c z 0 (omega arith)))
 
       with_row : (t : ℕ) × IsRank p (λ _ j. a e j) 1 n X t → r ≤ s + 1
       with_row (t, T) = omega (
@@ -103,7 +105,8 @@ module _ (p : ℕ) (prime : IsPrime p) (m k n : ℕ) (a b : ℕ → ℕ → ℕ)
 
       spanned : s ≡ r → Combines p a m n Z (λ i. identity i e)
       spanned q = combines-through p m n a Z X (λ i. identity i e)
-          (combination_of-largest p prime a m n X Z S.reached.1 (removed-independent Z S.reached.2) (subst (λ u. IsRank p a m n X u) (sym (S.reached.3 ∙ q)) R)) comb
+          (combination_of-largest p prime a m n X Z S.reached.1 (removed-independent Z S.reached.2)
+          (subst (λ u. IsRank p a m n X u) (sym (S.reached.3 ∙ q)) R)) comb
 
       bad : Combines p a m n Z (λ i. identity i e) → ⊥
       bad (d, t) = one_non_zero p prime (identity e e) (identity-same e)
@@ -153,7 +156,12 @@ module _ (p : ℕ) (prime : IsPrime p) (m k n : ℕ) (a b : ℕ → ℕ → ℕ)
   removed-drop Y ind = go (rank_exists p prime b k n Y)
     where
       go : (s : ℕ) × IsRank p b k n Y s → (Z : ℕ → Bool) × IsWithin n Z Y × IsIndependent p b k n Z × (size_on Y n ≤ size_on Z n + 1)
-      go (s, T) = (T.reached.0, T.reached.1, T.reached.2, omega (arith, T.reached.3, (removed-at_most Y (size_on Y n) s (rank_of-independent p a m n Y ind) T).1))
+      go (s, T) = (
+        T.reached.0,
+        T.reached.1,
+        T.reached.2,
+        omega (arith, T.reached.3, (removed-at_most Y (size_on Y n) s (rank_of-independent p a m n Y ind) T).1),
+      )
 
   -- where row e is a combination of the others on X, the rank stays
   pub removed-combined : (X : ℕ → Bool) (r s : ℕ) (y : ℕ → ℕ) → y e % p ≢ 0 → ((j : ℕ) → j < n → X j ≡ true → sum_below m (λ t. y t * a t j) % p ≡ 0) →
@@ -169,7 +177,8 @@ module _ (p : ℕ) (prime : IsPrime p) (m k n : ℕ) (a b : ℕ → ℕ → ℕ)
           ∙ vanishes-sum p X n (λ j. c j * product m (λ _ i. y i) a 0 j) (λ j jl jh. vanishes-mul p (c j) (product m (λ _ i. y i) a 0 j) (zeros j jl jh)))
 
   -- ---- read from a tableau: P = S * a with a base B within X, and the columns of X are zero in P at each row without base
-  module _ (S U P : ℕ → ℕ → ℕ) (B : ℕ → Bool) (row : ℕ → ℕ) (X : ℕ → Bool) (inv : IsInverse p m S U) (same : Agree p m n P (product m S a)) (base : IsBase p P m n B row) (inside : IsWithin n B X)
+  module _ (S U P : ℕ → ℕ → ℕ) (B : ℕ → Bool) (row : ℕ → ℕ) (X : ℕ → Bool) (inv : IsInverse p m S U)
+      (same : Agree p m n P (product m S a)) (base : IsBase p P m n B row) (inside : IsWithin n B X)
       (zeros : (i j : ℕ) → i < m → j < n → X j ≡ true → HasNoBase n B row i → P i j % p ≡ 0) where
     unit-column : (i : ℕ) → product m S identity i e ≡ S i e
     unit-column i = sum-identity_right m e (λ t. S i t) removed.row_below
@@ -177,7 +186,8 @@ module _ (p : ℕ) (prime : IsPrime p) (m k n : ℕ) (a b : ℕ → ℕ → ℕ)
     -- the unit column is a combination exactly where column e of S is zero at each row without base
     pub unit-shown : Combines p a m n X (λ i. identity i e) → (i : ℕ) → i < m → HasNoBase n B row i → S i e % p ≡ 0
     unit-shown comb i il none = ap (λ y. y % p) (sym (unit-column i)) ∙ base-combines p prime P m n B row base (λ i. product m S identity i e)
-        (combines-through p m n P B X (λ i. product m S identity i e) (λ j jl jh. combines_of-base p prime P m n B row base (λ i. P i j) (λ i il none. zeros i j il jl jh none))
+        (combines-through p m n P B X (λ i. product m S identity i e)
+        (λ j jl jh. combines_of-base p prime P m n B row base (λ i. P i j) (λ i il none. zeros i j il jl jh none))
         (combines-product p m n S a P X (λ i. identity i e) same comb)) i il none
 
     pub unit-combines : ((i : ℕ) → i < m → HasNoBase n B row i → S i e % p ≡ 0) → Combines p a m n X (λ i. identity i e)
@@ -192,7 +202,8 @@ module _ (p : ℕ) (prime : IsPrime p) (m k n : ℕ) (a b : ℕ → ℕ → ℕ)
     unfolding NonZeroRow
     row_or_none = search_below m NonZeroRow (λ i il. at i (base_or_none p prime P m n B row base i) (zero_cases (S i e % p)))
       where
-        at : (i : ℕ) → ((b : ℕ) × (b < n) × (B b ≡ true) × (row b ≡ i)) ⊎ HasNoBase n B row i → (S i e % p ≡ 0) ⊎ (S i e % p ≢ 0) → NonZeroRow i ⊎ (NonZeroRow i → ⊥)
+        at : (i : ℕ) → ((b : ℕ) × (b < n) × (B b ≡ true) × (row b ≡ i)) ⊎ HasNoBase n B row i → (S i e % p ≡ 0)
+            ⊎ (S i e % p ≢ 0) → NonZeroRow i ⊎ (NonZeroRow i → ⊥)
         at i (inl (b, bl, bh, q)) d = inr (λ w. w.0 b bl bh q)
         at i (inr none) (inl z) = inr (λ w. w.1 z)
         at i (inr none) (inr ne) = inl (none, ne)

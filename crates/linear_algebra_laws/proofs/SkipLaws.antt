@@ -47,8 +47,10 @@ sum_on-skip X (suc n) v f l = go (nat_cases v (suc n)) (λ less. sum_on-skip X n
   where
     go : (v ≡ suc n) ⊎ (v ≢ suc n) → (v < suc n → sum_on (without X v) (suc n) f ≡ sum_on (λ k. X (skip v k)) n (λ k. f (skip v k))) →
         sum_on (without X v) (suc (suc n)) f ≡ sum_on (λ k. X (skip v k)) (suc n) (λ k. f (skip v k))
-    go (inl q) ih = subst (λ w. sum_on (without X w) (suc (suc n)) f ≡ sum_on (λ k. X (skip w k)) (suc n) (λ k. f (skip w k))) (sym q) (sum_on-skip_last X (suc n) f)
+    go (inl q) ih = subst (λ w. sum_on (without X w) (suc (suc n)) f ≡ sum_on (λ k. X (skip w k)) (suc n)
+        (λ k. f (skip w k))) (sym q) (sum_on-skip_last X (suc n) f)
     go (inr ne) ih =
         ap (λ s. s + cond (without X v (suc n)) (f (suc n)) 0) (ih (omega arith))
         ∙ ap (λ b. sum_on (λ k. X (skip v k)) n (λ k. f (skip v k)) + cond b (f (suc n)) 0) (without-other X v (suc n) (λ q. ne (sym q)))
-        ∙ ap (λ i. sum_on (λ k. X (skip v k)) n (λ k. f (skip v k)) + cond (X i) (f i) 0) (let q : suc n ≡ skip v n = omega (arith, skip-later v n (omega arith)) in q)
+        ∙ ap (λ i. sum_on (λ k. X (skip v k)) n (λ k. f (skip v k)) + cond (X i) (f i) 0) (let q : suc n ≡ skip v n =
+        omega (arith, skip-later v n (omega arith)) in q)

@@ -68,7 +68,8 @@ module _ (p : ℕ) (prime : IsPrime p) (m t n : ℕ) (a b : ℕ → ℕ → ℕ)
           ∙ ap (λ s. size_on A.I n + s) (sum_on-same (λ k. rows (n + k)) B.I n (λ _. 1) (λ k _. rows-next k))
 
       go : (D : ℕ → ℕ → ℕ) × ((j : ℕ) → j < n → Y j ≡ true → (i : ℕ) → i < m → sum_on A.I n (λ k. D j k * a i k) % p ≡ a i j % p) →
-          (E : ℕ → ℕ → ℕ) × ((j : ℕ) → j < n → Y j ≡ true → (i : ℕ) → i < t → sum_on B.I n (λ k. E j k * b i k) % p ≡ b i j % p) → size_on Y n ≤ size_on A.I n + size_on B.I n
+          (E : ℕ → ℕ → ℕ) × ((j : ℕ) → j < n → Y j ≡ true → (i : ℕ) → i < t →
+          sum_on B.I n (λ k. E j k * b i k) % p ≡ b i j % p) → size_on Y n ≤ size_on A.I n + size_on B.I n
       go (D, ok_a) (E, ok_b) = elim (dichotomy p prime rows n (n + n) (above n (λ k j. D j k) (λ k j. E j k)) Y) [
         | inl few ↦ omega (arith, few.1, counted)
         | inr s ↦ absurd (s.non_zero (ind s.at (above-zero p m t n a b Y s.at
@@ -79,7 +80,8 @@ module _ (p : ℕ) (prime : IsPrime p) (m t n : ℕ) (a b : ℕ → ℕ → ℕ)
             s.place s.below s.member))
       ]
 
-  pub above-size : (X Y : ℕ → Bool) (r s : ℕ) → IsWithin n Y X → IsIndependent p (above m a b) (m + t) n Y → IsRank p a m n X r → IsRank p b t n X s → size_on Y n ≤ r + s
+  pub above-size : (X Y : ℕ → Bool) (r s : ℕ) → IsWithin n Y X → IsIndependent p (above m a b) (m + t) n Y →
+      IsRank p a m n X r → IsRank p b t n X s → size_on Y n ≤ r + s
   above-size X Y r s within ind R S = go (basis p prime a m n Y nothing (λ j _ h. absurd (differ refl h)) (none_independent p a m n) n)
       (basis p prime b t n Y nothing (λ j _ h. absurd (differ refl h)) (none_independent p b t n) n)
     where

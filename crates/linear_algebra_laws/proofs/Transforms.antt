@@ -101,7 +101,8 @@ module _ (p : ℕ) (prime : IsPrime p) (m n : ℕ) (a : ℕ → ℕ → ℕ) (W 
 
   -- column j of Q, less the columns of the identity that make it, is zero; so it is with S
   pub left-product : Agree p m n W (product m left_matrix a)
-  left-product i j il jl = agree_of p (W i j) ((p - 1) * product m left_matrix a i j) (product m left_matrix a i j) combined (lacks p prime (product m left_matrix a i j))
+  left-product i j il jl = agree_of p (W i j) ((p - 1) * product m left_matrix a i j) (product m left_matrix a i j)
+      combined (lacks p prime (product m left_matrix a i j))
     where
       in_identity : CombinesToZero p (beside n a) m (n + m) everything (joined n (λ x. identity j x) (λ t. (p - 1) * a t j))
       in_identity k kl = ap (λ s. s % p) (joined-sum n (λ x. identity j x) (λ t. (p - 1) * a t j) m (λ x. beside n a k x)
@@ -113,7 +114,8 @@ module _ (p : ℕ) (prime : IsPrime p) (m n : ℕ) (a : ℕ → ℕ → ℕ) (W 
       combined : (W i j + (p - 1) * product m left_matrix a i j) % p ≡ 0
       combined = ap (λ s. s % p) (sym (joined-sum n (λ x. identity j x) (λ t. (p - 1) * a t j) m (λ x. W i x)
           ∙ ap (λ s. s + sum_below m (λ t. (p - 1) * a t j * W i (n + t))) (sum-identity n j (λ x. W i x) jl)
-          ∙ ap (λ s. W i j + s) (sum_on-ext everything m (λ t. (p - 1) * a t j * W i (n + t)) (λ t. (p - 1) * (W i (n + t) * a t j)) (λ t _ _. turned (p - 1) (a t j) (W i (n + t)))
+          ∙ ap (λ s. W i j + s) (sum_on-ext everything m (λ t. (p - 1) * a t j * W i (n + t))
+          (λ t. (p - 1) * (W i (n + t) * a t j)) (λ t _ _. turned (p - 1) (a t j) (W i (n + t)))
           ∙ sum_on-mul everything m (p - 1) (λ t. W i (n + t) * a t j))))
           ∙ kernel.forward everything (joined n (λ x. identity j x) (λ t. (p - 1) * a t j)) in_identity i il
         where
@@ -134,7 +136,8 @@ module _ (p : ℕ) (prime : IsPrime p) (m n : ℕ) (a : ℕ → ℕ → ℕ) (W 
       value : (i : ℕ) → i < m → sum_below (n + m) (λ j. joined n (λ _. 0) c j * beside n a i j) ≡ c i
       value i il = joined-sum n (λ _. 0) c m (λ x. beside n a i x) ∙ ap (λ s. s + sum_below m (λ t. c t * beside n a i (n + t))) (none (λ j. beside n a i j))
           ∙ zero-add (sum_below m (λ t. c t * beside n a i (n + t)))
-          ∙ sum_on-ext everything m (λ t. c t * beside n a i (n + t)) (λ t. c t * identity i t) (λ t _ _. ap (λ x. c t * x) (beside-later n a i t)) ∙ sum-unit m i c il
+          ∙ sum_on-ext everything m (λ t. c t * beside n a i (n + t)) (λ t. c t * identity i t)
+          (λ t _ _. ap (λ x. c t * x) (beside-later n a i t)) ∙ sum-unit m i c il
 
   -- so each unit column is a combination of its columns
   unit : (e : ℕ) → e < m → Combines p left_matrix m m everything (λ i. identity i e)
@@ -146,12 +149,19 @@ module _ (p : ℕ) (prime : IsPrime p) (m n : ℕ) (a : ℕ → ℕ → ℕ) (W 
       go : (s : ℕ) × IsRank p (without_row e left_matrix) (m - 1) m everything s → Combines p left_matrix m m everything (λ i. identity i e)
       go (s, R) = falls-combines p prime m (m - 1) m left_matrix (without_row e left_matrix) e (without_row-removed p m m left_matrix e el) everything m s
           (subst (λ r. IsRank p left_matrix m m everything r) (size-everything m) (rank_of-independent p left_matrix m m everything left-independent)) R
-          (omega (arith, size-everything (m - 1), rank-rows p prime (without_row e left_matrix) (m - 1) m everything everything s (λ i j _ _ h. absurd (never h)) R))
+          (omega (
+            arith,
+            size-everything (m - 1),
+            rank-rows p prime (without_row e left_matrix) (m - 1) m everything
+                everything s (λ i j _ _ h. absurd (never h)) R,
+          ))
 
   pub left-inverse : (U : ℕ → ℕ → ℕ) × IsInverse p m left_matrix U
   left-inverse = go (choose m (ℕ → ℕ) (λ _. 0) (λ e c. (i : ℕ) → i < m → sum_below m (λ t. c t * left_matrix i t) % p ≡ identity i e % p) unit)
     where
-      go : (f : ℕ → ℕ → ℕ) × ((e : ℕ) → e < m → (i : ℕ) → i < m → sum_below m (λ t. f e t * left_matrix i t) % p ≡ identity i e % p) → (U : ℕ → ℕ → ℕ) × IsInverse p m left_matrix U
+      go : (f : ℕ → ℕ → ℕ) × ((e : ℕ) → e < m → (i : ℕ) → i < m →
+          sum_below m (λ t. f e t * left_matrix i t) % p ≡ identity i e % p) → (U : ℕ → ℕ → ℕ)
+          × IsInverse p m left_matrix U
       go (f, ok) = (
         (λ t e. f e t),
         λ i e il el. ap (λ s. s % p)

@@ -18,13 +18,15 @@ module _ (p : ℕ) (m n : ℕ) (a : ℕ → ℕ → ℕ) where
   row-vanishes : (Z Y : ℕ → Bool) (c : ℕ → ℕ) (i : ℕ) → IsCombination p (transposed a) n m Z i →
       ((k : ℕ) → k < m → Z k ≡ true → sum_on Y n (λ j. c j * a k j) % p ≡ 0) → sum_on Y n (λ j. c j * a i j) % p ≡ 0
   row-vanishes Z Y c i (d, s) zeros =
-      sym (agree-sum p Y n (λ j. c j * sum_on Z m (λ k. d k * a k j)) (λ j. c j * a i j) (λ j jl _. agree-mul p (c j) (sum_on Z m (λ k. d k * a k j)) (a i j) (s j jl)))
+      sym (agree-sum p Y n (λ j. c j * sum_on Z m (λ k. d k * a k j)) (λ j. c j * a i j)
+      (λ j jl _. agree-mul p (c j) (sum_on Z m (λ k. d k * a k j)) (a i j) (s j jl)))
       ∙ ap (λ y. y % p) turned
       ∙ vanishes-sum p Z m (λ k. d k * sum_on Y n (λ j. c j * a k j)) (λ k kl kh. vanishes-mul p (d k) (sum_on Y n (λ j. c j * a k j)) (zeros k kl kh))
     where
       turned : sum_on Y n (λ j. c j * sum_on Z m (λ k. d k * a k j)) ≡ sum_on Z m (λ k. d k * sum_on Y n (λ j. c j * a k j))
       turned =
-          sum_on-ext Y n (λ j. c j * sum_on Z m (λ k. d k * a k j)) (λ j. sum_on Z m (λ k. c j * (d k * a k j))) (λ j _ _. sym (sum_on-mul Z m (c j) (λ k. d k * a k j)))
+          sum_on-ext Y n (λ j. c j * sum_on Z m (λ k. d k * a k j)) (λ j. sum_on Z m (λ k. c j * (d k * a k j)))
+          (λ j _ _. sym (sum_on-mul Z m (c j) (λ k. d k * a k j)))
           ∙ sum_on-swap Y Z n m (λ k j. c j * (d k * a k j))
           ∙ sum_on-ext Z m (λ k. sum_on Y n (λ j. c j * (d k * a k j))) (λ k. d k * sum_on Y n (λ j. c j * a k j))
           (λ k _ _. sum_on-ext Y n (λ j. c j * (d k * a k j)) (λ j. d k * (c j * a k j)) (λ j _ _. omega arith) ∙ sum_on-mul Y n (d k) (λ j. c j * a k j))
@@ -37,7 +39,9 @@ module _ (p : ℕ) (m n : ℕ) (a : ℕ → ℕ → ℕ) where
   ]
 
   pub rank-rows_at_least : IsPrime p → (r s : ℕ) → IsRank p a m n everything r → IsRank p (transposed a) n m everything s → r ≤ s
-  rank-rows_at_least prime r s R S = go (basis p prime (transposed a) n m everything nothing (λ j _ h. absurd (differ refl h)) (none_independent p (transposed a) n m) m)
+  rank-rows_at_least prime r s R S = go
+      (basis p prime (transposed a) n m everything nothing (λ j _ h. absurd (differ refl h))
+      (none_independent p (transposed a) n m) m)
     where
       go : Basis p (transposed a) n m m everything nothing → r ≤ s
       go B = omega (
@@ -58,7 +62,8 @@ rank-transposed p prime m n a r R = go (rank_exists p prime (transposed a) n m e
         same = omega (arith, rank-rows_at_least p m n a prime r s R S, rank-rows_at_least p n m (transposed a) prime s r S R)
 
 -- ---- a row that is a combination of the others
-module _ (p : ℕ) (prime : IsPrime p) (m n : ℕ) (a : ℕ → ℕ → ℕ) (e : ℕ) (el : e < m) (r s : ℕ) (R : IsRank p a m n everything r) (S : IsRank p (without_row e a) (m - 1) n everything s) where
+module _ (p : ℕ) (prime : IsPrime p) (m n : ℕ) (a : ℕ → ℕ → ℕ) (e : ℕ) (el : e < m) (r s : ℕ)
+    (R : IsRank p a m n everything r) (S : IsRank p (without_row e a) (m - 1) n everything s) where
   pub combined_row-stays : IsCombination p (transposed a) n m (without everything e) e → s ≡ r
   combined_row-stays = column-stays p n m (transposed a) e el prime everything refl r s (rank-transposed p prime m n a r R)
       (rank-transposed p prime (m - 1) n (without_row e a) s S)

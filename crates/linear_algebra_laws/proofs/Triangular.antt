@@ -38,7 +38,9 @@ module _ (p : ℕ) (prime : IsPrime p) (m n k : ℕ) (a : ℕ → ℕ → ℕ) (
 
   module _ (c : ℕ → ℕ) (z : CombinesToZero p a m n glued c) where
     -- at a row of part h, where the columns of other parts give nothing
-    row-part : (h : ℕ) → h < k → (i : ℕ) → i < m → ((j : ℕ) → j < n → glued j ≡ true → column_part j ≢ h → (c j * a i j) % p ≡ 0) → sum_on (f h) n (λ j. c j * a i j) % p ≡ 0
+    row-part : (h : ℕ) → h < k → (i : ℕ) → i < m →
+        ((j : ℕ) → j < n → glued j ≡ true → column_part j ≢ h → (c j * a i j) % p ≡ 0) →
+        sum_on (f h) n (λ j. c j * a i j) % p ≡ 0
     row-part h hl i il rest =
         ap (λ s. s % p) (sym (sum_on-within glued (f h) n (λ j. c j * a i j) (glued-member h hl)))
         ∙ sym (agree-sum p glued n (λ j. c j * a i j) (λ j. cond (f h j) (c j * a i j) 0) (λ j jl jh. go j jl jh (f h j) refl))
@@ -82,7 +84,8 @@ module _ (p : ℕ) (prime : IsPrime p) (m n k : ℕ) (a : ℕ → ℕ → ℕ) (
   glued-size = size-levels column_part glued n k (λ j jl _. below j jl)
       ∙ sum_on-ext everything k (λ h. size_on (λ j. glued j && eqb (column_part j) h) n) (λ h. size_on (f h) n)
       (λ h hl _. sum_on-same (λ j. glued j && eqb (column_part j) h) (f h) n (λ _. 1) (λ j jl. same (f h j) (glued j) (eqb (column_part j) h)
-      (λ q. glued-member h hl j jl q) (λ q. eqb_from (column_part j) h (inside h hl j jl q)) (λ g e. subst (λ l. f l j ≡ true) (eqb_true (column_part j) h e) g)))
+      (λ q. glued-member h hl j jl q) (λ q. eqb_from (column_part j) h (inside h hl j jl q))
+      (λ g e. subst (λ l. f l j ≡ true) (eqb_true (column_part j) h e) g)))
     where
       same : (s a b : Bool) → (s ≡ true → a ≡ true) → (s ≡ true → b ≡ true) → (a ≡ true → b ≡ true → s ≡ true) → a && b ≡ s
       same true a b x y w = both_true a b (x refl) (y refl)
@@ -93,7 +96,8 @@ module _ (p : ℕ) (prime : IsPrime p) (m n k : ℕ) (a : ℕ → ℕ → ℕ) (
 -- the ranks of the diagonal parts add up to at most the rank
 pub triangular-rank : (p : ℕ) → IsPrime p → (m n k : ℕ) (a : ℕ → ℕ → ℕ) (row_part column_part : ℕ → ℕ) → ((j : ℕ) → j < n → column_part j < k) →
     IsBlockTriangular p a m n row_part column_part →
-    (r : ℕ → ℕ) → ((h : ℕ) → h < k → IsRank p (diagonal row_part column_part a h) m n everything (r h)) → (s : ℕ) → IsRank p a m n everything s → sum_below k r ≤ s
+    (r : ℕ → ℕ) → ((h : ℕ) → h < k → IsRank p (diagonal row_part column_part a h) m n everything (r h)) → (s : ℕ) →
+    IsRank p a m n everything s → sum_below k r ≤ s
 triangular-rank p prime m n k a row_part column_part below tri r ranks s S =
     go (choose k (ℕ → Bool) nothing (λ h Y. IsIndependent p (diagonal row_part column_part a h) m n Y × (size_on Y n ≡ r h))
     (λ h hl. ((ranks h hl).reached.0, ((ranks h hl).reached.2, (ranks h hl).reached.3))))

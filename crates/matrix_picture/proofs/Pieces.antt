@@ -39,7 +39,8 @@ same_placed model layers c {columns} {columns1} {rows} {rows1} {frames} {frames1
     ∙ ap (placed_text model layers c columns1 rows1) three
 
 pub same_framed : {columns columns1 : List ℕ} {rows rows1 : List Row} {frames frames1 : List Frame} →
-    columns ≡ columns1 → rows ≡ rows1 → frames ≡ frames1 → framed_text (length columns) (length rows) frames ≡ framed_text (length columns1) (length rows1) frames1
+    columns ≡ columns1 → rows ≡ rows1 → frames ≡ frames1 →
+    framed_text (length columns) (length rows) frames ≡ framed_text (length columns1) (length rows1) frames1
 same_framed {columns} {columns1} {rows} {rows1} {frames} {frames1} one two three =
     ap (λ (xs : List ℕ). framed_text (length xs) (length rows) frames) one ∙ ap (λ (xs : List Row). framed_text (length columns1) (length xs) frames) two
     ∙ ap (framed_text (length columns1) (length rows1)) three

@@ -83,12 +83,14 @@ module _ (p : ℕ) (before : List (List (List ℕ))) (name : List ℕ) (items : 
     pub no_constant : constant_of new (length (equations_in before)) j ≡ None
     no_constant = constants_stay (length (equations_in before)) j
         ∙ constant_of-fresh p (equations_in before)
-        (unknowns_in (before ++ so_far name items ∷ [])) name items item old new j gives_last only_last marks.fresh marks.is_model marks.equations marks.unknowns marks.within marks.place
+        (unknowns_in (before ++ so_far name items ∷ [])) name items item old new j gives_last only_last marks.fresh
+        marks.is_model marks.equations marks.unknowns marks.within marks.place
 
     pub no_symbol : symbol_of new (length (equations_in before)) j ≡ false
     no_symbol = symbols_stay (length (equations_in before)) j
         ∙ symbol_of-fresh p (equations_in before) (unknowns_in
-        (before ++ so_far name items ∷ [])) name items item old new j gives_last only_last marks.fresh marks.is_model marks.equations marks.unknowns marks.within marks.place
+        (before ++ so_far name items ∷ [])) name items item old new j gives_last only_last marks.fresh marks.is_model
+        marks.equations marks.unknowns marks.within marks.place
 
     grown : (last : MixedModel) → IsModel p last → last.equations ≡ new.equations → last.unknowns ≡ new.unknowns
         → ((i c : ℕ) → constant_at last i c ≡ cond (eqb (length (equations_in before)) i && eqb j c) (item_constant p item) (constant_at old i c))

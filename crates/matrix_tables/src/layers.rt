@@ -1,77 +1,136 @@
 //! Models of one unknown, layered.
 
 use mixed_layering::layer;
-use mixed_model::{Mixed, Origin};
+use mixed_model::{Layered, Mixed, Origin};
 use residue_field::{Field, Res};
+use sparse_layering::layer_rows;
 use std::alloc::Global;
 use std::process::Abort;
 use std::test::Fail;
 
-// One equation with these constants and symbols at one unknown each: a constant where `constant` is not 0.
-fn model(rt: &impl Abort, alloc: Global, rows: &[(u64, bool)]) -> Result<Mixed<Res>, Fail> {
+// The constant at the one unknown in each equation, where it is not 0, and whether there is a symbol.
+type Rows = &'static [(u64, bool)];
+
+fn put(
+    rt: &impl Abort,
+    model: &mut Mixed<Res>,
+    i: usize,
+    constant: Res,
+    symbol: bool,
+) -> Result<(), Fail> {
+    assert!(rt; i < model.equations() && 0 < model.unknowns());
+    if constant.value() != 0 {
+        model.put_constant(i, 0, constant)?;
+    }
+    assert!(rt; i < model.equations() && 0 < model.unknowns());
+    if symbol {
+        model.put_symbol(i, 0)?;
+    }
+    Ok(())
+}
+
+fn model(rt: &impl Abort, alloc: Global, rows: Rows) -> Result<Mixed<Res>, Fail> {
     let mut model = Mixed::new(alloc)?;
     model.add_unknown("x")?;
     for (i, (constant, symbol)) in rows.iter().enumerate() {
         let name = format!(in alloc; "e{i}")?;
         assert!(rt; mixed_model::is_label(name.as_str()));
         let equation = model.add_equation(name.as_str())?;
-        let constant = Res::of(*constant);
-        assert!(rt; equation < model.equations() && 0 < model.unknowns());
-        if constant.value() != 0 {
-            model.put_constant(equation, 0, constant)?;
-        }
-        assert!(rt; equation < model.equations() && 0 < model.unknowns());
-        if *symbol {
-            model.put_symbol(equation, 0)?;
-        }
+        put(rt, &mut model, equation, Res::of(*constant), *symbol)?;
     }
     Ok(model)
 }
 
-// An entry with a constant and a symbol gives a row of each, and an auxiliary column.
+fn assert_q(rt: &impl Abort, layered: &Layered<Res>, want: &[(usize, &[u64])]) {
+    assert_eq!(rt; layered.q.rows(), want.len());
+    for (i, (equation, row)) in want.iter().enumerate() {
+        assert_eq!(rt; layered.q.cols(), row.len());
+        assert!(rt; i < layered.q.rows());
+        assert_eq!(rt; layered.q_origin(i), *equation);
+        for (j, number) in row.iter().enumerate() {
+            assert!(rt; i < layered.q.rows() && j < layered.q.cols());
+            assert!(rt;
+                layered.q.get(i, j) == Res::of(*number),
+                "row {i}, column {j}"
+            );
+        }
+    }
+}
+
+fn assert_t(rt: &impl Abort, layered: &Layered<Res>, want: &[(usize, &[u32])]) {
+    assert_eq!(rt; layered.t.rows(), want.len());
+    for (i, (equation, row)) in want.iter().enumerate() {
+        assert!(rt; i < layered.t.rows());
+        assert_eq!(rt; layered.t_origin(i), *equation);
+        assert_eq!(rt; layered.t.row(i), *row, "row {i}");
+    }
+}
+
+fn assert_columns(rt: &impl Abort, layered: &Layered<Res>, want: &[Origin]) {
+    assert_eq!(rt; layered.q.cols(), want.len());
+    assert_eq!(rt; layered.t.cols(), want.len());
+    for (j, origin) in want.iter().enumerate() {
+        assert!(rt; j < layered.q.cols());
+        assert_eq!(rt; layered.column_origin(j), *origin, "column {j}");
+    }
+}
+
+// A model, and what its layers have: the equation of each Q row and its entries, the equation of each T row and its
+// columns, and the origin of each column.
+type Case = (
+    Rows,
+    &'static [(usize, &'static [u64])],
+    &'static [(usize, &'static [u32])],
+    &'static [Origin],
+);
+
+const CASES: [Case; 3] = [
+    // An entry with a constant and a symbol gives a row of each, and an auxiliary column.
+    (
+        &[(1, true)],
+        &[(0, &[1, 1])],
+        &[(0, &[0, 1])],
+        &[Origin::Unknown(0), Origin::Split(0)],
+    ),
+    // An equation of nothing gives a Q row, one of a symbol alone a T row. Rows stand by rising equation.
+    (
+        &[(0, false), (0, true), (3, false), (5, true)],
+        &[(0, &[0, 0]), (2, &[3, 0]), (3, &[5, 1])],
+        &[(1, &[0]), (3, &[0, 1])],
+        &[Origin::Unknown(0), Origin::Split(3)],
+    ),
+    // Where no equation is split there is no auxiliary column.
+    (
+        &[(3, false), (0, true), (0, false)],
+        &[(0, &[3]), (2, &[0])],
+        &[(1, &[0])],
+        &[Origin::Unknown(0)],
+    ),
+];
+
 #[test]
-fn a_split_entry(rt: HostRuntime) -> Result<(), Fail> {
-    let layered = layer(rt.alloc(), &model(&rt, rt.alloc(), &[(1, true)])?)?;
-    assert!(rt; layered.q.rows() == 1);
-    assert!(rt; layered.q.cols() == 2);
-    assert!(rt; layered.q.get(0, 0) == Res::of(1));
-    assert!(rt; layered.q.get(0, 1) == Res::of(1));
-    assert!(rt; layered.t.rows() == 1);
-    assert!(rt; layered.t.cols() == 2);
-    assert!(rt; layered.t.touches(0, 0));
-    assert!(rt; layered.t.touches(0, 1));
-    assert_eq!(rt; layered.column_origin(1), Origin::Split(0));
+fn models_have_these_layers(rt: HostRuntime) -> Result<(), Fail> {
+    for (rows, q, t, columns) in CASES {
+        let layered = layer(rt.alloc(), &model(&rt, rt.alloc(), rows)?)?;
+        assert_q(&rt, &layered, q);
+        assert_t(&rt, &layered, t);
+        assert_columns(&rt, &layered, columns);
+        assert_eq!(rt; layered.split().saturating_add(1), columns.len());
+    }
     Ok(())
 }
 
-// An equation of nothing gives a Q row, one of a symbol alone a T row.
+// Layered row by row, an entry with a constant and a symbol gives a row of each, and an auxiliary column.
 #[test]
-fn rows_stand_by_rising_equation(rt: HostRuntime) -> Result<(), Fail> {
-    let rows = [(0, false), (0, true), (3, false), (5, true)];
-    let layered = layer(rt.alloc(), &model(&rt, rt.alloc(), &rows)?)?;
-    assert_eq!(rt; layered.split(), 1);
-    assert!(rt; layered.q.rows() == 3);
-    assert_eq!(rt; layered.q_origin(0), 0);
-    assert_eq!(rt; layered.q_origin(1), 2);
-    assert_eq!(rt; layered.q_origin(2), 3);
-    assert!(rt; layered.t.rows() == 2);
-    assert_eq!(rt; layered.t_origin(0), 1);
-    assert_eq!(rt; layered.t_origin(1), 3);
-    Ok(())
-}
-
-// Where no equation is split there is no auxiliary column.
-#[test]
-fn constants_symbols_and_nothing(rt: HostRuntime) -> Result<(), Fail> {
-    let rows = [(3, false), (0, true), (0, false)];
-    let layered = layer(rt.alloc(), &model(&rt, rt.alloc(), &rows)?)?;
-    assert_eq!(rt; layered.split(), 0);
-    assert!(rt; layered.q.rows() == 2);
-    assert!(rt; layered.q.cols() == 1);
-    assert!(rt; layered.q.get(0, 0) == Res::of(3));
-    assert!(rt; layered.q.get(1, 0) == Res::of(0));
-    assert!(rt; layered.t.rows() == 1);
-    assert!(rt; layered.t.cols() == 1);
-    assert!(rt; layered.t.touches(0, 0));
+fn a_split_entry_in_rows(rt: HostRuntime) -> Result<(), Fail> {
+    let rows = layer_rows(rt.alloc(), &model(&rt, rt.alloc(), &[(3, true)])?)?;
+    assert_eq!(rt; (rows.q_rows(), rows.t_rows(), rows.columns()), (1, 1, 2));
+    let constants = rows.constants();
+    assert!(rt; constants.len() == 1);
+    let wanted = [(0, Res::of(3)), (1, Res::of(1))];
+    assert_eq!(rt; constants[0].as_slice(), wanted.as_slice());
+    let symbols = rows.symbols();
+    assert!(rt; symbols.rows() == 1);
+    assert_eq!(rt; symbols.row(0), [0, 1].as_slice());
     Ok(())
 }

@@ -16,7 +16,3 @@ mod models;
 mod patterns;
 #[cfg(test)]
 mod residues;
-#[cfg(test)]
-mod rows_of_layers;
-#[cfg(test)]
-mod wide_residues;

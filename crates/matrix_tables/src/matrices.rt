@@ -3,6 +3,7 @@
 use dense_q::{Mat, NoMemory};
 use residue_field::{Field, Res};
 use std::alloc::Global;
+use std::process::Abort;
 use std::test::Fail;
 
 // The matrix with these rows.
@@ -16,24 +17,13 @@ fn matrix(alloc: Global, rows: &[[u64; 2]]) -> Result<Mat<Res>, NoMemory> {
     Ok(m)
 }
 
-fn value<F: Field>(m: &Mat<F>, i: usize, j: usize) -> Option<F> {
-    if i < m.rows() && j < m.cols() {
-        Some(m.get(i, j))
-    } else {
-        None
-    }
-}
-
-fn assert_entries(rt: &impl std::process::Abort, m: &Mat<Res>, want: &[[u32; 2]], at: &str) {
+fn assert_entries(rt: &impl Abort, m: &Mat<Res>, want: &[&[u32]], at: &str) {
     assert_eq!(rt; m.rows(), want.len(), "{at}");
-    assert_eq!(rt; m.cols(), 2, "{at}");
     for (i, row) in want.iter().enumerate() {
-        for j in 0..2 {
-            assert_eq!(rt;
-                value(m, i, j).map(|x| x.value()),
-                Some(row[j]),
-                "{at}, row {i}, column {j}"
-            );
+        assert_eq!(rt; m.cols(), row.len(), "{at}");
+        for (j, value) in row.iter().enumerate() {
+            assert!(rt; i < m.rows() && j < m.cols());
+            assert_eq!(rt; m.get(i, j).value(), *value, "{at}, row {i}, column {j}");
         }
     }
 }
@@ -41,17 +31,11 @@ fn assert_entries(rt: &impl std::process::Abort, m: &Mat<Res>, want: &[[u32; 2]]
 #[test]
 fn makes_matrices(rt: HostRuntime) -> Result<(), Fail> {
     let m = matrix(rt.alloc(), &[[1, 2], [3, 4], [5, 6]])?;
-    assert_entries(&rt, &m, &[[1, 2], [3, 4], [5, 6]], "pushed");
-    assert_entries(&rt, &m.copy()?, &[[1, 2], [3, 4], [5, 6]], "copied");
-    assert_entries(
-        &rt,
-        &Mat::identity(rt.alloc(), 2)?,
-        &[[1, 0], [0, 1]],
-        "identity",
-    );
-    let turned = m.transposed()?;
-    assert_eq!(rt; (turned.rows(), turned.cols()), (2, 3));
-    assert_eq!(rt; value(&turned, 0, 2), Some(Res::of(5)));
+    assert_entries(&rt, &m, &[&[1, 2], &[3, 4], &[5, 6]], "pushed");
+    assert_entries(&rt, &m.copy()?, &[&[1, 2], &[3, 4], &[5, 6]], "copied");
+    assert_entries(&rt, &m.transposed()?, &[&[1, 3, 5], &[2, 4, 6]], "turned");
+    let unit = Mat::identity(rt.alloc(), 2)?;
+    assert_entries(&rt, &unit, &[&[1, 0], &[0, 1]], "identity");
     let empty = Mat::<Res>::zeros(rt.alloc(), 0, 3)?;
     assert_eq!(rt; (empty.rows(), empty.cols()), (0, 3));
     Ok(())
@@ -62,13 +46,13 @@ fn changes_rows(rt: HostRuntime) -> Result<(), Fail> {
     let mut m = matrix(rt.alloc(), &[[1, 2], [3, 4]])?;
     assert_eq!(rt; (m.rows(), m.cols()), (2, 2));
     m.add_row(1, 0, Res::of(10));
-    assert_entries(&rt, &m, &[[1, 2], [13, 24]], "added");
+    assert_entries(&rt, &m, &[&[1, 2], &[13, 24]], "added");
     m.scale_row(0, Res::of(65_520));
-    assert_entries(&rt, &m, &[[65_520, 65_519], [13, 24]], "scaled");
+    assert_entries(&rt, &m, &[&[65_520, 65_519], &[13, 24]], "scaled");
     m.swap_rows(0, 1);
-    assert_entries(&rt, &m, &[[13, 24], [65_520, 65_519]], "swapped");
+    assert_entries(&rt, &m, &[&[13, 24], &[65_520, 65_519]], "swapped");
     m.set(1, 0, Res::of(7));
-    assert_entries(&rt, &m, &[[13, 24], [7, 65_519]], "set");
+    assert_entries(&rt, &m, &[&[13, 24], &[7, 65_519]], "set");
     Ok(())
 }
 
@@ -78,6 +62,6 @@ fn multiplies(rt: HostRuntime) -> Result<(), Fail> {
     let b = matrix(rt.alloc(), &[[7, 8], [9, 65_520]])?;
     assert_eq!(rt; a.cols(), b.rows());
     let product = Mat::product(rt.alloc(), &a, &b)?;
-    assert_entries(&rt, &product, &[[25, 6], [57, 20], [89, 34]], "product");
+    assert_entries(&rt, &product, &[&[25, 6], &[57, 20], &[89, 34]], "product");
     Ok(())
 }

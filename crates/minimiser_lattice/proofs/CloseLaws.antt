@@ -8,23 +8,25 @@ use Rattle.closed_sets.proofs.WalkLaws.{reaches-arc, reaches-join}
 use Rattle.bit_table.specs.Bits.{IsBitSet, IsJoined}
 use Rattle.minimiser_lattice.specs.Paths.{State, Closes, IsToldOf, IsClosing, IsFinished, IsHandled, IsGoing, IsNumbered, IsNumberedTo, IsQuotient}
 use Rattle.minimiser_lattice.specs.Components.{IsLed}
-use Rattle.number_ranges.specs.Ranges.{HasNone, IsLeast}
-use Rattle.minimiser_lattice.proofs.PathLaws.{path_top, base_top, last_below}
+use Rattle.exchange_graph.specs.Turns.{HaveHadTurns, HasNextTurn}
+use Rattle.minimiser_lattice.proofs.PathLaws.{path_top, base_top, last_below, turns-next}
 
 -- the last place of the path is finished, and its group begins with it: the group is a component
-module _ (arc : ℕ → ℕ → Bool) (n : ℕ) (s : State) (d g : ℕ) (G : IsGoing arc n s) (more : s.depth ≡ d + 1)
+module _ (arc : ℕ → ℕ → Bool) (turn : ℕ → ℕ → ℕ) (n : ℕ) (s : State) (d g : ℕ) (G : IsGoing arc turn n s) (more : s.depth ≡ d + 1)
     (last : s.groups ≡ g + 1) (begins : s.base g ≡ s.path d)
-    (all : n ≤ s.next (s.stack (s.path d))) (done : ℕ → Bool) (number : ℕ → ℕ) (N : IsNumbered s done number (s.path d)) where
+    (all : HaveHadTurns (arc (s.stack (s.path d))) (turn (s.stack (s.path d))) n (s.next (s.stack (s.path d))))
+    (done : ℕ → Bool) (number : ℕ → ℕ) (N : IsNumbered s done number (s.path d)) where
   abbrev InGroup : ℕ → Type 0
   InGroup y = (p : ℕ) × (s.path d ≤ p) × (p < s.height) × (s.stack p ≡ y)
 
   begins_below : s.path d < s.height
   begins_below = G.path_below d (omega arith)
 
-  group_finished : (p : ℕ) → s.path d ≤ p → p < s.height → n ≤ s.next (s.stack p)
+  group_finished : (p : ℕ) → s.path d ≤ p → p < s.height →
+      HaveHadTurns (arc (s.stack p)) (turn (s.stack p)) n (s.next (s.stack p))
   group_finished p le l = elim (nat_cases p (s.path d)) [
-    | inl q ↦ omega (arith, ap (λ v. s.next (s.stack v)) q)
-    | inr ne ↦ G.finished p l (λ e el q. omega (arith, path_top arc n s G d more e el))
+    | inl q ↦ subst (λ v. HaveHadTurns (arc (s.stack v)) (turn (s.stack v)) n (s.next (s.stack v))) (sym q) all
+    | inr ne ↦ G.finished p l (λ e el q. omega (arith, path_top arc turn n s G d more e el))
   ]
 
   group_waits : (y : ℕ) → InGroup y → s.done y ≡ false
@@ -32,10 +34,11 @@ module _ (arc : ℕ → ℕ → Bool) (n : ℕ) (s : State) (d g : ℕ) (G : IsG
 
   -- what a place of the group leads to is done, or of the group
   group_leads : (x y : ℕ) → InGroup x → y < n → arc x y ≡ true → (s.done y ≡ true) ⊎ InGroup y
-  group_leads x y (p, le, l, e) yl a =
-      go (G.explored p y l yl (omega (arith, group_finished p le l)) (subst (λ v. arc v y ≡ true) (sym e) a))
-      (test_cases (s.done y))
+  group_leads x y (p, le, l, e) yl a = go (G.explored p y l yl (group_finished p le l y yl b) b) (test_cases (s.done y))
     where
+      b : arc (s.stack p) y ≡ true
+      b = subst (λ v. arc v y ≡ true) (sym e) a
+
       go : IsHandled s p y → (s.done y ≡ true) ⊎ (s.done y ≡ false) → (s.done y ≡ true) ⊎ InGroup y
       go _ (inl t) = inl t
       go (inl t) (inr f) = absurd (differ f t)
@@ -46,7 +49,7 @@ module _ (arc : ℕ → ℕ → Bool) (n : ℕ) (s : State) (d g : ℕ) (G : IsG
     where
       go : (q < p) ⊎ (p ≤ q) → Reaches arc n (s.stack p) (s.stack q)
       go (inr le) = G.along p q le ql
-      go (inl less) = G.back q p (omega arith) pl (λ h hl a b. omega (arith, base_top arc n s G d more h hl))
+      go (inl less) = G.back q p (omega arith) pl (λ h hl a b. omega (arith, base_top arc turn n s G d more h hl))
 
   apart : (y : ℕ) → (InGroup y → ⊥) → (p : ℕ) → s.path d ≤ p → p < s.height → s.stack p ≢ y
   apart y never p le l e = never (p, le, l, e)
@@ -159,7 +162,7 @@ module _ (arc : ℕ → ℕ → Bool) (n : ℕ) (s : State) (d g : ℕ) (G : IsG
   -- the row is made: all that the group's places lead to is told
   pub closed-going : (strict : ℕ → ℕ → Bool) → IsClosing arc n done number s.count strict →
       ((p y : ℕ) → s.path d ≤ p → p < s.height → y < n → arc (s.stack p) y ≡ true → (number y ≡ s.count) ⊎ (strict s.count (number y) ≡ true)) →
-      IsGoing arc n (record s { done = done; number = number; strict = strict; height = s.path d; groups = g; depth = d; count = s.count + 1 })
+      IsGoing arc turn n (record s { done = done; number = number; strict = strict; height = s.path d; groups = g; depth = d; count = s.count + 1 })
   closed-going strict C told = record {
     told = record {
       below = λ x xl h. omega (arith, C.within x xl h);
@@ -319,7 +322,7 @@ module _ (arc : ℕ → ℕ → Bool) (n : ℕ) (done : ℕ → Bool) (number : 
           was = sym (other_row l m ml (λ q. omega (arith, row_falls l ll h))) ∙ e
 
 -- nothing is left: the numbers tell the components
-module _ (arc : ℕ → ℕ → Bool) (n : ℕ) (s : State) (G : IsGoing arc n s) (all : (y : ℕ) → y < n → s.done y ≡ true) where
+module _ (arc : ℕ → ℕ → Bool) (turn : ℕ → ℕ → ℕ) (n : ℕ) (s : State) (G : IsGoing arc turn n s) (all : (y : ℕ) → y < n → s.done y ≡ true) where
   back_along : (X : ℕ → Type 0) → ((x y : ℕ) → x < n → y < n → arc x y ≡ true → X y → X x) → (k x y : ℕ) → x < n → y < n → Walk arc n x y k → X y → X x
   back_along X step k x y xl yl w h = go k y yl w h
     where
@@ -380,85 +383,78 @@ numbered-next s done more number now at to place N le q d c same keep = record {
   number_others = λ y none. keep y (λ e. none to le (omega arith) (q ∙ sym e)) ∙ N.number_others y (λ p a l. none p a (omega arith));
 }
 
--- what a place of the component leads to below `from` is told of
-pub record IsAbsorbing (arc : ℕ → ℕ → Bool) (n : ℕ) (s : State) (place from : ℕ) : Type 0 where
+-- what a place of the component leads to in a turn before `from` is told of
+pub record IsAbsorbing (arc : ℕ → ℕ → Bool) (turn : ℕ → ℕ → ℕ) (n : ℕ) (s : State) (place from : ℕ) : Type 0 where
   pub closing : Closes arc n s
   pub below : place < n
   pub done : s.done place ≡ true
   pub number : s.number place ≡ s.count
-  pub told : (y : ℕ) → y < n → y < from → arc place y ≡ true → IsToldOf s y
+  pub told : (y : ℕ) → y < n → turn place y < from → arc place y ≡ true → IsToldOf s y
 
-pub other_small : (arc : ℕ → ℕ → Bool) (n : ℕ) (s : State) (place from to : ℕ) → IsAbsorbing arc n s place from →
-    IsLeast (arc place) from n to → s.number to < n
-other_small arc n s place from to A L =
-    omega (
-      arith,
-      A.closing.small,
-      A.closing.within to L.before_end (A.closing.stays place to A.below L.before_end A.done L.holds),
-    )
+pub other_small : (arc : ℕ → ℕ → Bool) (turn : ℕ → ℕ → ℕ) (n : ℕ) (s : State) (place from to : ℕ) →
+    IsAbsorbing arc turn n s place from → to < n → arc place to ≡ true → s.number to < n
+other_small arc turn n s place from to A l a =
+    omega (arith, A.closing.small, A.closing.within to l (A.closing.stays place to A.below l A.done a))
 
-pub absorbing-next : (arc : ℕ → ℕ → Bool) (n : ℕ) (s : State) (place from to : ℕ) (now : ℕ → ℕ → Bool) →
-    IsAbsorbing arc n s place from → IsLeast (arc place) from n to → IsLed s.strict now n s.count (s.number to) →
-    IsAbsorbing arc n (record s { strict = now }) place (to + 1) × ((l : ℕ) → l < n → s.strict s.count l ≡ true → now s.count l ≡ true)
-absorbing-next arc n s place from to now A L (inl (known, same)) = (
-  subst (λ w. IsAbsorbing arc n (record s { strict = w }) place (to + 1)) (sym same) (record {
+pub absorbing-next : (arc : ℕ → ℕ → Bool) (turn : ℕ → ℕ → ℕ) (n : ℕ) (s : State) (place from to next : ℕ)
+    (now : ℕ → ℕ → Bool) → IsAbsorbing arc turn n s place from → HasNextTurn (arc place) (turn place) n from to next →
+    IsLed s.strict now n s.count (s.number to) →
+    IsAbsorbing arc turn n (record s { strict = now }) place next
+    × ((l : ℕ) → l < n → s.strict s.count l ≡ true → now s.count l ≡ true)
+absorbing-next arc turn n s place from to next now A N (inl (known, same)) = (
+  subst (λ w. IsAbsorbing arc turn n (record s { strict = w }) place next) (sym same) (record {
     closing = A.closing;
     below = A.below;
     done = A.done;
     number = A.number;
-    told = λ y yl less a. elim (lt_cases y from) [
-      | inl l ↦ A.told y yl l a
-      | inr ge ↦ elim (nat_cases y to) [ inl q ↦ subst (λ v. IsToldOf s v) (sym q) known | inr ne ↦ absurd (differ (L.none_before y ge (omega arith)) a) ]
-    ];
+    told = turns-next (arc place) (turn place) n from to next (IsToldOf s) N A.told known;
   }),
   λ l ll h. subst (λ w. w s.count l ≡ true) (sym same) h,
 )
-absorbing-next arc n s place from to now A L (inr (other, (joined, J, B))) = (
+absorbing-next arc turn n s place from to next now A N (inr (other, (joined, J, B))) = (
   record {
-    closing = closing-join arc n s.done s.number s.count s.strict joined now A.closing place to A.below L.before_end A.done A.number L.holds other J B;
+    closing = closing-join arc n s.done s.number s.count s.strict joined now A.closing place to A.below N.below A.done
+        A.number N.holds other J B;
     below = A.below;
     done = A.done;
     number = A.number;
-    told = λ y yl less a. elim (lt_cases y from) [
-      | inl l ↦ elim (A.told y yl l a) [
-        | inl q ↦ inl q
-        | inr h ↦ inr
-            (kept (s.number y)
-            (omega (arith, A.closing.small, A.closing.within y yl (A.closing.stays place y A.below yl A.done a))) h)
-      ]
-      | inr ge ↦ elim (nat_cases y to) [
-        | inl q ↦ inr (subst (λ v. now s.count (s.number v) ≡ true) (sym q) B.here)
-        | inr ne ↦ absurd
-            (differ (L.none_before y ge (omega arith)) a)
-      ]
-    ];
+    told = turns-next (arc place) (turn place) n from to next (IsToldOf (record s { strict = now })) N
+        (λ y yl less a. elim (A.told y yl less a) [
+          | inl q ↦ inl q
+          | inr h ↦ inr (kept (s.number y) (other_small arc turn n s place from y A yl a) h)
+        ])
+        (inr B.here);
   },
   kept,
 )
   where
     kept : (l : ℕ) → l < n → s.strict s.count l ≡ true → now s.count l ≡ true
-    kept = row_kept arc n s.done s.number s.count s.strict joined now A.closing place to A.below L.before_end A.done A.number L.holds other J B
+    kept = row_kept arc n s.done s.number s.count s.strict joined now A.closing place to A.below N.below A.done A.number
+        N.holds other J B
 
-pub absorbing-done : (arc : ℕ → ℕ → Bool) (n : ℕ) (s : State) (place from : ℕ) → IsAbsorbing arc n s place from →
-    HasNone (arc place) from n → (y : ℕ) → y < n → arc place y ≡ true → IsToldOf s y
-absorbing-done arc n s place from A none y yl a = elim (lt_cases y from) [ inl l ↦ A.told y yl l a | inr ge ↦ absurd (differ (none y ge yl) a) ]
+pub absorbing-done : (arc : ℕ → ℕ → Bool) (turn : ℕ → ℕ → ℕ) (n : ℕ) (s : State) (place from : ℕ) →
+    IsAbsorbing arc turn n s place from → HaveHadTurns (arc place) (turn place) n from →
+    (y : ℕ) → y < n → arc place y ≡ true → IsToldOf s y
+absorbing-done arc turn n s place from A had y yl a = A.told y yl (had y yl a) a
 
 -- the last group begins with the last place of the path
-module _ (arc : ℕ → ℕ → Bool) (n : ℕ) (s : State) (at : ℕ) (G : IsGoing arc n s) (some : 0 < s.depth)
-    (all : IsFinished n s) (begins : s.base (s.groups - 1) ≡ s.path (s.depth - 1)) (q : s.path (s.depth - 1) ≡ at) where
+module _ (arc : ℕ → ℕ → Bool) (turn : ℕ → ℕ → ℕ) (n : ℕ) (s : State) (at : ℕ) (G : IsGoing arc turn n s) (some : 0 < s.depth)
+    (all : IsFinished arc turn n s) (begins : s.base (s.groups - 1) ≡ s.path (s.depth - 1)) (q : s.path (s.depth - 1) ≡ at) where
   some_group : s.groups ≡ s.groups - 1 + 1
-  some_group = omega (arith, (G.first_base (omega (arith, (last_below arc n s G some).0))).0)
+  some_group = omega (arith, (G.first_base (omega (arith, (last_below arc turn n s G some).0))).0)
 
   pub closes-start : (done : ℕ → Bool) (number : ℕ → ℕ) → IsNumbered s done number at → IsClosing arc n done number s.count s.strict
   closes-start done number N =
-      closing-start arc n s (s.depth - 1) (s.groups - 1) G (omega arith) some_group begins all done number
+      closing-start arc turn n s (s.depth - 1) (s.groups - 1) G (omega arith) some_group begins all done number
       (subst (λ v. IsNumbered s done number v) (sym q) N)
 
   pub closes-end : (t : State) → IsNumbered s t.done t.number at → t ≡ record s { done = t.done; number = t.number; strict = t.strict } → Closes arc n t →
       ((p y : ℕ) → at ≤ p → p < t.height → y < n → arc (t.stack p) y ≡ true → IsToldOf t y) →
-      IsGoing arc n (record t { height = at; groups = t.groups - 1; depth = t.depth - 1; count = t.count + 1 })
-  closes-end t N kept C told = subst (λ v. IsGoing arc n (record v { height = at; groups = v.groups - 1; depth = v.depth - 1; count = v.count + 1 })) (sym kept)
-      (subst (λ v. IsGoing arc n
+      IsGoing arc turn n (record t { height = at; groups = t.groups - 1; depth = t.depth - 1; count = t.count + 1 })
+  closes-end t N kept C told = subst
+      (λ v. IsGoing arc turn n (record v
+      { height = at; groups = v.groups - 1; depth = v.depth - 1; count = v.count + 1 })) (sym kept)
+      (subst (λ v. IsGoing arc turn n
       (record s {
         done = t.done;
         number = t.number;
@@ -469,7 +465,7 @@ module _ (arc : ℕ → ℕ → Bool) (n : ℕ) (s : State) (at : ℕ) (G : IsGo
             s.depth - 1;
         count = s.count + 1;
       })) q
-      (closed-going arc n s (s.depth - 1) (s.groups - 1) G (omega arith) some_group begins all t.done t.number
+      (closed-going arc turn n s (s.depth - 1) (s.groups - 1) G (omega arith) some_group begins all t.done t.number
       (subst (λ v. IsNumbered s t.done t.number v) (sym q) N) t.strict
       (subst (λ v. IsClosing arc n t.done t.number v t.strict) count C)
       (λ p y le l yl a. elim (told p y (omega arith) (omega (arith, height)) yl (subst (λ v. arc v y ≡ true) (sym (ap (λ v. v.stack p) kept)) a)) [

@@ -13,14 +13,14 @@ use Rattle.closed_sets.proofs.SetLaws.{test_cases, not-true, not-make}
 use Rattle.closed_sets.proofs.WalkLaws.{from-reaches, reaches-to}
 use Rattle.closed_sets.proofs.BlockOrder.{parts-keep}
 use Rattle.minimiser_lattice.specs.Paths.{IsQuotient}
-use Rattle.minimiser_lattice.specs.Listings.{HasPlaces, IsBetween, IsMarked, table_of}
+use Rattle.minimiser_lattice.specs.Listings.{HasPlaces, IsBetween, IsMarked, of_neither, table_of}
 use Rattle.minimiser_lattice.specs.Parts.{Parts, IsLattice}
 use Rattle.minimiser_lattice.specs.Views.{parts_from}
 use Rattle.minimiser_lattice.proofs.ListingLaws.{leads-same, leads-strict, leads-cases, leads-both}
 
 module _ (arc : ℕ → ℕ → Bool) (n : ℕ) (starts ends : ℕ → Bool) (number : ℕ → ℕ) (count : ℕ) (strict : ℕ → ℕ → Bool)
-    (Q : IsQuotient arc n number count strict) (first last middle : ℕ → Bool)
-    (K : IsMarked n number count strict starts ends first last middle) where
+    (Q : IsQuotient arc n number count strict) (first last : ℕ → Bool)
+    (K : IsMarked n number count strict starts ends first last) where
   leads-reaches : (x y : ℕ) → x < n → y < n → table_of strict number x y ≡ true → Reaches arc n x y
   leads-reaches x y xl yl h = elim (leads-cases strict (number x) (number y) h) [ inl q ↦ Q.same x y xl yl q | inr s ↦ Q.tells x y xl yl s ]
 
@@ -58,22 +58,24 @@ module _ (arc : ℕ → ℕ → Bool) (n : ℕ) (starts ends : ℕ → Bool) (nu
           go (inl t) = t
           go (inr f) = absurd (differ (K.last_tail.none (number x) e (below x xl) f el eh) (reaches-leads x e xl el r))
 
-  pub middle-tells : Tells arc n starts ends (table_of strict number) (λ x. middle (number x))
+  pub middle-tells : Tells arc n starts ends (table_of strict number) (λ x. of_neither first last (number x))
   middle-tells = record {
     reaches = leads-reaches;
     reached = reaches-leads;
-    middle = λ x l h. let both : (not (first (number x)) && not (last (number x))) ≡ true = sym (K.others (number x) (below x l)) ∙ h in (
+    middle = λ x l h. (
       l,
-      (λ f. differ (not-true (first (number x)) (both-first (not (first (number x))) (not (last (number x))) both)) ((first-set x l).1 f)),
-      λ t. differ (not-true (last (number x)) (both-second (not (first (number x))) (not (last (number x))) both)) ((last-set x l).1 t),
+      (λ f. differ (not-true (first (number x)) (both-first (not (first (number x))) (not (last (number x))) h))
+          ((first-set x l).1 f)),
+      λ t. differ (not-true (last (number x)) (both-second (not (first (number x))) (not (last (number x))) h))
+          ((last-set x l).1 t),
     );
-    in_middle = λ x m. K.others (number x) (below x m.0) ∙ both_true (not (first (number x))) (not (last (number x)))
+    in_middle = λ x m. both_true (not (first (number x))) (not (last (number x)))
         (not-make (first (number x)) (not_true (first (number x)) (λ h. m.1 ((first-set x m.0).0 h))))
         (not-make (last (number x)) (not_true (last (number x)) (λ h. m.2 ((last-set x m.0).0 h))));
   }
 
   module _ (rank listed : ℕ → ℕ) (b : ℕ) (S : IsListing arc n starts ends (λ x. rank (number x)) b)
-      (placed : ℕ → Bool) (H : HasPlaces count middle placed rank listed b) (between : ℕ → ℕ → Bool)
+      (H : HasPlaces count (of_neither first last) rank listed b) (between : ℕ → ℕ → Bool)
       (B : IsBetween n count strict between) where
     abbrev lower : ℕ → ℕ → Bool
     lower k l = strict (listed l) (listed k)
@@ -83,14 +85,16 @@ module _ (arc : ℕ → ℕ → Bool) (n : ℕ) (starts ends : ℕ → Bool) (nu
 
     -- a place of each block
     of_block : (j : ℕ) → j < b → (z : ℕ) × IsMiddle arc n starts ends z × (number z ≡ listed j)
-    of_block j l = let m = Q.numbering.member (listed j) (H.below j l) in (m.0, middle-tells.middle m.0 m.1 (ap middle m.2 ∙ H.of_middle j l), m.2)
+    of_block j l =
+        let m = Q.numbering.member (listed j) (H.below j l) in
+        (m.0, middle-tells.middle m.0 m.1 (ap (of_neither first last) m.2 ∙ H.of_middle j l), m.2)
 
     listed_is : (x : ℕ) → IsMiddle arc n starts ends x → listed (rank (number x)) ≡ number x
     listed_is x m =
         let j = S.below_b x m in
         let z = of_block (rank (number x)) j in
         let u = S.shared z.0 x z.1 m (ap rank z.2 ∙ H.ranks (rank (number x)) j) in
-        sym z.2 ∙ leads-both n number count strict Q.numbering middle placed z.0 x z.1.0 m.0
+        sym z.2 ∙ leads-both n number count strict Q.numbering z.0 x z.1.0 m.0
         (reaches-leads z.0 x z.1.0 m.0 u.0) (reaches-leads x z.0 m.0 z.1.0 u.1)
 
     pub blocks-below : IsBelow arc n starts ends (λ x. rank (number x)) b lower

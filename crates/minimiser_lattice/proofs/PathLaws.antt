@@ -7,8 +7,8 @@ use Rattle.residue_theory.proofs.SetLaws.{differ, not_true, lt_cases, zero_cases
 use Rattle.closed_sets.specs.Walks.{Reaches}
 use Rattle.closed_sets.proofs.SetLaws.{test_cases, size_on-bound, size_on-less}
 use Rattle.closed_sets.proofs.WalkLaws.{reaches-self, reaches-arc, reaches-join}
+use Rattle.exchange_graph.specs.Turns.{HaveHadTurns, HasNextTurn}
 use Rattle.minimiser_lattice.specs.Paths.{State, IsHandled, IsGoing, IsEntered, IsFinished, IsMerged, last_of}
-use Rattle.number_ranges.specs.Ranges.{IsLeast}
 
 -- numbers that rise are no less than their places
 pub rising_le : (f : ℕ → ℕ) (k : ℕ) → ((i j : ℕ) → i < j → j < k → f i < f j) → (i : ℕ) → i < k → i ≤ f i
@@ -22,7 +22,14 @@ size_misses X n v l f = omega (arith, size_on-less everything X n v (λ j jl h. 
 moved : (arc : ℕ → ℕ → Bool) (n a b c d : ℕ) → a ≡ b → c ≡ d → Reaches arc n b d → Reaches arc n a c
 moved arc n a b c d ab cd r = subst (λ v. Reaches arc n v c) (sym ab) (subst (λ v. Reaches arc n b v) (sym cd) r)
 
-module _ (arc : ℕ → ℕ → Bool) (n : ℕ) (s : State) (G : IsGoing arc n s) where
+-- what holds of the places that had their turn before, and of the next one
+pub turns-next : (test : ℕ → Bool) (turn : ℕ → ℕ) (n from to next : ℕ) (X : ℕ → Type 0) →
+    HasNextTurn test turn n from to next → ((y : ℕ) → y < n → turn y < from → test y ≡ true → X y) → X to →
+    (y : ℕ) → y < n → turn y < next → test y ≡ true → X y
+turns-next test turn n from to next X N old here y yl less a =
+    elim (N.others y yl a less) [ inl l ↦ old y yl l a | inr q ↦ subst X (sym q) here ]
+
+module _ (arc : ℕ → ℕ → Bool) (turn : ℕ → ℕ → ℕ) (n : ℕ) (s : State) (G : IsGoing arc turn n s) where
   -- there is room for a place that was not seen
   pub enter_room : (place : ℕ) → place < n → s.seen place ≡ false → (s.height < n) × (s.groups < n) × (s.depth < n) × (s.count < n)
   enter_room place l fresh = (
@@ -76,7 +83,8 @@ module _ (arc : ℕ → ℕ → Bool) (n : ℕ) (s : State) (G : IsGoing arc n s
     reaches_next to a i l = reaches-arc arc n (s.stack i) (s.stack (s.path d)) to (reaches_top i l) (G.stack_below (s.path d) (G.path_below d (omega arith))) a
 
 -- a place is entered
-module _ (arc : ℕ → ℕ → Bool) (n : ℕ) (s t : State) (to : ℕ) (G : IsGoing arc n s) (P : IsEntered s t to) (tl : to < n) (fresh : s.seen to ≡ false)
+module _ (arc : ℕ → ℕ → Bool) (turn : ℕ → ℕ → ℕ) (n : ℕ) (s t : State) (to : ℕ) (G : IsGoing arc turn n s)
+    (P : IsEntered s t to) (tl : to < n) (fresh : s.seen to ≡ false)
     (leads : (i : ℕ) → i < s.height → Reaches arc n (s.stack i) to) where
   abbrev u : State
   u = record s {
@@ -151,7 +159,8 @@ module _ (arc : ℕ → ℕ → Bool) (n : ℕ) (s t : State) (to : ℕ) (G : Is
           (G.back i j le r
           (λ g gl a b. none g (omega arith) (omega (arith, old_base g gl)) (omega (arith, old_base g gl))))
 
-  u_explored : (i y : ℕ) → i < s.height + 1 → y < n → y < t.next (t.stack i) → arc (t.stack i) y ≡ true → IsHandled u i y
+  u_explored : (i y : ℕ) → i < s.height + 1 → y < n → turn (t.stack i) y < t.next (t.stack i) →
+      arc (t.stack i) y ≡ true → IsHandled u i y
   u_explored i y l yl less a = go (spot i l)
     where
       kept : i < s.height → IsHandled s i y → IsHandled u i y
@@ -166,7 +175,8 @@ module _ (arc : ℕ → ℕ → Bool) (n : ℕ) (s t : State) (to : ℕ) (G : Is
 
       go : ((i ≡ s.height) × (t.stack i ≡ to)) ⊎ ((i < s.height) × (t.stack i ≡ s.stack i)) → IsHandled u i y
       go (inl (q, e)) = absurd (omega (arith, ap t.next e, P.next))
-      go (inr (il, e)) = kept il (G.explored i y il yl (omega (arith, next_is i il e)) (subst (λ v. arc v y ≡ true) e a))
+      go (inr (il, e)) = kept il (G.explored i y il yl (omega (arith, next_is i il e, ap (λ v. turn v y) e))
+          (subst (λ v. arc v y ≡ true) e a))
 
   u_base_rises : (g h : ℕ) → g < h → h < s.groups + 1 → t.base g < t.base h
   u_base_rises g h l hl = elim (nat_cases h s.groups) [
@@ -194,8 +204,8 @@ module _ (arc : ℕ → ℕ → Bool) (n : ℕ) (s t : State) (to : ℕ) (G : Is
     | inr ne ↦ let gs : g < s.groups = omega arith in let e = G.base_on_path g gs in (e.0, omega (arith, e.1), old_path e.0 e.1 ∙ (e.2 ∙ sym (old_base g gs)))
   ]
 
-  pub entered-going : IsGoing arc n t
-  entered-going = subst (λ v. IsGoing arc n v) (sym P.kept) (record {
+  pub entered-going : IsGoing arc turn n t
+  entered-going = subst (λ v. IsGoing arc turn n v) (sym P.kept) (record {
     told = G.told;
     stack_below = λ i l. elim (spot i l) [ inl (q, e) ↦ subst (λ v. v < n) (sym e) tl | inr (il, e) ↦ subst (λ v. v < n) (sym e) (G.stack_below i il) ];
     stack_seen =
@@ -232,15 +242,20 @@ module _ (arc : ℕ → ℕ → Bool) (n : ℕ) (s t : State) (to : ℕ) (G : Is
         ];
     path_rises = u_path_rises;
     base_on_path = u_base_on_path;
-    finished = λ i l none. elim (spot i l) [
+    finished = λ i l none y yl a. elim (spot i l) [
       | inl (q, e) ↦ absurd (none s.depth (omega arith) (P.path ∙ sym q))
-      | inr (il, e) ↦ omega (arith, next_is i il e, G.finished i il (λ d dl q. none d (omega arith) (old_path d dl ∙ q)))
+      | inr (il, e) ↦ omega (
+        arith,
+        next_is i il e,
+        ap (λ v. turn v y) e,
+        G.finished i il (λ d dl q. none d (omega arith) (old_path d dl ∙ q)) y yl (subst (λ v. arc v y ≡ true) e a),
+      )
     ];
     room = omega (arith, G.room, size_on-less t.seen s.seen n to (λ j _ h. still_seen j h) tl P.seen fresh);
   })
 
 -- an arc leads from the last place of the path to one on the stack
-module _ (arc : ℕ → ℕ → Bool) (n : ℕ) (s : State) (d to groups : ℕ) (G : IsGoing arc n s) (more : s.depth ≡ d + 1)
+module _ (arc : ℕ → ℕ → Bool) (turn : ℕ → ℕ → ℕ) (n : ℕ) (s : State) (d to groups : ℕ) (G : IsGoing arc turn n s) (more : s.depth ≡ d + 1)
     (tl : to < n) (h : s.seen to ≡ true) (w : s.done to ≡ false)
     (a : arc (s.stack (s.path d)) to ≡ true) (M : IsMerged s groups (s.position to)) where
   m_back : (i j : ℕ) → i ≤ j → j < s.height → ((g : ℕ) → g < groups → i < s.base g → s.base g ≤ j → ⊥) → Reaches arc n (s.stack j) (s.stack i)
@@ -267,10 +282,10 @@ module _ (arc : ℕ → ℕ → Bool) (n : ℕ) (s : State) (d to groups : ℕ) 
 
       through : (g : ℕ) → g < s.groups → i < s.base g → s.base g ≤ j → (g < groups) ⊎ (groups ≤ g) → Reaches arc n (s.stack j) (s.stack i)
       through g gl x y (inl kept) = absurd (none g kept x y)
-      through g gl x y (inr gone) = reaches-join arc n (s.stack j) to (s.stack i) (reaches_next arc n s G d more to a j l)
+      through g gl x y (inr gone) = reaches-join arc n (s.stack j) to (s.stack i) (reaches_next arc turn n s G d more to a j l)
           (subst (λ v. Reaches arc n v (s.stack i)) at_to.1 (from_to (omega (arith, M.joined g gone gl)) (lt_cases i (s.position to))))
 
-  pub merged-going : IsGoing arc n (record s { groups = groups })
+  pub merged-going : IsGoing arc turn n (record s { groups = groups })
   merged-going = record {
     told = G.told;
     stack_below = G.stack_below;
@@ -292,20 +307,23 @@ module _ (arc : ℕ → ℕ → Bool) (n : ℕ) (s : State) (d to groups : ℕ) 
     room = G.room;
   }
 
--- all that the last place of the path leads to below `from` is handled
-module _ (arc : ℕ → ℕ → Bool) (n : ℕ) (s : State) (d from : ℕ) (next : ℕ → ℕ) (G : IsGoing arc n s) (more : s.depth ≡ d + 1)
+-- all that the last place of the path leads to in a turn before `from` is handled
+module _ (arc : ℕ → ℕ → Bool) (turn : ℕ → ℕ → ℕ) (n : ℕ) (s : State) (d from : ℕ) (next : ℕ → ℕ) (G : IsGoing arc turn n s) (more : s.depth ≡ d + 1)
     (here : next (s.stack (s.path d)) ≡ from) (others : (y : ℕ) → y ≢ s.stack (s.path d) → next y ≡ s.next y)
-    (handled : (y : ℕ) → y < n → y < from → arc (s.stack (s.path d)) y ≡ true → IsHandled s (s.path d) y) where
+    (handled : (y : ℕ) → y < n → turn (s.stack (s.path d)) y < from → arc (s.stack (s.path d)) y ≡ true →
+    IsHandled s (s.path d) y) where
   same_spot : (i : ℕ) → i < s.height → s.stack i ≡ s.stack (s.path d) → i ≡ s.path d
   same_spot i l q = sym (G.placed i l) ∙ (ap s.position q ∙ G.placed (s.path d) (G.path_below d (omega arith)))
 
-  n_explored : (i y : ℕ) → i < s.height → y < n → y < next (s.stack i) → arc (s.stack i) y ≡ true → IsHandled s i y
+  n_explored : (i y : ℕ) → i < s.height → y < n → turn (s.stack i) y < next (s.stack i) → arc (s.stack i) y ≡ true →
+      IsHandled s i y
   n_explored i y l yl less a = elim (nat_cases (s.stack i) (s.stack (s.path d))) [
-    | inl q ↦ subst (λ v. IsHandled s v y) (sym (same_spot i l q)) (handled y yl (omega (arith, ap next q, here)) (subst (λ v. arc v y ≡ true) q a))
+    | inl q ↦ subst (λ v. IsHandled s v y) (sym (same_spot i l q))
+        (handled y yl (omega (arith, ap next q, here, ap (λ v. turn v y) q)) (subst (λ v. arc v y ≡ true) q a))
     | inr ne ↦ G.explored i y l yl (omega (arith, others (s.stack i) ne)) a
   ]
 
-  pub next-going : IsGoing arc n (record s { next = next })
+  pub next-going : IsGoing arc turn n (record s { next = next })
   next-going = record {
     told = G.told;
     stack_below = G.stack_below;
@@ -323,24 +341,24 @@ module _ (arc : ℕ → ℕ → Bool) (n : ℕ) (s : State) (d from : ℕ) (next
     path_below = G.path_below;
     path_rises = G.path_rises;
     base_on_path = G.base_on_path;
-    finished = λ i l none. elim (nat_cases (s.stack i) (s.stack (s.path d))) [
+    finished = λ i l none y yl a. elim (nat_cases (s.stack i) (s.stack (s.path d))) [
       | inl q ↦ absurd (none d (omega arith) (sym (same_spot i l q)))
-      | inr ne ↦ omega (arith, others (s.stack i) ne, G.finished i l none)
+      | inr ne ↦ omega (arith, others (s.stack i) ne, G.finished i l none y yl a)
     ];
     room = G.room;
   }
 
 -- the last place of the path is finished, and its group does not begin with it
-module _ (arc : ℕ → ℕ → Bool) (n : ℕ) (s : State) (d g : ℕ) (G : IsGoing arc n s) (more : s.depth ≡ d + 1)
+module _ (arc : ℕ → ℕ → Bool) (turn : ℕ → ℕ → ℕ) (n : ℕ) (s : State) (d g : ℕ) (G : IsGoing arc turn n s) (more : s.depth ≡ d + 1)
     (last : s.groups ≡ g + 1) (other : s.base g ≢ s.path d)
-    (all : n ≤ s.next (s.stack (s.path d))) where
+    (all : HaveHadTurns (arc (s.stack (s.path d))) (turn (s.stack (s.path d))) n (s.next (s.stack (s.path d)))) where
   no_base : (h : ℕ) → h < s.groups → s.base h ≢ s.path d
   no_base h l q = elim (nat_cases h g) [
     | inl e ↦ other (sym (ap s.base e) ∙ q)
-    | inr ne ↦ omega (arith, G.base_rises h g (omega arith) (omega arith), base_top arc n s G d more g (omega arith))
+    | inr ne ↦ omega (arith, G.base_rises h g (omega arith) (omega arith), base_top arc turn n s G d more g (omega arith))
   ]
 
-  pub left-going : IsGoing arc n (record s { depth = d })
+  pub left-going : IsGoing arc turn n (record s { depth = d })
   left-going = record {
     told = G.told;
     stack_below = G.stack_below;
@@ -362,15 +380,16 @@ module _ (arc : ℕ → ℕ → Bool) (n : ℕ) (s : State) (d g : ℕ) (G : IsG
       | inr ne ↦ (e.0, omega (arith, e.1), e.2)
     ];
     finished = λ i l none. elim (nat_cases i (s.path d)) [
-      | inl q ↦ omega (arith, ap (λ v. s.next (s.stack v)) q)
+      | inl q ↦ subst (λ v. HaveHadTurns (arc (s.stack v)) (turn (s.stack v)) n (s.next (s.stack v))) (sym q) all
       | inr ne ↦ G.finished i l (λ e el q. elim (nat_cases e d) [ inl r ↦ ne (sym q ∙ ap s.path r) | inr en ↦ none e (omega arith) q ])
     ];
     room = G.room;
   }
 
 -- what stands where fits the arrays
-pub going_fits : (arc : ℕ → ℕ → Bool) (n : ℕ) (s : State) → IsGoing arc n s → (s.height ≤ n) × (s.groups ≤ s.height) × (s.depth ≤ s.height)
-going_fits arc n s G = (
+pub going_fits : (arc : ℕ → ℕ → Bool) (turn : ℕ → ℕ → ℕ) (n : ℕ) (s : State) → IsGoing arc turn n s → (s.height ≤ n)
+    × (s.groups ≤ s.height) × (s.depth ≤ s.height)
+going_fits arc turn n s G = (
   omega (arith, G.room, size_on-bound s.seen n),
   at_most s.groups s.base G.base_rises G.base_below,
   at_most s.depth s.path G.path_rises G.path_below,
@@ -380,82 +399,73 @@ going_fits arc n s G = (
     at_most zero f rises below = omega arith
     at_most (suc k) f rises below = omega (arith, below k (omega arith), rising_le f (suc k) rises k (omega arith))
 
-pub last_below : (arc : ℕ → ℕ → Bool) (n : ℕ) (s : State) → IsGoing arc n s → 0 < s.depth → (s.path (s.depth - 1) < s.height) × (last_of s < n)
-last_below arc n s G some = let l = G.path_below (s.depth - 1) (omega arith) in (l, G.stack_below (s.path (s.depth - 1)) l)
+pub last_below : (arc : ℕ → ℕ → Bool) (turn : ℕ → ℕ → ℕ) (n : ℕ) (s : State) → IsGoing arc turn n s → 0 < s.depth →
+    (s.path (s.depth - 1) < s.height) × (last_of s < n)
+last_below arc turn n s G some = let l = G.path_below (s.depth - 1) (omega arith) in (l, G.stack_below (s.path (s.depth - 1)) l)
 
--- the last place of the path is being looked at: all that it leads to below `from` is handled
-pub record IsAdvancing (arc : ℕ → ℕ → Bool) (n : ℕ) (s : State) (place from : ℕ) : Type 0 where
-  pub going : IsGoing arc n s
+-- the last place of the path is being looked at: all that it leads to in a turn before `from` is handled
+pub record IsAdvancing (arc : ℕ → ℕ → Bool) (turn : ℕ → ℕ → ℕ) (n : ℕ) (s : State) (place from : ℕ) : Type 0 where
+  pub going : IsGoing arc turn n s
   pub some : 0 < s.depth
   pub last : last_of s ≡ place
-  pub handled : (y : ℕ) → y < n → y < from → arc place y ≡ true → IsHandled s (s.path (s.depth - 1)) y
+  pub handled : (y : ℕ) → y < n → turn place y < from → arc place y ≡ true → IsHandled s (s.path (s.depth - 1)) y
 
-pub advancing-first : (arc : ℕ → ℕ → Bool) (n : ℕ) (s : State) (place from : ℕ) → IsGoing arc n s → 0 < s.depth →
-    last_of s ≡ place → s.next place ≡ from → IsAdvancing arc n s place from
-advancing-first arc n s place from G some q e = record {
+pub advancing-first : (arc : ℕ → ℕ → Bool) (turn : ℕ → ℕ → ℕ) (n : ℕ) (s : State) (place from : ℕ) → IsGoing arc turn n s → 0 < s.depth →
+    last_of s ≡ place → s.next place ≡ from → IsAdvancing arc turn n s place from
+advancing-first arc turn n s place from G some q e = record {
   going = G;
   some = some;
   last = q;
   handled =
       λ y yl less a. G.explored (s.path (s.depth - 1)) y (G.path_below (s.depth - 1) (omega arith)) yl
-      (omega (arith, ap s.next q)) (subst (λ v. arc v y ≡ true) (sym q) a);
+      (omega (arith, ap s.next q, ap (λ v. turn v y) q)) (subst (λ v. arc v y ≡ true) (sym q) a);
 }
 
--- all below `to` is handled
-handled_before : (arc : ℕ → ℕ → Bool) (n : ℕ) (s : State) (place from end to : ℕ) → IsAdvancing arc n s place from →
-    ((y : ℕ) → from ≤ y → y < to → arc place y ≡ false) →
-    (y : ℕ) → y < n → y < to → arc place y ≡ true → IsHandled s (s.path (s.depth - 1)) y
-handled_before arc n s place from end to A none y yl less a =
-    elim (lt_cases y from) [ inl l ↦ A.handled y yl l a | inr ge ↦ absurd (differ (none y ge less) a) ]
-
-pub advancing-done : (arc : ℕ → ℕ → Bool) (n : ℕ) (s : State) (place from to : ℕ) → IsAdvancing arc n s place from →
-    IsLeast (arc place) from n to → s.done to ≡ true → IsAdvancing arc n s place (to + 1)
-advancing-done arc n s place from to A L t = record {
+pub advancing-done : (arc : ℕ → ℕ → Bool) (turn : ℕ → ℕ → ℕ) (n : ℕ) (s : State) (place from to next : ℕ) →
+    IsAdvancing arc turn n s place from → HasNextTurn (arc place) (turn place) n from to next → s.done to ≡ true →
+    IsAdvancing arc turn n s place next
+advancing-done arc turn n s place from to next A N t = record {
   going = A.going;
   some = A.some;
   last = A.last;
-  handled =
-      λ y yl less a. elim (nat_cases y to) [
-        | inl q ↦ inl (subst (λ v. s.done v ≡ true) (sym q) t)
-        | inr ne ↦ handled_before arc n s place from n to A
-            L.none_before y yl (omega arith) a
-      ];
+  handled = turns-next (arc place) (turn place) n from to next (IsHandled s (s.path (s.depth - 1))) N A.handled (inl t);
 }
 
-pub advancing-merge : (arc : ℕ → ℕ → Bool) (n : ℕ) (s : State) (place from to groups : ℕ) →
-    IsAdvancing arc n s place from → IsLeast (arc place) from n to → s.seen to ≡ true → s.done to ≡ false →
-    IsMerged s groups (s.position to) →
-    IsAdvancing arc n (record s { groups = groups }) place (to + 1)
-advancing-merge arc n s place from to groups A L h w M = record {
-  going = merged-going arc n s (s.depth - 1) to groups A.going (omega (arith, A.some)) L.before_end h w (subst (λ v. arc v to ≡ true) (sym A.last) L.holds) M;
+pub advancing-merge : (arc : ℕ → ℕ → Bool) (turn : ℕ → ℕ → ℕ) (n : ℕ) (s : State) (place from to next groups : ℕ) →
+    IsAdvancing arc turn n s place from → HasNextTurn (arc place) (turn place) n from to next → s.seen to ≡ true →
+    s.done to ≡ false → IsMerged s groups (s.position to) →
+    IsAdvancing arc turn n (record s { groups = groups }) place next
+advancing-merge arc turn n s place from to next groups A N h w M = record {
+  going = merged-going arc turn n s (s.depth - 1) to groups A.going (omega (arith, A.some)) N.below h w
+      (subst (λ v. arc v to ≡ true) (sym A.last) N.holds) M;
   some = A.some;
   last = A.last;
-  handled = λ y yl less a. elim (nat_cases y to) [
-    | inl q ↦ subst (λ v. IsHandled (record s { groups = groups }) (s.path (s.depth - 1)) v) (sym q) (inr (h, λ g gl le. M.kept g gl))
-    | inr ne ↦ fewer y (handled_before arc n s place from n to A L.none_before y yl (omega arith) a)
-  ];
+  handled = turns-next (arc place) (turn place) n from to next
+      (IsHandled (record s { groups = groups }) (s.path (s.depth - 1))) N (λ y yl l a. fewer y (A.handled y yl l a))
+      (inr (h, λ g gl le. M.kept g gl));
 }
   where
     fewer : (y : ℕ) → IsHandled s (s.path (s.depth - 1)) y → IsHandled (record s { groups = groups }) (s.path (s.depth - 1)) y
     fewer y (inl t) = inl t
     fewer y (inr (e, f)) = inr (e, λ g gl le. f g (omega (arith, M.fewer)) le)
 
--- the next look begins at `to`
-pub advancing-stop : (arc : ℕ → ℕ → Bool) (n : ℕ) (s : State) (place from to : ℕ) (next : ℕ → ℕ) →
-    IsAdvancing arc n s place from → ((y : ℕ) → from ≤ y → y < to → arc place y ≡ false) →
-    next place ≡ to → ((y : ℕ) → y ≢ place → next y ≡ s.next y) → IsGoing arc n (record s { next = next })
-advancing-stop arc n s place from to next A none here others =
-    next-going arc n s (s.depth - 1) to next A.going (omega (arith, A.some)) (ap next A.last ∙ here) (λ y ne. others y (λ q. ne (q ∙ sym A.last)))
-    (λ y yl less a. handled_before arc n s place from n to A none y yl less (subst (λ v. arc v y ≡ true) A.last a))
+-- the next look begins with the turn `from`
+pub advancing-stop : (arc : ℕ → ℕ → Bool) (turn : ℕ → ℕ → ℕ) (n : ℕ) (s : State) (place from : ℕ) (next : ℕ → ℕ) →
+    IsAdvancing arc turn n s place from → next place ≡ from → ((y : ℕ) → y ≢ place → next y ≡ s.next y) →
+    IsGoing arc turn n (record s { next = next })
+advancing-stop arc turn n s place from next A here others =
+    next-going arc turn n s (s.depth - 1) from next A.going (omega (arith, A.some)) (ap next A.last ∙ here)
+    (λ y ne. others y (λ q. ne (q ∙ sym A.last)))
+    (λ y yl less a. A.handled y yl (omega (arith, ap (λ v. turn v y) A.last)) (subst (λ v. arc v y ≡ true) A.last a))
 
 -- a place that the last one leads to is entered
-pub entered-next : (arc : ℕ → ℕ → Bool) (n : ℕ) (s t : State) (to : ℕ) → IsGoing arc n s → 0 < s.depth →
-    IsEntered s t to → to < n → s.seen to ≡ false → arc (last_of s) to ≡ true → IsGoing arc n t
-entered-next arc n s t to G some P l fresh a = entered-going arc n s t to G P l fresh (reaches_next arc n s G (s.depth - 1) (omega arith) to a)
+pub entered-next : (arc : ℕ → ℕ → Bool) (turn : ℕ → ℕ → ℕ) (n : ℕ) (s t : State) (to : ℕ) → IsGoing arc turn n s → 0 < s.depth →
+    IsEntered s t to → to < n → s.seen to ≡ false → arc (last_of s) to ≡ true → IsGoing arc turn n t
+entered-next arc turn n s t to G some P l fresh a = entered-going arc turn n s t to G P l fresh (reaches_next arc turn n s G (s.depth - 1) (omega arith) to a)
 
-pub entered-first : (arc : ℕ → ℕ → Bool) (n : ℕ) (s t : State) (to : ℕ) → IsGoing arc n s → s.depth ≡ 0 →
-    IsEntered s t to → to < n → s.seen to ≡ false → IsGoing arc n t
-entered-first arc n s t to G none P l fresh = entered-going arc n s t to G P l fresh (λ i il. absurd (omega (arith, stack_empty arc n s G none)))
+pub entered-first : (arc : ℕ → ℕ → Bool) (turn : ℕ → ℕ → ℕ) (n : ℕ) (s t : State) (to : ℕ) → IsGoing arc turn n s → s.depth ≡ 0 →
+    IsEntered s t to → to < n → s.seen to ≡ false → IsGoing arc turn n t
+entered-first arc turn n s t to G none P l fresh = entered-going arc turn n s t to G P l fresh (λ i il. absurd (omega (arith, stack_empty arc turn n s G none)))
 
 pub entered-seen : (s t : State) (to y : ℕ) → IsEntered s t to → s.seen y ≡ true → t.seen y ≡ true
 entered-seen s t to y P h = elim (nat_cases y to) [ inl q ↦ subst (λ v. t.seen v ≡ true) (sym q) P.seen | inr ne ↦ P.seen_others y ne ∙ h ]
@@ -471,8 +481,8 @@ entered-smaller n s t to P l fresh e =
     )
 
 -- a last place that is finished, and does not begin its group, is left
-pub left-by : (arc : ℕ → ℕ → Bool) (n : ℕ) (s : State) → IsGoing arc n s → 0 < s.depth → IsFinished n s →
-    s.base (s.groups - 1) ≢ s.path (s.depth - 1) → IsGoing arc n (record s { depth = s.depth - 1 })
-left-by arc n s G some all other =
-    left-going arc n s (s.depth - 1) (s.groups - 1) G (omega arith)
-    (omega (arith, (G.first_base (omega (arith, (last_below arc n s G some).0))).0)) other all
+pub left-by : (arc : ℕ → ℕ → Bool) (turn : ℕ → ℕ → ℕ) (n : ℕ) (s : State) → IsGoing arc turn n s → 0 < s.depth → IsFinished arc turn n s →
+    s.base (s.groups - 1) ≢ s.path (s.depth - 1) → IsGoing arc turn n (record s { depth = s.depth - 1 })
+left-by arc turn n s G some all other =
+    left-going arc turn n s (s.depth - 1) (s.groups - 1) G (omega arith)
+    (omega (arith, (G.first_base (omega (arith, (last_below arc turn n s G some).0))).0)) other all

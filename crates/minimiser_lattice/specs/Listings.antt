@@ -1,15 +1,17 @@
 -- What the arrays of a listing mean.
-use Rattle.std.specs.Prelude.{ℕ, ◌<◌, ◌≤◌, ◌≡◌, Bool, true, false, ◌&&◌, not, vec_len, slice_index}
+use Rattle.std.specs.Prelude.{ℕ, ◌<◌, ◌≤◌, ◌≡◌, Bool, true, false, cond, ◌&&◌, not, vec_len, slice_index, slice_index_or}
 use Rattle.residue_theory.specs.Sums.{size_on}
+use Rattle.exchange_graph.specs.Marks.{members_of}
 use Rattle.minimiser_lattice.specs.Components.{leads_in}
 use Rattle.minimiser_lattice.specs.declared.listing.Listing.{Listing}
+use Rattle.minimiser_lattice.specs.declared.listing.Standing.{Standing}
+use Rattle.minimiser_lattice.specs.declared.listing.Standing.TheVariants.{Tail, Waiting, Listed}
 
 -- each array has an item for each of n components, and the table a row
 pub record IsOpened (l : Listing) (n : ℕ) : Type 0 where
   pub first : vec_len l.first ≡ n
   pub last : vec_len l.last ≡ n
-  pub middle : vec_len l.middle ≡ n
-  pub placed : vec_len l.placed ≡ n
+  pub standing : vec_len l.standing ≡ n
   pub watch : vec_len l.watch ≡ n
   pub rank : vec_len l.rank ≡ n
   pub listed : vec_len l.listed ≡ n
@@ -29,38 +31,64 @@ IsFirstTail n number count strict starts first = IsTail n starts (λ s k. leads_
 abbrev pub IsLastTail : ℕ → (ℕ → ℕ) → ℕ → (ℕ → ℕ → Bool) → (ℕ → Bool) → (ℕ → Bool) → Type 0
 IsLastTail n number count strict ends last = IsTail n ends (λ e k. leads_in strict k (number e)) count last
 
--- the components that a start leads to, those that lead to an end, and the others
+-- the components that a start leads to, and those that lead to an end
 pub record IsMarked (n : ℕ) (number : ℕ → ℕ) (count : ℕ) (strict : ℕ → ℕ → Bool)
-    (starts ends first last middle : ℕ → Bool) : Type 0 where
+    (starts ends first last : ℕ → Bool) : Type 0 where
   pub first_tail : IsFirstTail n number count strict starts first
   pub last_tail : IsLastTail n number count strict ends last
-  pub others : (k : ℕ) → k < count → middle k ≡ (not (first k) && not (last k))
 
--- component l of the middle waits
-abbrev pub IsWaiting : (ℕ → Bool) → (ℕ → Bool) → ℕ → Type 0
-IsWaiting middle placed l = (middle l ≡ true) × (placed l ≡ false)
+-- component k is of neither tail
+abbrev pub of_neither : (ℕ → Bool) → (ℕ → Bool) → ℕ → Bool
+of_neither first last k = not (first k) && not (last k)
+
+abbrev pub middle_of : Listing → ℕ → Bool
+middle_of l = of_neither (members_of l.first.items) (members_of l.last.items)
+
+-- where component k stands
+abbrev pub standing_of : Listing → ℕ → Standing
+standing_of l k = slice_index_or l.standing.items k Tail
+
+abbrev pub in_middle : Standing → Bool
+in_middle Tail = false
+in_middle Waiting = true
+in_middle Listed = true
+
+abbrev pub is_listed : Standing → Bool
+is_listed Tail = false
+is_listed Waiting = false
+is_listed Listed = true
+
+-- all components of the middle wait
+abbrev pub AllWait : ℕ → (ℕ → Bool) → (ℕ → Standing) → Type 0
+AllWait count middle standing = (k : ℕ) → k < count → standing k ≡ cond (middle k) Waiting Tail
+
+abbrev pub IsWaiting : (ℕ → Standing) → ℕ → Type 0
+IsWaiting standing k = standing k ≡ Waiting
 
 -- no place below `from` has a component that waits
-abbrev pub NoneWaits : (ℕ → Bool) → (ℕ → Bool) → (ℕ → ℕ) → ℕ → Type 0
-NoneWaits middle placed number from = (j : ℕ) → j < from → IsWaiting middle placed (number j) → ⊥
+abbrev pub NoneWaits : (ℕ → Standing) → (ℕ → ℕ) → ℕ → Type 0
+NoneWaits standing number from = (j : ℕ) → j < from → IsWaiting standing (number j) → ⊥
 
--- component k of the middle waits, and all that it leads to have been placed
-abbrev pub IsReadyAt : (ℕ → ℕ → Bool) → (ℕ → Bool) → (ℕ → Bool) → ℕ → Type 0
-IsReadyAt strict middle placed k = IsWaiting middle placed k
-    × ((l : ℕ) → l < k → strict k l ≡ true → middle l ≡ true → placed l ≡ true)
+-- component k waits, and nothing that it leads to waits
+abbrev pub IsReadyAt : (ℕ → ℕ → Bool) → (ℕ → Standing) → ℕ → Type 0
+IsReadyAt strict standing k = IsWaiting standing k × ((l : ℕ) → l < k → strict k l ≡ true → IsWaiting standing l → ⊥)
 
--- of each component, what is told of those below its watch
-abbrev pub IsWatched : ℕ → (ℕ → ℕ → Bool) → (ℕ → Bool) → (ℕ → Bool) → (ℕ → ℕ) → Type 0
-IsWatched n strict middle placed watch = (k l : ℕ) → k < n → l < watch k → strict k l ≡ true →
-    middle l ≡ true → placed l ≡ true
+-- of each component: nothing below its watch that it leads to waits
+abbrev pub IsWatched : ℕ → (ℕ → ℕ → Bool) → (ℕ → Standing) → (ℕ → ℕ) → Type 0
+IsWatched n strict standing watch = (k l : ℕ) → k < n → l < watch k → strict k l ≡ true → IsWaiting standing l → ⊥
 
--- the components that are placed have their places
-pub record HasPlaces (count : ℕ) (middle placed : ℕ → Bool) (rank listed : ℕ → ℕ) (blocks : ℕ) : Type 0 where
+-- each block has its component of the middle, and that one its block
+pub record HasPlaces (count : ℕ) (middle : ℕ → Bool) (rank listed : ℕ → ℕ) (blocks : ℕ) : Type 0 where
   pub below : (j : ℕ) → j < blocks → listed j < count
   pub of_middle : (j : ℕ) → j < blocks → middle (listed j) ≡ true
-  pub still_placed : (j : ℕ) → j < blocks → placed (listed j) ≡ true
   pub ranks : (j : ℕ) → j < blocks → rank (listed j) ≡ j
-  pub room : blocks ≤ size_on placed count
+
+-- the components of the middle wait or are listed, and those of the blocks are listed
+pub record HasStandings (count : ℕ) (middle : ℕ → Bool) (standing : ℕ → Standing) (listed : ℕ → ℕ) (blocks : ℕ)
+    : Type 0 where
+  pub middles : (k : ℕ) → k < count → in_middle (standing k) ≡ middle k
+  pub still_listed : (j : ℕ) → j < blocks → standing (listed j) ≡ Listed
+  pub room : blocks ≤ size_on (λ k. is_listed (standing k)) count
 
 -- in row l, of the components from `from` on: a bit is set for what one of them leads to that l leads to
 pub record IsBetweenFrom (n : ℕ) (strict between : ℕ → ℕ → Bool) (l from : ℕ) : Type 0 where

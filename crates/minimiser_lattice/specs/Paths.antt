@@ -3,11 +3,12 @@
 use Rattle.std.specs.Prelude.{ℕ, ◌+◌, ◌-◌, ◌<◌, ◌≤◌, ◌≡◌, ◌≢◌, ◌⊎◌, Bool, true, false}
 use Rattle.residue_theory.specs.Sums.{size_on}
 use Rattle.closed_sets.specs.Walks.{Reaches}
+use Rattle.exchange_graph.specs.Turns.{HaveHadTurns}
 
 -- `stack` holds the places that are seen and not done, from 0 to `height` - 1, and `position` tells where; the g-th
--- group begins at `base g`; `path` tells the positions of the places some of whose arcs are left, and `next` the first
--- of these; a place that is done has its component's number, and `strict k l` says that component k leads to the other
--- one l
+-- group begins at `base g`; `path` tells the positions of the places some of whose arcs are left, and `next` the turn
+-- from which they are; a place that is done has its component's number, and `strict k l` says that component k leads to
+-- the other one l
 pub record State : Type 0 where
   pub seen : ℕ → Bool
   pub done : ℕ → Bool
@@ -65,7 +66,7 @@ abbrev pub IsHandled : State → ℕ → ℕ → Type 0
 IsHandled s i y = (s.done y ≡ true) ⊎ ((s.seen y ≡ true)
     × ((g : ℕ) → g < s.groups → s.base g ≤ i → s.base g ≤ s.position y))
 
-pub record IsGoing (arc : ℕ → ℕ → Bool) (n : ℕ) (s : State) : Type 0 where
+pub record IsGoing (arc : ℕ → ℕ → Bool) (turn : ℕ → ℕ → ℕ) (n : ℕ) (s : State) : Type 0 where
   pub told : IsTold arc n s.done s.number s.count s.strict
   pub stack_below : (i : ℕ) → i < s.height → s.stack i < n
   pub stack_seen : (i : ℕ) → i < s.height → s.seen (s.stack i) ≡ true
@@ -77,14 +78,16 @@ pub record IsGoing (arc : ℕ → ℕ → Bool) (n : ℕ) (s : State) : Type 0 w
   pub along : (i j : ℕ) → i ≤ j → j < s.height → Reaches arc n (s.stack i) (s.stack j)
   pub back : (i j : ℕ) → i ≤ j → j < s.height → ((g : ℕ) → g < s.groups → i < s.base g → s.base g ≤ j → ⊥) →
       Reaches arc n (s.stack j) (s.stack i)
-  pub explored : (i y : ℕ) → i < s.height → y < n → y < s.next (s.stack i) → arc (s.stack i) y ≡ true → IsHandled s i y
+  pub explored : (i y : ℕ) → i < s.height → y < n → turn (s.stack i) y < s.next (s.stack i) →
+      arc (s.stack i) y ≡ true → IsHandled s i y
   pub base_below : (g : ℕ) → g < s.groups → s.base g < s.height
   pub base_rises : (g h : ℕ) → g < h → h < s.groups → s.base g < s.base h
   pub first_base : 0 < s.height → (0 < s.groups) × (s.base 0 ≡ 0)
   pub path_below : (d : ℕ) → d < s.depth → s.path d < s.height
   pub path_rises : (d e : ℕ) → d < e → e < s.depth → s.path d < s.path e
   pub base_on_path : (g : ℕ) → g < s.groups → (d : ℕ) × (d < s.depth) × (s.path d ≡ s.base g)
-  pub finished : (i : ℕ) → i < s.height → ((d : ℕ) → d < s.depth → s.path d ≡ i → ⊥) → n ≤ s.next (s.stack i)
+  pub finished : (i : ℕ) → i < s.height → ((d : ℕ) → d < s.depth → s.path d ≡ i → ⊥) →
+      HaveHadTurns (arc (s.stack i)) (turn (s.stack i)) n (s.next (s.stack i))
   pub room : s.count + s.height ≤ size_on s.seen n
 
 -- a place that was not seen is put on the stack, as a group of its own, and on the path
@@ -125,8 +128,8 @@ abbrev pub last_of : State → ℕ
 last_of s = s.stack (s.path (s.depth - 1))
 
 -- no arc of it is left
-abbrev pub IsFinished : ℕ → State → Type 0
-IsFinished n s = n ≤ s.next (last_of s)
+abbrev pub IsFinished : (ℕ → ℕ → Bool) → (ℕ → ℕ → ℕ) → ℕ → State → Type 0
+IsFinished arc turn n s = HaveHadTurns (arc (last_of s)) (turn (last_of s)) n (s.next (last_of s))
 
 -- of the places of the stack those from position `at` on and before `to` are done, with the number `count`
 pub record IsNumberedTo (s : State) (done : ℕ → Bool) (number : ℕ → ℕ) (at to : ℕ) : Type 0 where

@@ -1,4 +1,5 @@
-//! Strongly connected components and what each leads to: the path-based algorithm of Gabow (2000).
+//! Strongly connected components: the path-based algorithm of Gabow (2000); and what each leads to: the transitive
+//! closure of their order, a row for each one when it is closed (Purdom 1970).
 
 ghost use Rattle.std.specs.Prelude.{◌≡◌, ◌≢◌, ℕ, ◌+◌, ◌-◌, ◌<◌, ◌≤◌, Bool, true, false, IfOk, IfSome, IfNone, slice_index};
 ghost use Rattle.exchange_graph.specs.Marks.{members_of};
@@ -14,8 +15,8 @@ use std::alloc::Global;
 // The components of arcs, each a greatest set of places that reach each other, found along a path. The places that are
 // seen and not done stand on `stack`, in groups of places that reach each other, each of which leads to the next one;
 // `base` tells where each group begins. `path` tells the positions of the places some of whose arcs are left, and
-// `next` of each place the first of these. An arc back to a lower group makes one group of all above it. Where a group
-// is finished, it is a component: its places are done, and its row of `strict` tells to which others it leads.
+// `next` of each place the turn from which they are. An arc back to a lower group makes one group of all above it. Where
+// a group is finished, it is a component: its places are done, and its row of `strict` tells to which others it leads.
 #[derive(Drop)]
 pub struct Components {
     pub seen: Vec<bool>,
@@ -70,7 +71,8 @@ impl Components {
     // No place is seen.
     fn clear(&mut self)
         requires { IsStored self.old }
-        ensures going { (arc : ℕ → ℕ → Bool) → IsGoing arc (places self.old) (state_of self.new) }
+        ensures going { (arc : ℕ → ℕ → Bool) → (turn : ℕ → ℕ → ℕ) →
+            IsGoing arc turn (places self.old) (state_of self.new) }
         ensures depth { self.new.depth ≡ 0 }
         ensures stored { IsStored self.new }
         ensures places { places self.new ≡ places self.old }
@@ -130,31 +132,31 @@ impl Components {
     fn advance<A: Arcs>(&mut self, arcs: &A) -> Option<usize>
         requires stored { IsStored self.old }
         requires places { A.places arcs.now ≡ places self.old }
-        requires going { IsGoing (A.leads arcs.now) (places self.old) (state_of self.old) }
+        requires going { IsGoing (A.leads arcs.now) (A.turn arcs.now) (places self.old) (state_of self.old) }
         requires some { 0 < self.old.depth }
-        ensures going { IsGoing (A.leads arcs.now) (places self.old) (state_of self.new) }
+        ensures going { IsGoing (A.leads arcs.now) (A.turn arcs.now) (places self.old) (state_of self.new) }
         ensures found { IfSome result (λ to. (to < places self.old) × ((state_of self.new).seen to ≡ false)
             × (A.leads arcs.now (last_of (state_of self.new)) to ≡ true)) }
-        ensures finished { IfNone result (IsFinished (places self.old) (state_of self.new)) }
+        ensures finished { IfNone result (IsFinished (A.leads arcs.now) (A.turn arcs.now) (places self.old)
+            (state_of self.new)) }
         ensures seen { self.new.seen ≡ self.old.seen }
         ensures depth { self.new.depth ≡ self.old.depth }
         ensures stored { IsStored self.new }
     {
         let place = self.stack[self.path[self.depth - 1]];
-        let places = self.seen.len();
         let mut from = self.next[place];
-        while let Some(to) = arcs.successor(place, from, places) {
+        while let Some((to, next)) = arcs.next_arc(place, from) {
             if !self.seen[to] {
-                self.next[place] = to;
+                self.next[place] = from;
                 return Some(to);
             }
             if !self.done[to] {
                 let at = self.position[to];
                 self.merge(at);
             }
-            from = to + 1;
+            from = next;
         }
-        self.next[place] = places;
+        self.next[place] = from;
         None
     }
 
@@ -208,12 +210,11 @@ impl Components {
         ensures kept { self.new ≡ record self.old { strict = self.new.strict } }
         ensures stored { IsStored self.new }
     {
-        let places = self.seen.len();
         let mut from = 0;
-        while let Some(to) = arcs.successor(place, from, places) {
+        while let Some((to, next)) = arcs.next_arc(place, from) {
             let other = self.number[to];
             self.lead(other);
-            from = to + 1;
+            from = next;
         }
     }
 
@@ -221,12 +222,12 @@ impl Components {
     fn close<A: Arcs>(&mut self, arcs: &A)
         requires stored { IsStored self.old }
         requires places { A.places arcs.now ≡ places self.old }
-        requires going { IsGoing (A.leads arcs.now) (places self.old) (state_of self.old) }
+        requires going { IsGoing (A.leads arcs.now) (A.turn arcs.now) (places self.old) (state_of self.old) }
         requires some { 0 < self.old.depth }
-        requires finished { IsFinished (places self.old) (state_of self.old) }
+        requires finished { IsFinished (A.leads arcs.now) (A.turn arcs.now) (places self.old) (state_of self.old) }
         requires begins { (state_of self.old).base (self.old.groups - 1)
             ≡ (state_of self.old).path (self.old.depth - 1) }
-        ensures going { IsGoing (A.leads arcs.now) (places self.old) (state_of self.new) }
+        ensures going { IsGoing (A.leads arcs.now) (A.turn arcs.now) (places self.old) (state_of self.new) }
         ensures depth { self.new.depth + 1 ≡ self.old.depth }
         ensures seen { self.new.seen ≡ self.old.seen }
         ensures stored { IsStored self.new }
@@ -247,10 +248,10 @@ impl Components {
     fn finish<A: Arcs>(&mut self, arcs: &A)
         requires stored { IsStored self.old }
         requires places { A.places arcs.now ≡ places self.old }
-        requires going { IsGoing (A.leads arcs.now) (places self.old) (state_of self.old) }
+        requires going { IsGoing (A.leads arcs.now) (A.turn arcs.now) (places self.old) (state_of self.old) }
         requires some { 0 < self.old.depth }
-        requires finished { IsFinished (places self.old) (state_of self.old) }
-        ensures going { IsGoing (A.leads arcs.now) (places self.old) (state_of self.new) }
+        requires finished { IsFinished (A.leads arcs.now) (A.turn arcs.now) (places self.old) (state_of self.old) }
+        ensures going { IsGoing (A.leads arcs.now) (A.turn arcs.now) (places self.old) (state_of self.new) }
         ensures depth { self.new.depth + 1 ≡ self.old.depth }
         ensures seen { self.new.seen ≡ self.old.seen }
         ensures stored { IsStored self.new }
@@ -266,8 +267,8 @@ impl Components {
     fn explore<A: Arcs>(&mut self, arcs: &A)
         requires stored { IsStored self.old }
         requires places { A.places arcs.now ≡ places self.old }
-        requires going { IsGoing (A.leads arcs.now) (places self.old) (state_of self.old) }
-        ensures going { IsGoing (A.leads arcs.now) (places self.old) (state_of self.new) }
+        requires going { IsGoing (A.leads arcs.now) (A.turn arcs.now) (places self.old) (state_of self.old) }
+        ensures going { IsGoing (A.leads arcs.now) (A.turn arcs.now) (places self.old) (state_of self.new) }
         ensures depth { self.new.depth ≡ 0 }
         ensures seen { (y : ℕ) → members_of self.old.seen.items y ≡ true → members_of self.new.seen.items y ≡ true }
         ensures stored { IsStored self.new }

@@ -1,4 +1,7 @@
-//! The parts of a directed graph: what is reached from its starts, what reaches its ends, and the blocks between.
+//! The parts of a directed graph: what is reached from its starts, what reaches its ends, and the blocks between. Where
+//! no end is reached, the sets that hold the starts, no end and all that their arcs lead to are the first part with the
+//! ideals of the order of the blocks (Birkhoff 1937). Where they are the minimisers of a submodular function, this is
+//! its decomposition (Murota 2000, chapter 2).
 
 ghost use Rattle.std.specs.Prelude.{◌≡◌, ℕ, ◌<◌, Bool, length, IfOk};
 ghost use Rattle.exchange_graph.specs.Marks.{members_of};
@@ -58,7 +61,7 @@ impl Lattice {
     /// does. A place of both the first part and the last, where an end is reached from a start, is told as of the
     /// first.
     ///
-    /// It asks for each arc twice, and once more for each arc along which it first comes to a place.
+    /// It is told each arc twice, and once more each arc along which it first comes to a place.
     pub fn fill<A: Arcs>(&mut self, arcs: &A, starts: &[bool], ends: &[bool])
         requires places { A.places arcs.now ≡ self.old.places }
         requires starts { length starts.now ≡ self.old.places }

@@ -1,13 +1,16 @@
-//! The least topological order of the components, and the transitive reduction of their order.
+//! The listing of the components: a topological sort (Kahn 1962) that takes at each step the one with the least place
+//! of those that may come next, found by watches in place of counts; and the transitive reduction of their order, that
+//! is its covers (Aho, Garey and Ullman 1972).
 
-ghost use Rattle.std.specs.Prelude.{◌≡◌, ◌≢◌, ◌↔◌, ℕ, ◌+◌, ◌<◌, ◌≤◌, Bool, true, false, not, ◌&&◌, length, vec_len, IsTrue, IfOk, IfSome, IfNone, slice_index};
+ghost use Rattle.std.specs.Prelude.{◌≡◌, ◌≢◌, ◌↔◌, ℕ, ◌+◌, ◌<◌, ◌≤◌, Bool, true, false, length, vec_len, IsTrue, IfOk, IfSome, IfNone, slice_index};
 ghost use Rattle.exchange_graph.specs.Marks.{members_of};
 ghost use Rattle.closed_sets.specs.Tables.{Tells};
 ghost use Rattle.closed_sets.specs.Blocks.{IsListing};
 ghost use Rattle.bit_table.specs.Bits.{bit_in};
 ghost use Rattle.minimiser_lattice.specs.Paths.{IsNumbering};
 ghost use Rattle.minimiser_lattice.specs.Components.{IsStored, number_of, places};
-ghost use Rattle.minimiser_lattice.specs.Listings.{HasPlaces, IsBetween, IsBetweenFrom, IsMarked, IsOpened, IsReadyAt, IsWaiting, IsWatched, NoneWaits, table_of, watch_of};
+ghost use Rattle.minimiser_lattice.specs.Listings.{AllWait, HasPlaces, HasStandings, IsBetween, IsBetweenFrom, IsMarked, IsOpened, IsReadyAt, IsWaiting, IsWatched, NoneWaits, middle_of, standing_of, table_of, watch_of};
+ghost use Rattle.minimiser_lattice.specs.declared.listing.Standing.TheVariants.{Listed};
 
 use crate::components::Components;
 use crate::tails::{mark_ends, mark_starts};
@@ -15,14 +18,25 @@ use bit_table::BitTable;
 use out_of_memory::NoMemory;
 use std::alloc::Global;
 
-// The listing of components, each item of an array standing for a component or for a block. `watch` tells of a
-// component below which number nothing holds it back: what is placed stays so, and no number is looked at twice.
+/// Where a component stands while the blocks are listed.
+#[derive(Clone, Copy, PartialEq, Eq)]
+pub enum Standing {
+    /// In a tail, so it is of no block.
+    Tail,
+    /// In the middle, and it waits to be listed.
+    Waiting,
+    /// In the middle, and it has its block.
+    Listed,
+}
+
+// The listing of components, each item of an array standing for a component or for a block. A component may be of both
+// tails, so each has its own marks. `watch` tells of a component below which number nothing holds it back: what is
+// listed stays so, and no number is looked at twice.
 #[derive(Drop)]
 pub struct Listing {
     pub first: Vec<bool>,
     pub last: Vec<bool>,
-    pub middle: Vec<bool>,
-    pub placed: Vec<bool>,
+    pub standing: Vec<Standing>,
     pub watch: Vec<usize>,
     pub rank: Vec<usize>,
     pub listed: Vec<usize>,
@@ -40,8 +54,7 @@ impl Listing {
         Ok(Listing {
             first: vec![in alloc; false; n]?,
             last: vec![in alloc; false; n]?,
-            middle: vec![in alloc; false; n]?,
-            placed: vec![in alloc; false; n]?,
+            standing: vec![in alloc; Standing::Tail; n]?,
             watch: vec![in alloc; 0; n]?,
             rank: vec![in alloc; 0; n]?,
             listed: vec![in alloc; 0; n]?,
@@ -50,7 +63,7 @@ impl Listing {
         })
     }
 
-    /// Marks what a start leads to, what leads to an end, and the others, none of which is placed.
+    /// Marks what a start leads to, and what leads to an end. The others wait.
     pub fn mark(&mut self, components: &Components, starts: &[bool], ends: &[bool])
         requires opened { IsOpened self.old (places components.now) }
         requires stored { IsStored components.now }
@@ -60,8 +73,8 @@ impl Listing {
             (bit_in components.now.strict) }
         ensures marked { IsMarked (places components.now) (number_of components.now) components.now.count
             (bit_in components.now.strict) (members_of starts.now) (members_of ends.now)
-            (members_of self.new.first.items) (members_of self.new.last.items) (members_of self.new.middle.items) }
-        ensures none { (k : ℕ) → k < components.now.count → members_of self.new.placed.items k ≡ false }
+            (members_of self.new.first.items) (members_of self.new.last.items) }
+        ensures wait { AllWait components.now.count (middle_of self.new) (standing_of self.new) }
         ensures watch { (k : ℕ) → k < components.now.count → slice_index self.new.watch.items k ≡ 0 }
         ensures blocks { self.new.blocks ≡ 0 }
         ensures opened { IsOpened self.new (places components.now) }
@@ -69,16 +82,15 @@ impl Listing {
         self.clear(components);
         mark_starts(&mut self.first, components, starts);
         mark_ends(&mut self.last, components, ends);
-        self.mark_middle(components);
+        self.let_others_wait(components);
     }
 
-    // Forgets what was told of the components: none is marked or placed.
+    // Forgets the marks, the watches and the blocks.
     fn clear(&mut self, components: &Components)
         requires opened { IsOpened self.old (places components.now) }
         requires count { components.now.count ≤ places components.now }
         ensures first { (k : ℕ) → k < components.now.count → members_of self.new.first.items k ≡ false }
         ensures last { (k : ℕ) → k < components.now.count → members_of self.new.last.items k ≡ false }
-        ensures placed { (k : ℕ) → k < components.now.count → members_of self.new.placed.items k ≡ false }
         ensures watch { (k : ℕ) → k < components.now.count → slice_index self.new.watch.items k ≡ 0 }
         ensures blocks { self.new.blocks ≡ 0 }
         ensures opened { IsOpened self.new (places components.now) }
@@ -87,61 +99,59 @@ impl Listing {
         for k in 0..components.count {
             self.first[k] = false;
             self.last[k] = false;
-            self.placed[k] = false;
             self.watch[k] = 0;
         }
     }
 
-    // Marks the components of neither tail.
-    fn mark_middle(&mut self, components: &Components)
+    // Lets each component of neither tail wait.
+    fn let_others_wait(&mut self, components: &Components)
         requires opened { IsOpened self.old (places components.now) }
         requires count { components.now.count ≤ places components.now }
-        ensures middle { (k : ℕ) → k < components.now.count → members_of self.new.middle.items k
-            ≡ (not (members_of self.old.first.items k) && not (members_of self.old.last.items k)) }
-        ensures kept { self.new ≡ record self.old { middle = self.new.middle } }
+        ensures wait { AllWait components.now.count (middle_of self.old) (standing_of self.new) }
+        ensures kept { self.new ≡ record self.old { standing = self.new.standing } }
         ensures opened { IsOpened self.new (places components.now) }
     {
         for k in 0..components.count {
-            let is_middle = !self.first[k] && !self.last[k];
-            self.middle[k] = is_middle;
+            let in_tail = self.first[k] || self.last[k];
+            self.standing[k] = if in_tail {
+                Standing::Tail
+            } else {
+                Standing::Waiting
+            };
         }
     }
 
-    // Whether component k is of the middle and waits.
+    // Whether component k waits.
     fn is_waiting(&self, k: usize) -> bool
-        requires middle { k < vec_len self.now.middle }
-        requires placed { k < vec_len self.now.placed }
-        ensures { IsTrue result ↔ IsWaiting (members_of self.now.middle.items) (members_of self.now.placed.items) k }
+        requires { k < vec_len self.now.standing }
+        ensures { IsTrue result ↔ IsWaiting (standing_of self.now) k }
     {
-        self.middle[k] && !self.placed[k]
+        self.standing[k] == Standing::Waiting
     }
 
-    // Whether component l is of the middle, waits, and is led to from k.
+    // Whether component l waits and is led to from k.
     fn holds_back(&self, components: &Components, k: usize, l: usize) -> bool
         requires opened { IsOpened self.now (places components.now) }
         requires stored { IsStored components.now }
         requires k { k < places components.now }
         requires l { l < places components.now }
-        ensures { result ≡ (members_of self.now.middle.items l
-            && (not (members_of self.now.placed.items l) && bit_in components.now.strict k l)) }
+        ensures { IsTrue result ↔ (IsWaiting (standing_of self.now) l × (bit_in components.now.strict k l ≡ true)) }
     {
-        self.middle[l] && !self.placed[l] && components.strict.get(k, l)
+        self.is_waiting(l) && components.strict.get(k, l)
     }
 
-    // Whether component k is of the middle, waits, and leads to none that waits.
+    // Whether component k waits and leads to none that waits.
     fn is_ready(&mut self, components: &Components, k: usize) -> bool
         requires opened { IsOpened self.old (places components.now) }
         requires stored { IsStored components.now }
         requires k { k < components.now.count }
         requires count { components.now.count ≤ places components.now }
-        requires watched { IsWatched components.now.count (bit_in components.now.strict)
-            (members_of self.old.middle.items) (members_of self.old.placed.items) (watch_of self.old) }
-        ensures ready { result ≡ true → IsReadyAt (bit_in components.now.strict) (members_of self.old.middle.items)
-            (members_of self.old.placed.items) k }
-        ensures held { result ≡ false → IsReadyAt (bit_in components.now.strict) (members_of self.old.middle.items)
-            (members_of self.old.placed.items) k → ⊥ }
-        ensures watched { IsWatched components.now.count (bit_in components.now.strict)
-            (members_of self.old.middle.items) (members_of self.old.placed.items) (watch_of self.new) }
+        requires watched { IsWatched components.now.count (bit_in components.now.strict) (standing_of self.old)
+            (watch_of self.old) }
+        ensures ready { result ≡ true → IsReadyAt (bit_in components.now.strict) (standing_of self.old) k }
+        ensures held { result ≡ false → IsReadyAt (bit_in components.now.strict) (standing_of self.old) k → ⊥ }
+        ensures watched { IsWatched components.now.count (bit_in components.now.strict) (standing_of self.old)
+            (watch_of self.new) }
         ensures kept { self.new ≡ record self.old { watch = self.new.watch } }
         ensures opened { IsOpened self.new (places components.now) }
     {
@@ -161,10 +171,8 @@ impl Listing {
         requires opened { IsOpened self.now (places components.now) }
         requires stored { IsStored components.now }
         requires numbers { (x : ℕ) → x < places components.now → number_of components.now x < places components.now }
-        requires passed { NoneWaits (members_of self.now.middle.items) (members_of self.now.placed.items)
-            (number_of components.now) from }
-        ensures passed { NoneWaits (members_of self.now.middle.items) (members_of self.now.placed.items)
-            (number_of components.now) result }
+        requires passed { NoneWaits (standing_of self.now) (number_of components.now) from }
+        ensures passed { NoneWaits (standing_of self.now) (number_of components.now) result }
     {
         let mut at = from;
         while at < components.number.len() && !self.is_waiting(components.number[at]) {
@@ -179,21 +187,18 @@ impl Listing {
         requires stored { IsStored components.now }
         requires numbers { (x : ℕ) → x < places components.now → number_of components.now x < components.now.count }
         requires count { components.now.count ≤ places components.now }
-        requires passed { NoneWaits (members_of self.old.middle.items) (members_of self.old.placed.items)
-            (number_of components.now) from }
-        requires watched { IsWatched components.now.count (bit_in components.now.strict)
-            (members_of self.old.middle.items) (members_of self.old.placed.items) (watch_of self.old) }
+        requires passed { NoneWaits (standing_of self.old) (number_of components.now) from }
+        requires watched { IsWatched components.now.count (bit_in components.now.strict) (standing_of self.old)
+            (watch_of self.old) }
         ensures below { IfSome result (λ x. x < places components.now) }
-        ensures ready { IfSome result (λ x. IsReadyAt (bit_in components.now.strict) (members_of self.old.middle.items)
-            (members_of self.old.placed.items) (number_of components.now x)) }
+        ensures ready { IfSome result (λ x. IsReadyAt (bit_in components.now.strict) (standing_of self.old)
+            (number_of components.now x)) }
         ensures least { IfSome result (λ x. (j : ℕ) → j < x →
-            IsReadyAt (bit_in components.now.strict) (members_of self.old.middle.items)
-            (members_of self.old.placed.items) (number_of components.now j) → ⊥) }
+            IsReadyAt (bit_in components.now.strict) (standing_of self.old) (number_of components.now j) → ⊥) }
         ensures none { IfNone result ((j : ℕ) → j < places components.now →
-            IsReadyAt (bit_in components.now.strict) (members_of self.old.middle.items)
-            (members_of self.old.placed.items) (number_of components.now j) → ⊥) }
-        ensures watched { IsWatched components.now.count (bit_in components.now.strict)
-            (members_of self.old.middle.items) (members_of self.old.placed.items) (watch_of self.new) }
+            IsReadyAt (bit_in components.now.strict) (standing_of self.old) (number_of components.now j) → ⊥) }
+        ensures watched { IsWatched components.now.count (bit_in components.now.strict) (standing_of self.old)
+            (watch_of self.new) }
         ensures kept { self.new ≡ record self.old { watch = self.new.watch } }
         ensures opened { IsOpened self.new (places components.now) }
     {
@@ -206,55 +211,55 @@ impl Listing {
         None
     }
 
-    // Places component k as the next block.
+    // Lists component k as the next block.
     fn put(&mut self, k: usize)
-        requires placed { k < vec_len self.old.placed }
+        requires standing { k < vec_len self.old.standing }
         requires rank { k < vec_len self.old.rank }
         requires listed { self.old.blocks < vec_len self.old.listed }
-        ensures placed { members_of self.new.placed.items k ≡ true }
-        ensures placed_others { (l : ℕ) → l ≢ k → members_of self.new.placed.items l
-            ≡ members_of self.old.placed.items l }
+        ensures standing { standing_of self.new k ≡ Listed }
+        ensures standing_others { (l : ℕ) → l ≢ k → standing_of self.new l ≡ standing_of self.old l }
         ensures rank { slice_index self.new.rank.items k ≡ self.old.blocks }
         ensures rank_others { (l : ℕ) → l ≢ k → slice_index self.new.rank.items l ≡ slice_index self.old.rank.items l }
         ensures listed { slice_index self.new.listed.items self.old.blocks ≡ k }
         ensures listed_others { (j : ℕ) → j ≢ self.old.blocks →
             slice_index self.new.listed.items j ≡ slice_index self.old.listed.items j }
         ensures kept { self.new ≡ record self.old {
-          placed = self.new.placed;
+          standing = self.new.standing;
           rank = self.new.rank;
           listed = self.new.listed;
           blocks = self.old.blocks + 1;
         } }
-        ensures lengths { (vec_len self.new.placed ≡ vec_len self.old.placed)
+        ensures lengths { (vec_len self.new.standing ≡ vec_len self.old.standing)
             × (vec_len self.new.rank ≡ vec_len self.old.rank) × (vec_len self.new.listed ≡ vec_len self.old.listed) }
     {
-        self.placed[k] = true;
+        self.standing[k] = Standing::Listed;
         self.rank[k] = self.blocks;
         self.listed[self.blocks] = k;
         self.blocks += 1;
     }
 
-    /// Lists the components of the middle: at each place the one with the least place of those that are ready.
+    /// Lists the components of the middle: at each step the one with the least place of those that are ready.
     pub fn list(&mut self, components: &Components)
         requires opened { IsOpened self.old (places components.now) }
         requires stored { IsStored components.now }
         requires numbering { IsNumbering (places components.now) (number_of components.now) components.now.count
             (bit_in components.now.strict) }
-        requires none { (k : ℕ) → k < components.now.count → members_of self.old.placed.items k ≡ false }
+        requires wait { AllWait components.now.count (middle_of self.old) (standing_of self.old) }
         requires watch { (k : ℕ) → k < components.now.count → slice_index self.old.watch.items k ≡ 0 }
         requires blocks { self.old.blocks ≡ 0 }
         ensures listing { (arc : ℕ → ℕ → Bool) (starts ends : ℕ → Bool) →
             Tells arc (places components.now) starts ends
             (table_of (bit_in components.now.strict) (number_of components.now))
-            (λ x. members_of self.old.middle.items (number_of components.now x)) →
+            (λ x. middle_of self.old (number_of components.now x)) →
             IsListing arc (places components.now) starts ends (λ x.
             slice_index self.new.rank.items (number_of components.now x)) self.new.blocks }
-        ensures has { HasPlaces components.now.count (members_of self.old.middle.items)
-            (members_of self.new.placed.items) (λ k. slice_index self.new.rank.items k)
+        ensures has { HasPlaces components.now.count (middle_of self.old) (λ k. slice_index self.new.rank.items k)
+            (λ j. slice_index self.new.listed.items j) self.new.blocks }
+        ensures standings { HasStandings components.now.count (middle_of self.old) (standing_of self.new)
             (λ j. slice_index self.new.listed.items j) self.new.blocks }
         ensures fits { self.new.blocks ≤ places components.now }
         ensures kept { self.new ≡ record self.old {
-          placed = self.new.placed;
+          standing = self.new.standing;
           watch = self.new.watch;
           rank = self.new.rank;
           listed = self.new.listed;

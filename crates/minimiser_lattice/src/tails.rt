@@ -1,4 +1,5 @@
-//! The components of the tails: what a start leads to, and what leads to an end.
+//! The components of the tails: what is reached from a start, and what reaches an end, read off the transitive closure
+//! of the components' order.
 
 ghost use Rattle.std.specs.Prelude.{◌≡◌, ℕ, ◌<◌, ◌≤◌, ◌||◌, length, false};
 ghost use Rattle.exchange_graph.specs.Marks.{members_of};

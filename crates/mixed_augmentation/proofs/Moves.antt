@@ -60,7 +60,8 @@ base-taken p m n F G r v rl base pivoted taken = record { row_below = row_below;
             (λ x. G.row x) q ∙ taken.at_row))
         both_cases (inr ne) (inl s) = let old = taken.only c cl ne ch in absurd (old.1 (sym old.2 ∙ e ∙ ap
             (λ x. G.row x) s ∙ taken.at_row))
-        both_cases (inr ne) (inr other) = let oc = taken.only c cl ne ch in let od = taken.only d dl other dh in base.distinct c d cl dl oc.0 od.0 (sym oc.2 ∙ e ∙ od.2)
+        both_cases (inr ne) (inr other) = let oc = taken.only c cl ne ch in let od = taken.only d dl other dh in
+            base.distinct c d cl dl oc.0 od.0 (sym oc.2 ∙ e ∙ od.2)
 
 pub matching-unlinked : (L : LayeredMatrix) (F G : Tableau) (v : ℕ) → IsMatching L F.matched F.mate →
     IsUnlinked L.columns F.matched F.mate G.matched G.mate v → IsMatching L G.matched G.mate

@@ -2,4 +2,3 @@ pub mod Moves
 pub mod Laws
 pub mod Sealed
 pub mod SealedLaws
-pub mod Sweeps

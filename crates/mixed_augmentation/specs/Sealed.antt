@@ -1,5 +1,5 @@
 -- Column sets from which no end is reached, and the columns that a move leaves as they are.
-use Rattle.std.specs.Prelude.{ℕ, ◌<◌, ◌≡◌, ◌≢◌, ◌%◌, Bool, true, ◌&&◌, not}
+use Rattle.std.specs.Prelude.{ℕ, ◌<◌, ◌≡◌, ◌≢◌, ◌%◌, Bool, true}
 use Rattle.residue_theory.specs.Sets.{nothing}
 use Rattle.closed_sets.specs.Walks.{Reaches}
 use Rattle.closed_sets.specs.Closed.{IsClosed}
@@ -35,7 +35,3 @@ pub record HaveStayed (p : ℕ) (L : LayeredMatrix) (F G : Tableau) (C : ℕ →
 -- the columns of each set that is sealed in F have stayed in G
 abbrev pub KeepsSealed : ℕ → LayeredMatrix → Tableau → Tableau → Type 0
 KeepsSealed p L F G = (C : ℕ → Bool) → IsSealed p L F C → HaveStayed p L F G C
-
--- x leads to y, and y is not in C
-abbrev pub leads_outside : ℕ → LayeredMatrix → Tableau → (ℕ → Bool) → ℕ → ℕ → Bool
-leads_outside p L F C x y = leads_to p L F x y && not (C y)

@@ -1,16 +1,14 @@
 -- The laws of sealed sets: what can reach no end is left for good.
-use Rattle.std.specs.Prelude.{ℕ, ◌+◌, ◌<◌, ◌≤◌, ◌≡◌, ◌↔◌, ◌%◌, Bool, true, false}
+use Rattle.std.specs.Prelude.{ℕ, ◌<◌, ◌≤◌, ◌≡◌, ◌↔◌, ◌%◌, Bool, true, false}
 use Rattle.residue_theory.specs.Residues.{IsPrime}
-use Rattle.residue_theory.specs.Sets.{IsApart, IsWithin, either, nothing}
-use Rattle.residue_theory.specs.Sums.{size_on}
+use Rattle.residue_theory.specs.Sets.{IsWithin, either, nothing}
 use Rattle.mixed_matrices.specs.Arcs.{HasNoWalk, IsClosedIn, IsReachedFromFree, is_end, is_free, leads_to}
 use Rattle.mixed_matrices.specs.LayeredMatrices.{LayeredMatrix}
 use Rattle.mixed_matrices.specs.SetFunctions.{IsMinimiser}
 use Rattle.mixed_matrices.specs.Tableaus.{Tableau, HasTableau}
 use Rattle.mixed_augmentation.specs.Moves.{TakesRow, TakesMate, Route, IsRoute, IsFreeRow, route}
 use Rattle.search_laws.specs.Searches.{IsShortest}
-use Rattle.closed_sets.specs.Closed.{NoEndReached, IsReachedSet}
-use Rattle.mixed_augmentation.specs.Sealed.{IsSealed, HoldsRows, IsRooted, HaveStayed, KeepsSealed, leads_outside}
+use Rattle.mixed_augmentation.specs.Sealed.{IsSealed, HoldsRows, IsRooted, HaveStayed, KeepsSealed}
 
 -- before the first search nothing is left out: the empty set is sealed
 abbrev pub NothingIsSealed : Type 0
@@ -81,16 +79,3 @@ ShortestWalksFromSomeAreRoutes =
     (p : ℕ) (L : LayeredMatrix) (F : Tableau) → HasTableau p L F → (S : ℕ → Bool) → IsWithin L.columns S (is_free F) →
     (at : ℕ → ℕ) (k : ℕ) → IsShortest (leads_to p L F) L.columns S (is_end p L F) at k →
     (in_q : Bool) (row : ℕ) → IsFreeRow p L F (at k) in_q row → IsRoute p L F (route F at k in_q row)
-
--- a search may leave out a sealed set: a shortest walk outside it is a shortest walk, and where there is none it
--- grows by what was reached
-abbrev pub SearchesMayLeaveOutSealedSets : Type 0
-SearchesMayLeaveOutSealedSets =
-    (p : ℕ) (L : LayeredMatrix) (F : Tableau) (C : ℕ → Bool) → IsSealed p L F C → (S : ℕ → Bool) →
-    ((at : ℕ → ℕ) (k : ℕ) → IsShortest (leads_outside p L F C) L.columns S (is_end p L F) at k →
-    IsShortest (leads_to p L F) L.columns S (is_end p L F) at k)
-    × ((X : ℕ → Bool) → NoEndReached (leads_outside p L F C) L.columns S (is_end p L F) →
-    IsReachedSet (leads_outside p L F C) L.columns S X →
-    IsSealed p L F (either C X) × IsWithin L.columns S X
-    × (IsWithin L.columns S (is_free F) → IsRooted p L F C → IsRooted p L F (either C X))
-    × (IsApart L.columns C S → size_on (either C X) L.columns ≡ size_on C L.columns + size_on X L.columns))

@@ -3,8 +3,7 @@
 #![tactic(auto)]
 
 ghost use Rattle.mixed_augmentation.specs.Laws.{EndsHaveAFreeRow, ShortestWalksAreRoutes, MovesBegin, MovesGoOn, MovesEndInALargerPair, RoutesHaveFewPivots};
-ghost use Rattle.mixed_augmentation.specs.Sweeps.{SweepsBegin, SweepsGoOn, SweepsEnd};
-ghost use Rattle.mixed_augmentation.specs.SealedLaws.{NothingIsSealed, SealedSetsHoldTheirRows, MovesLeaveSealedSets, SealedFreeColumnsEndTheSearch, SealedSetsGrow, RoutesMissSealedSets, RoutesLeaveSealedSets, SealedSetsStaySealed, ShortestWalksFromSomeAreRoutes, SearchesMayLeaveOutSealedSets};
+ghost use Rattle.mixed_augmentation.specs.SealedLaws.{NothingIsSealed, SealedSetsHoldTheirRows, MovesLeaveSealedSets, SealedFreeColumnsEndTheSearch, SealedSetsGrow, RoutesMissSealedSets, RoutesLeaveSealedSets, SealedSetsStaySealed, ShortestWalksFromSomeAreRoutes};
 
 /// A column is an end exactly where it may take a row that no column has.
 pub fn ends_have_a_free_row()
@@ -81,24 +80,4 @@ pub fn sealed_sets_stay_sealed()
 /// A walk that is shortest from some free columns alone makes a route too.
 pub fn shortest_walks_from_some_are_routes()
     ensures { ShortestWalksFromSomeAreRoutes }
-{}
-
-/// A search may leave out a sealed set. Where it finds no end, what it reached is sealed with that set.
-pub fn searches_may_leave_out_sealed_sets()
-    ensures { SearchesMayLeaveOutSealedSets }
-{}
-
-/// Before the first column nothing is left out.
-pub fn sweeps_begin()
-    ensures { SweepsBegin }
-{}
-
-/// A column is passed over, or no walk leads from it and what it reaches is left out; and all stays so where the pair grows.
-pub fn sweeps_go_on()
-    ensures { SweepsGoOn }
-{}
-
-/// After the last column there is no walk, and what is left out is the least minimiser.
-pub fn sweeps_end()
-    ensures { SweepsEnd }
 {}

@@ -16,7 +16,8 @@ use Rattle.mixed_matrices.specs.Tableaus.{HasTableau, Tableau}
 use Rattle.mixed_pairs.proofs.Minimisers.{closed-minimiser, least_set, least_set-closed, minimiser-closed}
 use Rattle.mixed_forms.proofs.CheckedParts.{block-held, checked-clear, checked-listing, first-from, from-first, last-to, middle-of_block, of_block-middle, of_block-number, to-last}
 
-module _ (p : ℕ) (prime : IsPrime p) (L : LayeredMatrix) (F : Tableau) (tab : HasTableau p L F) (G : Parts) (below lower : ℕ → ℕ → Bool) (K : KeepsPartRules p L F G below lower) where
+module _ (p : ℕ) (prime : IsPrime p) (L : LayeredMatrix) (F : Tableau) (tab : HasTableau p L F) (G : Parts)
+    (below lower : ℕ → ℕ → Bool) (K : KeepsPartRules p L F G below lower) where
   clear : HasNoWalk p L F
   clear = checked-clear p L F G below lower K
 
@@ -37,10 +38,13 @@ module _ (p : ℕ) (prime : IsPrime p) (L : LayeredMatrix) (F : Tableau) (tab : 
   checked-minimiser = closed-minimiser p prime L F tab
 
   pub holds-first : (X : ℕ → Bool) → IsMinimiser p L X → (x : ℕ) → x < L.columns → G.column x ≡ 0 → X x ≡ true
-  holds-first X least x xl q = closed-from (leads_to p L F) L.columns (is_free F) (is_end p L F) X (checked-closed X least) x xl (first-from p L F G below lower K x xl q)
+  holds-first X least x xl q = closed-from (leads_to p L F) L.columns (is_free F) (is_end p L F) X
+      (checked-closed X least) x xl (first-from p L F G below lower K x xl q)
 
   pub holds-no_last : (X : ℕ → Bool) → IsMinimiser p L X → (x : ℕ) → x < L.columns → G.column x ≡ G.blocks + 1 → X x ≡ false
-  holds-no_last X least x xl q = not_true (X x) (closed-to (leads_to p L F) L.columns (is_free F) (is_end p L F) X (checked-closed X least) x xl (last-to p L F G below lower K x xl q))
+  holds-no_last X least x xl q = not_true (X x)
+      (closed-to (leads_to p L F) L.columns (is_free F) (is_end p L F) X (checked-closed X least) x xl
+      (last-to p L F G below lower K x xl q))
 
   -- ---- what a minimiser holds together
   same_block : (k x y : ℕ) → IsOfBlock L G k x → IsOfBlock L G k y → Mutual (leads_to p L F) L.columns x y
@@ -48,10 +52,12 @@ module _ (p : ℕ) (prime : IsPrime p) (L : LayeredMatrix) (F : Tableau) (tab : 
 
   -- a column that each minimiser with y holds is reached from y
   held-reached : (k l x y : ℕ) → IsOfBlock L G k x → IsOfBlock L G l y → IsHeldWith p L y x → ReachesIn p L F y x
-  held-reached k l x y ox oy held = elim (holds_with (leads_to p L F) L.columns (is_free F) (is_end p L F) clear y x oy.0 ox.0 (middle l y oy).2 (λ X C. held X (checked-minimiser X C))) [
-    | inl r ↦ r
-    | inr f ↦ absurd ((middle k x ox).1 f)
-  ]
+  held-reached k l x y ox oy held = elim
+      (holds_with (leads_to p L F) L.columns (is_free F) (is_end p L F) clear y x oy.0 ox.0 (middle l y oy).2
+      (λ X C. held X (checked-minimiser X C))) [
+        | inl r ↦ r
+        | inr f ↦ absurd ((middle k x ox).1 f)
+      ]
 
   reached-held : (x y : ℕ) → x < L.columns → y < L.columns → ReachesIn p L F y x → IsHeldWith p L y x
   reached-held x y xl yl r X least h = closed-reaches (leads_to p L F) L.columns (is_free F) (is_end p L F) X (checked-closed X least) y x yl xl h r
@@ -69,7 +75,8 @@ module _ (p : ℕ) (prime : IsPrime p) (L : LayeredMatrix) (F : Tableau) (tab : 
     (λ q X least. mutual-together (leads_to p L F) L.columns (is_free F) (is_end p L F) clear x y ox.0 oy.0
         (same_block l x y (subst (λ h. IsOfBlock L G h x) q ox) oy) X (checked-closed X least)),
     λ same. sym (number k x ox) ∙ listing.joined x y (middle k x ox) (middle l y oy)
-        (together-mutual (leads_to p L F) L.columns (is_free F) (is_end p L F) clear x y (middle k x ox) (middle l y oy) (λ X C. same X (checked-minimiser X C))) ∙ number l y oy,
+        (together-mutual (leads_to p L F) L.columns (is_free F) (is_end p L F) clear x y (middle k x ox) (middle l y oy)
+        (λ X C. same X (checked-minimiser X C))) ∙ number l y oy,
   )
 
   -- ---- the listing
@@ -103,11 +110,15 @@ module _ (p : ℕ) (prime : IsPrime p) (L : LayeredMatrix) (F : Tableau) (tab : 
     held = block-held p L F G below lower K;
     first = λ x xl. (
       (λ q X least. holds-first X least x xl q),
-      λ every. from-first p L F G below lower K x xl (in_every (leads_to p L F) L.columns (is_free F) (is_end p L F) clear x xl (λ X C. every X (checked-minimiser X C))),
+      λ every. from-first p L F G below lower K x xl
+          (in_every (leads_to p L F) L.columns (is_free F) (is_end p L F) clear x xl
+          (λ X C. every X (checked-minimiser X C))),
     );
     last = λ x xl. (
       (λ q X least. holds-no_last X least x xl q),
-      λ none. to-last p L F G below lower K x xl (in_none (leads_to p L F) L.columns (is_free F) (is_end p L F) clear x xl (λ X C h. differ (none X (checked-minimiser X C)) h)),
+      λ none. to-last p L F G below lower K x xl
+          (in_none (leads_to p L F) L.columns (is_free F) (is_end p L F) clear x xl
+          (λ X C h. differ (none X (checked-minimiser X C)) h)),
     );
     block = block-together;
     ready = λ k kl h hl b. below-before h k hl kl b;
@@ -119,7 +130,9 @@ module _ (p : ℕ) (prime : IsPrime p) (L : LayeredMatrix) (F : Tableau) (tab : 
   below-block k l kl ll h = (
     K.order.apart k l kl ll h,
     λ x y ox oy. reached-held x y ox.0 oy.0
-        (K.order.tells y x (middle l y oy) (middle k x ox) (subst (λ i. below i (block_of G y) ≡ true) (sym (number k x ox)) (subst (λ i. below k i ≡ true) (sym (number l y oy)) h))),
+        (K.order.tells y x (middle l y oy) (middle k x ox)
+        (subst (λ i. below i (block_of G y) ≡ true) (sym (number k x ox))
+        (subst (λ i. below k i ≡ true) (sym (number l y oy)) h))),
   )
 
   pub block-below : (k l : ℕ) → k < G.blocks → l < G.blocks → IsBlockBelow p L G k l → below k l ≡ true

@@ -46,7 +46,8 @@ best_tableau p prime L = go (optimal p prime L)
               (tableau p prime L S U (record { P = P; base = O.I; row = row; matched = O.J; mate = O.mate }) tab) best;
         }
 
-pub canonical_form : (p : ℕ) → IsPrime p → (L : LayeredMatrix) → (S : ℕ → ℕ → ℕ) × (G : Parts) × (below : ℕ → ℕ → Bool) × (lower : ℕ → ℕ → Bool) × AreRightParts p L S G below lower
+pub canonical_form : (p : ℕ) → IsPrime p → (L : LayeredMatrix) → (S : ℕ → ℕ → ℕ) × (G : Parts) × (below : ℕ → ℕ → Bool)
+    × (lower : ℕ → ℕ → Bool) × AreRightParts p L S G below lower
 canonical_form p prime L = go (best_tableau p prime L)
   where
     go : BestTableau p L → (S : ℕ → ℕ → ℕ) × (G : Parts) × (below : ℕ → ℕ → Bool) × (lower : ℕ → ℕ → Bool) × AreRightParts p L S G below lower

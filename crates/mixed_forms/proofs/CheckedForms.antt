@@ -47,13 +47,25 @@ module _ (p : ℕ) (prime : IsPrime p) (L : LayeredMatrix) (S U : ℕ → ℕ �
   -- a row of a part before the last has its base column in the part
   q_inside : (k i : ℕ) → k ≤ G.blocks → i < L.q_rows → in_part G.q_row k i ≡ true → (b : ℕ) × (b < L.columns) × (both F.base (C k) b ≡ true) × (F.row b ≡ i)
   q_inside k i kl il h = elim (base_of i) [
-    | inl f ↦ (f.0, f.1, both_true (F.base f.0) (C k f.0) f.2 (eqb_from (G.column f.0) k (sym (K.rows.base f.0 f.1 f.2) ∙ ap G.q_row f.3 ∙ eqb_true (G.q_row i) k h)), f.3)
+    | inl f ↦ (
+      f.0,
+      f.1,
+      both_true (F.base f.0) (C k f.0) f.2
+          (eqb_from (G.column f.0) k (sym (K.rows.base f.0 f.1 f.2) ∙ ap G.q_row f.3 ∙ eqb_true (G.q_row i) k h)),
+      f.3,
+    )
     | inr none ↦ absurd (omega (arith, K.rows.other_q i il none, eqb_true (G.q_row i) k h))
   ]
 
   t_inside : (k i : ℕ) → k ≤ G.blocks → i < L.t_rows → in_part G.t_row k i ≡ true → (b : ℕ) × (b < L.columns) × (both F.matched (C k) b ≡ true) × (F.mate b ≡ i)
   t_inside k i kl il h = elim (mate_of i) [
-    | inl f ↦ (f.0, f.1, both_true (F.matched f.0) (C k f.0) f.2 (eqb_from (G.column f.0) k (sym (K.rows.matched f.0 f.1 f.2) ∙ ap G.t_row f.3 ∙ eqb_true (G.t_row i) k h)), f.3)
+    | inl f ↦ (
+      f.0,
+      f.1,
+      both_true (F.matched f.0) (C k f.0) f.2
+          (eqb_from (G.column f.0) k (sym (K.rows.matched f.0 f.1 f.2) ∙ ap G.t_row f.3 ∙ eqb_true (G.t_row i) k h)),
+      f.3,
+    )
     | inr none ↦ absurd (omega (arith, K.rows.other_t i il none, eqb_true (G.t_row i) k h))
   ]
 
@@ -63,12 +75,15 @@ module _ (p : ℕ) (prime : IsPrime p) (L : LayeredMatrix) (S U : ℕ → ℕ �
   mate_in : (k b : ℕ) → b < L.columns → F.matched b ≡ true → C k b ≡ true → in_part G.t_row k (F.mate b) ≡ true
   mate_in k b bl bh h = eqb_from (G.t_row (F.mate b)) k (K.rows.matched b bl bh ∙ eqb_true (G.column b) k h)
 
-  q_into : (k : ℕ) (E : ℕ → Bool) → ((b : ℕ) → b < L.columns → both F.base (C k) b ≡ true → E (F.row b) ≡ true) → size_on (both F.base (C k)) L.columns ≤ size_on E L.q_rows
+  q_into : (k : ℕ) (E : ℕ → Bool) → ((b : ℕ) → b < L.columns → both F.base (C k) b ≡ true → E (F.row b) ≡ true) →
+      size_on (both F.base (C k)) L.columns ≤ size_on E L.q_rows
   q_into k E inside = size-injection (both F.base (C k)) L.columns F.row L.q_rows E (λ b bl h. tab.base.row_below b bl (both-first (F.base b) (C k b) h)) inside
       (λ b c bl cl h g q. tab.base.distinct b c bl cl (both-first (F.base b) (C k b) h) (both-first (F.base c) (C k c) g) q)
 
-  t_into : (k : ℕ) (E : ℕ → Bool) → ((b : ℕ) → b < L.columns → both F.matched (C k) b ≡ true → E (F.mate b) ≡ true) → size_on (both F.matched (C k)) L.columns ≤ size_on E L.t_rows
-  t_into k E inside = size-injection (both F.matched (C k)) L.columns F.mate L.t_rows E (λ b bl h. tab.matching.below b bl (both-first (F.matched b) (C k b) h)) inside
+  t_into : (k : ℕ) (E : ℕ → Bool) → ((b : ℕ) → b < L.columns → both F.matched (C k) b ≡ true → E (F.mate b) ≡ true) →
+      size_on (both F.matched (C k)) L.columns ≤ size_on E L.t_rows
+  t_into k E inside = size-injection (both F.matched (C k)) L.columns F.mate L.t_rows E
+      (λ b bl h. tab.matching.below b bl (both-first (F.matched b) (C k b) h)) inside
       (λ b c bl cl h g q. tab.matching.distinct b c bl cl (both-first (F.matched b) (C k b) h) (both-first (F.matched c) (C k c) g) q)
 
   -- the base and matched columns of part k
@@ -104,13 +119,25 @@ module _ (p : ℕ) (prime : IsPrime p) (L : LayeredMatrix) (S U : ℕ → ℕ �
   -- ---- no entry below the diagonal parts
   empty-q : (i j : ℕ) → i < L.q_rows → j < L.columns → F.P i j % p ≢ 0 → G.q_row i ≤ G.column j
   empty-q i j il jl ne = elim (base_of i) [
-    | inl f ↦ omega (arith, entry-falls p L F G below lower K j f.0 jl f.1 f.2 (subst (λ k. F.P k j % p ≢ 0) (sym f.3) ne), K.rows.base f.0 f.1 f.2, ap G.q_row f.3)
+    | inl f ↦ omega (
+      arith,
+      entry-falls p L F G below lower K j f.0 jl f.1 f.2
+          (subst (λ k. F.P k j % p ≢ 0) (sym f.3) ne),
+      K.rows.base f.0 f.1 f.2,
+      ap G.q_row f.3,
+    )
     | inr none ↦ omega (arith, end-last p L F G below lower K j jl (end-q p L F j i il ne none), K.rows.other_q i il none)
   ]
 
   empty-t : (i j : ℕ) → i < L.t_rows → j < L.columns → L.t i j ≡ true → G.t_row i ≤ G.column j
   empty-t i j il jl s = elim (mate_of i) [
-    | inl f ↦ omega (arith, symbol-falls p L F G below lower K j f.0 jl f.1 f.2 (subst (λ k. L.t k j ≡ true) (sym f.3) s), K.rows.matched f.0 f.1 f.2, ap G.t_row f.3)
+    | inl f ↦ omega (
+      arith,
+      symbol-falls p L F G below lower K j f.0 jl f.1 f.2
+          (subst (λ k. L.t k j ≡ true) (sym f.3) s),
+      K.rows.matched f.0 f.1 f.2,
+      ap G.t_row f.3,
+    )
     | inr none ↦ omega (arith, end-last p L F G below lower K j jl (end-t p L F j i il s none), K.rows.other_t i il none)
   ]
 
@@ -121,10 +148,16 @@ module _ (p : ℕ) (prime : IsPrime p) (L : LayeredMatrix) (S U : ℕ → ℕ �
   }
 
   q_bound : (i : ℕ) → i < L.q_rows → G.q_row i ≤ G.blocks + 1
-  q_bound i il = elim (base_of i) [ inl f ↦ omega (arith, K.rows.base f.0 f.1 f.2, ap G.q_row f.3, K.rows.columns f.0 f.1) | inr none ↦ omega (arith, K.rows.other_q i il none) ]
+  q_bound i il = elim (base_of i) [
+    | inl f ↦ omega (arith, K.rows.base f.0 f.1 f.2, ap G.q_row f.3, K.rows.columns f.0 f.1)
+    | inr none ↦ omega (arith, K.rows.other_q i il none)
+  ]
 
   t_bound : (i : ℕ) → i < L.t_rows → G.t_row i ≤ G.blocks + 1
-  t_bound i il = elim (mate_of i) [ inl f ↦ omega (arith, K.rows.matched f.0 f.1 f.2, ap G.t_row f.3, K.rows.columns f.0 f.1) | inr none ↦ omega (arith, K.rows.other_t i il none) ]
+  t_bound i il = elim (mate_of i) [
+    | inl f ↦ omega (arith, K.rows.matched f.0 f.1 f.2, ap G.t_row f.3, K.rows.columns f.0 f.1)
+    | inr none ↦ omega (arith, K.rows.other_t i il none)
+  ]
 
   -- ---- a column in the last tail: a row without base or match stands there too
   more_rows : (e : ℕ) → EndsInQ p L F e ⊎ EndsInT p L F e → pairs (G.blocks + 1) < part_rows (transformed S L) G (G.blocks + 1)
@@ -145,17 +178,27 @@ module _ (p : ℕ) (prime : IsPrime p) (L : LayeredMatrix) (S U : ℕ → ℕ �
     sum_on-without (in_part G.t_row (G.blocks + 1)) L.t_rows i (λ _. 1) il (eqb_from (G.t_row i) (G.blocks + 1) (K.rows.other_t i il none)),
   )
 
-  first_size : (part_rows (transformed S L) G 0 < part_columns (transformed S L) G 0) ⊎ ((part_rows (transformed S L) G 0 ≡ 0) × (part_columns (transformed S L) G 0 ≡ 0))
+  first_size : (part_rows (transformed S L) G 0 < part_columns (transformed S L) G 0)
+      ⊎ ((part_rows (transformed S L) G 0 ≡ 0) × (part_columns (transformed S L) G 0 ≡ 0))
   first_size = elim (first_on (C 0) L.columns) [
     | inl f ↦ inl (fewer (first-from p L F G below lower K f.0 f.1 (eqb_true (G.column f.0) 0 f.2)))
-    | inr none ↦ inr (omega (arith, rows-pairs 0 (omega arith), pair-columns F.base F.matched (C 0) L.columns tab.apart, size-zero (C 0) L.columns none), size-zero (C 0) L.columns none)
+    | inr none ↦ inr (
+      omega (
+        arith,
+        rows-pairs 0 (omega arith),
+        pair-columns F.base F.matched (C 0) L.columns tab.apart,
+        size-zero (C 0) L.columns none,
+      ),
+      size-zero (C 0) L.columns none,
+    )
   ]
     where
       fewer : {x : ℕ} → IsFromFree p L F x → part_rows (transformed S L) G 0 < part_columns (transformed S L) G 0
       fewer (s, sl, sh, _) = let free : (F.base s ≡ false) × (F.matched s ≡ false) = free-tells F s sh in omega (
         arith,
         rows-pairs 0 (omega arith),
-        pair-columns-less F.base F.matched (C 0) L.columns tab.apart s sl (eqb_from (G.column s) 0 (free-first p L F G below lower K s sl free.0 free.1)) free.0 free.1,
+        pair-columns-less F.base F.matched (C 0) L.columns tab.apart s sl
+            (eqb_from (G.column s) 0 (free-first p L F G below lower K s sl free.0 free.1)) free.0 free.1,
       )
 
   last_size : (part_columns (transformed S L) G (G.blocks + 1) < part_rows (transformed S L) G (G.blocks + 1)) ⊎
@@ -189,9 +232,11 @@ module _ (p : ℕ) (prime : IsPrime p) (L : LayeredMatrix) (S U : ℕ → ℕ �
       square = square;
       last = last_size;
       row_rank = λ k kl. subst (λ r. IsLayeredRank p (diagonal_part (transformed S L) G k) r) (sym (rows-pairs k kl))
-          (full_rows-rank p prime L S U F tab (in_part G.q_row k) (in_part G.t_row k) (C k) (row_in k) (mate_in k) (λ i il h. q_inside k i kl il h) (λ i il h. t_inside k i kl il h));
+          (full_rows-rank p prime L S U F tab (in_part G.q_row k) (in_part G.t_row k) (C k) (row_in k) (mate_in k)
+          (λ i il h. q_inside k i kl il h) (λ i il h. t_inside k i kl il h));
       column_rank = subst (λ r. IsLayeredRank p (diagonal_part (transformed S L) G (G.blocks + 1)) r) (columns-pairs (G.blocks + 1) (omega arith))
-          (full_columns-rank p prime L S U F tab (in_part G.q_row (G.blocks + 1)) (in_part G.t_row (G.blocks + 1)) (C (G.blocks + 1)) (row_in (G.blocks + 1)) (mate_in (G.blocks + 1))
+          (full_columns-rank p prime L S U F tab (in_part G.q_row (G.blocks + 1)) (in_part G.t_row (G.blocks + 1))
+          (C (G.blocks + 1)) (row_in (G.blocks + 1)) (mate_in (G.blocks + 1))
           (λ j jl h a b. differ b (paired (G.blocks + 1) j (omega arith) jl h a)));
     },
   )

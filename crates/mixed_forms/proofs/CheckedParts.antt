@@ -46,17 +46,20 @@ module _ (p : ℕ) (L : LayeredMatrix) (F : Tableau) (G : Parts) (below lower : 
   of_block-number k x o = omega (arith, o.2)
 
   pub of_block-middle : (k x : ℕ) → IsOfBlock L G k x → IsOfMiddle p L F x
-  of_block-middle k x o = block-middle (leads_to p L F) L.columns (is_free F) (is_end p L F) (in_first G) (in_last G) (block_of G) G.blocks lower K.rules x (record {
-    below = o.0;
-    not_first = unequal (G.column x) 0 (λ q. omega (arith, q, o.2));
-    not_last = unequal (G.column x) (G.blocks + 1) (λ q. omega (arith, q, o.1, o.2));
-  })
+  of_block-middle k x o = block-middle (leads_to p L F) L.columns (is_free F) (is_end p L F) (in_first G) (in_last G)
+      (block_of G) G.blocks lower K.rules x (record {
+        below = o.0;
+        not_first = unequal (G.column x) 0 (λ q. omega (arith, q, o.2));
+        not_last = unequal (G.column x) (G.blocks + 1) (λ q. omega (arith, q, o.1, o.2));
+      })
 
   in_block-of : (x : ℕ) → InBlock L.columns (in_first G) (in_last G) x → IsOfBlock L G (block_of G x) x
   in_block-of x i = let low : G.column x ≢ 0 = eqb_false (G.column x) 0 i.not_first in (i.below, K.rules.number x i, omega arith)
 
   pub middle-of_block : (x : ℕ) → IsOfMiddle p L F x → IsOfBlock L G (block_of G x) x
-  middle-of_block x m = in_block-of x (middle-block (leads_to p L F) L.columns (is_free F) (is_end p L F) (in_first G) (in_last G) (block_of G) G.blocks lower K.rules x m)
+  middle-of_block x m = in_block-of x
+      (middle-block (leads_to p L F) L.columns (is_free F) (is_end p L F) (in_first G) (in_last G) (block_of G) G.blocks
+      lower K.rules x m)
 
   -- each block has a column
   pub block-held : (k : ℕ) → k < G.blocks → (x : ℕ) × IsOfBlock L G k x
@@ -101,7 +104,9 @@ module _ (p : ℕ) (L : LayeredMatrix) (F : Tableau) (G : Parts) (below lower : 
             (reaches-arc (leads_to p L F) L.columns x x y (reaches-self (leads_to p L F) L.columns x) xl a),
       )
       from_block o (inr (inr last)) = absurd ((of_block-middle (block_of G x) x o).2
-          (reaches-to (leads_to p L F) L.columns (is_end p L F) x y (reaches-arc (leads_to p L F) L.columns x x y (reaches-self (leads_to p L F) L.columns x) xl a) (last-to y yl last)))
+          (reaches-to (leads_to p L F) L.columns (is_end p L F) x y
+          (reaches-arc (leads_to p L F) L.columns x x y (reaches-self (leads_to p L F) L.columns x) xl a)
+          (last-to y yl last)))
 
   pub entry-falls : (x y : ℕ) → x < L.columns → y < L.columns → F.base y ≡ true → F.P (F.row y) x % p ≢ 0 → G.column y ≤ G.column x
   entry-falls x y xl yl b ne = elim (nat_cases x y) [ inl q ↦ omega (arith, ap G.column q) | inr other ↦ arc-falls x y xl yl (leads-q p L F x y other b ne) ]

@@ -41,12 +41,15 @@ module _ (p : ℕ) (prime : IsPrime p) (P : LayeredMatrix) (G : Parts) (tri : Is
 
   each-rank : (h : ℕ) → h < G.blocks + 2 → IsLayeredRank p (diagonal_part P G h) (part_rank h)
   each-rank h hl = elim (nat_cases h (G.blocks + 1)) [
-    | inl q ↦ subst (λ k. IsLayeredRank p (diagonal_part P G k) (part_rank k)) (sym q) (subst (λ r. IsLayeredRank p (diagonal_part P G (G.blocks + 1)) r) (sym late-rank) tri.column_rank)
+    | inl q ↦ subst (λ k. IsLayeredRank p (diagonal_part P G k) (part_rank k)) (sym q)
+        (subst (λ r. IsLayeredRank p (diagonal_part P G (G.blocks + 1)) r) (sym late-rank) tri.column_rank)
     | inr ne ↦ subst (λ r. IsLayeredRank p (diagonal_part P G h) r) (sym (early-rank h (omega arith))) (tri.row_rank h (omega arith))
   ]
 
   -- f gives the values of each part
-  module _ (f : ℕ → ℕ → ℕ → ℕ) (ranked : (h : ℕ) → h < G.blocks + 2 → IsRank p (layered_value (diagonal_part P G h) (f h)) (P.q_rows + P.t_rows) P.columns everything (part_rank h)) where
+  module _ (f : ℕ → ℕ → ℕ → ℕ)
+      (ranked : (h : ℕ) → h < G.blocks + 2 → IsRank p (layered_value (diagonal_part P G h) (f h)) (P.q_rows + P.t_rows)
+      P.columns everything (part_rank h)) where
     abbrev values : ℕ → ℕ → ℕ
     values i j = f (G.t_row i) i j
 
@@ -60,7 +63,8 @@ module _ (p : ℕ) (prime : IsPrime p) (P : LayeredMatrix) (G : Parts) (tri : Is
         top b e = ap (λ c. cond c (G.q_row i) (G.t_row (i - P.q_rows))) e
 
     row_part-low : (k : ℕ) → row_part (P.q_rows + k) ≡ G.t_row k
-    row_part-low k = low (ltb (P.q_rows + k) P.q_rows) (P.q_rows + k - P.q_rows) (let g : P.q_rows ≤ P.q_rows + k = omega arith in grind (arith, nat_tests)) (omega arith)
+    row_part-low k = low (ltb (P.q_rows + k) P.q_rows) (P.q_rows + k - P.q_rows)
+        (let g : P.q_rows ≤ P.q_rows + k = omega arith in grind (arith, nat_tests)) (omega arith)
       where
         low : (b : Bool) (i : ℕ) → b ≡ false → i ≡ k → cond b (G.q_row (P.q_rows + k)) (G.t_row i) ≡ G.t_row k
         low b i e q = ap (λ c. cond c (G.q_row (P.q_rows + k)) (G.t_row i)) e ∙ ap G.t_row q
@@ -78,11 +82,14 @@ module _ (p : ℕ) (prime : IsPrime p) (P : LayeredMatrix) (G : Parts) (tri : Is
         (λ i l h. ap (λ s. s % p) (above-top P.q_rows P.q (numbers P.t values) i j l) ∙
         (tri.empty (G.q_row i) (G.column j) (subst (λ k. G.column j < k) (row_part-top i l) h)).q i j l jl refl refl)
         (λ k kl h. ap (λ s. s % p) (above-low P.q_rows P.q (numbers P.t values) k j)
-        ∙ ap (λ b. cond b (values k j) 0 % p) ((tri.empty (G.t_row k) (G.column j) (subst (λ l. G.column j < l) (row_part-low k) h)).t k j kl jl refl refl) ∙ zero-mod p)
+        ∙ ap (λ b. cond b (values k j) 0 % p)
+        ((tri.empty (G.t_row k) (G.column j) (subst (λ l. G.column j < l) (row_part-low k) h)).t k j kl jl refl
+        refl) ∙ zero-mod p)
         i il less
 
     -- the diagonal part of the whole is the whole of the diagonal part
-    diagonal-agrees : (h i j : ℕ) → i < P.q_rows + P.t_rows → layered_value (diagonal_part P G h) (f h) i j ≡ diagonal row_part G.column (layered_value P values) h i j
+    diagonal-agrees : (h i j : ℕ) → i < P.q_rows + P.t_rows →
+        layered_value (diagonal_part P G h) (f h) i j ≡ diagonal row_part G.column (layered_value P values) h i j
     diagonal-agrees h i j il = at_rows (λ i. layered_value (diagonal_part P G h) (f h) i j ≡ diagonal row_part G.column (layered_value P values) h i j)
         (λ i l. above-top P.q_rows (diagonal_part P G h).q (numbers (diagonal_part P G h).t (f h)) i j l
         ∙ ap (λ x. cond (eqb (G.q_row i) h && eqb (G.column j) h) x 0) (sym (above-top P.q_rows P.q (numbers P.t values) i j l))
@@ -115,7 +122,8 @@ module _ (p : ℕ) (prime : IsPrime p) (P : LayeredMatrix) (G : Parts) (tri : Is
         go (s, S) = (s, S, ranks-below s S)
 
   pub diagonal-ranks : (r : ℕ) → IsLayeredRank p P r → sum_below (G.blocks + 2) part_rank ≤ r
-  diagonal-ranks r R = go (choose (G.blocks + 2) (ℕ → ℕ → ℕ) (λ _ _. 0) (λ h w. IsRank p (layered_value (diagonal_part P G h) w) (P.q_rows + P.t_rows) P.columns everything (part_rank h))
+  diagonal-ranks r R = go (choose (G.blocks + 2) (ℕ → ℕ → ℕ) (λ _ _. 0)
+      (λ h w. IsRank p (layered_value (diagonal_part P G h) w) (P.q_rows + P.t_rows) P.columns everything (part_rank h))
       (λ h hl. (each-rank h hl).reached))
     where
       go : (f : ℕ → ℕ → ℕ → ℕ) × ((h : ℕ) → h < G.blocks + 2 → IsRank p (layered_value (diagonal_part P G h) (f h)) (P.q_rows + P.t_rows) P.columns everything

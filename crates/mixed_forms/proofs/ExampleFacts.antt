@@ -35,8 +35,10 @@ below-is : (k l : ℕ) → triangle_below k l ≡ true → (k ≡ 0) × (l ≡ 1
 below-is k l h = (eqb_true k 0 (both-first (eqb k 0) (eqb l 1) h), eqb_true l 1 (both-second (eqb k 0) (eqb l 1) h))
 
 triangle-reaches : (x y : ℕ) → x ≡ 0 → y ≡ 1 → ReachesIn 65521 symbol_triangle triangle_tableau x y
-triangle-reaches x y p q = reaches-arc (leads_to 65521 symbol_triangle triangle_tableau) 2 x x y (reaches-self (leads_to 65521 symbol_triangle triangle_tableau) 2 x) (omega arith)
-    (subst (λ i. leads_to 65521 symbol_triangle triangle_tableau i y ≡ true) (sym p) (subst (λ j. leads_to 65521 symbol_triangle triangle_tableau 0 j ≡ true) (sym q) triangle-leads))
+triangle-reaches x y p q = reaches-arc (leads_to 65521 symbol_triangle triangle_tableau) 2 x x y
+    (reaches-self (leads_to 65521 symbol_triangle triangle_tableau) 2 x) (omega arith)
+    (subst (λ i. leads_to 65521 symbol_triangle triangle_tableau i y ≡ true) (sym p)
+    (subst (λ j. leads_to 65521 symbol_triangle triangle_tableau 0 j ≡ true) (sym q) triangle-leads))
 
 -- a walk from one column to another goes from column 0 to column 1
 walk-is : (x y : ℕ) → x < 2 → y < 2 → ReachesIn 65521 symbol_triangle triangle_tableau x y → y ≢ x → (x ≡ 0) × (y ≡ 1)
@@ -44,7 +46,9 @@ walk-is x y xl yl r ne = go (nat_cases x 1)
   where
     go : (x ≡ 1) ⊎ (x ≢ 1) → (x ≡ 0) × (y ≡ 1)
     go (inr other) = (omega arith, omega arith)
-    go (inl q) = absurd (ne (eqb_true y 1 (follows-reaches (leads_to 65521 symbol_triangle triangle_tableau) 2 (only 1) triangle-closed.follows x y xl yl (eqb_from x 1 q) r) ∙ sym q))
+    go (inl q) = absurd (ne (eqb_true y 1
+        (follows-reaches (leads_to 65521 symbol_triangle triangle_tableau) 2 (only 1) triangle-closed.follows x y xl yl
+        (eqb_from x 1 q) r) ∙ sym q))
 
 pub triangle-rows : HasRows symbol_triangle triangle_tableau triangle_parts
 triangle-rows = record {
@@ -79,7 +83,8 @@ triangle-rules = record {
   least = least;
 }
   where
-    both_ways : (x y : ℕ) → x < 2 → y < 2 → block_of triangle_parts x ≡ block_of triangle_parts y → Mutual (leads_to 65521 symbol_triangle triangle_tableau) 2 x y
+    both_ways : (x y : ℕ) → x < 2 → y < 2 → block_of triangle_parts x ≡ block_of triangle_parts y →
+        Mutual (leads_to 65521 symbol_triangle triangle_tableau) 2 x y
     both_ways x y xl yl q = subst (λ v. Mutual (leads_to 65521 symbol_triangle triangle_tableau) 2 x v) (let e : x ≡ y = omega arith in e)
         (reaches-self (leads_to 65521 symbol_triangle triangle_tableau) 2 x, reaches-self (leads_to 65521 symbol_triangle triangle_tableau) 2 x)
 
@@ -87,7 +92,9 @@ triangle-rules = record {
         ((y : ℕ) → InBlock 2 (in_first triangle_parts) (in_last triangle_parts) y → ReachesIn 65521 symbol_triangle triangle_tableau x y →
         (block_of triangle_parts y < k) ⊎ (block_of triangle_parts y ≡ block_of triangle_parts x)) →
         (z : ℕ) × (z < x) × InBlock 2 (in_first triangle_parts) (in_last triangle_parts) z × (block_of triangle_parts z ≡ k)
-    least x k i kl lower = absurd (elim (lower 1 (in_block 1 (omega arith)) (triangle-reaches x 1 (omega arith) refl)) [ inl less ↦ omega arith | inr q ↦ omega arith ])
+    least x k i kl lower = absurd
+        (elim (lower 1 (in_block 1 (omega arith)) (triangle-reaches x 1 (omega arith) refl))
+        [ inl less ↦ omega arith | inr q ↦ omega arith ])
 
 pub triangle-rules_kept : KeepsPartRules 65521 symbol_triangle triangle_tableau triangle_parts triangle_below triangle_lower
 triangle-rules_kept = record {
@@ -122,26 +129,33 @@ triangle-is_tableau = record {
 }
 
 pub triangle-form : IsForm 65521 symbol_triangle identity triangle_parts
-triangle-form = checked-form 65521 prime_65521 symbol_triangle identity identity triangle_tableau triangle-is_tableau triangle_parts triangle_below triangle_lower triangle-rules_kept
+triangle-form = checked-form 65521 prime_65521 symbol_triangle identity identity triangle_tableau triangle-is_tableau
+    triangle_parts triangle_below triangle_lower triangle-rules_kept
 
 pub triangle-ordered : IsOrdered 65521 symbol_triangle identity triangle_parts (λ k l. triangle_below k l ≡ true)
-triangle-ordered = checked-ordered 65521 prime_65521 symbol_triangle identity identity triangle_tableau triangle-is_tableau triangle_parts triangle_below triangle_lower triangle-rules_kept
+triangle-ordered = checked-ordered 65521 prime_65521 symbol_triangle identity identity triangle_tableau
+    triangle-is_tableau triangle_parts triangle_below triangle_lower triangle-rules_kept
 
 pub triangle-canonical : AreCanonical 65521 symbol_triangle triangle_parts
-triangle-canonical = checked-canonical 65521 prime_65521 symbol_triangle triangle_tableau triangle-has_tableau triangle_parts triangle_below triangle_lower triangle-rules_kept
+triangle-canonical = checked-canonical 65521 prime_65521 symbol_triangle triangle_tableau triangle-has_tableau
+    triangle_parts triangle_below triangle_lower triangle-rules_kept
 
 pub triangle-block_below : IsBlockBelow 65521 symbol_triangle triangle_parts 0 1
-triangle-block_below = below-block 65521 prime_65521 symbol_triangle triangle_tableau triangle-has_tableau triangle_parts triangle_below triangle_lower triangle-rules_kept 0 1 (omega arith) (omega arith) refl
+triangle-block_below = below-block 65521 prime_65521 symbol_triangle triangle_tableau triangle-has_tableau
+    triangle_parts triangle_below triangle_lower triangle-rules_kept 0 1 (omega arith) (omega arith) refl
 
 pub triangle-lower_block : IsLowerBlock 65521 symbol_triangle triangle_parts 0 1
-triangle-lower_block = lower-block 65521 prime_65521 symbol_triangle triangle_tableau triangle-has_tableau triangle_parts triangle_below triangle_lower triangle-rules_kept 0 1 (omega arith) (omega arith) refl
+triangle-lower_block = lower-block 65521 prime_65521 symbol_triangle triangle_tableau triangle-has_tableau
+    triangle_parts triangle_below triangle_lower triangle-rules_kept 0 1 (omega arith) (omega arith) refl
 
 -- column 1 alone is a minimiser, and each that holds column 0 holds column 1
 pub triangle-minimiser : IsMinimiser 65521 symbol_triangle (only 1)
 triangle-minimiser = closed-minimiser 65521 prime_65521 symbol_triangle triangle_tableau triangle-has_tableau (only 1) triangle-closed
 
 pub triangle-held : IsHeldWith 65521 symbol_triangle 0 1
-triangle-held X least h = (minimiser-closed 65521 prime_65521 symbol_triangle triangle_tableau triangle-has_tableau (only 1) triangle-closed X least).follows 0 1
+triangle-held X least h =
+    (minimiser-closed 65521 prime_65521 symbol_triangle triangle_tableau triangle-has_tableau (only 1) triangle-closed X
+    least).follows 0 1
     (omega arith) (omega arith) h triangle-leads
 
 pub triangle-not_held : IsHeldWith 65521 symbol_triangle 1 0 → ⊥
@@ -179,7 +193,8 @@ unfolding has_match
 tall-match = refl
 
 tall-reaches : (x : ℕ) → x < 1 → ReachesEnd 65521 tall_symbols tall_tableau x
-tall-reaches = below_one (λ x. ReachesEnd 65521 tall_symbols tall_tableau x) (0, omega arith, tall-end, reaches-self (leads_to 65521 tall_symbols tall_tableau) 1 0)
+tall-reaches = below_one (λ x. ReachesEnd 65521 tall_symbols tall_tableau x)
+    (0, omega arith, tall-end, reaches-self (leads_to 65521 tall_symbols tall_tableau) 1 0)
 
 pub tall-rules_kept : KeepsPartRules 65521 tall_symbols tall_tableau tall_parts (λ k l. false) (λ l k. false)
 tall-rules_kept = record {

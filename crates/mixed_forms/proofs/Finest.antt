@@ -20,4 +20,6 @@ module _ (p : ℕ) (prime : IsPrime p) (L : LayeredMatrix) (A : Parts) (C : AreC
           (xl, omega (arith, C.columns x xl), omega arith) (yl, omega (arith, C.columns x xl), omega (arith, q))).0 refl X least
 
   pub canonical-finest : (S : ℕ → ℕ → ℕ) (G : Parts) → IsForm p L S G → IsAsFine L A G
-  canonical-finest S G form k le x y xl yl q = minimiser-union (λ j. leb (G.column j) k) (first_parts-minimiser p prime L S form.0.0 form.0.1 G form.1 k le) x y xl yl q
+  canonical-finest S G form k le x y xl yl q =
+      minimiser-union (λ j. leb (G.column j) k) (first_parts-minimiser p prime L S form.0.0 form.0.1 G form.1 k le) x y
+      xl yl q

@@ -33,7 +33,8 @@ leb_is x k h = grind (arith, nat_tests)
 leb_not : (x k : ℕ) → leb x k ≡ false → k < x
 leb_not x k h = grind (arith, nat_tests)
 
-module _ (p : ℕ) (prime : IsPrime p) (L : LayeredMatrix) (S U : ℕ → ℕ → ℕ) (inv : IsInverse p L.q_rows S U) (G : Parts) (tri : IsTriangular p (transformed S L) G) where
+module _ (p : ℕ) (prime : IsPrime p) (L : LayeredMatrix) (S U : ℕ → ℕ → ℕ) (inv : IsInverse p L.q_rows S U) (G : Parts)
+    (tri : IsTriangular p (transformed S L) G) where
   kernel : SameKernel p L.q_rows L.columns L.q (product L.q_rows S L.q)
   kernel = product-kernel p prime L.q_rows L.columns S U L.q (product L.q_rows S L.q) inv (λ i j _ _. refl)
 
@@ -87,7 +88,12 @@ module _ (p : ℕ) (prime : IsPrime p) (L : LayeredMatrix) (S U : ℕ → ℕ �
 
   -- the ranks of the diagonal parts before the last are the first rows
   rank-sum : (k : ℕ) → k ≤ G.blocks → sum_below (suc k) (part_rank p prime (transformed S L) G tri) ≡ first_rows k
-  rank-sum zero le = omega (arith, early-rank p prime (transformed S L) G tri 0 (omega arith), levels-first G.q_row L.q_rows (λ _. 1), levels-first G.t_row L.t_rows (λ _. 1))
+  rank-sum zero le = omega (
+    arith,
+    early-rank p prime (transformed S L) G tri 0 (omega arith),
+    levels-first G.q_row L.q_rows (λ _. 1),
+    levels-first G.t_row L.t_rows (λ _. 1),
+  )
   rank-sum (suc k) le = omega (
     arith,
     rank-sum k (omega arith),
@@ -120,7 +126,9 @@ module _ (p : ℕ) (prime : IsPrime p) (L : LayeredMatrix) (S U : ℕ → ℕ �
       stacked : (w : ℕ → ℕ → ℕ) → SameKernel p (L.q_rows + L.t_rows) L.columns (layered_value L w) (layered_value (transformed S L) w)
       stacked w = above-kernel p L.q_rows L.t_rows L.columns L.q (product L.q_rows S L.q) (numbers L.t w) kernel
 
-  pub form-ranks : (r : ℕ) → IsLayeredRank p L r → sum_below (G.blocks + 1) (λ k. part_rows (transformed S L) G k) + part_columns (transformed S L) G (G.blocks + 1) ≤ r
+  pub form-ranks : (r : ℕ) → IsLayeredRank p L r →
+      sum_below (G.blocks + 1) (λ k. part_rows (transformed S L) G k) + part_columns (transformed S L) G
+      (G.blocks + 1) ≤ r
   form-ranks r R = omega (
     arith,
     ap (λ n. sum_below n (λ k. part_rows (transformed S L) G k)) (let q : G.blocks + 1 ≡ suc G.blocks = omega arith in q),
@@ -142,7 +150,8 @@ module _ (p : ℕ) (prime : IsPrime p) (L : LayeredMatrix) (S U : ℕ → ℕ �
     last,
   )
     where
-      last : part_rows (transformed S L) G (G.blocks + 1) ≡ size_on (λ i. eqb (G.q_row i) (suc G.blocks)) L.q_rows + size_on (λ i. eqb (G.t_row i) (suc G.blocks)) L.t_rows
+      last : part_rows (transformed S L) G (G.blocks + 1) ≡ size_on (λ i. eqb (G.q_row i) (suc G.blocks))
+          L.q_rows + size_on (λ i. eqb (G.t_row i) (suc G.blocks)) L.t_rows
       last = ap (λ h. part_rows (transformed S L) G h) (let q : G.blocks + 1 ≡ suc G.blocks = omega arith in q)
 
   -- so R(L) is N less the columns that the first tail has more than rows

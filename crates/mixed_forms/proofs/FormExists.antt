@@ -16,7 +16,8 @@ use Rattle.mixed_matrices.specs.LayeredMatrices.{LayeredMatrix}
 use Rattle.mixed_matrices.specs.Tableaus.{Tableau}
 use Rattle.mixed_pairs.proofs.ArcFacts.{base_found, base_holds, match_found, match_holds}
 
-module _ (p : ℕ) (L : LayeredMatrix) (F : Tableau) (base : (b c : ℕ) → b < L.columns → c < L.columns → F.base b ≡ true → F.base c ≡ true → F.row b ≡ F.row c → b ≡ c)
+module _ (p : ℕ) (L : LayeredMatrix) (F : Tableau)
+    (base : (b c : ℕ) → b < L.columns → c < L.columns → F.base b ≡ true → F.base c ≡ true → F.row b ≡ F.row c → b ≡ c)
     (match : (b c : ℕ) → b < L.columns → c < L.columns → F.matched b ≡ true → F.matched c ≡ true → F.mate b ≡ F.mate c → b ≡ c)
     (clear : HasNoWalk p L F) (blocks : ℕ) (block : ℕ → ℕ) (listing : IsListing (leads_to p L F) L.columns (is_free F) (is_end p L F) block blocks) where
   first : ℕ → Bool
@@ -73,7 +74,8 @@ module _ (p : ℕ) (L : LayeredMatrix) (F : Tableau) (base : (b c : ℕ) → b <
   part-block x f l = ap (λ b. cond b 0 (cond (last x) (blocks + 1) (block x + 1))) f ∙ ap (λ b. cond b (blocks + 1) (block x + 1)) l
 
   -- a column by its part
-  part_cases : (x : ℕ) → x < L.columns → (IsFromFree p L F x × (part_of x ≡ 0)) ⊎ ((ReachesEnd p L F x × (part_of x ≡ blocks + 1)) ⊎ (IsOfMiddle p L F x × (part_of x ≡ block x + 1)))
+  part_cases : (x : ℕ) → x < L.columns → (IsFromFree p L F x × (part_of x ≡ 0))
+      ⊎ ((ReachesEnd p L F x × (part_of x ≡ blocks + 1)) ⊎ (IsOfMiddle p L F x × (part_of x ≡ block x + 1)))
   part_cases x xl = go (first x) refl (last x) refl
     where
       go : (a : Bool) → first x ≡ a → (b : Bool) → last x ≡ b → (IsFromFree p L F x × (part_of x ≡ 0)) ⊎
@@ -86,7 +88,8 @@ module _ (p : ℕ) (L : LayeredMatrix) (F : Tableau) (base : (b c : ℕ) → b <
   middle-part x m = elim (part_cases x m.0) [ inl s ↦ absurd (m.1 s.0) | inr o ↦ elim o [ inl t ↦ absurd (m.2 t.0) | inr w ↦ w.1 ] ]
 
   part-middle : (x c : ℕ) → x < L.columns → c < blocks → part_of x ≡ c + 1 → IsOfMiddle p L F x
-  part-middle x c xl cl q = elim (part_cases x xl) [ inl s ↦ absurd (omega (arith, s.1)) | inr o ↦ elim o [ inl t ↦ absurd (omega (arith, t.1)) | inr w ↦ w.0 ] ]
+  part-middle x c xl cl q = elim (part_cases x xl)
+      [ inl s ↦ absurd (omega (arith, s.1)) | inr o ↦ elim o [ inl t ↦ absurd (omega (arith, t.1)) | inr w ↦ w.0 ] ]
 
   -- ---- the part of each row
   pub q_part : (i : ℕ) (v : Bool) → has_base L F i ≡ v → ℕ
@@ -99,7 +102,9 @@ module _ (p : ℕ) (L : LayeredMatrix) (F : Tableau) (base : (b c : ℕ) → b <
 
   q_part-base : (b i : ℕ) → b < L.columns → F.base b ≡ true → F.row b ≡ i → (v : Bool) (e : has_base L F i ≡ v) → q_part i v e ≡ part_of b
   unfolding q_part
-  q_part-base b i bl bh q true e = ap part_of (base (base_found L F i e).0 b (base_found L F i e).1 bl (base_found L F i e).2 bh ((base_found L F i e).3 ∙ sym q))
+  q_part-base b i bl bh q true e = ap part_of
+      (base (base_found L F i e).0 b (base_found L F i e).1 bl (base_found L F i e).2 bh
+      ((base_found L F i e).3 ∙ sym q))
   q_part-base b i bl bh q false e = absurd (differ e (base_holds L F b i bl bh q))
 
   q_part-none : (i : ℕ) → has_base L F i ≡ false → (v : Bool) (e : has_base L F i ≡ v) → q_part i v e ≡ blocks + 1
@@ -109,7 +114,9 @@ module _ (p : ℕ) (L : LayeredMatrix) (F : Tableau) (base : (b c : ℕ) → b <
 
   t_part-match : (b i : ℕ) → b < L.columns → F.matched b ≡ true → F.mate b ≡ i → (v : Bool) (e : has_match L F i ≡ v) → t_part i v e ≡ part_of b
   unfolding t_part
-  t_part-match b i bl bh q true e = ap part_of (match (match_found L F i e).0 b (match_found L F i e).1 bl (match_found L F i e).2 bh ((match_found L F i e).3 ∙ sym q))
+  t_part-match b i bl bh q true e = ap part_of
+      (match (match_found L F i e).0 b (match_found L F i e).1 bl (match_found L F i e).2 bh
+      ((match_found L F i e).3 ∙ sym q))
   t_part-match b i bl bh q false e = absurd (differ e (match_holds L F b i bl bh q))
 
   t_part-none : (i : ℕ) → has_match L F i ≡ false → (v : Bool) (e : has_match L F i ≡ v) → t_part i v e ≡ blocks + 1
@@ -180,7 +187,9 @@ module _ (p : ℕ) (L : LayeredMatrix) (F : Tableau) (base : (b c : ℕ) → b <
   pub found_below : ℕ → ℕ → Bool
   found_below k l = not (eqb k l) && some_below L.columns (λ x. some_below L.columns (λ y. joins k l x y))
 
-  below-tells : (k l : ℕ) → found_below k l ≡ true → (k ≢ l) × ((x : ℕ) × (y : ℕ) × (x < L.columns) × (y < L.columns) × (part_of x ≡ k + 1) × (part_of y ≡ l + 1) × ReachesIn p L F y x)
+  below-tells : (k l : ℕ) → found_below k l ≡ true → (k ≢ l)
+      × ((x : ℕ) × (y : ℕ) × (x < L.columns) × (y < L.columns) × (part_of x ≡ k + 1) × (part_of y ≡ l + 1)
+      × ReachesIn p L F y x)
   unfolding found_below
   below-tells k l h = (
     unequal k l (both-first (not (eqb k l)) (some_below L.columns (λ x. some_below L.columns (λ y. joins k l x y))) h),
@@ -191,9 +200,11 @@ module _ (p : ℕ) (L : LayeredMatrix) (F : Tableau) (base : (b c : ℕ) → b <
       unequal : (k l : ℕ) → not (eqb k l) ≡ true → k ≢ l
       unequal k l h = grind (arith, nat_tests)
 
-      inner : (x : ℕ) → x < L.columns → (y : ℕ) × (y < L.columns) × (joins k l x y ≡ true) → (x : ℕ) × (y : ℕ) × (x < L.columns) × (y < L.columns) × (part_of x ≡ k + 1) ×
+      inner : (x : ℕ) → x < L.columns → (y : ℕ) × (y < L.columns) × (joins k l x y ≡ true) → (x : ℕ) × (y : ℕ)
+          × (x < L.columns) × (y < L.columns) × (part_of x ≡ k + 1) ×
           (part_of y ≡ l + 1) × ReachesIn p L F y x
-      inner x xl (y, yl, h) = let e : eqb (part_of x) (k + 1) && eqb (part_of y) (l + 1) ≡ true = both-first (eqb (part_of x) (k + 1) && eqb (part_of y) (l + 1))
+      inner x xl (y, yl, h) = let e : eqb (part_of x) (k + 1) && eqb (part_of y) (l + 1) ≡ true =
+          both-first (eqb (part_of x) (k + 1) && eqb (part_of y) (l + 1))
           (reaches (leads_to p L F) L.columns y x) h in (
             x,
             y,
@@ -202,7 +213,9 @@ module _ (p : ℕ) (L : LayeredMatrix) (F : Tableau) (base : (b c : ℕ) → b <
             eqb_true (part_of x) (k + 1) (both-first (eqb (part_of x) (k + 1)) (eqb (part_of y) (l + 1)) e),
             eqb_true (part_of y) (l + 1)
                 (both-second (eqb (part_of x) (k + 1)) (eqb (part_of y) (l + 1)) e),
-            reaches-tells (leads_to p L F) L.columns y x xl (both-second (eqb (part_of x) (k + 1) && eqb (part_of y) (l + 1)) (reaches (leads_to p L F) L.columns y x) h),
+            reaches-tells (leads_to p L F) L.columns y x xl
+                (both-second (eqb (part_of x) (k + 1) && eqb (part_of y) (l + 1))
+                (reaches (leads_to p L F) L.columns y x) h),
           )
 
       outer : (x : ℕ) × (x < L.columns) × (some_below L.columns (λ y. joins k l x y) ≡ true) → (x : ℕ) × (y : ℕ) × (x < L.columns) × (y < L.columns) ×
@@ -248,12 +261,14 @@ module _ (p : ℕ) (L : LayeredMatrix) (F : Tableau) (base : (b c : ℕ) → b <
 
   lower-tells : (k l : ℕ) → found_lower l k ≡ true → (k < blocks) × (l < blocks) × (found_below k l ≡ true) × (some_below blocks (λ m. middles k l m) ≡ false)
   unfolding found_lower
-  lower-tells k l h = four (ltb k blocks) (ltb l blocks) (found_below k l) (some_below blocks (λ m. middles k l m)) h (λ e. below k blocks e) (λ e. below l blocks e)
+  lower-tells k l h = four (ltb k blocks) (ltb l blocks) (found_below k l) (some_below blocks (λ m. middles k l m)) h
+      (λ e. below k blocks e) (λ e. below l blocks e)
     where
       below : (k b : ℕ) → ltb k b ≡ true → k < b
       below k b h = grind (arith, nat_tests)
 
-      four : (a b c d : Bool) → (a && b) && (c && not d) ≡ true → (a ≡ true → k < blocks) → (b ≡ true → l < blocks) → (k < blocks) × (l < blocks) × (c ≡ true) × (d ≡ false)
+      four : (a b c d : Bool) → (a && b) && (c && not d) ≡ true → (a ≡ true → k < blocks) → (b ≡ true → l < blocks) →
+          (k < blocks) × (l < blocks) × (c ≡ true) × (d ≡ false)
       four a b c d h f g = (
         f (both-first a b (both-first (a && b) (c && not d) h)),
         g (both-second a b (both-first (a && b) (c && not d) h)),
@@ -274,7 +289,8 @@ module _ (p : ℕ) (L : LayeredMatrix) (F : Tableau) (base : (b c : ℕ) → b <
   found-lists : IsCover found_below blocks found_lower
   found-lists = record {
     is_below = λ k l kl ll h. (lower-tells k l h).2;
-    none_between = λ k m l kl ml ll h a b. differ (lower-tells k l h).3 (some_below-holds blocks (λ m. middles k l m) m ml (both_true (found_below k m) (found_below m l) a b));
+    none_between = λ k m l kl ml ll h a b. differ (lower-tells k l h).3
+        (some_below-holds blocks (λ m. middles k l m) m ml (both_true (found_below k m) (found_below m l) a b));
     all = λ k l kl ll h none. lower-made k l kl ll h (not_true (some_below blocks (λ m. middles k l m)) (λ t.
         let f : (m : ℕ) × (m < blocks) × (middles k l m ≡ true) = some_below-found blocks (λ m. middles k l m) t in
         none f.0 f.1 (both-first (found_below k f.0) (found_below f.0 l) f.2) (both-second (found_below k f.0) (found_below f.0 l) f.2)));
@@ -283,7 +299,8 @@ module _ (p : ℕ) (L : LayeredMatrix) (F : Tableau) (base : (b c : ℕ) → b <
   pub found-kept : KeepsPartRules p L F found_parts found_below found_lower
   found-kept = record {
     rows = found-rows;
-    rules = parts-keep (leads_to p L F) L.columns (is_free F) (is_end p L F) (block_of found_parts) blocks found-listing found_below found-order (in_first found_parts)
+    rules = parts-keep (leads_to p L F) L.columns (is_free F) (is_end p L F) (block_of found_parts) blocks found-listing
+        found_below found-order (in_first found_parts)
         (in_last found_parts) clear found-first
         found-last last-found found_lower found-lists (λ k l h. ((lower-tells k l h).0, (lower-tells k l h).1));
     order = found-order;

@@ -15,7 +15,8 @@ use Rattle.mixed_matrices.specs.Tableaus.{HasTableau, Tableau}
 use Rattle.mixed_forms.proofs.Canonical.{checked-closed, checked-minimiser, holds-first, holds-no_last}
 use Rattle.mixed_forms.proofs.CheckedParts.{block-held, checked-clear, checked-listing, first-from, from-first, middle-of_block, of_block-middle, of_block-number, place}
 
-module _ (p : ℕ) (prime : IsPrime p) (L : LayeredMatrix) (F : Tableau) (tab : HasTableau p L F) (G : Parts) (below lower : ℕ → ℕ → Bool) (K : KeepsPartRules p L F G below lower) where
+module _ (p : ℕ) (prime : IsPrime p) (L : LayeredMatrix) (F : Tableau) (tab : HasTableau p L F) (G : Parts)
+    (below lower : ℕ → ℕ → Bool) (K : KeepsPartRules p L F G below lower) where
   listing : IsListingIn p L F G
   listing = checked-listing p L F G below lower K
 
@@ -53,7 +54,9 @@ module _ (p : ℕ) (prime : IsPrime p) (L : LayeredMatrix) (F : Tableau) (tab : 
         where
           go : (x : ℕ) × IsOfBlock L G k x → (y : ℕ) × IsOfBlock L G l y → B k ≡ true
           go (x, ox) (y, oy) = subst (λ i. B i ≡ true) (number k x ox) (ideal.down y x (middle l y oy) (middle k x ox)
-              (K.order.tells y x (middle l y oy) (middle k x ox) (subst (λ i. below i (block_of G y) ≡ true) (sym (number k x ox)) (subst (λ i. below k i ≡ true) (sym (number l y oy)) h)))
+              (K.order.tells y x (middle l y oy) (middle k x ox)
+              (subst (λ i. below i (block_of G y) ≡ true) (sym (number k x ox))
+              (subst (λ i. below k i ≡ true) (sym (number l y oy)) h)))
               (subst (λ i. B i ≡ true) (sym (number l y oy)) bl))
 
       of_block : (k x : ℕ) → IsOfBlock L G k x → X x ≡ B k

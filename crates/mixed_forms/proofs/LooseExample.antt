@@ -61,7 +61,9 @@ loose-minimiser X = closed-minimiser 65521 prime_65521 loose_symbols loose_table
 
 -- a walk stays where it is
 walk-is : (x y : ℕ) → x < 2 → y < 2 → ReachesIn 65521 loose_symbols loose_tableau x y → y ≡ x
-walk-is x y xl yl r = eqb_true y x (follows-reaches (leads_to 65521 loose_symbols loose_tableau) 2 (only x) (loose-closed (only x)).follows x y xl yl (eqb_from x x refl) r)
+walk-is x y xl yl r = eqb_true y x
+    (follows-reaches (leads_to 65521 loose_symbols loose_tableau) 2 (only x) (loose-closed (only x)).follows x y xl yl
+    (eqb_from x x refl) r)
 
 -- ---- the rules
 no_first : (x : ℕ) → in_first loose_parts x ≡ false

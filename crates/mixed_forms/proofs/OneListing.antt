@@ -15,7 +15,8 @@ use Rattle.mixed_matrices.specs.SetFunctions.{IsMinimiser}
 use Rattle.mixed_matrices.specs.Tableaus.{HasTableau, Tableau}
 use Rattle.mixed_pairs.proofs.Minimisers.{closed-minimiser, least_set, least_set-closed, minimiser-closed}
 
-module _ (p : ℕ) (prime : IsPrime p) (L : LayeredMatrix) (F : Tableau) (tab : HasTableau p L F) (clear : HasNoWalk p L F) (G : Parts) (C : AreCanonical p L G) where
+module _ (p : ℕ) (prime : IsPrime p) (L : LayeredMatrix) (F : Tableau) (tab : HasTableau p L F)
+    (clear : HasNoWalk p L F) (G : Parts) (C : AreCanonical p L G) where
   least : (X : ℕ → Bool) → IsClosedIn p L F X → IsMinimiser p L X
   least = closed-minimiser p prime L F tab
 
@@ -73,7 +74,8 @@ module _ (p : ℕ) (prime : IsPrime p) (L : LayeredMatrix) (F : Tableau) (tab : 
       decide : (x : ℕ) → x < L.columns → IsOfBlock L G k x ⊎ (IsOfBlock L G k x → ⊥)
       decide x xl = elim (nat_cases (G.column x) (k + 1)) [ inl q ↦ inl (xl, kl, q) | inr ne ↦ inr (λ o. ne o.2) ]
 
-      go : ((x : ℕ) × (x < L.columns) × IsOfBlock L G k x × ((y : ℕ) → y < x → IsOfBlock L G k y → ⊥)) ⊎ ((x : ℕ) → x < L.columns → IsOfBlock L G k x → ⊥) → (x : ℕ) × IsLeastColumn L G k x
+      go : ((x : ℕ) × (x < L.columns) × IsOfBlock L G k x × ((y : ℕ) → y < x → IsOfBlock L G k y → ⊥))
+          ⊎ ((x : ℕ) → x < L.columns → IsOfBlock L G k x → ⊥) → (x : ℕ) × IsLeastColumn L G k x
       go (inl (x, xl, o, none)) = (x, (o, λ y oy. elim (lt_cases y x) [ inl less ↦ absurd (none y less oy) | inr le ↦ le ]))
       go (inr none) = absurd (none (C.held k kl).0 (C.held k kl).1.0 (C.held k kl).1)
 
@@ -100,7 +102,13 @@ module _ (p : ℕ) (prime : IsPrime p) (L : LayeredMatrix) (F : Tableau) (tab : 
           ]
 
       go : (z : ℕ) × IsLeastColumn L G k z → (y : ℕ) × IsLeastColumn L G (block_of G x) y → (z : ℕ) × (z < x) × IsOfMiddle p L F z × (block_of G z ≡ k)
-      go (z, lz) (y, ly) = (z, omega (arith, C.least k (block_of G x) z y kl ready lz ly, ly.1 x (middle-block_told x mx)), block-middle_told k z lz.0, number k z lz.0)
+      go (z, lz) (y, ly) = (
+        z,
+        omega
+            (arith, C.least k (block_of G x) z y kl ready lz ly, ly.1 x (middle-block_told x mx)),
+        block-middle_told k z lz.0,
+        number k z lz.0,
+      )
 
   pub canonical-listing : IsListingIn p L F G
   canonical-listing = record {
@@ -114,7 +122,8 @@ module _ (p : ℕ) (prime : IsPrime p) (L : LayeredMatrix) (F : Tableau) (tab : 
     least = least-first;
   }
 
-module _ (p : ℕ) (prime : IsPrime p) (L : LayeredMatrix) (F : Tableau) (tab : HasTableau p L F) (clear : HasNoWalk p L F) (G H : Parts) (C : AreCanonical p L G) (D : AreCanonical p L H) where
+module _ (p : ℕ) (prime : IsPrime p) (L : LayeredMatrix) (F : Tableau) (tab : HasTableau p L F)
+    (clear : HasNoWalk p L F) (G H : Parts) (C : AreCanonical p L G) (D : AreCanonical p L H) where
   pub same-blocks : G.blocks ≡ H.blocks
   same-blocks = listing-size (leads_to p L F) L.columns (is_free F) (is_end p L F) (block_of G) (block_of H) G.blocks H.blocks
       (canonical-listing p prime L F tab clear G C) (canonical-listing p prime L F tab clear H D)

@@ -34,7 +34,8 @@ module _ (p : ℕ) (prime : IsPrime p) (L : LayeredMatrix) (S U : ℕ → ℕ �
   order : IsBelow (leads_to p L F) L.columns (is_free F) (is_end p L F) (block_of G) G.blocks below
   order = record {
     apart = λ k l kl ll h q. ((ordered k l kl ll).0 h).0 q;
-    tells = λ x y mx my h. held-reached p prime L F has clear G C x y mx my (((ordered (block_of G y) (block_of G x) (of y my).1 (of x mx).1).0 h).1 y x (of y my) (of x mx));
+    tells = λ x y mx my h. held-reached p prime L F has clear G C x y mx my
+        (((ordered (block_of G y) (block_of G x) (of y my).1 (of x mx).1).0 h).1 y x (of y my) (of x mx));
     made = λ x y mx my r ne. (ordered (block_of G y) (block_of G x) (of y my).1 (of x mx).1).1 (reached-below p prime L F has clear G C x y mx my r ne);
   }
 
@@ -49,12 +50,16 @@ module _ (p : ℕ) (prime : IsPrime p) (L : LayeredMatrix) (S U : ℕ → ℕ �
   }
 
   first : IsReachedFromFree p L F (in_first G)
-  first x xl = ((λ h. (first-told p prime L F has clear G C x xl).0 (eqb_true (G.column x) 0 h)), λ f. eqb_from (G.column x) 0 ((first-told p prime L F has clear G C x xl).1 f))
+  first x xl = (
+    (λ h. (first-told p prime L F has clear G C x xl).0 (eqb_true (G.column x) 0 h)),
+    λ f. eqb_from (G.column x) 0 ((first-told p prime L F has clear G C x xl).1 f),
+  )
 
   pub right-kept : KeepsPartRules p L F G below lower
   right-kept = record {
     rows = form-rows p prime L S U F tab clear G form.1;
-    rules = parts-keep (leads_to p L F) L.columns (is_free F) (is_end p L F) (block_of G) G.blocks (canonical-listing p prime L F has clear G C) below order (in_first G)
+    rules = parts-keep (leads_to p L F) L.columns (is_free F) (is_end p L F) (block_of G) G.blocks
+        (canonical-listing p prime L F has clear G C) below order (in_first G)
         (in_last G) clear first
         (λ x xl h. (last-told p prime L F has clear G C x xl).0 (eqb_true (G.column x) (G.blocks + 1) h))
         (λ x xl t. eqb_from (G.column x) (G.blocks + 1) ((last-told p prime L F has clear G C x xl).1 t)) lower lists within;

@@ -88,8 +88,10 @@ module _ (p : ℕ) (prime : IsPrime p) (L : LayeredMatrix) (S U : ℕ → ℕ �
     q_into E inside = size-injection (both F.base X) L.columns F.row L.q_rows E (λ b bl h. tab.base.row_below b bl (both-first (F.base b) (X b) h)) inside
         (λ b c bl cl h g q. tab.base.distinct b c bl cl (both-first (F.base b) (X b) h) (both-first (F.base c) (X c) g) q)
 
-    t_into : (E : ℕ → Bool) → ((j : ℕ) → j < L.columns → both F.matched X j ≡ true → E (F.mate j) ≡ true) → size_on (both F.matched X) L.columns ≤ size_on E L.t_rows
-    t_into E inside = size-injection (both F.matched X) L.columns F.mate L.t_rows E (λ b bl h. tab.matching.below b bl (both-first (F.matched b) (X b) h)) inside
+    t_into : (E : ℕ → Bool) → ((j : ℕ) → j < L.columns → both F.matched X j ≡ true → E (F.mate j) ≡ true) →
+        size_on (both F.matched X) L.columns ≤ size_on E L.t_rows
+    t_into E inside = size-injection (both F.matched X) L.columns F.mate L.t_rows E
+        (λ b bl h. tab.matching.below b bl (both-first (F.matched b) (X b) h)) inside
         (λ b c bl cl h g q. tab.matching.distinct b c bl cl (both-first (F.matched b) (X b) h) (both-first (F.matched c) (X c) g) q)
 
     -- each row of the first parts is that of a pair column of them
@@ -153,14 +155,16 @@ module _ (p : ℕ) (prime : IsPrime p) (L : LayeredMatrix) (S U : ℕ → ℕ �
   other-q : (i : ℕ) → i < L.q_rows → has_base L F i ≡ false → G.q_row i ≡ G.blocks + 1
   other-q i il none = elim (lt_cases G.blocks (G.q_row i)) [
     | inl last ↦ omega (arith, tri.q_rows i il)
-    | inr early ↦ let f : (b : ℕ) × (b < L.columns) × (F.base b ≡ true) × (F.row b ≡ i) × (G.column b ≤ G.q_row i) = q_found (G.q_row i) early i il (omega arith) in
+    | inr early ↦ let f : (b : ℕ) × (b < L.columns) × (F.base b ≡ true) × (F.row b ≡ i) × (G.column b ≤ G.q_row i) =
+        q_found (G.q_row i) early i il (omega arith) in
         absurd (no_base L F i none f.0 f.1 f.2 f.3)
   ]
 
   other-t : (i : ℕ) → i < L.t_rows → has_match L F i ≡ false → G.t_row i ≡ G.blocks + 1
   other-t i il none = elim (lt_cases G.blocks (G.t_row i)) [
     | inl last ↦ omega (arith, tri.t_rows i il)
-    | inr early ↦ let f : (j : ℕ) × (j < L.columns) × (F.matched j ≡ true) × (F.mate j ≡ i) × (G.column j ≤ G.t_row i) = t_found (G.t_row i) early i il (omega arith) in
+    | inr early ↦ let f : (j : ℕ) × (j < L.columns) × (F.matched j ≡ true) × (F.mate j ≡ i) × (G.column j ≤ G.t_row i) =
+        t_found (G.t_row i) early i il (omega arith) in
         absurd (no_match L F i none f.0 f.1 f.2 f.3)
   ]
 

@@ -28,7 +28,8 @@ module _ (p : ℕ) (prime : IsPrime p) (L : LayeredMatrix) (S T : ℕ → ℕ �
       )
 
   early-columns : size_on (λ j. leb (G.column j) G.blocks) L.columns ≡ size_on (λ j. leb (H.column j) H.blocks) L.columns
-  early-columns = sum_on-same (λ j. leb (G.column j) G.blocks) (λ j. leb (H.column j) G.blocks) L.columns (λ _. 1) (λ x xl. ap (λ c. leb c G.blocks) (same x xl))
+  early-columns = sum_on-same (λ j. leb (G.column j) G.blocks) (λ j. leb (H.column j) G.blocks) L.columns (λ _. 1)
+      (λ x xl. ap (λ c. leb c G.blocks) (same x xl))
       ∙ ap (λ b. size_on (λ j. leb (H.column j) b) L.columns) blocks
 
   final-rows : part_rows (transformed S L) G (G.blocks + 1) ≡ part_rows (transformed T L) H (H.blocks + 1)
@@ -48,5 +49,7 @@ module _ (p : ℕ) (prime : IsPrime p) (L : LayeredMatrix) (S T : ℕ → ℕ �
     where
       go : (k ≡ 0) ⊎ (k ≢ 0) → (k ≡ G.blocks + 1) ⊎ (k ≢ G.blocks + 1) → part_rows (transformed S L) G k ≡ part_rows (transformed T L) H k
       go (inl z) _ = subst (λ h. part_rows (transformed S L) G h ≡ part_rows (transformed T L) H h) (sym z) first-rows
-      go (inr ne) (inl q) = ap (λ h. part_rows (transformed S L) G h) q ∙ final-rows ∙ ap (λ h. part_rows (transformed T L) H h) (let e : H.blocks + 1 ≡ k = omega (arith, q, blocks) in e)
-      go (inr ne) (inr no_last) = (form.1.square k (omega arith) (omega arith)).0 ∙ same-columns k ∙ sym ((other.1.square k (omega arith) (omega (arith, blocks))).0)
+      go (inr ne) (inl q) = ap (λ h. part_rows (transformed S L) G h) q ∙ final-rows
+          ∙ ap (λ h. part_rows (transformed T L) H h) (let e : H.blocks + 1 ≡ k = omega (arith, q, blocks) in e)
+      go (inr ne) (inr no_last) = (form.1.square k (omega arith) (omega arith)).0 ∙ same-columns k
+          ∙ sym ((other.1.square k (omega arith) (omega (arith, blocks))).0)

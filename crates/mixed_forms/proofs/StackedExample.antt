@@ -35,7 +35,8 @@ below_three P a b c (suc (suc (suc j))) l = absurd (omega arith)
 -- ---- the layered matrix
 pub stacked-layered : IsLayeredMatrixOf stacked_model stacked_matrix stacked_origins
 stacked-layered = record {
-  constants = λ i j il jl. below_two (λ i. gives_q stacked_model i ≡ false → stacked_model.constant i j ≡ 0) (λ h. absurd (differ h refl)) (λ h. absurd (differ h refl)) i il;
+  constants = λ i j il jl. below_two (λ i. gives_q stacked_model i ≡ false → stacked_model.constant i j ≡ 0)
+      (λ h. absurd (differ h refl)) (λ h. absurd (differ h refl)) i il;
   symbols = λ i j il jl. below_two (λ i. has_symbol stacked_model i ≡ false → stacked_model.symbol i j ≡ false)
       (λ h. below_two (λ j. stacked_model.symbol 0 j ≡ false) refl refl j jl) (λ h. absurd (differ h refl)) i il;
   q_rows = record {
@@ -53,8 +54,10 @@ stacked-layered = record {
   };
   columns = refl;
   q = λ i j il jl. below_two (λ i. stacked_matrix.q i j ≡ stacked_model.constant i j)
-      (below_two (λ j. stacked_matrix.q 0 j ≡ stacked_model.constant 0 j) refl refl j jl) (below_two (λ j. stacked_matrix.q 1 j ≡ stacked_model.constant 1 j) refl refl j jl) i il;
-  q_auxiliary = λ i k il kl. below_one (λ k. stacked_matrix.q i (2 + k) ≡ cond (eqb i 1) 1 0) (below_two (λ i. stacked_matrix.q i 2 ≡ cond (eqb i 1) 1 0) refl refl i il) k kl;
+      (below_two (λ j. stacked_matrix.q 0 j ≡ stacked_model.constant 0 j) refl refl j jl)
+      (below_two (λ j. stacked_matrix.q 1 j ≡ stacked_model.constant 1 j) refl refl j jl) i il;
+  q_auxiliary = λ i k il kl. below_one (λ k. stacked_matrix.q i (2 + k) ≡ cond (eqb i 1) 1 0)
+      (below_two (λ i. stacked_matrix.q i 2 ≡ cond (eqb i 1) 1 0) refl refl i il) k kl;
   t = λ i j il jl. below_two (λ j. stacked_matrix.t i j ≡ stacked_model.symbol 1 j) refl refl j jl;
   t_auxiliary = λ i k il kl. below_one (λ k. stacked_matrix.t i (2 + k) ≡ true) refl k kl;
 }
@@ -142,14 +145,16 @@ step x y xl a = reaches-arc (leads_to 65521 stacked_matrix stacked_tableau) 3 x 
 
 from_one : (y : ℕ) → y < 3 → ReachesIn 65521 stacked_matrix stacked_tableau 1 y
 from_one = below_three (λ y. ReachesIn 65521 stacked_matrix stacked_tableau 1 y)
-    (reaches-arc (leads_to 65521 stacked_matrix stacked_tableau) 3 1 2 0 (step 1 2 (omega arith) one-two) (omega arith) two-zero) (self 1) (step 1 2 (omega arith) one-two)
+    (reaches-arc (leads_to 65521 stacked_matrix stacked_tableau) 3 1 2 0 (step 1 2 (omega arith) one-two) (omega arith)
+    two-zero) (self 1) (step 1 2 (omega arith) one-two)
 
 from_two : (y : ℕ) → y < 3 → ReachesIn 65521 stacked_matrix stacked_tableau 2 y
 from_two = below_three (λ y. ReachesIn 65521 stacked_matrix stacked_tableau 2 y) (step 2 0 (omega arith) two-zero) (step 2 1 (omega arith) two-one) (self 2)
 
 -- a later block reaches each column
 from_later : (x y : ℕ) → x < 3 → y < 3 → x ≢ 0 → ReachesIn 65521 stacked_matrix stacked_tableau x y
-from_later x y xl yl = below_three (λ x. x ≢ 0 → ReachesIn 65521 stacked_matrix stacked_tableau x y) (λ ne. absurd (ne refl)) (λ _. from_one y yl) (λ _. from_two y yl) x xl
+from_later x y xl yl = below_three (λ x. x ≢ 0 → ReachesIn 65521 stacked_matrix stacked_tableau x y)
+    (λ ne. absurd (ne refl)) (λ _. from_one y yl) (λ _. from_two y yl) x xl
 
 -- and column 0 reaches itself alone
 from_first : (y : ℕ) → y < 3 → ReachesIn 65521 stacked_matrix stacked_tableau 0 y → y ≡ 0
@@ -183,8 +188,10 @@ falls : (x y : ℕ) → x < 3 → y < 3 → leads_to 65521 stacked_matrix stacke
 falls x y xl yl a = below_three (λ x. leads_to 65521 stacked_matrix stacked_tableau x y ≡ true →
     (block_of stacked_parts y ≡ block_of stacked_parts x) ⊎ ReachesOn triangle_lower 2 (block_of stacked_parts x) (block_of stacked_parts y))
     (λ a. absurd (differ (no_arc y yl) a))
-    (λ _. below_three (λ y. (block_of stacked_parts y ≡ 1) ⊎ ReachesOn triangle_lower 2 1 (block_of stacked_parts y)) (inr (0, (1, omega arith, refl, refl))) (inl refl) (inl refl) y yl)
-    (λ _. below_three (λ y. (block_of stacked_parts y ≡ 1) ⊎ ReachesOn triangle_lower 2 1 (block_of stacked_parts y)) (inr (0, (1, omega arith, refl, refl))) (inl refl) (inl refl) y yl)
+    (λ _. below_three (λ y. (block_of stacked_parts y ≡ 1) ⊎ ReachesOn triangle_lower 2 1 (block_of stacked_parts y))
+    (inr (0, (1, omega arith, refl, refl))) (inl refl) (inl refl) y yl)
+    (λ _. below_three (λ y. (block_of stacked_parts y ≡ 1) ⊎ ReachesOn triangle_lower 2 1 (block_of stacked_parts y))
+    (inr (0, (1, omega arith, refl, refl))) (inl refl) (inl refl) y yl)
     x xl a
 
 both_ways : (x y : ℕ) → x < 3 → y < 3 → block_of stacked_parts x ≡ block_of stacked_parts y → Mutual (leads_to 65521 stacked_matrix stacked_tableau) 3 x y
@@ -197,7 +204,8 @@ both_ways x y xl yl q = go (nat_cases x 0) (nat_cases y 0)
     go (inr a) (inr b) = (from_later x y xl yl a, from_later y x yl xl b)
 
 least : (x k : ℕ) → InBlock 3 (in_first stacked_parts) (in_last stacked_parts) x → k < block_of stacked_parts x →
-    ((y : ℕ) → InBlock 3 (in_first stacked_parts) (in_last stacked_parts) y → ReachesIn 65521 stacked_matrix stacked_tableau x y → (block_of stacked_parts y < k) ⊎
+    ((y : ℕ) → InBlock 3 (in_first stacked_parts) (in_last stacked_parts) y →
+    ReachesIn 65521 stacked_matrix stacked_tableau x y → (block_of stacked_parts y < k) ⊎
     (block_of stacked_parts y ≡ block_of stacked_parts x)) →
     (z : ℕ) × (z < x) × InBlock 3 (in_first stacked_parts) (in_last stacked_parts) z × (block_of stacked_parts z ≡ k)
 least x k i kl lower = absurd (go (lower 0 (in_block 0 (omega arith)) (from_later x 0 i.below (omega arith) (later_block x (λ q. omega (arith, q))))))
@@ -206,11 +214,13 @@ least x k i kl lower = absurd (go (lower 0 (in_block 0 (omega arith)) (from_late
     go (inl less) = omega (arith, block-below x)
     go (inr q) = omega (arith, q)
 
-order-made : (x y : ℕ) → x < 3 → y < 3 → ReachesIn 65521 stacked_matrix stacked_tableau x y → block_of stacked_parts y ≢ block_of stacked_parts x → triangle_below
+order-made : (x y : ℕ) → x < 3 → y < 3 → ReachesIn 65521 stacked_matrix stacked_tableau x y →
+    block_of stacked_parts y ≢ block_of stacked_parts x → triangle_below
     (block_of stacked_parts y) (block_of stacked_parts x) ≡ true
 order-made x y xl yl r ne = go (nat_cases x 0)
   where
-    other : (x y : ℕ) → x < 3 → y < 3 → x ≢ 0 → block_of stacked_parts y ≢ block_of stacked_parts x → triangle_below (block_of stacked_parts y) (block_of stacked_parts x) ≡ true
+    other : (x y : ℕ) → x < 3 → y < 3 → x ≢ 0 → block_of stacked_parts y ≢ block_of stacked_parts x →
+        triangle_below (block_of stacked_parts y) (block_of stacked_parts x) ≡ true
     other x y xl yl a ne = grind (arith, nat_tests)
 
     go : (x ≡ 0) ⊎ (x ≢ 0) → triangle_below (block_of stacked_parts y) (block_of stacked_parts x) ≡ true
@@ -244,14 +254,16 @@ stacked-rules_kept = record {
     last_to = λ x xl l. absurd (differ (no_last x) l);
     block_mutual = λ x y i j q. both_ways x y i.below j.below q;
     number = λ x i. block-below x;
-    member = below_two (λ k. (x : ℕ) × InBlock 3 (in_first stacked_parts) (in_last stacked_parts) x × (block_of stacked_parts x ≡ k)) (0, in_block 0 (omega arith), refl)
+    member = below_two (λ k. (x : ℕ) × InBlock 3 (in_first stacked_parts) (in_last stacked_parts) x
+        × (block_of stacked_parts x ≡ k)) (0, in_block 0 (omega arith), refl)
         (1, in_block 1 (omega arith), refl);
     falling = λ k l h. let w : (k ≡ 0) × (l ≡ 1) = below-is k l h in omega arith;
     least = least;
   };
   order = record {
     apart = λ k l kl ll h q. let w : (k ≡ 0) × (l ≡ 1) = below-is k l h in omega arith;
-    tells = λ x y mx my h. let w : (block_of stacked_parts y ≡ 0) × (block_of stacked_parts x ≡ 1) = below-is (block_of stacked_parts y) (block_of stacked_parts x) h in
+    tells = λ x y mx my h. let w : (block_of stacked_parts y ≡ 0) × (block_of stacked_parts x ≡ 1) =
+        below-is (block_of stacked_parts y) (block_of stacked_parts x) h in
         from_later x y mx.0 my.0 (later_block x (λ q. omega (arith, q)));
     made = λ x y mx my r ne. order-made x y mx.0 my.0 r ne;
   };
@@ -263,10 +275,12 @@ stacked-rules_kept = record {
 }
 
 pub stacked-form : IsForm 65521 stacked_matrix stacked_transform stacked_parts
-stacked-form = checked-form 65521 prime_65521 stacked_matrix stacked_transform stacked_inverse stacked_tableau stacked-is_tableau stacked_parts triangle_below triangle_lower stacked-rules_kept
+stacked-form = checked-form 65521 prime_65521 stacked_matrix stacked_transform stacked_inverse stacked_tableau
+    stacked-is_tableau stacked_parts triangle_below triangle_lower stacked-rules_kept
 
 pub stacked-canonical : AreCanonical 65521 stacked_matrix stacked_parts
-stacked-canonical = checked-canonical 65521 prime_65521 stacked_matrix stacked_tableau stacked-has_tableau stacked_parts triangle_below triangle_lower stacked-rules_kept
+stacked-canonical = checked-canonical 65521 prime_65521 stacked_matrix stacked_tableau stacked-has_tableau stacked_parts
+    triangle_below triangle_lower stacked-rules_kept
 
 pub stacked-rank : IsLayeredRank 65521 stacked_matrix 3
 stacked-rank = closed-rank 65521 prime_65521 stacked_matrix stacked_tableau stacked-has_tableau everything whole-closed

@@ -84,7 +84,11 @@ layering_exists M A D constants symbols = go (members_exist A M.rows) (members_e
   where
     go : (at : ℕ → ℕ) × AreMembers A M.rows at (size_on A M.rows) → (at : ℕ → ℕ) × AreMembers D M.rows at (size_on D M.rows) →
         (at : ℕ → ℕ) × AreMembers (both A D) M.rows at (size_on (both A D) M.rows) → (L : LayeredMatrix) × (O : Origins) × IsLayering M A D L O
-    go (of_q, q) (of_t, t) (of_z, z) = (layers M A D constants symbols of_q of_t of_z, origins M A D constants symbols of_q of_t of_z, is_layering M A D constants symbols of_q of_t of_z q t z)
+    go (of_q, q) (of_t, t) (of_z, z) = (
+      layers M A D constants symbols of_q of_t of_z,
+      origins M A D constants symbols of_q of_t of_z,
+      is_layering M A D constants symbols of_q of_t of_z q t z,
+    )
 
 pub layered_matrix_exists : (M : MixedMatrix) → (L : LayeredMatrix) × (O : Origins) × IsLayeredMatrixOf M L O
 layered_matrix_exists M = layering_exists M (gives_q M) (has_symbol M)

@@ -31,7 +31,8 @@ module _ (L : LayeredMatrix) (F : Tableau) where
 
   pub base_holds : (b i : ℕ) → b < L.columns → F.base b ≡ true → F.row b ≡ i → has_base L F i ≡ true
   unfolding has_base
-  base_holds b i bl bh q = some_below-holds L.columns (λ y. F.base y && eqb (F.row y) i) b bl (both_true (F.base b) (eqb (F.row b) i) bh (eqb_from (F.row b) i q))
+  base_holds b i bl bh q = some_below-holds L.columns (λ y. F.base y && eqb (F.row y) i) b bl
+      (both_true (F.base b) (eqb (F.row b) i) bh (eqb_from (F.row b) i q))
 
   pub no_base : (i : ℕ) → has_base L F i ≡ false → HasNoBase L.columns F.base F.row i
   no_base i e b bl bh q = differ e (base_holds b i bl bh q)
@@ -45,7 +46,8 @@ module _ (L : LayeredMatrix) (F : Tableau) where
 
   pub match_holds : (j i : ℕ) → j < L.columns → F.matched j ≡ true → F.mate j ≡ i → has_match L F i ≡ true
   unfolding has_match
-  match_holds j i jl jh q = some_below-holds L.columns (λ y. F.matched y && eqb (F.mate y) i) j jl (both_true (F.matched j) (eqb (F.mate j) i) jh (eqb_from (F.mate j) i q))
+  match_holds j i jl jh q = some_below-holds L.columns (λ y. F.matched y && eqb (F.mate y) i) j jl
+      (both_true (F.matched j) (eqb (F.mate j) i) jh (eqb_from (F.mate j) i q))
 
   pub no_match : (i : ℕ) → has_match L F i ≡ false → (j : ℕ) → j < L.columns → F.matched j ≡ true → F.mate j ≢ i
   no_match i e j jl jh q = differ e (match_holds j i jl jh q)
@@ -53,7 +55,10 @@ module _ (L : LayeredMatrix) (F : Tableau) where
 -- ---- free columns
 pub free-tells : (F : Tableau) (x : ℕ) → is_free F x ≡ true → (F.base x ≡ false) × (F.matched x ≡ false)
 unfolding is_free
-free-tells F x h = (not-true (F.base x) (both-first (not (F.base x)) (not (F.matched x)) h), not-true (F.matched x) (both-second (not (F.base x)) (not (F.matched x)) h))
+free-tells F x h = (
+  not-true (F.base x) (both-first (not (F.base x)) (not (F.matched x)) h),
+  not-true (F.matched x) (both-second (not (F.base x)) (not (F.matched x)) h),
+)
 
 pub free-holds : (F : Tableau) (x : ℕ) → F.base x ≡ false → F.matched x ≡ false → is_free F x ≡ true
 unfolding is_free
@@ -76,7 +81,9 @@ module _ (p : ℕ) (L : LayeredMatrix) (F : Tableau) where
   pub end-q : (x i : ℕ) → i < L.q_rows → F.P i x % p ≢ 0 → has_base L F i ≡ false → is_end p L F x ≡ true
   unfolding is_end
   end-q x i il ne none = either-first (some_below L.q_rows (end_row x)) (some_below L.t_rows (end_t_row x))
-      (some_below-holds L.q_rows (end_row x) i il (both_true (not (eqb (F.P i x % p) 0)) (not (has_base L F i)) (nonzero_test (F.P i x % p) ne) (not-make (has_base L F i) none)))
+      (some_below-holds L.q_rows (end_row x) i il
+      (both_true (not (eqb (F.P i x % p) 0)) (not (has_base L F i)) (nonzero_test (F.P i x % p) ne)
+      (not-make (has_base L F i) none)))
 
   pub end-t : (x i : ℕ) → i < L.t_rows → L.t i x ≡ true → has_match L F i ≡ false → is_end p L F x ≡ true
   unfolding is_end
@@ -130,12 +137,19 @@ module _ (p : ℕ) (L : LayeredMatrix) (F : Tableau) where
   leads-tells x y h = go (either_cases (q_arc x y) (t_arc x y) (both-second (not (eqb x y)) (q_arc x y || t_arc x y) h))
     where
       go : (q_arc x y ≡ true) ⊎ (t_arc x y ≡ true) → LeadsInQ x y ⊎ LeadsInT x y
-      go (inl q) = inl (both-first (F.base y) (not (eqb (F.P (F.row y) x % p) 0)) q, nonzero_tells (F.P (F.row y) x % p) (both-second (F.base y) (not (eqb (F.P (F.row y) x % p) 0)) q))
+      go (inl q) = inl (
+        both-first (F.base y) (not (eqb (F.P (F.row y) x % p) 0)) q,
+        nonzero_tells (F.P (F.row y) x % p) (both-second (F.base y) (not (eqb (F.P (F.row y) x % p) 0)) q),
+      )
       go (inr t) = inr (both-first (F.matched y) (L.t (F.mate y) x) t, both-second (F.matched y) (L.t (F.mate y) x) t)
 
   -- where x leads to y, a set that holds x and follows holds y; x may be y itself
-  pub follows-q : (X : ℕ → Bool) → Follows (leads_to p L F) L.columns X → (x y : ℕ) → x < L.columns → y < L.columns → X x ≡ true → F.base y ≡ true → F.P (F.row y) x % p ≢ 0 → X y ≡ true
-  follows-q X follows x y xl yl xh b ne = elim (nat_cases x y) [ inl q ↦ subst (λ k. X k ≡ true) q xh | inr other ↦ follows x y xl yl xh (leads-q x y other b ne) ]
+  pub follows-q : (X : ℕ → Bool) → Follows (leads_to p L F) L.columns X → (x y : ℕ) → x < L.columns → y < L.columns →
+      X x ≡ true → F.base y ≡ true → F.P (F.row y) x % p ≢ 0 → X y ≡ true
+  follows-q X follows x y xl yl xh b ne = elim (nat_cases x y)
+      [ inl q ↦ subst (λ k. X k ≡ true) q xh | inr other ↦ follows x y xl yl xh (leads-q x y other b ne) ]
 
-  pub follows-t : (X : ℕ → Bool) → Follows (leads_to p L F) L.columns X → (x y : ℕ) → x < L.columns → y < L.columns → X x ≡ true → F.matched y ≡ true → L.t (F.mate y) x ≡ true → X y ≡ true
-  follows-t X follows x y xl yl xh m s = elim (nat_cases x y) [ inl q ↦ subst (λ k. X k ≡ true) q xh | inr other ↦ follows x y xl yl xh (leads-t x y other m s) ]
+  pub follows-t : (X : ℕ → Bool) → Follows (leads_to p L F) L.columns X → (x y : ℕ) → x < L.columns → y < L.columns →
+      X x ≡ true → F.matched y ≡ true → L.t (F.mate y) x ≡ true → X y ≡ true
+  follows-t X follows x y xl yl xh m s = elim (nat_cases x y)
+      [ inl q ↦ subst (λ k. X k ≡ true) q xh | inr other ↦ follows x y xl yl xh (leads-t x y other m s) ]

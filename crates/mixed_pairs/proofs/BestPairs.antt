@@ -35,18 +35,31 @@ one_meets u v s t a b c d e = grind arith
 module _ (p : ℕ) (prime : IsPrime p) (L : LayeredMatrix) where
   -- the same pair and set serve L
   kept : (i a : ℕ) → (O : Optimal p (dropped L i a)) → gamma L O.X ≡ gamma (dropped L i a) O.X → Optimal p L
-  kept i a O e = record { I = O.I; J = O.J; mate = O.mate; X = O.X; r = O.r; pair = drop-pair L i a p O.I O.J O.mate O.pair; rank = O.rank; equal = omega (arith, O.equal, e) }
+  kept i a O e = record {
+    I = O.I;
+    J = O.J;
+    mate = O.mate;
+    X = O.X;
+    r = O.r;
+    pair =
+        drop-pair L i a p O.I O.J O.mate O.pair;
+    rank = O.rank;
+    equal = omega (arith, O.equal, e);
+  }
 
   -- both sets touch the row only by the symbol that was dropped
   combined : (i a b : ℕ) → i < L.t_rows → a ≢ b → (A : Optimal p (dropped L i a)) (B : Optimal p (dropped L i b)) →
       touches L A.X i ≡ true → touches (dropped L i a) A.X i ≡ false →
       touches L B.X i ≡ true → touches (dropped L i b) B.X i ≡ false → Optimal p L
-  combined i a b il ne A B at an bt bn = go (rank_exists p prime L.q L.q_rows L.columns (either A.X B.X)) (rank_exists p prime L.q L.q_rows L.columns (both A.X B.X))
+  combined i a b il ne A B at an bt bn = go (rank_exists p prime L.q L.q_rows L.columns (either A.X B.X))
+      (rank_exists p prime L.q L.q_rows L.columns (both A.X B.X))
     where
       only : (c : ℕ) (X : ℕ → Bool) → touches (dropped L i c) X i ≡ false → (j : ℕ) → j < L.columns → X j ≡ true → L.t i j ≡ true → j ≡ c
       only c X none j jl jh s = elim (nat_cases j c) [
         | inl q ↦ q
-        | inr o ↦ absurd (differ none (some_below-holds L.columns (both X ((dropped L i c).t i)) j jl (both_true (X j) ((dropped L i c).t i j) jh (drop-keeps L i c i j s (inr o)))))
+        | inr o ↦ absurd (differ none
+            (some_below-holds L.columns (both X ((dropped L i c).t i)) j jl
+            (both_true (X j) ((dropped L i c).t i j) jh (drop-keeps L i c i j s (inr o)))))
       ]
 
       common_free : touches L (both A.X B.X) i ≡ true → ⊥
@@ -152,7 +165,8 @@ module _ (p : ℕ) (prime : IsPrime p) (L : LayeredMatrix) where
         no_both : (b : Bool) → not b ≡ true → b ≡ false
         no_both b h = grind arith
 
-        go : (f : ℕ → ℕ → ℕ) × ((j : ℕ) → j < L.columns → J j ≡ true → (f j 0 < L.t_rows) × (L.t (f j 0) j ≡ true)) → (r : ℕ) × IsRho p L (λ j. not (J j)) r → Optimal p L
+        go : (f : ℕ → ℕ → ℕ) × ((j : ℕ) → j < L.columns → J j ≡ true → (f j 0 < L.t_rows) × (L.t (f j 0) j ≡ true)) →
+            (r : ℕ) × IsRho p L (λ j. not (J j)) r → Optimal p L
         go (f, ok) (r, R) = record {
           I = R.reached.0;
           J = J;
@@ -175,14 +189,17 @@ module _ (p : ℕ) (prime : IsPrime p) (L : LayeredMatrix) where
             untouched : gamma L (λ j. not (J j)) ≡ 0
             untouched = size-zero (touches L (λ j. not (J j))) L.t_rows (λ i il. none (touches L (λ j. not (J j)) i) (λ h.
                 let w : (j : ℕ) × (j < L.columns) × (both (λ j. not (J j)) (L.t i) j ≡ true) = some_below-found L.columns (both (λ j. not (J j)) (L.t i)) h in
-                differ (no_both (J w.0) (both-first (not (J w.0)) (L.t i w.0) w.2)) (some_below-holds L.t_rows (λ k. L.t k w.0) i il (both-second (not (J w.0)) (L.t i w.0) w.2))))
+                differ (no_both (J w.0) (both-first (not (J w.0)) (L.t i w.0) w.2))
+                (some_below-holds L.t_rows (λ k. L.t k w.0) i il (both-second (not (J w.0)) (L.t i w.0) w.2))))
               where
                 none : (b : Bool) → (b ≡ true → ⊥) → b ≡ false
                 none true h = absurd (h refl)
                 none false h = refl
 
 -- two symbols in one row, or none
-two_symbols : (L : LayeredMatrix) → ((i : ℕ) × (i < L.t_rows) × ((a : ℕ) × (b : ℕ) × (a < L.columns) × (b < L.columns) × (L.t i a ≡ true) × (L.t i b ≡ true) × (a ≢ b))) ⊎
+two_symbols : (L : LayeredMatrix) →
+    ((i : ℕ) × (i < L.t_rows)
+    × ((a : ℕ) × (b : ℕ) × (a < L.columns) × (b < L.columns) × (L.t i a ≡ true) × (L.t i b ≡ true) × (a ≢ b))) ⊎
     ((i j k : ℕ) → i < L.t_rows → j < L.columns → k < L.columns → L.t i j ≡ true → L.t i k ≡ true → j ≡ k)
 two_symbols L = elim (first_on (λ i. some_below L.columns (λ a. L.t i a && some_below L.columns (λ b. L.t i b && not (eqb a b)))) L.t_rows) [
   | inl f ↦ let g : (a : ℕ) × (a < L.columns) × (L.t f.0 a && some_below L.columns (λ b. L.t f.0 b && not (eqb a b)) ≡ true) = some_below-found L.columns

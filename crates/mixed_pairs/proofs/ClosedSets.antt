@@ -38,7 +38,13 @@ module _ (p : ℕ) (prime : IsPrime p) (L : LayeredMatrix) (F : Tableau) (tab : 
       q_row x i xl xh il ne true e = inside (base_found L F i e)
         where
           inside : (b : ℕ) × (b < L.columns) × (F.base b ≡ true) × (F.row b ≡ i) → (b : ℕ) × (b < L.columns) × (both F.base X b ≡ true) × (F.row b ≡ i)
-          inside (b, bl, bh, q) = (b, bl, both_true (F.base b) (X b) bh (follows-q p L F X C.follows x b xl bl xh bh (subst (λ k. F.P k x % p ≢ 0) (sym q) ne)), q)
+          inside (b, bl, bh, q) = (
+            b,
+            bl,
+            both_true (F.base b) (X b) bh
+                (follows-q p L F X C.follows x b xl bl xh bh (subst (λ k. F.P k x % p ≢ 0) (sym q) ne)),
+            q,
+          )
 
       t_row : (x i : ℕ) → x < L.columns → X x ≡ true → i < L.t_rows → L.t i x ≡ true → (v : Bool) → has_match L F i ≡ v → (y : ℕ) × (y < L.columns) ×
           (both F.matched X y ≡ true) × (F.mate y ≡ i)
@@ -46,7 +52,13 @@ module _ (p : ℕ) (prime : IsPrime p) (L : LayeredMatrix) (F : Tableau) (tab : 
       t_row x i xl xh il s true e = inside (match_found L F i e)
         where
           inside : (y : ℕ) × (y < L.columns) × (F.matched y ≡ true) × (F.mate y ≡ i) → (y : ℕ) × (y < L.columns) × (both F.matched X y ≡ true) × (F.mate y ≡ i)
-          inside (y, yl, yh, q) = (y, yl, both_true (F.matched y) (X y) yh (follows-t p L F X C.follows x y xl yl xh yh (subst (λ k. L.t k x ≡ true) (sym q) s)), q)
+          inside (y, yl, yh, q) = (
+            y,
+            yl,
+            both_true (F.matched y) (X y) yh
+                (follows-t p L F X C.follows x y xl yl xh yh (subst (λ k. L.t k x ≡ true) (sym q) s)),
+            q,
+          )
 
   pub fits-closed : Fits p L F X → IsClosedIn p L F X
   fits-closed fits = record {
@@ -64,7 +76,8 @@ module _ (p : ℕ) (prime : IsPrime p) (L : LayeredMatrix) (F : Tableau) (tab : 
           no_match L F i none f.0 f.1 (both-first (F.matched f.0) (X f.0) f.2) f.3
 
       follows : (x y : ℕ) → x < L.columns → y < L.columns → X x ≡ true → LeadsInQ p L F x y ⊎ LeadsInT p L F x y → X y ≡ true
-      follows x y xl yl xh (inl (b, ne)) = let f : (c : ℕ) × (c < L.columns) × (both F.base X c ≡ true) × (F.row c ≡ F.row y) = fits.q x (F.row y) xl xh (tab.base.row_below y yl b) ne in
+      follows x y xl yl xh (inl (b, ne)) = let f : (c : ℕ) × (c < L.columns) × (both F.base X c ≡ true)
+          × (F.row c ≡ F.row y) = fits.q x (F.row y) xl xh (tab.base.row_below y yl b) ne in
           subst (λ k. X k ≡ true) (tab.base.distinct f.0 y f.1 yl (both-first (F.base f.0) (X f.0) f.2) b f.3) (both-second (F.base f.0) (X f.0) f.2)
       follows x y xl yl xh (inr (m, s)) = let f : (c : ℕ) × (c < L.columns) × (both F.matched X c ≡ true) × (F.mate c ≡ F.mate y) = fits.t x (F.mate y) xl xh
           (tab.matching.below y yl m) s in
@@ -81,7 +94,12 @@ module _ (p : ℕ) (prime : IsPrime p) (L : LayeredMatrix) (F : Tableau) (tab : 
       fits.t f.0 i f.1 (both-first (X f.0) (L.t i f.0) f.2) il (both-second (X f.0) (L.t i f.0) f.2))
 
   pub fits-equal : Fits p L F X → pair_size L F.base F.matched + size_on X L.columns ≡ size_on (both F.base X) L.columns + gamma L X + L.columns
-  fits-equal fits = omega (arith, counts-equal F.base F.matched X L.columns tab.apart fits.free, fits-gamma fits, matched-count L F.matched F.mate X tab.matching)
+  fits-equal fits = omega (
+    arith,
+    counts-equal F.base F.matched X L.columns tab.apart fits.free,
+    fits-gamma fits,
+    matched-count L F.matched F.mate X tab.matching,
+  )
 
   -- where the bound is reached, X fits
   module _ (r : ℕ) (R : IsRho p L X r) (e : pair_size L F.base F.matched + size_on X L.columns ≡ r + gamma L X + L.columns) where
@@ -98,9 +116,16 @@ module _ (p : ℕ) (prime : IsPrime p) (L : LayeredMatrix) (F : Tableau) (tab : 
       where
         go : (v : Bool) → X x ≡ v → X x ≡ true
         go true q = q
-        go false q = absurd (omega (arith, e, base_count, counts-less F.base F.matched X L.columns tab.apart x l a b q, matched-count L F.matched F.mate X tab.matching))
+        go false q = absurd (omega (
+          arith,
+          e,
+          base_count,
+          counts-less F.base F.matched X L.columns tab.apart x l a b q,
+          matched-count L F.matched F.mate X tab.matching,
+        ))
 
-    module _ (x i : ℕ) (xl : x < L.columns) (xh : X x ≡ true) (il : i < L.q_rows) (ne : F.P i x % p ≢ 0) (none : (y : ℕ) → y < L.columns → both F.base X y && eqb (F.row y) i ≡ false) where
+    module _ (x i : ℕ) (xl : x < L.columns) (xh : X x ≡ true) (il : i < L.q_rows) (ne : F.P i x % p ≢ 0)
+        (none : (y : ℕ) → y < L.columns → both F.base X y && eqb (F.row y) i ≡ false) where
       no_row : (b : ℕ) → b < L.columns → both F.base X b ≡ true → i ≢ F.row b
       no_row b bl bh q = eqb_false (F.row b) i (both-refused (both F.base X b) (eqb (F.row b) i) (none b bl) bh) (sym q)
 
@@ -113,7 +138,10 @@ module _ (p : ℕ) (prime : IsPrime p) (L : LayeredMatrix) (F : Tableau) (tab : 
 
       one_more : size_on (with_one (both F.base X) x) L.columns ≤ r
       one_more = R.greatest (with_one (both F.base X) x)
-          (λ j l h. elim (nat_cases j x) [ inl q ↦ subst (λ k. X k ≡ true) (sym q) xh | inr o ↦ both-second (F.base j) (X j) (with_one-other (both F.base X) x j h o) ])
+          (λ j l h. elim (nat_cases j x) [
+            | inl q ↦ subst (λ k. X k ≡ true) (sym q) xh
+            | inr o ↦ both-second (F.base j) (X j) (with_one-other (both F.base X) x j h o)
+          ])
           (independent_of-kernel p L.q_rows L.columns F.P L.q (with_one (both F.base X) x) (kernel-sym p L.q_rows L.columns L.q F.P tab.kernel)
           (with_one-independent p prime F.P L.q_rows L.columns (both F.base X) x xl
           (base-independent p prime F.P L.q_rows L.columns F.base F.row tab.base (both F.base X) within_base) never))
@@ -130,20 +158,39 @@ module _ (p : ℕ) (prime : IsPrime p) (L : LayeredMatrix) (F : Tableau) (tab : 
 
     reached_q : (x i : ℕ) → x < L.columns → X x ≡ true → i < L.q_rows → F.P i x % p ≢ 0 → (b : ℕ) × (b < L.columns) × (both F.base X b ≡ true) × (F.row b ≡ i)
     reached_q x i xl xh il ne = elim (first_on (λ y. both F.base X y && eqb (F.row y) i) L.columns) [
-      | inl f ↦ (f.0, f.1, both-first (both F.base X f.0) (eqb (F.row f.0) i) f.2, eqb_true (F.row f.0) i (both-second (both F.base X f.0) (eqb (F.row f.0) i) f.2))
+      | inl f ↦ (
+        f.0,
+        f.1,
+        both-first (both F.base X f.0) (eqb (F.row f.0) i) f.2,
+        eqb_true (F.row f.0) i (both-second (both F.base X f.0) (eqb (F.row f.0) i) f.2),
+      )
       | inr none ↦ absurd (larger x i xl xh il ne none)
     ]
 
-    reached_t : (x i : ℕ) → x < L.columns → X x ≡ true → i < L.t_rows → L.t i x ≡ true → (y : ℕ) × (y < L.columns) × (both F.matched X y ≡ true) × (F.mate y ≡ i)
+    reached_t : (x i : ℕ) → x < L.columns → X x ≡ true → i < L.t_rows → L.t i x ≡ true → (y : ℕ) × (y < L.columns)
+        × (both F.matched X y ≡ true) × (F.mate y ≡ i)
     reached_t x i xl xh il s = elim (first_on (λ y. both F.matched X y && eqb (F.mate y) i) L.columns) [
-      | inl f ↦ (f.0, f.1, both-first (both F.matched X f.0) (eqb (F.mate f.0) i) f.2, eqb_true (F.mate f.0) i (both-second (both F.matched X f.0) (eqb (F.mate f.0) i) f.2))
-      | inr none ↦ absurd (omega (arith, e, base_count, counts F.base F.matched X L.columns tab.apart, fewer none, sum_on-without (touches L X) L.t_rows i (λ _. 1) il touched))
+      | inl f ↦ (
+        f.0,
+        f.1,
+        both-first (both F.matched X f.0) (eqb (F.mate f.0) i) f.2,
+        eqb_true (F.mate f.0) i (both-second (both F.matched X f.0) (eqb (F.mate f.0) i) f.2),
+      )
+      | inr none ↦ absurd (omega (
+        arith,
+        e,
+        base_count,
+        counts F.base F.matched X L.columns tab.apart,
+        fewer none,
+        sum_on-without (touches L X) L.t_rows i (λ _. 1) il touched,
+      ))
     ]
       where
         touched : touches L X i ≡ true
         touched = some_below-holds L.columns (both X (L.t i)) x xl (both_true (X x) (L.t i x) xh s)
 
-        fewer : ((y : ℕ) → y < L.columns → both F.matched X y && eqb (F.mate y) i ≡ false) → size_on (both F.matched X) L.columns ≤ size_on (without (touches L X) i) L.t_rows
+        fewer : ((y : ℕ) → y < L.columns → both F.matched X y && eqb (F.mate y) i ≡ false) →
+            size_on (both F.matched X) L.columns ≤ size_on (without (touches L X) i) L.t_rows
         fewer none = size-injection (both F.matched X) L.columns F.mate L.t_rows (without (touches L X) i)
             (λ a l h. tab.matching.below a l (both-first (F.matched a) (X a) h))
             (λ a l h. member-without (touches L X) i (F.mate a)

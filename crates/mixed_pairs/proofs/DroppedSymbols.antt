@@ -56,7 +56,8 @@ module _ (L : LayeredMatrix) (i a : ℕ) where
       first s e = grind (arith, nat_tests)
 
   pub touches-part : (X : ℕ → Bool) (k : ℕ) → touches (dropped L i a) X k ≡ true → touches L X k ≡ true
-  touches-part X k h = let f : (j : ℕ) × (j < L.columns) × (both X ((dropped L i a).t k) j ≡ true) = some_below-found L.columns (both X ((dropped L i a).t k)) h in
+  touches-part X k h = let f : (j : ℕ) × (j < L.columns) × (both X ((dropped L i a).t k) j ≡ true) =
+      some_below-found L.columns (both X ((dropped L i a).t k)) h in
       some_below-holds L.columns (both X (L.t k)) f.0 f.1
       (both_true (X f.0) (L.t k f.0) (both-first (X f.0) ((dropped L i a).t k f.0) f.2) (drop-part k f.0 (both-second (X f.0) ((dropped L i a).t k f.0) f.2)))
 
@@ -96,7 +97,12 @@ module _ (L : LayeredMatrix) (i a : ℕ) where
   pub drop-pair : (p : ℕ) (I J : ℕ → Bool) (mate : ℕ → ℕ) → IsPair p (dropped L i a) I J mate → IsPair p L I J mate
   drop-pair p I J mate pair = record {
     independent = pair.independent;
-    matching = record { below = pair.matching.below; symbol = λ j jl jh. drop-part (mate j) j (pair.matching.symbol j jl jh); distinct = pair.matching.distinct };
+    matching = record {
+      below = pair.matching.below;
+      symbol =
+          λ j jl jh. drop-part (mate j) j (pair.matching.symbol j jl jh);
+      distinct = pair.matching.distinct;
+    };
     apart = pair.apart;
   }
 

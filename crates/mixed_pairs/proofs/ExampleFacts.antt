@@ -55,7 +55,8 @@ pub tall-rank : IsStructuralRank 65521 tall_model 1
 tall-rank = constant-greatest 65521 2 1 (value tall_model) 1 (λ w. column-rank 65521 2 (value tall_model w) (omega arith) refl)
 
 pub tall_short-rank : IsStructuralRank 65521 (without_equation 0 tall_model) 1
-tall_short-rank = constant-greatest 65521 1 1 (value (without_equation 0 tall_model)) 1 (λ w. column-rank 65521 1 (value (without_equation 0 tall_model) w) (omega arith) refl)
+tall_short-rank = constant-greatest 65521 1 1 (value (without_equation 0 tall_model)) 1
+    (λ w. column-rank 65521 1 (value (without_equation 0 tall_model) w) (omega arith) refl)
 
 pub cancelling-rank : IsStructuralRank 65521 cancelling_model 1
 cancelling-rank = constant-greatest 65521 2 2 (value cancelling_model) 1 (λ w. ones-rank)
@@ -235,7 +236,8 @@ pub triangle-arcs : (x y : ℕ) → x < 2 → y < 2 → leads_to 65521 symbol_tr
 unfolding leads_to
 triangle-arcs x y xl yl = below_two (λ x. leads_to 65521 symbol_triangle triangle_tableau x y ≡ true → (x ≡ 0) × (y ≡ 1))
     (below_two (λ y. leads_to 65521 symbol_triangle triangle_tableau 0 y ≡ true → (zero ≡ 0) × (y ≡ 1)) (λ h. absurd (differ refl h)) (λ h. (refl, refl)) y yl)
-    (below_two (λ y. leads_to 65521 symbol_triangle triangle_tableau 1 y ≡ true → (suc zero ≡ 0) × (y ≡ 1)) (λ h. absurd (differ refl h)) (λ h. absurd (differ refl h)) y yl) x xl
+    (below_two (λ y. leads_to 65521 symbol_triangle triangle_tableau 1 y ≡ true → (suc zero ≡ 0) × (y ≡ 1))
+    (λ h. absurd (differ refl h)) (λ h. absurd (differ refl h)) y yl) x xl
 
 pub triangle-clear : HasNoWalk 65521 symbol_triangle triangle_tableau
 triangle-clear e el eh (s, sl, sh, r) = differ (triangle-no_free s sl) sh

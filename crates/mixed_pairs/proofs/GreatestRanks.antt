@@ -56,7 +56,8 @@ module _ (K : Type 0) (R : K → K → Type 0) (same : (a : K) → R a a) (defau
     where
       go : (v : Bool) → eqb j n ≡ v → R (put f n a j) (put g n b j)
       go true e = subst (λ c. R c (put g n b j)) (sym (put-there f n a j e)) (subst (λ c. R a c) (sym (put-there g n b j e)) r)
-      go false e = subst (λ c. R c (put g n b j)) (sym (put-other f n a j e)) (subst (λ c. R (f j) c) (sym (put-other g n b j e)) (h j (let ne : j ≢ n = eqb_false j n e in omega arith)))
+      go false e = subst (λ c. R c (put g n b j)) (sym (put-other f n a j e))
+          (subst (λ c. R (f j) c) (sym (put-other g n b j e)) (h j (let ne : j ≢ n = eqb_false j n e in omega arith)))
 
   put-same : (n : ℕ) (f : ℕ → K) → AgreesBelow K R (suc n) f (put f n (f n))
   put-same n f j jl = go (eqb j n) refl
@@ -73,15 +74,18 @@ module _ (K : Type 0) (R : K → K → Type 0) (same : (a : K) → R a a) (defau
   functions-searched (suc n) D keeps decide = go (λ a. functions-searched n (λ f. D (put f n a))
       (λ f g h d. keeps (put f n a) (put g n a) (put-agrees n f g a a h (same a)) d) (λ f. decide (put f n a)))
     where
-      decided : (a : K) → ((f : ℕ → K) × D (put f n a)) ⊎ ((f : ℕ → K) → D (put f n a) → ⊥) → ((f : ℕ → K) × D (put f n a)) ⊎ (((f : ℕ → K) × D (put f n a)) → ⊥)
+      decided : (a : K) → ((f : ℕ → K) × D (put f n a)) ⊎ ((f : ℕ → K) → D (put f n a) → ⊥) →
+          ((f : ℕ → K) × D (put f n a)) ⊎ (((f : ℕ → K) × D (put f n a)) → ⊥)
       decided a (inl found) = inl found
       decided a (inr none) = inr (λ (f, d). none f d)
 
       go : ((a : K) → ((f : ℕ → K) × D (put f n a)) ⊎ ((f : ℕ → K) → D (put f n a) → ⊥)) → ((f : ℕ → K) × D f) ⊎ ((f : ℕ → K) → D f → ⊥)
-      go at = elim (each (λ a. (f : ℕ → K) × D (put f n a)) (λ a b r (f, d). (f, keeps (put f n a) (put f n b) (put-agrees n f f a b (λ j _. same (f j)) r) d)) (λ a. decided a (at a))) [
-        | inl (a, (f, d)) ↦ inl (put f n a, d)
-        | inr none ↦ inr (λ f d. none (f n) (f, keeps f (put f n (f n)) (put-same n f) d))
-      ]
+      go at = elim (each (λ a. (f : ℕ → K) × D (put f n a))
+          (λ a b r (f, d). (f, keeps (put f n a) (put f n b) (put-agrees n f f a b (λ j _. same (f j)) r) d))
+          (λ a. decided a (at a))) [
+            | inl (a, (f, d)) ↦ inl (put f n a, d)
+            | inr none ↦ inr (λ f d. none (f n) (f, keeps f (put f n (f n)) (put-same n f) d))
+          ]
 
 -- the greatest of some numbers below n
 greatest_of : (P : ℕ → Type 0) (n : ℕ) → ((k : ℕ) → P k ⊎ (P k → ⊥)) → ((k : ℕ) → P k → k < n) → (k : ℕ) → P k → (g : ℕ) × P g × ((j : ℕ) → P j → j ≤ g)
@@ -140,7 +144,8 @@ greatest-size p prime m n at r G = go G.reached
 
 pub mixed-rank_exists : (p : ℕ) → IsPrime p → (M : MixedMatrix) → (r : ℕ) × IsStructuralRank p M r
 mixed-rank_exists p prime M = greatest_exists p prime M.rows M.columns (value M)
-    (λ v w h i j il jl. agree-add p (M.constant i j) (M.constant i j) (numbers M.symbol v i j) (numbers M.symbol w i j) refl (chosen (M.symbol i j) (v i j) (w i j) (h i j il jl)))
+    (λ v w h i j il jl. agree-add p (M.constant i j) (M.constant i j) (numbers M.symbol v i j) (numbers M.symbol w i j)
+    refl (chosen (M.symbol i j) (v i j) (w i j) (h i j il jl)))
   where
     chosen : (b : Bool) (x y : ℕ) → x % p ≡ y % p → cond b x 0 % p ≡ cond b y 0 % p
     chosen true x y e = e

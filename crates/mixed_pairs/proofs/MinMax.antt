@@ -21,11 +21,13 @@ module _ (p : ℕ) (prime : IsPrime p) (L : LayeredMatrix) where
   rank-at_most X r R K S = omega (arith, S.reached.1.reached.3, rank-bound p prime L X r K S.reached.0 S.reached.1.reached.0 S.reached.1.reached.2)
 
   -- a column set that reaches R(L) is a minimiser
-  pub reached-minimiser : (X : ℕ → Bool) (r R : ℕ) → IsRho p L X r → IsLayeredRank p L R → R + size_on X L.columns ≡ r + gamma L X + L.columns → IsMinimiser p L X
+  pub reached-minimiser : (X : ℕ → Bool) (r R : ℕ) → IsRho p L X r → IsLayeredRank p L R →
+      R + size_on X L.columns ≡ r + gamma L X + L.columns → IsMinimiser p L X
   reached-minimiser X r R K S e Y s t M N = omega (arith, e, rank-unique p L.q L.q_rows L.columns X s r M K, rank-at_most Y t R N S)
 
   -- and each minimiser reaches it
-  pub minimiser-reached : (X : ℕ → Bool) (r R : ℕ) → IsRho p L X r → IsLayeredRank p L R → IsMinimiser p L X → R + size_on X L.columns ≡ r + gamma L X + L.columns
+  pub minimiser-reached : (X : ℕ → Bool) (r R : ℕ) → IsRho p L X r → IsLayeredRank p L R → IsMinimiser p L X →
+      R + size_on X L.columns ≡ r + gamma L X + L.columns
   minimiser-reached X r R K S least = go (optimal p prime L)
     where
       go : Optimal p L → R + size_on X L.columns ≡ r + gamma L X + L.columns

@@ -26,7 +26,8 @@ module _ (p : ℕ) (prime : IsPrime p) (L : LayeredMatrix) (F : Tableau) (tab : 
     apart = tab.apart;
   }
 
-  pub closed-equal : (X : ℕ → Bool) (r : ℕ) → IsRho p L X r → IsClosedIn p L F X → pair_size L F.base F.matched + size_on X L.columns ≡ r + gamma L X + L.columns
+  pub closed-equal : (X : ℕ → Bool) (r : ℕ) → IsRho p L X r → IsClosedIn p L F X →
+      pair_size L F.base F.matched + size_on X L.columns ≡ r + gamma L X + L.columns
   closed-equal X r R C = omega (
     arith,
     fits-equal p prime L F tab X (closed-fits p prime L F tab X C),
@@ -34,7 +35,8 @@ module _ (p : ℕ) (prime : IsPrime p) (L : LayeredMatrix) (F : Tableau) (tab : 
   )
 
   -- the bound is reached exactly at the closed sets
-  pub equal-closed : (X : ℕ → Bool) (r : ℕ) → IsRho p L X r → pair_size L F.base F.matched + size_on X L.columns ≡ r + gamma L X + L.columns → IsClosedIn p L F X
+  pub equal-closed : (X : ℕ → Bool) (r : ℕ) → IsRho p L X r →
+      pair_size L F.base F.matched + size_on X L.columns ≡ r + gamma L X + L.columns → IsClosedIn p L F X
   equal-closed X r R e = fits-closed p prime L F tab X (reached-fits p prime L F tab X r R e)
 
   module _ (X : ℕ → Bool) (C : IsClosedIn p L F X) where

@@ -31,7 +31,8 @@ module _ (p : ℕ) (prime : IsPrime p) (L : LayeredMatrix) (I J : ℕ → Bool) 
       one a b d x y z = grind arith
 
   others-zero : (j k : ℕ) → j < L.columns → k < L.columns → J j ≡ true → k ≢ j → numbers L.t (matching_values J mate) (mate j) k ≡ 0
-  others-zero j k jl kl jh ne = none (L.t (mate j) k) (J k) (eqb (mate k) (mate j)) (λ b e. ne (pair.matching.distinct k j kl jl b jh (eqb_true (mate k) (mate j) e)))
+  others-zero j k jl kl jh ne = none (L.t (mate j) k) (J k) (eqb (mate k) (mate j))
+      (λ b e. ne (pair.matching.distinct k j kl jl b jh (eqb_true (mate k) (mate j) e)))
     where
       none : (a b d : Bool) → (b ≡ true → d ≡ true → ⊥) → pick a (pick (b && d) 1) ≡ 0
       none true true true h = absurd (h refl refl)
@@ -58,7 +59,8 @@ module _ (p : ℕ) (prime : IsPrime p) (L : LayeredMatrix) (I J : ℕ → Bool) 
         where
           go : (x : ℕ) → x < L.columns → either I J x ≡ true → (b : Bool) → I x ≡ b → (c x * L.q i x) % p ≡ cond b (c x * L.q i x) 0 % p
           go x xl xh true e = refl
-          go x xl xh false e = vanishes_by p _ (L.q i x * c x) (omega arith) (vanishes-mul p (L.q i x) (c x) (matched x xl (right (I x) (J x) xh e))) ∙ sym (zero-mod p)
+          go x xl xh false e = vanishes_by p _ (L.q i x * c x) (omega arith)
+              (vanishes-mul p (L.q i x) (c x) (matched x xl (right (I x) (J x) xh e))) ∙ sym (zero-mod p)
             where
               right : (a b : Bool) → a || b ≡ true → a ≡ false → b ≡ true
               right a b h k = grind arith
@@ -103,7 +105,8 @@ pub greatest-unique : (p m n : ℕ) (at : (ℕ → ℕ → ℕ) → ℕ → ℕ 
 greatest-unique p m n at r s R S = omega (arith, R.greatest S.reached.0 s S.reached.1, S.greatest R.reached.0 r R.reached.1)
 
 -- with a tableau and a closed set
-pub closed-rank : (p : ℕ) → IsPrime p → (L : LayeredMatrix) (F : Tableau) → HasTableau p L F → (X : ℕ → Bool) → IsClosedIn p L F X → IsLayeredRank p L (pair_size L F.base F.matched)
+pub closed-rank : (p : ℕ) → IsPrime p → (L : LayeredMatrix) (F : Tableau) → HasTableau p L F → (X : ℕ → Bool) →
+    IsClosedIn p L F X → IsLayeredRank p L (pair_size L F.base F.matched)
 closed-rank p prime L F tab X C = go (rank_exists p prime L.q L.q_rows L.columns X)
   where
     go : (r : ℕ) × IsRho p L X r → IsLayeredRank p L (pair_size L F.base F.matched)

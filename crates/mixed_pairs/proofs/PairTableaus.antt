@@ -11,5 +11,12 @@ pub pair_tableau : (p : ℕ) → IsPrime p → (L : LayeredMatrix) (I J : ℕ �
 pair_tableau p prime L I J mate pair = go (transformed_base p prime L.q_rows L.columns L.q I pair.independent)
   where
     go : Transformed p L.q_rows L.columns L.q I →
-        (S : ℕ → ℕ → ℕ) × (U : ℕ → ℕ → ℕ) × (P : ℕ → ℕ → ℕ) × (row : ℕ → ℕ) × IsTableau p L S U (record { P = P; base = I; row = row; matched = J; mate = mate })
+        (S : ℕ → ℕ → ℕ) × (U : ℕ → ℕ → ℕ) × (P : ℕ → ℕ → ℕ) × (row : ℕ → ℕ) × IsTableau p L S U (record {
+          P = P;
+          base =
+              I;
+          row = row;
+          matched = J;
+          mate = mate;
+        })
     go T = (T.S, T.U, T.P, T.row, record { inverse = T.inverse; product = T.made; base = T.base; matching = pair.matching; apart = pair.apart })

@@ -30,10 +30,12 @@ module _ (p m n : ℕ) (a : ℕ → ℕ → ℕ) (e : ℕ) (el : e < m) where
   left_out : IsRowRemoved p m (m - 1) n a (without_row e a) e
   left_out = without_row-removed p m n a e el
 
-  to_left_out : (Y : ℕ → Bool) (c : ℕ → ℕ) → CombinesToZero p (part (without everything e) everything a) m n Y c → CombinesToZero p (without_row e a) (m - 1) n Y c
+  to_left_out : (Y : ℕ → Bool) (c : ℕ → ℕ) → CombinesToZero p (part (without everything e) everything a) m n Y c →
+      CombinesToZero p (without_row e a) (m - 1) n Y c
   to_left_out Y c z = left_out.back Y c (λ i il ne. emptied.rows Y c z i il ne)
 
-  to_emptied : (Y : ℕ → Bool) (c : ℕ → ℕ) → CombinesToZero p (without_row e a) (m - 1) n Y c → CombinesToZero p (part (without everything e) everything a) m n Y c
+  to_emptied : (Y : ℕ → Bool) (c : ℕ → ℕ) → CombinesToZero p (without_row e a) (m - 1) n Y c →
+      CombinesToZero p (part (without everything e) everything a) m n Y c
   to_emptied Y c z = emptied.back Y c (λ i il ne. left_out.rows Y c z i il ne)
 
   emptied_row-rank : (r : ℕ) → IsRank p (part (without everything e) everything a) m n everything r → IsRank p (without_row e a) (m - 1) n everything r
@@ -61,8 +63,10 @@ module _ (p : ℕ) (prime : IsPrime p) (m n : ℕ) (a : ℕ → ℕ → ℕ) (v 
 
 -- ---- a model
 -- families with the same ranks have the same greatest rank
-pub greatest-moved : (p m n k l : ℕ) (at to : (ℕ → ℕ → ℕ) → ℕ → ℕ → ℕ) → ((w : ℕ → ℕ → ℕ) (r : ℕ) → IsRank p (at w) m n everything r → (v : ℕ → ℕ → ℕ) × IsRank p (to v) k l everything r) →
-    ((v : ℕ → ℕ → ℕ) (r : ℕ) → IsRank p (to v) k l everything r → (w : ℕ → ℕ → ℕ) × IsRank p (at w) m n everything r) → (r : ℕ) → IsGreatestRank p m n at r → IsGreatestRank p k l to r
+pub greatest-moved : (p m n k l : ℕ) (at to : (ℕ → ℕ → ℕ) → ℕ → ℕ → ℕ) →
+    ((w : ℕ → ℕ → ℕ) (r : ℕ) → IsRank p (at w) m n everything r → (v : ℕ → ℕ → ℕ) × IsRank p (to v) k l everything r) →
+    ((v : ℕ → ℕ → ℕ) (r : ℕ) → IsRank p (to v) k l everything r → (w : ℕ → ℕ → ℕ) × IsRank p (at w) m n everything r) →
+    (r : ℕ) → IsGreatestRank p m n at r → IsGreatestRank p k l to r
 greatest-moved p m n k l at to there back r G = record {
   reached = there G.reached.0 r G.reached.1;
   greatest = λ v s S. let w : (w : ℕ → ℕ → ℕ) × IsRank p (at w) m n everything s = back v s S in G.greatest w.0 s w.1;
@@ -99,7 +103,8 @@ module _ (p : ℕ) (prime : IsPrime p) (M : MixedMatrix) where
         (w : ℕ → ℕ → ℕ) × IsRank p (value (mixed_part (without everything e) everything M) w) M.rows M.columns everything r
     row_back v r R = (
       spread_rows v,
-      same-rank M.rows M.columns (part (without everything e) everything (value M (spread_rows v))) (value (mixed_part (without everything e) everything M) (spread_rows v))
+      same-rank M.rows M.columns (part (without everything e) everything (value M (spread_rows v)))
+          (value (mixed_part (without everything e) everything M) (spread_rows v))
           (λ i j _ _. sym (mixed_part-value M (without everything e) everything (spread_rows v) i j)) r
           (left_row-rank p M.rows M.columns (value M (spread_rows v)) e el r
           (same-rank (M.rows - 1) M.columns (value (without_equation e M) v) (without_row e (value M (spread_rows v))) spread r R)),
@@ -109,10 +114,12 @@ module _ (p : ℕ) (prime : IsPrime p) (M : MixedMatrix) where
         spread k j _ _ = ap (λ l. M.constant (skip e k) j + cond (M.symbol (skip e k) j) (v l j) 0) (sym (unskip-skip e k))
 
     pub emptied_equation : (r : ℕ) → IsStructuralRank p (mixed_part (without everything e) everything M) r → IsStructuralRank p (without_equation e M) r
-    emptied_equation = greatest-moved p M.rows M.columns (M.rows - 1) M.columns (value (mixed_part (without everything e) everything M)) (value (without_equation e M)) row_there row_back
+    emptied_equation = greatest-moved p M.rows M.columns (M.rows - 1) M.columns
+        (value (mixed_part (without everything e) everything M)) (value (without_equation e M)) row_there row_back
 
     pub left_equation : (r : ℕ) → IsStructuralRank p (without_equation e M) r → IsStructuralRank p (mixed_part (without everything e) everything M) r
-    left_equation = greatest-moved p (M.rows - 1) M.columns M.rows M.columns (value (without_equation e M)) (value (mixed_part (without everything e) everything M)) row_back row_there
+    left_equation = greatest-moved p (M.rows - 1) M.columns M.rows M.columns (value (without_equation e M))
+        (value (mixed_part (without everything e) everything M)) row_back row_there
 
   -- and those of the model without unknown u
   module _ (u : ℕ) (ul : u < M.columns) where
@@ -132,7 +139,8 @@ module _ (p : ℕ) (prime : IsPrime p) (M : MixedMatrix) where
         (w : ℕ → ℕ → ℕ) × IsRank p (value (mixed_part everything (without everything u) M) w) M.rows M.columns everything r
     column_back v r R = (
       spread_columns v,
-      same-rank M.rows M.columns (part everything (without everything u) (value M (spread_columns v))) (value (mixed_part everything (without everything u) M) (spread_columns v))
+      same-rank M.rows M.columns (part everything (without everything u) (value M (spread_columns v)))
+          (value (mixed_part everything (without everything u) M) (spread_columns v))
           (λ i j _ _. sym (mixed_part-value M everything (without everything u) (spread_columns v) i j)) r
           (left_column-rank p prime M.rows M.columns (value M (spread_columns v)) u ul r
           (same-rank M.rows (M.columns - 1) (value (without_unknown u M) v) (without_column u (value M (spread_columns v))) spread r R)),
@@ -146,4 +154,5 @@ module _ (p : ℕ) (prime : IsPrime p) (M : MixedMatrix) where
         (value (without_unknown u M)) column_there column_back
 
     pub left_unknown : (r : ℕ) → IsStructuralRank p (without_unknown u M) r → IsStructuralRank p (mixed_part everything (without everything u) M) r
-    left_unknown = greatest-moved p M.rows (M.columns - 1) M.rows M.columns (value (without_unknown u M)) (value (mixed_part everything (without everything u) M)) column_back column_there
+    left_unknown = greatest-moved p M.rows (M.columns - 1) M.rows M.columns (value (without_unknown u M))
+        (value (mixed_part everything (without everything u) M)) column_back column_there

@@ -90,7 +90,8 @@ module _ (p : ℕ) (prime : IsPrime p) (L : LayeredMatrix) (S U : ℕ → ℕ �
       no_end x (inl (i, il, ne, none)) = let f : (b : ℕ) × (b < L.columns) × (both F.base X b ≡ true) × (F.row b ≡ i) = each_q i il
           (both-first (R i) (X x) (shown (R i && X x) (F.P i x) ne)) in
           no_base the_part (tableau_part R X F) i none f.0 f.1 f.2 f.3
-      no_end x (inr (i, il, s, none)) = let f : (j : ℕ) × (j < L.columns) × (both F.matched X j ≡ true) × (F.mate j ≡ i) = each_t i il (first_three (D i) (X x) (L.t i x) s) in
+      no_end x (inr (i, il, s, none)) = let f : (j : ℕ) × (j < L.columns) × (both F.matched X j ≡ true)
+          × (F.mate j ≡ i) = each_t i il (first_three (D i) (X x) (L.t i x) s) in
           no_match the_part (tableau_part R X F) i none f.0 f.1 f.2 f.3
 
   -- each of its columns is in the base or matched: the rank is their number

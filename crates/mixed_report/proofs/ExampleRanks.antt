@@ -101,7 +101,8 @@ stacked_one-rank = rank_of-kernel 65521 2 2 (λ i j. 1) (value stacked_model (λ
 
 -- 1 and 2 alone reach the rank, and 1 does not
 pub stacked_two-rank : IsRank 65521 (value stacked_model (λ i j. 2)) 2 2 everything 2
-stacked_two-rank = go (model-ones_and_twos 65521 prime_65521 stacked_model stacked_model-rank.reached.1.reached.0 stacked_model-rank.reached.0 stacked_model-rank.reached.1.reached.2)
+stacked_two-rank = go (model-ones_and_twos 65521 prime_65521 stacked_model stacked_model-rank.reached.1.reached.0
+    stacked_model-rank.reached.0 stacked_model-rank.reached.1.reached.2)
   where
     go : (v : ℕ → ℕ → ℕ) × IsIndependent 65521 (value stacked_model v) 2 2 stacked_model-rank.reached.1.reached.0 ×
         ((i j : ℕ) → i < 2 → j < 2 → IsOneOrTwo (v i j)) → IsRank 65521 (value stacked_model (λ i j. 2)) 2 2 everything 2

@@ -19,7 +19,8 @@ module _ (lower : ℕ → ℕ → Bool) (b : ℕ) where
   first-step zero l k lb kb (z, zb, e, h) = (k, kb, subst (λ v. lower v k ≡ true) (sym e) h, inl refl)
   first-step (suc j) l k lb kb (z, zb, w, h) = go (first-step j l z lb zb w)
     where
-      go : ((m : ℕ) × (m < b) × (lower l m ≡ true) × ((m ≡ z) ⊎ ReachesOn lower b m z)) → (m : ℕ) × (m < b) × (lower l m ≡ true) × ((m ≡ k) ⊎ ReachesOn lower b m k)
+      go : ((m : ℕ) × (m < b) × (lower l m ≡ true) × ((m ≡ z) ⊎ ReachesOn lower b m z)) → (m : ℕ) × (m < b)
+          × (lower l m ≡ true) × ((m ≡ k) ⊎ ReachesOn lower b m k)
       go (m, mb, lm, inl same) = (m, mb, lm, inr (one-step m k mb (subst (λ v. lower v k ≡ true) (sym same) h)))
       go (m, mb, lm, inr chain) = (m, mb, lm, inr (chain-join m z k chain (one-step z k zb h)))
 

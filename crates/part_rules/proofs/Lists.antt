@@ -33,7 +33,13 @@ module _ (arc : ℕ → ℕ → Bool) (n : ℕ) (starts ends F L : ℕ → Bool)
     | inl f ↦ absurd (differ iy.not_first (down.first_leads z y zl iy.below f a))
     | inr rest ↦ elim rest [
       | inl l ↦ let last : part z ≡ b + 2 = (N.last z zl).0 l in
-          absurd (omega (arith, last, walk-falls arc n starts ends F L block part b lower N falling A k x z ix.below zl w, below-last n b F L block part N x ix))
+          absurd (omega (
+            arith,
+            last,
+            walk-falls arc n starts ends F L block part b lower N falling A k x z ix.below zl
+                w,
+            below-last n b F L block part N x ix,
+          ))
       | inr iz ↦ iz
     ]
   ]
@@ -109,7 +115,8 @@ module _ (arc : ℕ → ℕ → Bool) (n : ℕ) (starts ends F L : ℕ → Bool)
             let last : Mutual arc n v y = G.block_mutual v y iv iy (omega (arith, bv, by)) in
             reaches-join arc n x v y (reaches-arc arc n x u v first.0 ul a) last.0
 
-    chain-reaches : (j l k x y : ℕ) → l < b → k < b → Walk lower b l k (suc j) → InBlock n F L x → block x ≡ l → InBlock n F L y → block y ≡ k → Reaches arc n x y
+    chain-reaches : (j l k x y : ℕ) → l < b → k < b → Walk lower b l k (suc j) → InBlock n F L x → block x ≡ l →
+        InBlock n F L y → block y ≡ k → Reaches arc n x y
     chain-reaches zero l k x y lb kb (z, zb, e, h) ix bx iy by = step-reaches l k x y lb (subst (λ v. lower v k ≡ true) (sym e) h) ix bx iy by
     chain-reaches (suc j) l k x y lb kb (z, zb, w, h) ix bx iy by =
         let m = member-of z zb in
@@ -202,7 +209,8 @@ module _ (arc : ℕ → ℕ → Bool) (n : ℕ) (starts ends F L : ℕ → Bool)
     below-chained k l kb lb h =
         let x = member-of l lb in
         let y = member-of k kb in
-        let there : Reaches arc n x.0 y.0 = R.order.tells x.0 y.0 (middle-of x.0 x.1) (middle-of y.0 y.1) (subst (λ v. R.below v (block x.0) ≡ true) (sym y.2) (subst (λ v. R.below k v ≡ true) (sym x.2) h)) in
+        let there : Reaches arc n x.0 y.0 = R.order.tells x.0 y.0 (middle-of x.0 x.1) (middle-of y.0 y.1)
+        (subst (λ v. R.below v (block x.0) ≡ true) (sym y.2) (subst (λ v. R.below k v ≡ true) (sym x.2) h)) in
         elim (walk-chain there.0 x.0 y.0 x.1 y.1 there.1) [
           | inl same ↦ absurd (R.order.apart k l kb lb h (omega (arith, same, x.2, y.2)))
           | inr chain ↦ subst (λ v. ReachesOn lower b v k) x.2 (subst (ReachesOn lower b (block x.0)) y.2 chain)
@@ -228,7 +236,9 @@ module _ (arc : ℕ → ℕ → Bool) (n : ℕ) (starts ends F L : ℕ → Bool)
             let y = member-of k kb in
             let less : k < l = chain-falls lower b falling l k (j, w) in
             let there : Reaches arc n x.0 y.0 = reach-all j k kb w x.0 y.0 x.1 x.2 y.1 y.2 in
-            let made : R.below (block y.0) (block x.0) ≡ true = R.order.made x.0 y.0 (middle-of x.0 x.1) (middle-of y.0 y.1) there (λ same. absurd (omega (arith, same, x.2, y.2, less))) in
+            let made : R.below (block y.0) (block x.0) ≡ true =
+            R.order.made x.0 y.0 (middle-of x.0 x.1) (middle-of y.0 y.1) there
+            (λ same. absurd (omega (arith, same, x.2, y.2, less))) in
             subst (λ v. R.below v l ≡ true) y.2 (subst (λ v. R.below (block y.0) v ≡ true) x.2 made)
 
     abbrev Crosses : ℕ → ℕ → Type 0
@@ -269,10 +279,14 @@ module _ (arc : ℕ → ℕ → Bool) (n : ℕ) (starts ends F L : ℕ → Bool)
             let x = member-of l lb in
             let y = member-of k kb in
             let under : R.below k l ≡ true = R.lists.is_below k l kb lb h in
-            let there : Reaches arc n x.0 y.0 = R.order.tells x.0 y.0 (middle-of x.0 x.1) (middle-of y.0 y.1) (subst (λ v. R.below v (block x.0) ≡ true) (sym y.2) (subst (λ v. R.below k v ≡ true) (sym x.2) under)) in
+            let there : Reaches arc n x.0 y.0 = R.order.tells x.0 y.0 (middle-of x.0 x.1) (middle-of y.0 y.1)
+            (subst (λ v. R.below v (block x.0) ≡ true) (sym y.2) (subst (λ v. R.below k v ≡ true) (sym x.2) under))
+            in
             elim (crossing there.0 x.0 y.0 x.1 y.1 (omega (arith, x.2, y.2, less)) there.1) [
               | inl across ↦ subst (λ v. Crosses v k) x.2 (subst (Crosses (block x.0)) y.2 across)
-              | inr (m, mb, low, high) ↦ absurd (R.lists.none_between k m l kb mb lb h (subst (λ v. R.below v m ≡ true) y.2 low) (subst (λ v. R.below m v ≡ true) x.2 high))
+              | inr (m, mb, low, high) ↦ absurd
+                  (R.lists.none_between k m l kb mb lb h (subst (λ v. R.below v m ≡ true) y.2 low)
+                  (subst (λ v. R.below m v ≡ true) x.2 high))
             ]
 
         none : (k m l : ℕ) → l < b → lower l k ≡ true → lower l m ≡ true → ReachesOn lower b m k → ⊥
@@ -312,7 +326,8 @@ module _ (arc : ℕ → ℕ → Bool) (n : ℕ) (starts ends F L : ℕ → Bool)
               where
                 enter : ((m : ℕ) × (m < b) × (lower l m ≡ true) × ((m ≡ block y) ⊎ ReachesOn lower b m (block y))) → block y < k
                 enter (m, mb, h, inl same) = let less : m < k = before m h in omega (arith, same, less)
-                enter (m, mb, h, inr chain) = let less : m < k = before m h in let under : block y < m = chain-falls lower b falling m (block y) chain in omega (arith, less, under)
+                enter (m, mb, h, inr chain) = let less : m < k = before m h in let under : block y < m =
+                    chain-falls lower b falling m (block y) chain in omega (arith, less, under)
 
         go : HasLess n F L block (head l) k → head k < head l
         go (z, zh, iz, bz) =

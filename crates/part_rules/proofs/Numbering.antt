@@ -59,10 +59,21 @@ module _ (n b : ℕ) (F L : ℕ → Bool) (block part : ℕ → ℕ) (N : AreNum
       arcs = leads;
     }
       where
-        from-block : (x y : ℕ) → InBlock n F L x → y < n → ((F y ≡ true) ⊎ (InBlock n F L y × ((block y ≡ block x) ⊎ ReachesOn lower b (block x) (block y)))) → MayLead b lower (part x) (part y)
+        from-block : (x y : ℕ) → InBlock n F L x → y < n →
+            ((F y ≡ true) ⊎ (InBlock n F L y × ((block y ≡ block x) ⊎ ReachesOn lower b (block x) (block y)))) →
+            MayLead b lower (part x) (part y)
         from-block x y ix yl (inl f) = inr (inl ((N.first y yl).0 f))
         from-block x y ix yl (inr (iy, inl same)) = inr (inr (inl (sym (same-part y x iy ix same))))
-        from-block x y ix yl (inr (iy, inr chain)) = inr (inr (inr (block y, block x, number-below y iy, number-below x ix, sym (number-is x ix), sym (number-is y iy), chain)))
+        from-block x y ix yl (inr (iy, inr chain)) =
+            inr (inr (inr (
+              block y,
+              block x,
+              number-below y iy,
+              number-below x ix,
+              sym (number-is x ix),
+              sym (number-is y iy),
+              chain,
+            )))
 
         leads : (x y : ℕ) → x < n → y < n → arc x y ≡ true → MayLead b lower (part x) (part y)
         leads x y xl yl a = elim (part-cases x xl) [

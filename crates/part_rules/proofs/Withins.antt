@@ -101,7 +101,8 @@ module _ (arc : ℕ → ℕ → Bool) (n : ℕ) (starts ends F L : ℕ → Bool)
           go : FromSome within n low x → FromSome arc n starts x
           go (s, sl, h, r) = let out = outer-reaches s x sl xl r in elim ((S s sl).0 h) [
             | inl start ↦ (s, sl, start, out.0)
-            | inr (k, kb, is) ↦ let at : part (head k) ≡ k + 2 = (H k kb).1 in let ps : part s ≡ k + 2 = subst (λ v. part v ≡ k + 2) (sym is) at in absurd (omega (arith, ps, out.1, one))
+            | inr (k, kb, is) ↦ let at : part (head k) ≡ k + 2 = (H k kb).1 in let ps : part s ≡ k + 2 =
+                subst (λ v. part v ≡ k + 2) (sym is) at in absurd (omega (arith, ps, out.1, one))
           ]
 
       met-last : AreMet n b part from to → (x : ℕ) → x < n → part x ≡ b + 2 → ToSome arc n ends x
@@ -110,12 +111,16 @@ module _ (arc : ℕ → ℕ → Bool) (n : ℕ) (starts ends F L : ℕ → Bool)
           go : ToSome within n high x → ToSome arc n ends x
           go (e, el, h, r) = let out = outer-reaches x e xl el r in elim ((E e el).0 h) [
             | inl end ↦ (e, el, end, out.0)
-            | inr (k, kb, is) ↦ let at : part (head k) ≡ k + 2 = (H k kb).1 in let pe : part e ≡ k + 2 = subst (λ v. part v ≡ k + 2) (sym is) at in absurd (omega (arith, pe, out.1, last, kb))
+            | inr (k, kb, is) ↦ let at : part (head k) ≡ k + 2 = (H k kb).1 in let pe : part e ≡ k + 2 =
+                subst (λ v. part v ≡ k + 2) (sym is) at in absurd (omega (arith, pe, out.1, last, kb))
           ]
 
       -- a place of a block reaches its head, and is reached from it
       met-below : AreMet n b part from to → (x : ℕ) → InBlock n F L x → Reaches arc n (head (block x)) x
-      met-below G x ix = elim ((G x ix.below).0) [ inl last ↦ absurd (omega (arith, last, below-last n b F L block part N x ix)) | inr met ↦ go ((R x ix.below).0 met) ]
+      met-below G x ix = elim ((G x ix.below).0) [
+        | inl last ↦ absurd (omega (arith, last, below-last n b F L block part N x ix))
+        | inr met ↦ go ((R x ix.below).0 met)
+      ]
         where
           go : FromSome within n low x → Reaches arc n (head (block x)) x
           go (s, sl, h, r) = let out = outer-reaches s x sl ix.below r in elim ((S s sl).0 h) [
@@ -128,7 +133,10 @@ module _ (arc : ℕ → ℕ → Bool) (n : ℕ) (starts ends F L : ℕ → Bool)
           ]
 
       met-above : AreMet n b part from to → (x : ℕ) → InBlock n F L x → Reaches arc n x (head (block x))
-      met-above G x ix = elim ((G x ix.below).1) [ inl one ↦ absurd (omega (arith, one, above-first n b F L block part N x ix)) | inr met ↦ go ((T x ix.below).0 met) ]
+      met-above G x ix = elim ((G x ix.below).1) [
+        | inl one ↦ absurd (omega (arith, one, above-first n b F L block part N x ix))
+        | inr met ↦ go ((T x ix.below).0 met)
+      ]
         where
           go : ToSome within n high x → Reaches arc n x (head (block x))
           go (e, el, h, r) = let out = outer-reaches x e ix.below el r in elim ((E e el).0 h) [
@@ -141,7 +149,8 @@ module _ (arc : ℕ → ℕ → Bool) (n : ℕ) (starts ends F L : ℕ → Bool)
           ]
 
       met-reaches : AreMet n b part from to → (x y : ℕ) → InBlock n F L x → InBlock n F L y → block x ≡ block y → Reaches arc n x y
-      met-reaches G x y ix iy same = reaches-join arc n x (head (block x)) y (met-above G x ix) (subst (λ v. Reaches arc n (head v) y) (sym same) (met-below G y iy))
+      met-reaches G x y ix iy same = reaches-join arc n x (head (block x)) y (met-above G x ix)
+          (subst (λ v. Reaches arc n (head v) y) (sym same) (met-below G y iy))
 
       pub met-reasons : AreMet n b part from to → HasReasons arc n starts ends F L block
       met-reasons G = record {

@@ -30,12 +30,15 @@ module _ (arcs : List (ℕ × ℕ)) (part : ℕ → ℕ) (told : ℕ → ℕ →
   pub sum-taken : (now : ℕ → ℕ → Bool) → ((x y : ℕ) → now x y ≡ told x y || (eqb from x && eqb to y)) → part from ≡ part to →
       (x y : ℕ) → now x y || inner (arc_in (drop (k + 1) arcs)) part x y ≡ inner (arc_in arcs) part x y
   sum-taken now more same x y = ap (λ b. b || inner (arc_in (drop (k + 1) arcs)) part x y) (more x y)
-      ∙ (taken (told x y) (eqb from x && eqb to y) (arc_in (drop (k + 1) arcs) x y) (eqb (part x) (part y)) (λ h. sym (parts-at x y h) ∙ eqb_from (part from) (part to) same) ∙ ahead x y)
+      ∙ (taken (told x y) (eqb from x && eqb to y) (arc_in (drop (k + 1) arcs) x y) (eqb (part x) (part y))
+      (λ h. sym (parts-at x y h) ∙ eqb_from (part from) (part to) same) ∙ ahead x y)
 
   pub sum-passed : (part from ≡ part to → ⊥) →
       (x y : ℕ) → told x y || inner (arc_in (drop (k + 1) arcs)) part x y ≡ inner (arc_in arcs) part x y
   sum-passed apart x y =
-      passed (told x y) (eqb from x && eqb to y) (arc_in (drop (k + 1) arcs) x y) (eqb (part x) (part y)) (λ h. sym (parts-at x y h) ∙ not_true (eqb (part from) (part to)) (λ t. apart (eqb_true (part from) (part to) t))) ∙ ahead x y
+      passed (told x y) (eqb from x && eqb to y) (arc_in (drop (k + 1) arcs) x y) (eqb (part x) (part y))
+      (λ h. sym (parts-at x y h) ∙ not_true (eqb (part from) (part to))
+      (λ t. apart (eqb_true (part from) (part to) t))) ∙ ahead x y
 
 -- at first nothing is there
 pub sum-first : (arcs : List (ℕ × ℕ)) (part : ℕ → ℕ) (told : ℕ → ℕ → Bool) → ((x y : ℕ) → told x y ≡ false) →
@@ -45,7 +48,9 @@ sum-first arcs part told none x y = ap (λ b. b || inner (arc_in arcs) part x y)
 -- and at last all is
 pub sum-last : (arcs : List (ℕ × ℕ)) (part : ℕ → ℕ) (told : ℕ → ℕ → Bool) (k : ℕ) → length arcs ≤ k →
     ((x y : ℕ) → told x y || inner (arc_in (drop k arcs)) part x y ≡ inner (arc_in arcs) part x y) → (x y : ℕ) → told x y ≡ inner (arc_in arcs) part x y
-sum-last arcs part told k l sum x y = sym (or-false (told x y)) ∙ subst (λ rest. told x y || inner (arc_in rest) part x y ≡ inner (arc_in arcs) part x y) (drop_all k arcs l) (sum x y)
+sum-last arcs part told k l sum x y = sym (or-false (told x y))
+    ∙ subst (λ rest. told x y
+    || inner (arc_in rest) part x y ≡ inner (arc_in arcs) part x y) (drop_all k arcs l) (sum x y)
   where
     or-false : (b : Bool) → b || false ≡ b
     or-false true = refl
@@ -55,8 +60,10 @@ sum-last arcs part told k l sum x y = sym (or-false (told x y)) ∙ subst (λ re
 pub arc-below : (n : ℕ) (arcs : List (ℕ × ℕ)) → AreArcs n arcs → (x y : ℕ) → arc_in arcs x y ≡ true → (x < n) × (y < n)
 arc-below n [] all x y h = absurd (differ refl h)
 arc-below n (arc ∷ arcs) all x y h = elim (either_cases (eqb arc.0 x && eqb arc.1 y) (arc_in arcs x y) h) [
-  | inl here ↦ let first : (arc.0 < n) × (arc.1 < n) = all 0 arc (omega arith) in
-      (subst (λ z. z < n) (eqb_true arc.0 x (both-first (eqb arc.0 x) (eqb arc.1 y) here)) first.0, subst (λ z. z < n) (eqb_true arc.1 y (both-second (eqb arc.0 x) (eqb arc.1 y) here)) first.1)
+  | inl here ↦ let first : (arc.0 < n) × (arc.1 < n) = all 0 arc (omega arith) in (
+    subst (λ z. z < n) (eqb_true arc.0 x (both-first (eqb arc.0 x) (eqb arc.1 y) here)) first.0,
+    subst (λ z. z < n) (eqb_true arc.1 y (both-second (eqb arc.0 x) (eqb arc.1 y) here)) first.1,
+  )
   | inr later ↦ arc-below n arcs (λ k d l. all (suc k) d (omega arith)) x y later
 ]
 

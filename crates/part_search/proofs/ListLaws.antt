@@ -32,14 +32,16 @@ module _ {Z : Type 0} where
       ∙ get_or-set_other (map (λ (list : Vec ℕ Z). list.items) lists) x j w.items [] ne
 
   -- one empty list more
-  pub none-more : (lists : List (Vec ℕ Z)) (v : Vec ℕ Z) → v.items ≡ [] → ((x y : ℕ) → listed lists x y ≡ false) → (x y : ℕ) → listed (lists ++ v ∷ []) x y ≡ false
+  pub none-more : (lists : List (Vec ℕ Z)) (v : Vec ℕ Z) → v.items ≡ [] → ((x y : ℕ) → listed lists x y ≡ false) →
+      (x y : ℕ) → listed (lists ++ v ∷ []) x y ≡ false
   none-more [] v e none zero y = subst (λ ys. has ys y ≡ false) (sym e) refl
   none-more [] v e none (suc x) y = refl
   none-more (w ∷ lists) v e none zero y = none zero y
   none-more (w ∷ lists) v e none (suc x) y = none-more lists v e (λ a b. none (suc a) b) x y
 
   -- one item more in the list at `from`
-  pub entered : (lists : List (Vec ℕ Z)) (from to : ℕ) (v w : Vec ℕ Z) → from < length lists → v ≡ get_or lists from v → w.items ≡ v.items ++ to ∷ [] → IsEntered lists (slice_set lists from w) from to
+  pub entered : (lists : List (Vec ℕ Z)) (from to : ℕ) (v w : Vec ℕ Z) → from < length lists → v ≡ get_or lists from v →
+      w.items ≡ v.items ++ to ∷ [] → IsEntered lists (slice_set lists from w) from to
   entered lists from to v w l e more = record {
     count = length-set lists from w;
     holds = λ x y. elim (nat_cases x from) [

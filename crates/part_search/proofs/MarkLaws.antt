@@ -29,7 +29,8 @@ queue-empty marks none = record {
 }
 
 -- nothing more is marked
-pub grown-same : (X : ℕ → Bool) (marks : List Bool) (queue : List ℕ) → IsQueue marks queue → ((y : ℕ) → X y ≡ true → marked marks y ≡ true) → IsGrown X marks queue marks queue
+pub grown-same : (X : ℕ → Bool) (marks : List Bool) (queue : List ℕ) → IsQueue marks queue →
+    ((y : ℕ) → X y ≡ true → marked marks y ≡ true) → IsGrown X marks queue marks queue
 grown-same X marks queue Q known = record {
   queued = Q;
   count = refl;
@@ -68,7 +69,8 @@ module _ (marks : List Bool) (queue : List ℕ) (place : ℕ) (Q : IsQueue marks
   queue-count = omega (arith, length-append queue (place ∷ []))
 
   -- what each place of the queue and this one have, each place of the new queue has
-  queue-each : (P : ℕ → Type 0) → ((i : ℕ) → i < length queue → P (get_or queue i 0)) → P place → (i : ℕ) → i < length (queue ++ place ∷ []) → P (get_or (queue ++ place ∷ []) i 0)
+  queue-each : (P : ℕ → Type 0) → ((i : ℕ) → i < length queue → P (get_or queue i 0)) → P place → (i : ℕ) →
+      i < length (queue ++ place ∷ []) → P (get_or (queue ++ place ∷ []) i 0)
   queue-each P each here i il = elim (lt_cases i (length queue)) [
     | inl less ↦ subst P (sym (queue-early i less)) (each i less)
     | inr ge ↦ subst P (sym (queue-last i (omega (arith, queue-count)))) here
@@ -80,8 +82,10 @@ module _ (marks : List Bool) (queue : List ℕ) (place : ℕ) (Q : IsQueue marks
   queue-put : IsQueue (slice_set marks place true) (queue ++ place ∷ [])
   queue-put = record {
     size = omega (arith, queue-count, Q.size, length-set marks place true, sizes);
-    below = queue-each (λ x. x < length (slice_set marks place true)) (λ i il. omega (arith, Q.below i il, length-set marks place true)) (omega (arith, length-set marks place true));
-    marks_all = queue-each (λ x. marked (slice_set marks place true) x ≡ true) (λ i il. marks-still (get_or queue i 0) (Q.marks_all i il)) (get_or-set_same marks place true false l);
+    below = queue-each (λ x. x < length (slice_set marks place true))
+        (λ i il. omega (arith, Q.below i il, length-set marks place true)) (omega (arith, length-set marks place true));
+    marks_all = queue-each (λ x. marked (slice_set marks place true) x ≡ true)
+        (λ i il. marks-still (get_or queue i 0) (Q.marks_all i il)) (get_or-set_same marks place true false l);
     holds_all = λ y h. elim (either_cases (marked marks y) (eqb y place) (sym (marks-put y) ∙ h)) [
       | inl old ↦ let found : (i : ℕ) × (i < length queue) × (get_or queue i 0 ≡ y) = Q.holds_all y old in
           (found.0, omega (arith, queue-count, found.1), queue-early found.0 found.1 ∙ found.2)
@@ -104,12 +108,16 @@ module _ (marks : List Bool) (queue : List ℕ) (place : ℕ) (Q : IsQueue marks
   }
 
 -- first X and then one place, which make Y
-pub grown-more : (X Y : ℕ → Bool) (place : ℕ) (marks middle now : List Bool) (queue between later : List ℕ) → IsGrown X marks queue middle between → IsGrown (only place) middle between now later →
+pub grown-more : (X Y : ℕ → Bool) (place : ℕ) (marks middle now : List Bool) (queue between later : List ℕ) →
+    IsGrown X marks queue middle between → IsGrown (only place) middle between now later →
     ((y : ℕ) → Y y ≡ X y || eqb place y) → IsGrown Y marks queue now later
 grown-more X Y place marks middle now queue between later G H sum = record {
   queued = H.queued;
   count = H.count ∙ G.count;
-  marks_too = λ y. H.marks_too y ∙ (ap (λ b. b || eqb y place) (G.marks_too y) ∙ (joined (marked marks y) (X y) (eqb y place) (eqb place y) (turned y place) ∙ ap (λ b. marked marks y || b) (sym (sum y))));
+  marks_too = λ y. H.marks_too y
+      ∙ (ap (λ b. b || eqb y place) (G.marks_too y)
+      ∙ (joined (marked marks y) (X y) (eqb y place) (eqb place y) (turned y place)
+      ∙ ap (λ b. marked marks y || b) (sym (sum y))));
   longer = omega (arith, G.longer, H.longer);
   same = λ i l. H.same i (omega (arith, l, G.longer)) ∙ G.same i l;
 }
@@ -123,20 +131,25 @@ grown-more X Y place marks middle now queue between later G H sum = record {
 
 -- of a list one item more
 pub grown-item : (list : List ℕ) (k place : ℕ) (marks middle now : List Bool) (queue between later : List ℕ) → k < length list → get_or list k 0 ≡ place →
-    IsGrown (has (take k list)) marks queue middle between → IsGrown (only place) middle between now later → IsGrown (has (take (k + 1) list)) marks queue now later
-grown-item list k place marks middle now queue between later l at G H = grown-more (has (take k list)) (has (take (k + 1) list)) place marks middle now queue between later G H
+    IsGrown (has (take k list)) marks queue middle between → IsGrown (only place) middle between now later →
+    IsGrown (has (take (k + 1) list)) marks queue now later
+grown-item list k place marks middle now queue between later l at G H =
+    grown-more (has (take k list)) (has (take (k + 1) list)) place marks middle now queue between later G H
     (λ y. ap (λ ys. has ys y) (take_more list k 0 l) ∙ (has-last (take k list) (get_or list k 0) y ∙ ap (λ z. has (take k list) y || eqb z y) at))
 
-pub grown-list : (list : List ℕ) (k : ℕ) (marks now : List Bool) (queue later : List ℕ) → length list ≤ k → IsGrown (has (take k list)) marks queue now later → IsGrown (has list) marks queue now later
+pub grown-list : (list : List ℕ) (k : ℕ) (marks now : List Bool) (queue later : List ℕ) → length list ≤ k →
+    IsGrown (has (take k list)) marks queue now later → IsGrown (has list) marks queue now later
 grown-list list k marks now queue later l G = subst (λ ys. IsGrown (has ys) marks queue now later) (take_all k list l) G
 
 -- ---- the starts
 -- of the places below `place` the starts are marked
 module _ (starts marks : List Bool) (place : ℕ) (done : (y : ℕ) → y < place → marked marks y ≡ marked starts y) where
-  pub starts-put : (now : List Bool) (queue later : List ℕ) → ((y : ℕ) → place ≤ y → marked marks y ≡ false) → IsGrown (only place) marks queue now later → marked starts place ≡ true →
+  pub starts-put : (now : List Bool) (queue later : List ℕ) → ((y : ℕ) → place ≤ y → marked marks y ≡ false) →
+      IsGrown (only place) marks queue now later → marked starts place ≡ true →
       (y : ℕ) → y < place + 1 → marked now y ≡ marked starts y
   starts-put now queue later rest G h y l = elim (nat_cases y place) [
-    | inl q ↦ subst (λ z. marked now z ≡ marked starts z) (sym q) (G.marks_too place ∙ (either-second (marked marks place) (eqb place place) (eqb_from place place refl) ∙ sym h))
+    | inl q ↦ subst (λ z. marked now z ≡ marked starts z) (sym q)
+        (G.marks_too place ∙ (either-second (marked marks place) (eqb place place) (eqb_from place place refl) ∙ sym h))
     | inr ne ↦ G.marks_too y ∙ (other (marked marks y) (eqb y place) (apart y place ne) ∙ done y (omega arith))
   ]
     where
@@ -152,7 +165,8 @@ module _ (starts marks : List Bool) (place : ℕ) (done : (y : ℕ) → y < plac
     | inr ne ↦ done y (omega arith)
   ]
 
-pub rest-put : (marks now : List Bool) (queue later : List ℕ) (place : ℕ) → IsGrown (only place) marks queue now later → ((y : ℕ) → place ≤ y → marked marks y ≡ false) →
+pub rest-put : (marks now : List Bool) (queue later : List ℕ) (place : ℕ) → IsGrown (only place) marks queue now later →
+    ((y : ℕ) → place ≤ y → marked marks y ≡ false) →
     (y : ℕ) → place + 1 ≤ y → marked now y ≡ false
 rest-put marks now queue later place G rest y l = G.marks_too y ∙ none (marked marks y) (eqb y place) (rest y (omega arith)) (apart y place (λ q. omega arith))
   where

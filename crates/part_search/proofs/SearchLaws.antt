@@ -13,7 +13,8 @@ use Rattle.part_search.specs.Markings.{IsQueue, IsGrown, IsSearch}
 pub queue-within : (marks : List Bool) (queue : List ℕ) → IsQueue marks queue → length queue ≤ length marks
 queue-within marks queue Q = omega (arith, Q.size, size_on-within everything (marked marks) (length marks) (λ j _ _. refl), size-everything (length marks))
 
-pub search-first : (arc : ℕ → ℕ → Bool) (n : ℕ) (marks : List Bool) (queue : List ℕ) → length marks ≡ n → IsQueue marks queue → IsSearch arc n (marked marks) marks queue 0
+pub search-first : (arc : ℕ → ℕ → Bool) (n : ℕ) (marks : List Bool) (queue : List ℕ) → length marks ≡ n →
+    IsQueue marks queue → IsSearch arc n (marked marks) marks queue 0
 search-first arc n marks queue count Q = record {
   queued = Q;
   count = count;
@@ -23,7 +24,8 @@ search-first arc n marks queue count Q = record {
   looked = λ i y l. absurd (omega arith);
 }
 
-pub search-next : (arc : ℕ → ℕ → Bool) (n : ℕ) (starts : ℕ → Bool) (marks now : List Bool) (queue later : List ℕ) (head place : ℕ) → IsSearch arc n starts marks queue head → head < length queue →
+pub search-next : (arc : ℕ → ℕ → Bool) (n : ℕ) (starts : ℕ → Bool) (marks now : List Bool) (queue later : List ℕ)
+    (head place : ℕ) → IsSearch arc n starts marks queue head → head < length queue →
     get_or queue head 0 ≡ place → IsGrown (arc place) marks queue now later → IsSearch arc n starts now later (head + 1)
 search-next arc n starts marks now queue later head place S more at G = record {
   queued = G.queued;
@@ -35,7 +37,8 @@ search-next arc n starts marks now queue later head place S more at G = record {
   ];
   from = λ y l h. still y (S.from y l h);
   looked = λ i y il l a. elim (nat_cases i head) [
-    | inl q ↦ G.marks_too y ∙ either-second (marked marks y) (arc place y) (subst (λ x. arc x y ≡ true) (G.same i (omega arith) ∙ (subst (λ j. get_or queue j 0 ≡ place) (sym q) at)) a)
+    | inl q ↦ G.marks_too y ∙ either-second (marked marks y) (arc place y)
+        (subst (λ x. arc x y ≡ true) (G.same i (omega arith) ∙ (subst (λ j. get_or queue j 0 ≡ place) (sym q) at)) a)
     | inr ne ↦ still y (S.looked i y (omega arith) l (subst (λ x. arc x y ≡ true) (G.same i (omega arith)) a))
   ];
 }
@@ -46,7 +49,8 @@ search-next arc n starts marks now queue later head place S more at G = record {
     still : (y : ℕ) → marked marks y ≡ true → marked now y ≡ true
     still y h = G.marks_too y ∙ either-first (marked marks y) (arc place y) h
 
-pub search-last : (arc : ℕ → ℕ → Bool) (n : ℕ) (starts : ℕ → Bool) (marks : List Bool) (queue : List ℕ) (head : ℕ) → IsSearch arc n starts marks queue head → length queue ≤ head → AreReached arc n starts marks
+pub search-last : (arc : ℕ → ℕ → Bool) (n : ℕ) (starts : ℕ → Bool) (marks : List Bool) (queue : List ℕ) (head : ℕ) →
+    IsSearch arc n starts marks queue head → length queue ≤ head → AreReached arc n starts marks
 search-last arc n starts marks queue head S all = record {
   count = S.count;
   tells = λ y l. (S.sound y l, λ r. reached y l r);

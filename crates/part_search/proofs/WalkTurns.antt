@@ -28,10 +28,15 @@ from-same : (arc : ℕ → ℕ → Bool) (n : ℕ) (S T : ℕ → Bool) (y : ℕ
 from-same arc n S T y same (s, l, h, r) = (s, l, sym (same s l) ∙ h, r)
 
 -- arcs that lead alike reach alike, between as many places, from starts that are the same
-pub reached-same : (arc other : ℕ → ℕ → Bool) (n m : ℕ) (S T : ℕ → Bool) (marks : List Bool) → m ≡ n → ((x y : ℕ) → other x y ≡ arc x y) → ((y : ℕ) → y < n → T y ≡ S y) → AreReached other m T marks → AreReached arc n S marks
+pub reached-same : (arc other : ℕ → ℕ → Bool) (n m : ℕ) (S T : ℕ → Bool) (marks : List Bool) → m ≡ n →
+    ((x y : ℕ) → other x y ≡ arc x y) → ((y : ℕ) → y < n → T y ≡ S y) → AreReached other m T marks →
+    AreReached arc n S marks
 reached-same arc other n m S T marks count alike same R = subst (λ a. AreReached a n S marks) (fun_ext (λ x. fun_ext (λ y. alike x y))) (record {
   count = between.count;
-  tells = λ y l. ((λ h. from-same other n T S y same ((between.tells y l).0 h)), (λ f. (between.tells y l).1 (from-same other n S T y (λ x xl. sym (same x xl)) f)));
+  tells = λ y l. (
+    (λ h. from-same other n T S y same ((between.tells y l).0 h)),
+    (λ f. (between.tells y l).1 (from-same other n S T y (λ x xl. sym (same x xl)) f)),
+  );
 })
   where
     between : AreReached other n T marks

@@ -7,7 +7,8 @@ use Rattle.part_tests.specs.Steps.{AreMarkedBut}
 
 pub searched : (within : ℕ → ℕ → Bool) (parts heads : List ℕ) (starts ends low high from to : List Bool) (last : ℕ) (answer : Bool) →
     length starts ≡ length parts → length ends ≡ length parts → last ≡ length heads + 2 →
-    AreSeeds (length starts) (marked starts) (length heads) (slice_index heads) (marked low) → AreSeeds (length ends) (marked ends) (length heads) (slice_index heads) (marked high) →
+    AreSeeds (length starts) (marked starts) (length heads) (slice_index heads) (marked low) →
+    AreSeeds (length ends) (marked ends) (length heads) (slice_index heads) (marked high) →
     AreReached within (length parts) (marked low) from → AreReaching within (length parts) (marked high) to →
     IsTrue answer ↔ (AreMarkedBut from parts last (length parts) × AreMarkedBut to parts 1 (length parts)) →
     IsSearched within (length parts) (marked starts) (marked ends) (slice_index parts) (length heads) (slice_index heads) answer

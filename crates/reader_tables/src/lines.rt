@@ -7,7 +7,7 @@ use std::alloc::Global;
 use std::test::Fail;
 
 // Counts words and their bytes, and keeps the number of the last line. A line that begins with `*` is a comment.
-#[derive(Clone, Copy, Debug, PartialEq, Eq)]
+#[derive(Drop)]
 struct Count {
     line: u32,
     words: usize,
@@ -45,7 +45,14 @@ fn nothing() -> Count {
     }
 }
 
-fn count_words(alloc: Global, pieces: &[&[u8]]) -> Result<Count, ReadModel> {
+// The last line, the words and their bytes.
+type Counted = (u32, usize, usize);
+
+fn counted(count: &Count) -> Counted {
+    (count.line, count.words, count.bytes)
+}
+
+fn count_words(alloc: Global, pieces: &[&[u8]]) -> Result<Counted, ReadModel> {
     let mut reader = LineReader::new(alloc, nothing());
     for piece in pieces {
         reader = match reader.feed(piece) {
@@ -53,7 +60,7 @@ fn count_words(alloc: Global, pieces: &[&[u8]]) -> Result<Count, ReadModel> {
             Err(_) => return Err(ReadModel::NoMemory),
         };
     }
-    reader.finish()
+    Ok(counted(&reader.finish()?))
 }
 
 // Ten lines: the first has words, a comment and a carriage return, the second is empty, the third and the last have a
@@ -61,17 +68,13 @@ fn count_words(alloc: Global, pieces: &[&[u8]]) -> Result<Count, ReadModel> {
 // sixth has two words, and the ninth has blanks.
 const TEXT: &[u8] = b"a bc # d\r\n\nef\r\n#\r\n \t* \xff#\0\r\nh *i\n#\xff*\n*\r\n  \ng\r";
 
-const COUNT: Count = Count {
-    line: 10,
-    words: 6,
-    bytes: 9,
-};
+const COUNTED: Counted = (10, 6, 9);
 
 #[test]
 fn lines_are_the_same_wherever_a_text_is_cut(rt: HostRuntime) -> Result<(), Fail> {
     for cut in 0..=TEXT.len() {
         let (front, back) = TEXT.split_at(cut);
-        assert_eq!(rt; count_words(rt.alloc(), &[front, back])?, COUNT, "{cut}");
+        assert_eq!(rt; count_words(rt.alloc(), &[front, back])?, COUNTED, "{cut}");
     }
     Ok(())
 }
@@ -82,44 +85,46 @@ fn a_text_may_come_byte_by_byte(rt: HostRuntime) -> Result<(), Fail> {
     for place in 0..TEXT.len() {
         reader = reader.feed(&TEXT[place..place + 1])?;
     }
-    assert_eq!(rt; reader.finish()?, COUNT);
+    assert_eq!(rt; counted(&reader.finish()?), COUNTED);
     Ok(())
 }
 
+const LAST_LINES: [(&str, u32); 8] = [
+    ("", 0),
+    ("\n", 1),
+    ("#", 1),
+    ("\n#", 2),
+    (" *", 1),
+    ("\n*", 2),
+    ("a\n", 1),
+    ("\n ", 2),
+];
+
 #[test]
 fn what_is_not_ended_is_a_line_if_a_byte_came(rt: HostRuntime) -> Result<(), Fail> {
-    for (text, line) in [
-        ("", 0),
-        ("\n", 1),
-        ("#", 1),
-        ("\n#", 2),
-        (" *", 1),
-        ("\n*", 2),
-        ("a\n", 1),
-        ("\n ", 2),
-    ] {
-        assert_eq!(rt;
-            count_words(rt.alloc(), &[text.as_bytes()])?.line,
-            line,
-            "{text}"
-        );
+    for (text, want) in LAST_LINES {
+        let (line, ..) = count_words(rt.alloc(), &[text.as_bytes()])?;
+        assert_eq!(rt; line, want, "{text}");
     }
     Ok(())
 }
+
+// Texts in two pieces, each with its first bad byte in line 2.
+const REFUSED: [[&[u8]; 2]; 6] = [
+    [b"a\n\x01", b"\nb\n\x01\n"],
+    [b"a\nb\r", b"\r\n"],
+    [b"a\nb\rc", b""],
+    [b"a\n\x01\n", b"#"],
+    [b" *\x01\nb *", b"\x01"],
+    [b"*\n\x01", b"*"],
+];
 
 #[test]
 fn the_first_refusal_is_kept(rt: HostRuntime) -> Result<(), Fail> {
     let place = Place::Line(2);
     let why = Why::BadByte;
     let refused = ReadModel::Refused(Refused { place, why });
-    for pieces in [
-        [b"a\n\x01".as_slice(), b"\nb\n\x01\n".as_slice()],
-        [b"a\nb\r".as_slice(), b"\r\n".as_slice()],
-        [b"a\nb\rc".as_slice(), b"".as_slice()],
-        [b"a\n\x01\n".as_slice(), b"#".as_slice()],
-        [b" *\x01\nb *".as_slice(), b"\x01".as_slice()],
-        [b"*\n\x01".as_slice(), b"*".as_slice()],
-    ] {
+    for pieces in REFUSED {
         assert_eq!(rt; count_words(rt.alloc(), &pieces), Err(refused));
     }
     Ok(())

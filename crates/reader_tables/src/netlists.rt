@@ -7,28 +7,29 @@ use residue_field::Res;
 use std::alloc::{AllocError, Global};
 use std::test::Fail;
 
+const KINDS: [(&str, Option<DeviceKind>); 17] = [
+    ("R1", Some(DeviceKind::Passive)),
+    ("l", Some(DeviceKind::Passive)),
+    ("C.2", Some(DeviceKind::Passive)),
+    ("Vin", Some(DeviceKind::Voltage)),
+    ("i1", Some(DeviceKind::Current)),
+    ("E1", Some(DeviceKind::VoltageByVoltage)),
+    ("g1", Some(DeviceKind::CurrentByVoltage)),
+    ("F1", Some(DeviceKind::CurrentByCurrent)),
+    ("h1", Some(DeviceKind::VoltageByCurrent)),
+    (".OpAmp", Some(DeviceKind::Opamp)),
+    (".transformer", Some(DeviceKind::Transformer)),
+    (".GYRATOR", Some(DeviceKind::Gyrator)),
+    (".opamps", None),
+    ("opamp", None),
+    ("M1", None),
+    ("_R", None),
+    ("", None),
+];
+
 #[test]
 fn words_tell_kinds(rt: HostRuntime) {
-    let kinds = [
-        ("R1", Some(DeviceKind::Passive)),
-        ("l", Some(DeviceKind::Passive)),
-        ("C.2", Some(DeviceKind::Passive)),
-        ("Vin", Some(DeviceKind::Voltage)),
-        ("i1", Some(DeviceKind::Current)),
-        ("E1", Some(DeviceKind::VoltageByVoltage)),
-        ("g1", Some(DeviceKind::CurrentByVoltage)),
-        ("F1", Some(DeviceKind::CurrentByCurrent)),
-        ("h1", Some(DeviceKind::VoltageByCurrent)),
-        (".OpAmp", Some(DeviceKind::Opamp)),
-        (".transformer", Some(DeviceKind::Transformer)),
-        (".GYRATOR", Some(DeviceKind::Gyrator)),
-        (".opamps", None),
-        ("opamp", None),
-        ("M1", None),
-        ("_R", None),
-        ("", None),
-    ];
-    for (word, kind) in kinds {
+    for (word, kind) in KINDS {
         assert_eq!(rt; DeviceKind::of(word), kind, "{word}");
     }
 }
@@ -44,46 +45,87 @@ fn refusal(alloc: Global, text: &[u8]) -> Option<Refused> {
     }
 }
 
+// Texts that break a rule of a line, and then those that break one of a whole netlist, which come last.
+const REFUSED: [(&str, Place, Why); 41] = [
+    (".include x", Place::Line(1), Why::Unsupported),
+    ("R1 a 0\n.model D d\n", Place::Line(2), Why::Unsupported),
+    ("R1 a 0\n+ 5", Place::Line(2), Why::Unsupported),
+    ("M1 d g s b", Place::Line(1), Why::Unsupported),
+    ("My amplifier\nR1 a 0", Place::Line(1), Why::Unsupported),
+    ("A title\nR1 a 0", Place::Line(1), Why::Unsupported),
+    ("Rectifier\nR1 a 0", Place::Line(1), Why::BadShape),
+    ("R1 a 0\r \n", Place::Line(1), Why::BadByte),
+    ("R1 a 0 \u{7f}", Place::Line(1), Why::BadByte),
+    ("D1 \u{7f}", Place::Line(1), Why::BadByte),
+    ("R1 a", Place::Line(1), Why::BadShape),
+    ("E1 a 0 b", Place::Line(1), Why::BadShape),
+    ("F1 a 0", Place::Line(1), Why::BadShape),
+    (".opamp", Place::Line(1), Why::BadShape),
+    (".opamp U1 a b", Place::Line(1), Why::BadShape),
+    (".opamp U1 a b c d", Place::Line(1), Why::BadShape),
+    (".gyrator Y1 a 0 b 0 1 2", Place::Line(1), Why::BadShape),
+    (
+        ".transformer T1 a 0 b 0 1 2 3 4 5",
+        Place::Line(1),
+        Why::BadShape,
+    ),
+    ("R= a", Place::Line(1), Why::BadShape),
+    ("R= a 0", Place::Line(1), Why::BadName),
+    (".opamp 1 a b c", Place::Line(1), Why::BadName),
+    ("R1 a- 0", Place::Line(1), Why::BadName),
+    ("G1 a 0 b +", Place::Line(1), Why::BadName),
+    ("F1 a 0 1", Place::Line(1), Why::BadName),
+    (".gyrator Y1 a 0 = 0 1k", Place::Line(1), Why::BadName),
+    (".gyrator Y1 a 0 b 0 1k", Place::Line(1), Why::BadNumber),
+    (
+        ".transformer T1 a 0 b 0 1/65521",
+        Place::Line(1),
+        Why::Vanish,
+    ),
+    ("T1 a 0\n", Place::Line(1), Why::Unsupported),
+    ("R1 a 0\nV1 a 0\nC1 a 0\nR1 a 0", Place::Line(4), Why::Twice),
+    ("R1 a 0\n.opamp R1 a b c", Place::Line(2), Why::Twice),
+    (
+        "R1 a 0\n.gyrator R1 a 0 b 0 1k",
+        Place::Line(2),
+        Why::BadNumber,
+    ),
+    ("F1 a b V9\nR1 a", Place::Line(2), Why::BadShape),
+    ("R1 a b", Place::Document, Why::NoGround),
+    ("Low pass filter", Place::Document, Why::NoGround),
+    ("R1 a b 0", Place::Document, Why::NoGround),
+    ("R1 a 00", Place::Document, Why::NoGround),
+    ("F1 a b V9", Place::Document, Why::NoGround),
+    ("\nF1 a 0 V9\nH1 a 0 V8", Place::Line(2), Why::NoSuchSource),
+    ("R1 a 0\nF1 a 0 R1", Place::Line(2), Why::NoSuchSource),
+    ("V1 a 0\n\nF1 a 0 v1", Place::Line(3), Why::NoSuchSource),
+    (
+        "F1 a 0 V1\nH1 a 0 F1\nV1 a 0",
+        Place::Line(2),
+        Why::NoSuchSource,
+    ),
+];
+
+// What keeps the rules.
+const KEPT: [&str; 8] = [
+    "",
+    "# any\n\n \t\n",
+    "R1 a 0\r\nr1 a 0 1k ic=5 \\ # again\r\n",
+    "E1 a b c 0",
+    ".opamp U1 a b c",
+    ".Transformer T1 a a b 0 0",
+    "F1 a 0 V1\nH1 a 0 V1\nV1 0 0",
+    "R1 a 0 1 2 3 4 5 6 7 8 9",
+];
+
 #[test]
-fn the_first_broken_rule_of_a_line_is_the_answer(rt: HostRuntime) {
-    let cases = [
-        (".include x", 1, Why::Unsupported),
-        ("R1 a 0\n.model D d\n", 2, Why::Unsupported),
-        ("R1 a 0\n+ 5", 2, Why::Unsupported),
-        ("M1 d g s b", 1, Why::Unsupported),
-        ("My amplifier\nR1 a 0", 1, Why::Unsupported),
-        ("A title\nR1 a 0", 1, Why::Unsupported),
-        ("Rectifier\nR1 a 0", 1, Why::BadShape),
-        ("R1 a 0\r \n", 1, Why::BadByte),
-        ("R1 a 0 \u{7f}", 1, Why::BadByte),
-        ("D1 \u{7f}", 1, Why::BadByte),
-        ("R1 a", 1, Why::BadShape),
-        ("E1 a 0 b", 1, Why::BadShape),
-        ("F1 a 0", 1, Why::BadShape),
-        (".opamp", 1, Why::BadShape),
-        (".opamp U1 a b", 1, Why::BadShape),
-        (".opamp U1 a b c d", 1, Why::BadShape),
-        (".gyrator Y1 a 0 b 0 1 2", 1, Why::BadShape),
-        (".transformer T1 a 0 b 0 1 2 3 4 5", 1, Why::BadShape),
-        ("R= a", 1, Why::BadShape),
-        ("R= a 0", 1, Why::BadName),
-        (".opamp 1 a b c", 1, Why::BadName),
-        ("R1 a- 0", 1, Why::BadName),
-        ("G1 a 0 b +", 1, Why::BadName),
-        ("F1 a 0 1", 1, Why::BadName),
-        (".gyrator Y1 a 0 = 0 1k", 1, Why::BadName),
-        (".gyrator Y1 a 0 b 0 1k", 1, Why::BadNumber),
-        (".transformer T1 a 0 b 0 1/65521", 1, Why::Vanish),
-        ("T1 a 0\n", 1, Why::Unsupported),
-        ("R1 a 0\nV1 a 0\nC1 a 0\nR1 a 0", 4, Why::Twice),
-        ("R1 a 0\n.opamp R1 a b c", 2, Why::Twice),
-        ("R1 a 0\n.gyrator R1 a 0 b 0 1k", 2, Why::BadNumber),
-        ("F1 a b V9\nR1 a", 2, Why::BadShape),
-    ];
-    for (text, line, why) in cases {
-        let place = Place::Line(line);
+fn the_first_broken_rule_is_the_answer(rt: HostRuntime) {
+    for (text, place, why) in REFUSED {
         let want = Some(Refused { place, why });
         assert_eq!(rt; refusal(rt.alloc(), text.as_bytes()), want, "{text}");
+    }
+    for text in KEPT {
+        assert_eq!(rt; refusal(rt.alloc(), text.as_bytes()), None, "{text}");
     }
 }
 
@@ -93,46 +135,6 @@ fn a_byte_outside_a_comment_may_be_bad(rt: HostRuntime) {
     let why = Why::BadByte;
     let text = b"R1 a 0 # \xff\nR2 a 0 \xff\n";
     assert_eq!(rt; refusal(rt.alloc(), text), Some(Refused { place, why }));
-}
-
-#[test]
-fn the_rules_of_a_whole_netlist_come_last(rt: HostRuntime) {
-    let cases = [
-        ("R1 a b", Place::Document, Why::NoGround),
-        ("Low pass filter", Place::Document, Why::NoGround),
-        ("R1 a b 0", Place::Document, Why::NoGround),
-        ("R1 a 00", Place::Document, Why::NoGround),
-        ("F1 a b V9", Place::Document, Why::NoGround),
-        ("\nF1 a 0 V9\nH1 a 0 V8", Place::Line(2), Why::NoSuchSource),
-        ("R1 a 0\nF1 a 0 R1", Place::Line(2), Why::NoSuchSource),
-        ("V1 a 0\n\nF1 a 0 v1", Place::Line(3), Why::NoSuchSource),
-        (
-            "F1 a 0 V1\nH1 a 0 F1\nV1 a 0",
-            Place::Line(2),
-            Why::NoSuchSource,
-        ),
-    ];
-    for (text, place, why) in cases {
-        let want = Some(Refused { place, why });
-        assert_eq!(rt; refusal(rt.alloc(), text.as_bytes()), want, "{text}");
-    }
-}
-
-#[test]
-fn what_keeps_the_rules_is_not_refused(rt: HostRuntime) {
-    let texts = [
-        "",
-        "# any\n\n \t\n",
-        "R1 a 0\r\nr1 a 0 1k ic=5 \\ # again\r\n",
-        "E1 a b c 0",
-        ".opamp U1 a b c",
-        ".Transformer T1 a a b 0 0",
-        "F1 a 0 V1\nH1 a 0 V1\nV1 0 0",
-        "R1 a 0 1 2 3 4 5 6 7 8 9",
-    ];
-    for text in texts {
-        assert_eq!(rt; refusal(rt.alloc(), text.as_bytes()), None, "{text}");
-    }
 }
 
 #[test]

@@ -7,6 +7,7 @@ use term_model::{Value, dotted, put_value};
 
 #[test]
 fn values_stand_at_their_places(rt: HostRuntime) -> Result<(), Fail> {
+    assert_eq!(rt; dotted(rt.alloc(), "law", "R1")?.as_str(), "law.R1");
     let mut model: Mixed<Res> = Mixed::new(rt.alloc())?;
     model.add_unknown("x")?;
     model.add_unknown("y")?;
@@ -19,11 +20,5 @@ fn values_stand_at_their_places(rt: HostRuntime) -> Result<(), Fail> {
     assert_eq!(rt; (model.symbol(0, 0), model.symbol(0, 1)), (true, false));
     assert_eq!(rt; model.constant(0, 1).map(Field::value), Some(1));
     assert!(rt; model.constant(0, 0).is_none());
-    Ok(())
-}
-
-#[test]
-fn a_word_and_a_name_have_a_point_between_them(rt: HostRuntime) -> Result<(), Fail> {
-    assert_eq!(rt; dotted(rt.alloc(), "kcl", "out")?.as_str(), "kcl.out");
     Ok(())
 }

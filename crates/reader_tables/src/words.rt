@@ -20,86 +20,112 @@ fn tokens_stand_between_blanks(rt: HostRuntime) -> Result<(), Fail> {
     Ok(())
 }
 
+// A text, and whether it is a name, a node and a short name.
+const NAMES: [(&str, bool, bool, bool); 21] = [
+    ("x", true, true, true),
+    ("_", true, true, true),
+    ("R1", true, true, true),
+    ("a", true, true, true),
+    ("out_2", true, true, true),
+    ("v.R1", true, true, false),
+    ("A_9.", true, true, false),
+    ("0", false, true, false),
+    ("1.5", false, true, false),
+    ("1a", false, true, false),
+    ("", false, false, false),
+    (".a", false, true, false),
+    ("a.b", true, true, false),
+    ("a-b", false, false, false),
+    ("a b", false, false, false),
+    ("-", false, false, false),
+    ("=", false, false, false),
+    ("a23456789_123456789_123456789_", true, true, true),
+    ("a23456789_123456789_123456789_1", true, true, false),
+    (
+        "a234567890123456789012345678901234567890123456789012345678901234",
+        true,
+        true,
+        false,
+    ),
+    (
+        "a2345678901234567890123456789012345678901234567890123456789012345",
+        false,
+        false,
+        false,
+    ),
+];
+
+fn answer(is_told: bool) -> Result<(), Why> {
+    if is_told { Ok(()) } else { Err(Why::BadName) }
+}
+
 #[test]
 fn names_are_told(rt: HostRuntime) {
-    for text in ["x", "_", "v.R1", "A_9."] {
-        assert_eq!(rt; name(text), Ok(()), "{text}");
-    }
-    for text in ["", "1a", ".a", "a-b", "a b"] {
-        assert_eq!(rt; name(text), Err(Why::BadName), "{text}");
+    for (text, is_name, is_node, is_short) in NAMES {
+        assert_eq!(rt; name(text), answer(is_name), "{text}");
+        assert_eq!(rt; node(text), answer(is_node), "{text}");
+        assert_eq!(rt; short_name(text), answer(is_short), "{text}");
     }
 }
 
-#[test]
-fn nodes_are_told(rt: HostRuntime) {
-    for text in ["0", "a", "_", "1.5", "out_2"] {
-        assert_eq!(rt; node(text), Ok(()), "{text}");
-    }
-    for text in ["", "-", "a-b", "a b", "="] {
-        assert_eq!(rt; node(text), Err(Why::BadName), "{text}");
-    }
-    let longest = "a234567890123456789012345678901234567890123456789012345678901234";
-    assert_eq!(rt; node(longest), Ok(()));
-    let longer = "a2345678901234567890123456789012345678901234567890123456789012345";
-    assert_eq!(rt; node(longer), Err(Why::BadName));
+// The residue of each number, or why it has none.
+const NUMBERS: [(&str, Result<u32, Why>); 31] = [
+    ("0", Ok(0)),
+    ("000", Ok(0)),
+    ("65520", Ok(65_520)),
+    ("65522", Ok(1)),
+    ("+1", Ok(1)),
+    ("-1", Ok(65_520)),
+    ("1/3", Ok(43_681)),
+    ("0.5", Ok(32_761)),
+    ("+0/5", Ok(0)),
+    ("0.0", Ok(0)),
+    ("-0", Ok(0)),
+    ("000000000000000001", Ok(1)),
+    ("00000000000000000.1", Ok(58_969)),
+    ("", Err(Why::BadNumber)),
+    ("+", Err(Why::BadNumber)),
+    ("--1", Err(Why::BadNumber)),
+    ("1e3", Err(Why::BadNumber)),
+    (".5", Err(Why::BadNumber)),
+    ("1.", Err(Why::BadNumber)),
+    ("1/", Err(Why::BadNumber)),
+    ("1/2/3", Err(Why::BadNumber)),
+    ("1/-2", Err(Why::BadNumber)),
+    ("1.5/2", Err(Why::BadNumber)),
+    ("0000000000000000001", Err(Why::BadNumber)),
+    ("0000000000.000000001", Err(Why::BadNumber)),
+    ("65521", Err(Why::Vanish)),
+    ("-65521", Err(Why::Vanish)),
+    ("1/65521", Err(Why::Vanish)),
+    ("0/65521", Err(Why::Vanish)),
+    ("1/0", Err(Why::Vanish)),
+    ("6552.1", Err(Why::Vanish)),
+];
+
+fn residue_of(text: &str) -> Result<u32, Why> {
+    Ok(number::<Res>(text)?.value())
 }
 
-#[test]
-fn short_names_are_told(rt: HostRuntime) {
-    for text in ["x", "_", "R1", "a23456789_123456789_123456789_"] {
-        assert_eq!(rt; short_name(text), Ok(()), "{text}");
-    }
-    for text in ["", "1a", "a.b", "a-b", "a23456789_123456789_123456789_1"] {
-        assert_eq!(rt; short_name(text), Err(Why::BadName), "{text}");
-    }
+const WHOLE_NUMBERS: [(i64, Result<u32, Why>); 6] = [
+    (0, Ok(0)),
+    (-1, Ok(65_520)),
+    (65_522, Ok(1)),
+    (i64::MAX, Ok(58_072)),
+    (65_521, Err(Why::Vanish)),
+    (-65_521, Err(Why::Vanish)),
+];
+
+fn residue_of_whole(whole: i64) -> Result<u32, Why> {
+    Ok(integer::<Res>(whole)?.value())
 }
 
 #[test]
 fn numbers_are_told(rt: HostRuntime) {
-    for (text, residue) in [
-        ("0", 0),
-        ("000", 0),
-        ("65520", 65_520),
-        ("65522", 1),
-        ("+1", 1),
-        ("-1", 65_520),
-        ("1/3", 43_681),
-        ("0.5", 32_761),
-        ("+0/5", 0),
-        ("0.0", 0),
-        ("-0", 0),
-        ("000000000000000001", 1),
-        ("00000000000000000.1", 58_969),
-    ] {
-        assert_eq!(rt; number::<Res>(text), Ok(Res::of(residue)), "{text}");
+    for (text, want) in NUMBERS {
+        assert_eq!(rt; residue_of(text), want, "{text}");
     }
-    for text in [
-        "",
-        "+",
-        "--1",
-        "1e3",
-        ".5",
-        "1.",
-        "1/",
-        "1/2/3",
-        "1/-2",
-        "1.5/2",
-        "0000000000000000001",
-        "0000000000.000000001",
-    ] {
-        assert_eq!(rt; number::<Res>(text), Err(Why::BadNumber), "{text}");
-    }
-    for text in ["65521", "-65521", "1/65521", "0/65521", "1/0", "6552.1"] {
-        assert_eq!(rt; number::<Res>(text), Err(Why::Vanish), "{text}");
-    }
-}
-
-#[test]
-fn whole_numbers_are_told(rt: HostRuntime) {
-    for (whole, residue) in [(0, 0), (-1, 65_520), (65_522, 1), (i64::MAX, 58_072)] {
-        assert_eq!(rt; integer::<Res>(whole), Ok(Res::of(residue)));
-    }
-    for whole in [65_521, -65_521] {
-        assert_eq!(rt; integer::<Res>(whole), Err(Why::Vanish));
+    for (whole, want) in WHOLE_NUMBERS {
+        assert_eq!(rt; residue_of_whole(whole), want, "{whole}");
     }
 }

@@ -56,7 +56,8 @@ size-surjection A n f m D each = go (choice m D (λ i c. (c 0 < n) × (A (c 0) �
     (λ i l h. let a : (a : ℕ) × (a < n) × (A a ≡ true) × (f a ≡ i) = each i l h in ((λ _. a.0), (a.1, a.2, a.3))))
   where
     go : (g : ℕ → ℕ → ℕ) × ((i : ℕ) → i < m → D i ≡ true → (g i 0 < n) × (A (g i 0) ≡ true) × (f (g i 0) ≡ i)) → size_on D m ≤ size_on A n
-    go (g, ok) = size-injection D m (λ i. g i 0) n A (λ i l h. (ok i l h).0) (λ i l h. (ok i l h).1) (λ i k l r h s q. sym ((ok i l h).2) ∙ ap f q ∙ (ok k r s).2)
+    go (g, ok) = size-injection D m (λ i. g i 0) n A (λ i l h. (ok i l h).0) (λ i l h. (ok i l h).1)
+        (λ i k l r h s q. sym ((ok i l h).2) ∙ ap f q ∙ (ok k r s).2)
 
 -- ---- sets put together
 -- the first n numbers of a set, and the next m
@@ -120,7 +121,8 @@ counts-equal I J X zero h free = omega arith
 counts-equal I J X (suc n) h free = omega
     (arith, counts-equal I J X n (λ j l. h j (omega arith)) (λ j l. free j (omega arith)), one (I n) (J n) (X n) (h n (omega arith)) (free n (omega arith)))
   where
-    one : (a b x : Bool) → (a ≡ true → b ≡ false) → (a ≡ false → b ≡ false → x ≡ true) → cond a 1 0 + cond b 1 0 + cond x 1 0 ≡ cond (a && x) 1 0 + cond (b && x) 1 0 + 1
+    one : (a b x : Bool) → (a ≡ true → b ≡ false) → (a ≡ false → b ≡ false → x ≡ true) →
+        cond a 1 0 + cond b 1 0 + cond x 1 0 ≡ cond (a && x) 1 0 + cond (b && x) 1 0 + 1
     one a b x e f = grind arith
 
 -- and not where it lacks one
@@ -211,7 +213,8 @@ level-one true k l x h =
     other i ne = grind (arith, nat_tests)
 
 -- a set whose members stand in the levels below k has the sizes of its parts together
-pub size-levels : (f : ℕ → ℕ) (Y : ℕ → Bool) (n k : ℕ) → ((j : ℕ) → j < n → Y j ≡ true → f j < k) → size_on Y n ≡ sum_below k (λ h. size_on (λ j. Y j && eqb (f j) h) n)
+pub size-levels : (f : ℕ → ℕ) (Y : ℕ → Bool) (n k : ℕ) → ((j : ℕ) → j < n → Y j ≡ true → f j < k) →
+    size_on Y n ≡ sum_below k (λ h. size_on (λ j. Y j && eqb (f j) h) n)
 size-levels f Y zero k h = sym (sum_on-none everything k)
 size-levels f Y (suc n) k h =
     ap (λ s. s + cond (Y n) 1 0) (size-levels f Y n k (λ j l. h j (omega arith)))

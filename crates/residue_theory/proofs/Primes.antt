@@ -34,7 +34,8 @@ trial-ok p (suc k) low h d le lt z = go (split (trial p k low) (trial p k (low +
     go : (trial p k low ≡ true) × (trial p k (low + 2 ^ k) ≡ true) →
         (trial p k low ≡ true → (c : ℕ) → low ≤ c → c < low + 2 ^ k → p % c ≢ 0) →
         (trial p k (low + 2 ^ k) ≡ true → (c : ℕ) → low + 2 ^ k ≤ c → c < low + 2 ^ k + 2 ^ k → p % c ≢ 0) → ⊥
-    go both first second = elim (cases d (low + 2 ^ k)) [ inl small ↦ first both.0 d le small z | inr large ↦ second both.1 d large (omega (arith, pow-two_suc k)) z ]
+    go both first second = elim (cases d (low + 2 ^ k))
+        [ inl small ↦ first both.0 d le small z | inr large ↦ second both.1 d large (omega (arith, pow-two_suc k)) z ]
 
 -- p is prime if none of the numbers from 2 to 2 ^ k + 1 divides it, and they pass its root
 pub prime_by_trial : (p k : ℕ) → 1 < p → p < (2 + 2 ^ k) * (2 + 2 ^ k) → trial p k 2 ≡ true → IsPrime p
@@ -44,7 +45,10 @@ prime_by_trial p k above root h = record { above_one = above; no_divisor = none 
     cases x y = grind arith
 
     none : (d : ℕ) → 1 < d → d < p → p % d ≢ 0
-    none d dl du z = elim (cases d (2 + 2 ^ k)) [ inl small ↦ trial-ok p k 2 h d (omega arith) small z | inr large ↦ other (p / d) (omega (arith, mod-add-div p d)) large ]
+    none d dl du z = elim (cases d (2 + 2 ^ k)) [
+      | inl small ↦ trial-ok p k 2 h d (omega arith) small z
+      | inr large ↦ other (p / d) (omega (arith, mod-add-div p d)) large
+    ]
       where
         other : (e : ℕ) → d * e ≡ p → 2 + 2 ^ k ≤ d → ⊥
         other e q large = elim (cases e (2 + 2 ^ k)) [

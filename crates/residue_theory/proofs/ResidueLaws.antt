@@ -40,7 +40,8 @@ module _ (p : ℕ) where
 
   pub agree-sum : (X : ℕ → Bool) (n : ℕ) (f g : ℕ → ℕ) → ((j : ℕ) → j < n → X j ≡ true → f j % p ≡ g j % p) → sum_on X n f % p ≡ sum_on X n g % p
   agree-sum X zero f g h = refl
-  agree-sum X (suc n) f g h = agree-add (sum_on X n f) (sum_on X n g) (cond (X n) (f n) 0) (cond (X n) (g n) 0) (agree-sum X n f g (λ j l. h j (omega arith))) (last (X n) refl)
+  agree-sum X (suc n) f g h = agree-add (sum_on X n f) (sum_on X n g) (cond (X n) (f n) 0) (cond (X n) (g n) 0)
+      (agree-sum X n f g (λ j l. h j (omega arith))) (last (X n) refl)
     where
       last : (b : Bool) → X n ≡ b → cond b (f n) 0 % p ≡ cond b (g n) 0 % p
       last true e = h n (omega arith) e
@@ -60,7 +61,8 @@ module _ (p : ℕ) where
   pub cleared : (T S c ai am w : ℕ) → (T + c * ai) % p ≡ 0 → (S + c * am) % p ≡ 0 → (am * w + 1) % p ≡ 0 → (T + w * ai * S) % p ≡ 0
   cleared T S c ai am w x y z =
       vanishes-rest (c * ai * (am * w + 1)) (T + w * ai * S)
-      (vanishes_by _ ((T + c * ai) + w * ai * (S + c * am)) (omega arith) (vanishes-add (T + c * ai) (w * ai * (S + c * am)) x (vanishes-mul (w * ai) (S + c * am) y)))
+      (vanishes_by _ ((T + c * ai) + w * ai * (S + c * am)) (omega arith)
+      (vanishes-add (T + c * ai) (w * ai * (S + c * am)) x (vanishes-mul (w * ai) (S + c * am) y)))
       (vanishes-mul (c * ai) (am * w + 1) z)
 
   pub pivot_free : (S c am w : ℕ) → (S + c * am) % p ≡ 0 → S % p ≡ 0 → (am * w + 1) % p ≡ 0 → c % p ≡ 0
@@ -83,7 +85,8 @@ euclid_step k a q r e (w, h) = (k * (q * w), same ∙ mod_self (suc k))
     rest = vanishes_by (suc k) _ (k * (r * w + 1)) (omega arith) (vanishes-mul (suc k) k (r * w + 1) h)
 
     same : (a * (k * (q * w)) + 1) % suc k ≡ suc k % suc k
-    same = ap (λ x. x % suc k) (omega arith) ∙ agree-add (suc k) (k * (a * (q * w))) k 1 1 (agree_of (suc k) (k * (a * (q * w))) (k * (r * w)) k multiple rest) refl
+    same = ap (λ x. x % suc k) (omega arith) ∙ agree-add (suc k) (k * (a * (q * w))) k 1 1
+        (agree_of (suc k) (k * (a * (q * w))) (k * (r * w)) k multiple rest) refl
         ∙ ap (λ x. x % suc k) (omega arith)
 
 inverse_below : (k : ℕ) → IsPrime (suc k) → (fuel a : ℕ) → a ≤ fuel → 0 < a → a < suc k → HasNegativeInverse (suc k) a
@@ -137,7 +140,8 @@ inverse-step p prime a c x more less e = (stands ∙ mod-eq_of_lt smaller, pos_o
 
     zero_left : (next * a + p / x * x) % p ≡ 0
     zero_left = agree-add p (next * a) (next * a) (p / x * x) (p / x * (c * a)) refl (agree-mul p (p / x) x (c * a) (mod-eq_of_lt less ∙ sym e))
-        ∙ vanishes_by p _ (a * (next + p / x * c)) (omega arith) (vanishes-mul p a (next + p / x * c) (negated-sum p (p / x * c) (omega (arith, prime.above_one))))
+        ∙ vanishes_by p _ (a * (next + p / x * c)) (omega arith)
+        (vanishes-mul p a (next + p / x * c) (negated-sum p (p / x * c) (omega (arith, prime.above_one))))
 
     zero_right : (p % x + p / x * x) % p ≡ 0
     zero_right = ap (λ s. s % p) (omega (arith, mod-add-div p x)) ∙ mod_self p
@@ -184,7 +188,8 @@ factor_vanishes p prime x y h = go (zero_or (x % p))
     go (inr ne) = inr (vanishes_factor p prime x y ne h)
 
 -- a sum whose terms but one vanish
-pub sum-one : (p : ℕ) (X : ℕ → Bool) (n v : ℕ) (f : ℕ → ℕ) → v < n → X v ≡ true → ((j : ℕ) → j < n → X j ≡ true → j ≢ v → f j % p ≡ 0) → sum_on X n f % p ≡ f v % p
+pub sum-one : (p : ℕ) (X : ℕ → Bool) (n v : ℕ) (f : ℕ → ℕ) → v < n → X v ≡ true →
+    ((j : ℕ) → j < n → X j ≡ true → j ≢ v → f j % p ≡ 0) → sum_on X n f % p ≡ f v % p
 sum-one p X n v f l h rest =
     ap (λ s. s % p) (sum_on-without X n v f l h)
     ∙ agree-add p (sum_on (without X v) n f) 0 (f v) (f v)

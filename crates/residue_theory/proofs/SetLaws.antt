@@ -76,7 +76,8 @@ pub first_on : (P : ℕ → Bool) (n : ℕ) → ((j : ℕ) × (j < n) × (P j �
 first_on P zero = inr (λ j l. absurd (omega arith))
 first_on P (suc n) = go (P n) refl (first_on P n)
   where
-    go : (b : Bool) → P n ≡ b → ((j : ℕ) × (j < n) × (P j ≡ true)) ⊎ ((j : ℕ) → j < n → P j ≡ false) → ((j : ℕ) × (j < suc n) × (P j ≡ true)) ⊎ ((j : ℕ) → j < suc n → P j ≡ false)
+    go : (b : Bool) → P n ≡ b → ((j : ℕ) × (j < n) × (P j ≡ true)) ⊎ ((j : ℕ) → j < n → P j ≡ false) →
+        ((j : ℕ) × (j < suc n) × (P j ≡ true)) ⊎ ((j : ℕ) → j < suc n → P j ≡ false)
     go true e before = inl (n, omega arith, e)
     go false e (inl (j, l, h)) = inl (j, omega arith, h)
     go false e (inr none) = inr (λ j l. below_suc j l)

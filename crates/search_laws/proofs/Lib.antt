@@ -1,2 +1,3 @@
 pub mod SearchLaws
 pub mod ShortestWalks
+pub mod OutsideLaws

@@ -66,10 +66,12 @@ module _ (arc : ℕ → ℕ → Bool) (n : ℕ) where
         go (inr ne) (inr nf) = (j, l, P.order_same j ne nf)
 
     -- the old place of what stands at j now
-    old_place : (j : ℕ) → j < n → (k : ℕ) × (k < n) × (t.order j ≡ s.order k) × (((j ≡ i) × (k ≡ filled)) ⊎ ((j ≢ i) × (j ≡ filled) × (k ≡ i)) ⊎ ((j ≢ i) × (j ≢ filled) × (k ≡ j)))
+    old_place : (j : ℕ) → j < n → (k : ℕ) × (k < n) × (t.order j ≡ s.order k)
+        × (((j ≡ i) × (k ≡ filled)) ⊎ ((j ≢ i) × (j ≡ filled) × (k ≡ i)) ⊎ ((j ≢ i) × (j ≢ filled) × (k ≡ j)))
     old_place j l = go (nat_cases j i) (nat_cases j filled)
       where
-        go : (j ≡ i) ⊎ (j ≢ i) → (j ≡ filled) ⊎ (j ≢ filled) → (k : ℕ) × (k < n) × (t.order j ≡ s.order k) × (((j ≡ i) × (k ≡ filled)) ⊎ ((j ≢ i) × (j ≡ filled) × (k ≡ i)) ⊎ ((j ≢ i) × (j ≢ filled) × (k ≡ j)))
+        go : (j ≡ i) ⊎ (j ≢ i) → (j ≡ filled) ⊎ (j ≢ filled) → (k : ℕ) × (k < n) × (t.order j ≡ s.order k)
+            × (((j ≡ i) × (k ≡ filled)) ⊎ ((j ≢ i) × (j ≡ filled) × (k ≡ i)) ⊎ ((j ≢ i) × (j ≢ filled) × (k ≡ j)))
         go (inl q) _ = (filled, omega arith, ap t.order q ∙ P.order_moved, inl (q, refl))
         go (inr ne) (inl q) = (i, il, ap t.order q ∙ P.order_new, inr (inl (ne, q, refl)))
         go (inr ne) (inr nf) = (j, l, P.order_same j ne nf, inr (inr (ne, nf, refl)))
@@ -140,7 +142,9 @@ module _ (arc : ℕ → ℕ → Bool) (n : ℕ) where
           below = subst (λ v. v < n) (sym b) led.below;
           reached = subst (λ v. t.reached v ≡ true) (sym b) (still (s.before y) led.reached);
           along = subst (λ v. arc v y ≡ true) (sym b) led.along;
-          deeper = P.depth_same y (other y old) ∙ (led.deeper ∙ ap (λ v. v + 1) (sym (ap t.depth b ∙ P.depth_same (s.before y) (other (s.before y) led.reached))));
+          deeper = P.depth_same y (other y old)
+              ∙ (led.deeper ∙ ap (λ v. v + 1)
+              (sym (ap t.depth b ∙ P.depth_same (s.before y) (other (s.before y) led.reached))));
         }
 
         new : (d ≡ 0) ⊎ ((x < n) × (s.reached x ≡ true) × (arc x (s.order i) ≡ true) × (d ≡ s.depth x + 1)) →
@@ -214,7 +218,8 @@ module _ (arc : ℕ → ℕ → Bool) (n : ℕ) where
   grown-ends s t f head ends le G N j l e = N j l (subst (λ v. ends v ≡ true) (G.order j (omega arith)) e)
 
   pub ends-next : (s : State) (head : ℕ) (ends : ℕ → Bool) → NoEndBefore ends s head → ends (s.order head) ≡ false → NoEndBefore ends s (head + 1)
-  ends-next s head ends N misses j l e = elim (nat_cases j head) [ inl q ↦ differ misses (subst (λ v. ends (s.order v) ≡ true) q e) | inr ne ↦ N j (omega arith) e ]
+  ends-next s head ends N misses j l e = elim (nat_cases j head)
+      [ inl q ↦ differ misses (subst (λ v. ends (s.order v) ≡ true) q e) | inr ne ↦ N j (omega arith) e ]
 
   -- the next place is looked at
   pub search-next : (s : State) (head filled : ℕ) → IsSearch arc n s head filled → head < filled →
@@ -250,7 +255,8 @@ module _ (arc : ℕ → ℕ → Bool) (n : ℕ) where
         | inr ne ↦ S.looked j y (omega arith) yl a
       ]
 
-  module _ (starts ends : ℕ → Bool) (s : State) (head filled : ℕ) (S : IsSearch arc n s head filled) (F : HasStarts n starts s) (N : NoEndBefore ends s head) where
+  module _ (starts ends : ℕ → Bool) (s : State) (head filled : ℕ) (S : IsSearch arc n s head filled)
+      (F : HasStarts n starts s) (N : NoEndBefore ends s head) where
     -- what a walk no longer than the next place's depth leads to is reached, and no deeper
     seen : (s₀ : ℕ) → s₀ < n → starts s₀ ≡ true → (m y : ℕ) → y < n → ((j : ℕ) → j < filled → s.depth (s.order j) < m → j < head) → Walk arc n s₀ y m →
         (s.reached y ≡ true) × (s.depth y ≤ m)
@@ -294,7 +300,8 @@ module _ (arc : ℕ → ℕ → Bool) (n : ℕ) where
       | inr led ↦ go led (led_from d (s.before y) led.below led.reached (omega (arith, led.deeper)))
     ]
       where
-        go : IsLed arc n s y → ((s₀ : ℕ) × (s₀ < n) × (starts s₀ ≡ true) × Walk arc n s₀ (s.before y) d) → (s₀ : ℕ) × (s₀ < n) × (starts s₀ ≡ true) × Walk arc n s₀ y (suc d)
+        go : IsLed arc n s y → ((s₀ : ℕ) × (s₀ < n) × (starts s₀ ≡ true) × Walk arc n s₀ (s.before y) d) → (s₀ : ℕ)
+            × (s₀ < n) × (starts s₀ ≡ true) × Walk arc n s₀ y (suc d)
         go led (s₀, sl, sh, w) = (s₀, sl, sh, (s.before y, led.below, w, led.along))
 
     pub reached-from : (y : ℕ) → y < n → s.reached y ≡ true → FromSome arc n starts y
@@ -334,7 +341,8 @@ module _ (arc : ℕ → ℕ → Bool) (n : ℕ) where
       follows = λ i g l. absurd (omega arith);
     }
 
-    pub trace-back : (at to : ℕ → ℕ) (k d e : ℕ) → IsTrace arc n s at (k + 1) d e → to k ≡ s.before (at (k + 1)) → ((i : ℕ) → i ≢ k → to i ≡ at i) → IsTrace arc n s to k d e
+    pub trace-back : (at to : ℕ → ℕ) (k d e : ℕ) → IsTrace arc n s at (k + 1) d e → to k ≡ s.before (at (k + 1)) →
+        ((i : ℕ) → i ≢ k → to i ≡ at i) → IsTrace arc n s to k d e
     trace-back at to k d e T new same = go (S.origin (at (k + 1)) (T.below (k + 1) (omega arith) T.le) T.reached)
       where
         go : (s.depth (at (k + 1)) ≡ 0) ⊎ IsLed arc n s (at (k + 1)) → IsTrace arc n s to k d e
@@ -349,12 +357,16 @@ module _ (arc : ℕ → ℕ → Bool) (n : ℕ) where
           reached = subst (λ v. s.reached v ≡ true) (sym new) led.reached;
           depth = ap s.depth new ∙ omega (arith, led.deeper, T.depth);
           follows = λ i g l. elim (nat_cases i k) [
-            | inl q ↦ subst (λ v. arc (to v) (to (v + 1)) ≡ true) (sym q) (subst (λ v. arc (to k) v ≡ true) (sym (same (k + 1) (λ z. omega arith))) (subst (λ v. arc v (at (k + 1)) ≡ true) (sym new) led.along))
-            | inr ne ↦ subst (λ v. arc v (to (i + 1)) ≡ true) (sym (same i ne)) (subst (λ v. arc (at i) v ≡ true) (sym (same (i + 1) (λ z. omega arith))) (T.follows i (omega arith) l))
+            | inl q ↦ subst (λ v. arc (to v) (to (v + 1)) ≡ true) (sym q)
+                (subst (λ v. arc (to k) v ≡ true) (sym (same (k + 1) (λ z. omega arith)))
+                (subst (λ v. arc v (at (k + 1)) ≡ true) (sym new) led.along))
+            | inr ne ↦ subst (λ v. arc v (to (i + 1)) ≡ true) (sym (same i ne))
+                (subst (λ v. arc (at i) v ≡ true) (sym (same (i + 1) (λ z. omega arith))) (T.follows i (omega arith) l))
           ];
         }
 
-    pub trace-shortest : (at : ℕ → ℕ) (d : ℕ) → head < filled → ends (s.order head) ≡ true → s.depth (s.order head) ≡ d → IsTrace arc n s at 0 d (s.order head) → IsShortest arc n starts ends at d
+    pub trace-shortest : (at : ℕ → ℕ) (d : ℕ) → head < filled → ends (s.order head) ≡ true →
+        s.depth (s.order head) ≡ d → IsTrace arc n s at 0 d (s.order head) → IsShortest arc n starts ends at d
     trace-shortest at d more e q T = record {
       fewer = omega (arith, S.shallow head more, S.filled_le);
       begins = F.only (at 0) (T.below 0 (omega arith) T.le) T.reached T.depth;
@@ -384,9 +396,12 @@ search-start arc n s position order_below position_below position_order order_po
 }
 
 -- each place of the walk is where the walk to the next one comes from
-pub trace-all : (arc : ℕ → ℕ → Bool) (n : ℕ) (starts ends : ℕ → Bool) (s : State) (head filled : ℕ) → IsSearch arc n s head filled → HasStarts n starts s → NoEndBefore ends s head →
-    head < filled → ends (s.order head) ≡ true → (at : ℕ → ℕ) (d : ℕ) → s.depth (s.order head) ≡ d → at d ≡ s.order head → ((i : ℕ) → i < d → at i ≡ s.before (at (i + 1))) → IsShortest arc n starts ends at d
-trace-all arc n starts ends s head filled S F N more e at d deep last back = trace-shortest arc n starts ends s head filled S F N at d more e deep (down d 0 (omega arith))
+pub trace-all : (arc : ℕ → ℕ → Bool) (n : ℕ) (starts ends : ℕ → Bool) (s : State) (head filled : ℕ) →
+    IsSearch arc n s head filled → HasStarts n starts s → NoEndBefore ends s head →
+    head < filled → ends (s.order head) ≡ true → (at : ℕ → ℕ) (d : ℕ) → s.depth (s.order head) ≡ d →
+    at d ≡ s.order head → ((i : ℕ) → i < d → at i ≡ s.before (at (i + 1))) → IsShortest arc n starts ends at d
+trace-all arc n starts ends s head filled S F N more e at d deep last back =
+    trace-shortest arc n starts ends s head filled S F N at d more e deep (down d 0 (omega arith))
   where
     step : (k : ℕ) → k < d → IsTrace arc n s at (k + 1) d (s.order head) → IsTrace arc n s at k d (s.order head)
     step k l T = trace-back arc n starts ends s head filled S F N at at k d (s.order head) T (back k l) (λ i _. refl)

@@ -8,7 +8,12 @@ module _ (arc : ℕ → ℕ → Bool) (n : ℕ) (starts ends : ℕ → Bool) (at
   -- the part of the walk up to place i
   pub head_part : (i : ℕ) → i ≤ k → Walk arc n (at 0) (at i) i
   head_part zero le = refl
-  head_part (suc i) le = (at i, W.below i (omega arith), head_part i (omega arith), subst (λ v. arc (at i) (at v) ≡ true) (omega arith) (W.follows i (omega arith)))
+  head_part (suc i) le = (
+    at i,
+    W.below i (omega arith),
+    head_part i (omega arith),
+    subst (λ v. arc (at i) (at v) ≡ true) (omega arith) (W.follows i (omega arith)),
+  )
 
   -- a walk of m arcs from v to place j goes on to the end
   go_on : (v j m r : ℕ) → j + r ≡ k → Walk arc n v (at j) m → Walk arc n v (at k) (m + r)
@@ -21,7 +26,11 @@ module _ (arc : ℕ → ℕ → Bool) (n : ℕ) (starts ends : ℕ → Bool) (at
   no_fewer v j m vl st le w = omega (arith, W.least v (at k) (m + (k - j)) vl (W.below k (omega arith)) st W.stops (go_on v j m (k - j) (omega arith) w))
 
   pub no_shortcut : (i j : ℕ) → j ≤ k → i + 1 < j → arc (at i) (at j) ≡ true → ⊥
-  no_shortcut i j le less a = omega (arith, no_fewer (at 0) j (suc i) (W.below 0 (omega arith)) W.begins le (at i, W.below i (omega arith), head_part i (omega arith), a))
+  no_shortcut i j le less a = omega (
+    arith,
+    no_fewer (at 0) j (suc i) (W.below 0 (omega arith)) W.begins le
+        (at i, W.below i (omega arith), head_part i (omega arith), a),
+  )
 
   -- no place but the first is a start, and none but the last an end
   pub one_start : (i : ℕ) → i ≤ k → starts (at i) ≡ true → i ≡ 0
@@ -32,7 +41,11 @@ module _ (arc : ℕ → ℕ → Bool) (n : ℕ) (starts ends : ℕ → Bool) (at
 
   -- the places differ
   no_repeat : (i j : ℕ) → i < j → j ≤ k → at i ≡ at j → ⊥
-  no_repeat i j less le e = omega (arith, no_fewer (at 0) j i (W.below 0 (omega arith)) W.begins le (subst (λ u. Walk arc n (at 0) u i) e (head_part i (omega arith))))
+  no_repeat i j less le e = omega (
+    arith,
+    no_fewer (at 0) j i (W.below 0 (omega arith)) W.begins le
+        (subst (λ u. Walk arc n (at 0) u i) e (head_part i (omega arith))),
+  )
 
   pub places_differ : (i j : ℕ) → i ≤ k → j ≤ k → at i ≡ at j → i ≡ j
   places_differ i j il jl e = go (lt_cases i j) (lt_cases j i)

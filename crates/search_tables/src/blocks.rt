@@ -1,27 +1,30 @@
 //! Tests of the parts of directed graphs.
 
-ghost use Rattle.std.specs.Prelude.{◌≡◌, ◌<◌, ℕ, ◌+◌, ◌^◌, ◌/◌, ◌&&◌, nat_eq, nat_lt, bit_and, true, vec_len, slice_index, IfOk};
+ghost use Rattle.std.specs.Prelude.{◌≡◌, ◌^◌, ◌/◌, ◌&&◌, nat_eq, nat_lt, bit_and, vec_len, slice_index, IfOk};
 
-use exchange_graph::Arcs;
+use crate::shapes::{ByNumber, Complete, Path, Shape};
 use minimiser_lattice::Part::{Block, First, Last};
 use minimiser_lattice::{Lattice, Part};
 use std::alloc::Global;
-use std::cell::Cell;
 use std::process::Abort;
 use std::test::Fail;
 
-// Arcs between fewer than 64 places: x leads to y where bit y of row x is set.
+// Fewer than 64 places: x leads to y where bit y of row x is set.
 #[derive(Drop)]
 struct Listed {
     rows: Vec<u64>,
 }
 
-impl Arcs for Listed {
-    ghost places = { λ s. vec_len s.rows };
+impl Shape for Listed {
+    ghost count = { λ s. vec_len s.rows };
 
-    ghost leads = { λ s x y. nat_lt y 64 && nat_eq (bit_and (slice_index s.rows.items x / 2 ^ y) 1) 1 };
+    ghost leads_to = { λ s x y. nat_lt y 64 && nat_eq (bit_and (slice_index s.rows.items x / 2 ^ y) 1) 1 };
 
-    fn arc(&self, x: usize, y: usize) -> bool {
+    fn places(&self) -> usize {
+        self.rows.len()
+    }
+
+    fn leads(&self, x: usize, y: usize) -> bool {
         y < 64 && (self.rows[x] >> y) & 1 == 1
     }
 }
@@ -37,40 +40,6 @@ impl Listed {
             }
         }
         Ok(Listed { rows })
-    }
-}
-
-// Each place leads to the next one.
-#[derive(Drop)]
-struct Path {
-    places: usize,
-}
-
-impl Arcs for Path {
-    ghost places = { λ s. s.places };
-
-    ghost leads = { λ _ x y. nat_eq y (x + 1) };
-
-    fn arc(&self, x: usize, y: usize) -> bool {
-        x < usize::MAX && y == x + 1
-    }
-}
-
-// Each place leads to each. Counts how often an arc was asked for.
-#[derive(Drop)]
-struct Complete<'a> {
-    places: usize,
-    asks: &'a Cell<usize>,
-}
-
-impl<'a> Arcs for Complete<'a> {
-    ghost places = { λ s. s.places };
-
-    ghost leads = { λ _ _ _. true };
-
-    fn arc(&self, _x: usize, _y: usize) -> bool {
-        self.asks.set(self.asks.get().saturating_add(1));
-        true
     }
 }
 
@@ -128,10 +97,10 @@ fn parts(
     requires { lattice.old.places ≡ places }
     ensures { lattice.new.places ≡ places }
 {
-    let arcs = Listed::new(alloc, places, case.arcs)?;
+    let listed = Listed::new(alloc, places, case.arcs)?;
     let starts = marks(alloc, places, case.starts)?;
     let ends = marks(alloc, places, case.ends)?;
-    lattice.fill(&arcs, &starts, &ends);
+    lattice.fill(&ByNumber::new(&listed), &starts, &ends);
     let mut parts = Vec::new(alloc);
     for place in 0..places {
         parts.push(lattice.part_of(place))?;
@@ -318,7 +287,7 @@ fn a_long_chain(rt: HostRuntime) -> Result<(), Fail> {
     let path = Path { places: 130 };
     let none = marks(rt.alloc(), 130, &[])?;
     let mut lattice = Lattice::open(rt.alloc(), 130)?;
-    lattice.fill(&path, &none, &none);
+    lattice.fill(&ByNumber::new(&path), &none, &none);
     assert_eq!(rt;
         (lattice.part_of(129), lattice.part_of(0)),
         (Block(0), Block(129))
@@ -331,15 +300,12 @@ fn a_long_chain(rt: HostRuntime) -> Result<(), Fail> {
 // Each arc is asked for twice, and once more where it leads to a place that was not seen.
 #[test]
 fn asks_for_each_arc_twice(rt: HostRuntime) -> Result<(), Fail> {
-    let asks = Cell::new(0);
-    let complete = Complete {
-        places: 100,
-        asks: &asks,
-    };
+    let complete = Complete { places: 100 };
+    let arcs = ByNumber::new(&complete);
     let none = marks(rt.alloc(), 100, &[])?;
     let mut lattice = Lattice::open(rt.alloc(), 100)?;
-    lattice.fill(&complete, &none, &none);
+    lattice.fill(&arcs, &none, &none);
     assert_eq!(rt; (lattice.blocks(), lattice.part_of(99)), (1, Block(0)));
-    assert_eq!(rt; asks.get(), 20_099);
+    assert_eq!(rt; arcs.asks(), 20_099);
     Ok(())
 }

@@ -13,4 +13,6 @@ mod orders;
 #[cfg(test)]
 mod pairs;
 #[cfg(test)]
+mod shapes;
+#[cfg(test)]
 mod walks;

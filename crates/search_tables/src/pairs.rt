@@ -63,6 +63,8 @@ fn solved<L: Ledger, T: Tableau<Res>>(
 // is in the least minimiser and `!` where it is an end.
 fn told<T: Tableau<Res>>(alloc: Global, engine: &Engine<Res, T>) -> Result<String, Fail> {
     let mut text = String::new(alloc);
+    let free = engine.free_columns();
+    let ends = engine.end_columns();
     for col in 0..engine.tableau().columns() {
         if engine.in_q(col) {
             text.push('q')?;
@@ -70,13 +72,13 @@ fn told<T: Tableau<Res>>(alloc: Global, engine: &Engine<Res, T>) -> Result<Strin
         if engine.mate(col).is_some() {
             text.push('t')?;
         }
-        if engine.free(col) {
+        if free[col] {
             text.push('.')?;
         }
         if engine.least_minimiser(col) {
             text.push('-')?;
         }
-        if engine.end(col) {
+        if ends[col] {
             text.push('!')?;
         }
     }

@@ -41,7 +41,8 @@ module _ (lists : List (SmallVec ℕ)) (x : ℕ) (v w : SmallVec ℕ) (l : x < l
   same-step first kept S = record {
     count = length-set lists x w ∙ S.count;
     items = λ j jl. elim (nat_cases j x) [
-      | inl q ↦ subst (λ y. items_at (slice_set lists x w) y ≡ items_at first y) (sym q) (items-same lists x w l ∙ (kept ∙ (sym (items-read lists x v l e) ∙ S.items x (omega (arith, q)))))
+      | inl q ↦ subst (λ y. items_at (slice_set lists x w) y ≡ items_at first y) (sym q)
+          (items-same lists x w l ∙ (kept ∙ (sym (items-read lists x v l e) ∙ S.items x (omega (arith, q)))))
       | inr ne ↦ items-other lists x j w ne ∙ S.items j jl
     ];
   }
@@ -58,7 +59,8 @@ module _ (lists : List (SmallVec ℕ)) (x : ℕ) (v w : SmallVec ℕ) (l : x < l
       early i il ne = elim (nat_cases i k) [ inl q ↦ absurd (ne (subst (λ y. get_or columns y 0 ≡ x) (sym q) at)) | inr apart ↦ omega arith ]
 
   -- one that holds one number more
-  module _ (first : List (SmallVec ℕ)) (columns : List ℕ) (row k : ℕ) (up : IsStrictlyIncreasing columns) (kl : k < length columns) (at : get_or columns k 0 ≡ x) (more : w.items ≡ v.items ++ row ∷ [])
+  module _ (first : List (SmallVec ℕ)) (columns : List ℕ) (row k : ℕ) (up : IsStrictlyIncreasing columns)
+      (kl : k < length columns) (at : get_or columns k 0 ≡ x) (more : w.items ≡ v.items ++ row ∷ [])
       (others : (j : ℕ) → ((i : ℕ) → i < k → get_or columns i 0 ≢ j) → items_at lists j ≡ items_at first j) where
     apart : (i : ℕ) → i < k → get_or columns i 0 ≢ x
     apart i il q = omega (arith, rises columns up i k il kl)
@@ -76,15 +78,21 @@ module _ (lists : List (SmallVec ℕ)) (x : ℕ) (v w : SmallVec ℕ) (l : x < l
     pub others-step : (j : ℕ) → ((i : ℕ) → i < k + 1 → get_or columns i 0 ≢ j) → items_at (slice_set lists x w) j ≡ items_at first j
     others-step j none = items-other lists x j w (λ q. none k (omega arith) (at ∙ sym q)) ∙ others j (λ i il. none i (omega arith))
 
-  pub capacities-step : (first : List (SmallVec ℕ)) → w.capacity ≡ v.capacity → ((j : ℕ) → capacity_at lists j ≡ capacity_at first j) → (j : ℕ) → capacity_at (slice_set lists x w) j ≡ capacity_at first j
+  pub capacities-step : (first : List (SmallVec ℕ)) → w.capacity ≡ v.capacity →
+      ((j : ℕ) → capacity_at lists j ≡ capacity_at first j) → (j : ℕ) →
+      capacity_at (slice_set lists x w) j ≡ capacity_at first j
   capacities-step first kept same j = elim (nat_cases j x) [
-    | inl q ↦ subst (λ y. capacity_at (slice_set lists x w) y ≡ capacity_at first y) (sym q) (capacity-same lists x w l ∙ (kept ∙ (sym (capacity-read lists x v l e) ∙ same x)))
+    | inl q ↦ subst (λ y. capacity_at (slice_set lists x w) y ≡ capacity_at first y) (sym q)
+        (capacity-same lists x w l ∙ (kept ∙ (sym (capacity-read lists x v l e) ∙ same x)))
     | inr ne ↦ capacity-other lists x j w ne ∙ same j
   ]
 
 -- the next list has room
-pub room-here : (first lists : List (SmallVec ℕ)) (columns : List ℕ) (k x : ℕ) (v : SmallVec ℕ) → x < length lists → v ≡ get_or lists x v → IsStrictlyIncreasing columns → k < length columns → get_or columns k 0 ≡ x →
-    HasRoom first columns (length columns) → ((j : ℕ) → ((i : ℕ) → i < k → get_or columns i 0 ≢ j) → items_at lists j ≡ items_at first j) → ((j : ℕ) → capacity_at lists j ≡ capacity_at first j) → HasRoomFor v 1
+pub room-here : (first lists : List (SmallVec ℕ)) (columns : List ℕ) (k x : ℕ) (v : SmallVec ℕ) → x < length lists →
+    v ≡ get_or lists x v → IsStrictlyIncreasing columns → k < length columns → get_or columns k 0 ≡ x →
+    HasRoom first columns (length columns) →
+    ((j : ℕ) → ((i : ℕ) → i < k → get_or columns i 0 ≢ j) → items_at lists j ≡ items_at first j) →
+    ((j : ℕ) → capacity_at lists j ≡ capacity_at first j) → HasRoomFor v 1
 room-here first lists columns k x v l e up kl at room others same =
     omega (arith, room_x, ap length (items-read lists x v l e), ap length (others x apart), capacity-read lists x v l e, same x)
   where

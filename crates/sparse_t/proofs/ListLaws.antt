@@ -41,7 +41,8 @@ has-member [] j h = absurd (differ h)
     differ e = cc
 has-member (x ∷ list) j h = go (nat_cases x j) (has-member list j)
   where
-    go : (x ≡ j) ⊎ (x ≢ j) → (has list j ≡ true → (k : ℕ) × (k < length list) × (get_or list k 0 ≡ j)) → (k : ℕ) × (k < length (x ∷ list)) × (get_or (x ∷ list) k 0 ≡ j)
+    go : (x ≡ j) ⊎ (x ≢ j) → (has list j ≡ true → (k : ℕ) × (k < length list) × (get_or list k 0 ≡ j)) → (k : ℕ)
+        × (k < length (x ∷ list)) × (get_or (x ∷ list) k 0 ≡ j)
     go (inl q) _ = (0, omega arith, q)
     go (inr ne) rest = let found = rest (rw (nat_eq-apart x j ne) at h) in (suc found.0, omega (arith, found.1), found.2)
 
@@ -72,7 +73,9 @@ rising-append list item up below k l = go (lt_cases (k + 1) (length list))
     go (inl less) = rw (get_or-append list (item ∷ []) 0 k (omega arith), get_or-append list (item ∷ []) 0 (k + 1) less) (up k less)
     go (inr ge) = let last : k + 1 ≡ length list = omega (arith, length-append list (item ∷ []), l) in
         let here : k < length list = omega arith in
-        rw (get_or-append list (item ∷ []) 0 k here) (subst (λ v. get_or list k 0 < get_or (list ++ item ∷ []) v 0) (sym last) (rw (get_or-append_seam list item [] 0) (below k here)))
+        rw (get_or-append list (item ∷ []) 0 k here)
+        (subst (λ v. get_or list k 0 < get_or (list ++ item ∷ []) v 0) (sym last)
+        (rw (get_or-append_seam list item [] 0) (below k here)))
 
 pub below-append : (n m : ℕ) (list : List ℕ) (item : ℕ) → IsBelow n list → n ≤ m → item < m → IsBelow m (list ++ item ∷ [])
 below-append n m list item below le less k l = go (lt_cases k (length list))
@@ -83,7 +86,8 @@ below-append n m list item below le less k l = go (lt_cases k (length list))
         subst (λ v. get_or (list ++ item ∷ []) v 0 < m) (sym last) (rw (get_or-append_seam list item [] 0) less)
 
 -- what a binary search finds
-pub has-searched : (list : List ℕ) (number : ℕ) (r : Result ℕ ℕ) → IsStrictlyIncreasing list → IsBinarySearchResult (λ y. nat_cmp y number) list r → is_ok r ≡ has list number
+pub has-searched : (list : List ℕ) (number : ℕ) (r : Result ℕ ℕ) → IsStrictlyIncreasing list →
+    IsBinarySearchResult (λ y. nat_cmp y number) list r → is_ok r ≡ has list number
 has-searched list number r up found = go r (searched list number r found rising)
   where
     rising : (i j : ℕ) → i ≤ j → j < length list → get_or list i 0 ≤ get_or list j 0
@@ -92,7 +96,11 @@ has-searched list number r up found = go r (searched list number r found rising)
       | inr ge ↦ let same : i ≡ j = omega arith in subst (λ v. get_or list v 0 ≤ get_or list j 0) (sym same) (omega arith)
     ]
 
-    go : (r : Result ℕ ℕ) → MatchResult r (λ i. (i < length list) × (get_or list i 0 ≡ number)) (λ i. (i ≤ length list) × ((k : ℕ) → k < i → get_or list k 0 < number) × ((k : ℕ) → i ≤ k → k < length list → number < get_or list k 0)) →
+    go : (r : Result ℕ ℕ) → MatchResult r (λ i. (i < length list) × (get_or list i 0 ≡ number))
+        (λ i. (i ≤ length list) × ((k : ℕ) → k < i → get_or list k 0 < number)
+        × ((k : ℕ) → i ≤ k → k < length list → number < get_or list k 0)) →
         is_ok r ≡ has list number
     go (Ok i) (l, e) = sym (has-at list i number l e)
-    go (Err i) (le, low, high) = sym (has-none list number (λ k l q. elim (lt_cases k i) [ inl less ↦ omega (arith, low k less) | inr ge ↦ omega (arith, high k ge l) ]))
+    go (Err i) (le, low, high) = sym
+        (has-none list number (λ k l q. elim (lt_cases k i)
+        [ inl less ↦ omega (arith, low k less) | inr ge ↦ omega (arith, high k ge l) ]))

@@ -12,7 +12,12 @@ use Rattle.sparse_t.proofs.IncidenceLaws.{incidence-last, rows_of-last}
 abbrev seen : List (SmallVec ℕ) → List (SmallVec ℕ) → Incidence
 seen rows columns = record { width = length columns; rows = map (λ row. row.items) rows }
 
-pub row-stored : (p : Incidence) (rows columns : List (SmallVec ℕ)) (i : ℕ) (v : SmallVec ℕ) → record { width = length columns; rows = map (λ row. row.items) rows } ≡ p → IsStored rows columns → i < row_count p → v ≡ get_or rows i v →
+pub row-stored : (p : Incidence) (rows columns : List (SmallVec ℕ)) (i : ℕ) (v : SmallVec ℕ) → record {
+  width =
+      length columns;
+  rows = map (λ row. row.items) rows;
+} ≡ p → IsStored rows columns → i < row_count p →
+    v ≡ get_or rows i v →
     IsStrictlyIncreasing v.items × IsBelow p.width v.items × (columns_at p i ≡ v.items)
 row-stored p rows columns i v e S l r = (subst IsStrictlyIncreasing here (I.rising i l), subst (IsBelow p.width) here (I.below i l), here)
   where
@@ -25,9 +30,16 @@ row-stored p rows columns i v e S l r = (subst IsStrictlyIncreasing here (I.risi
     here : columns_at p i ≡ v.items
     here = ap (λ q. columns_at q i) (sym e) ∙ items-read rows i v within r
 
-pub column-stored : (p : Incidence) (rows columns : List (SmallVec ℕ)) (j : ℕ) (v : SmallVec ℕ) → record { width = length columns; rows = map (λ row. row.items) rows } ≡ p → IsStored rows columns → j < p.width → v ≡ get_or columns j v →
+pub column-stored : (p : Incidence) (rows columns : List (SmallVec ℕ)) (j : ℕ) (v : SmallVec ℕ) → record {
+  width =
+      length columns;
+  rows = map (λ row. row.items) rows;
+} ≡ p → IsStored rows columns → j < p.width →
+    v ≡ get_or columns j v →
     AreRowsOf p j v.items
-column-stored p rows columns j v e S l r = subst (λ q. AreRowsOf q j v.items) e (subst (λ ys. AreRowsOf (seen rows columns) j ys) (items-read columns j v within r) (S.rows_of j within))
+column-stored p rows columns j v e S l r =
+    subst (λ q. AreRowsOf q j v.items) e
+    (subst (λ ys. AreRowsOf (seen rows columns) j ys) (items-read columns j v within r) (S.rows_of j within))
   where
     within : j < length columns
     within = omega (arith, ap (λ (q : Incidence). q.width) e, l)
@@ -42,10 +54,14 @@ stored-kept rows now columns later same H S = subst (λ rs. IsStored rs later) (
     width : seen rows columns ≡ seen rows later
     width = ap (λ (w : ℕ). let p : Incidence = record { width = w; rows = map (λ row. row.items) rows } in p) (sym H.count)
 
-pub stored-push : (rows now columns later : List (SmallVec ℕ)) (v : SmallVec ℕ) (row : List ℕ) (number : ℕ) → IsStored rows columns → now ≡ rows ++ v ∷ [] → v.items ≡ row → number ≡ length rows → IsEntered columns later row number →
+pub stored-push : (rows now columns later : List (SmallVec ℕ)) (v : SmallVec ℕ) (row : List ℕ) (number : ℕ) →
+    IsStored rows columns → now ≡ rows ++ v ∷ [] → v.items ≡ row → number ≡ length rows →
+    IsEntered columns later row number →
     IsStrictlyIncreasing row → IsBelow (length columns) row → length rows < 8192 → IsStored now later
 stored-push rows now columns later v row number S pushed held count E up below few = record {
-  incidence = subst IsIncidence (sym after) (incidence-last (seen rows columns) row S.incidence up below (omega (arith, length-map rows (λ (r : SmallVec ℕ). r.items))));
+  incidence = subst IsIncidence (sym after)
+      (incidence-last (seen rows columns) row S.incidence up below
+      (omega (arith, length-map rows (λ (r : SmallVec ℕ). r.items))));
   rows_of = λ j l. let jl : j < length columns = omega (arith, E.count, l) in
       subst (λ q. AreRowsOf q j (items_at later j)) (sym after) (rows_of-last (seen rows columns) row j (items_at columns j) (items_at later j) (S.rows_of j jl)
       (λ h. E.entered j jl h ∙ ap (λ n. items_at columns j ++ n ∷ []) number_is) (E.others j jl));
@@ -55,7 +71,9 @@ stored-push rows now columns later v row number S pushed held count E up below f
     number_is = count ∙ sym (length-map rows (λ (r : SmallVec ℕ). r.items))
 
     rows_after : map (λ (r : SmallVec ℕ). r.items) now ≡ map (λ (r : SmallVec ℕ). r.items) rows ++ row ∷ []
-    rows_after = ap (map (λ (r : SmallVec ℕ). r.items)) pushed ∙ (map-append (λ (r : SmallVec ℕ). r.items) rows (v ∷ []) ∙ ap (λ r. map (λ (s : SmallVec ℕ). s.items) rows ++ r ∷ []) held)
+    rows_after = ap (map (λ (r : SmallVec ℕ). r.items)) pushed
+        ∙ (map-append (λ (r : SmallVec ℕ). r.items) rows (v ∷ [])
+        ∙ ap (λ r. map (λ (s : SmallVec ℕ). s.items) rows ++ r ∷ []) held)
 
     after : seen now later ≡ with_last_row (seen rows columns) row
     after = ap (λ (w : ℕ). let p : Incidence = record { width = w; rows = map (λ r. r.items) now } in p) E.count

@@ -3,10 +3,10 @@
 #![tactic(auto)]
 
 #[cfg(test)]
-mod dense;
+mod matrices;
 #[cfg(test)]
 mod put_off;
 #[cfg(test)]
-mod sparse;
-#[cfg(test)]
 mod sparse_matrices;
+#[cfg(test)]
+mod tableaus;

@@ -1,50 +1,36 @@
 //! Tests of the one table, over the residues modulo 65,521. Pivots are tried in row_transform.
 
-use dense_q::Mat;
+use crate::matrices::{assert_entries, matrix};
 use residue_field::{Field, Res};
-use row_table::{NoMemory, Placement, PutOff, RowTable};
-use std::alloc::Global;
+use row_table::{Placement, PutOff, RowTable};
 use std::process::Abort;
 use std::test::Fail;
 
-// The matrix with these rows.
-fn matrix(alloc: Global, rows: &[[u64; 2]]) -> Result<Mat<Res>, NoMemory> {
-    let mut m = Mat::zeros(alloc, 0, 2)?;
-    for row in rows {
-        if m.rows() < 8_192 && m.cols() == 2 {
-            m.push_row(&[Res::of(row[0]), Res::of(row[1])])?;
+fn assert_rows(rt: &impl Abort, t: &PutOff<Res>, want: &[[u32; 2]], at: &str) {
+    for (row, values) in want.iter().enumerate() {
+        for (column, value) in values.iter().enumerate() {
+            assert!(rt; row < t.rows() && column < t.columns());
+            assert_eq!(rt;
+                t.entry(row, column).value(),
+                *value,
+                "{at}, row {row}, column {column}"
+            );
         }
-    }
-    Ok(m)
-}
-
-fn assert_row(rt: &impl Abort, t: &PutOff<Res>, row: usize, want: [u32; 2], at: &str) {
-    assert!(rt; row < t.rows());
-    assert_eq!(rt; t.columns(), 2);
-    for (column, value) in want.iter().enumerate() {
-        assert!(rt; column < t.columns());
-        assert_eq!(rt;
-            t.entry(row, column).value(),
-            *value,
-            "{at}, row {row}, column {column}"
-        );
     }
 }
 
 #[test]
 fn puts_off_more_than_may_wait(rt: HostRuntime) -> Result<(), Fail> {
-    let q = matrix(rt.alloc(), &[[1, 2], [3, 4], [5, 6]])?;
+    let q = matrix(&rt, rt.alloc(), &[&[1, 2], &[3, 4], &[5, 6]])?;
     let mut t = PutOff::open(rt.alloc(), &q)?;
     let factors = [Res::one(), Res::one(), Res::zero()];
     for _turn in 0..40 {
         assert_eq!(rt; t.rows(), factors.len());
         t.add(0, &factors);
     }
-    assert_row(&rt, &t, 0, [1, 2], "forty times");
-    assert_row(&rt, &t, 1, [43, 84], "forty times");
-    assert_row(&rt, &t, 2, [5, 6], "forty times");
+    assert_rows(&rt, &t, &[[1, 2], [43, 84], [5, 6]], "forty times");
     t.flush();
-    assert_row(&rt, &t, 1, [43, 84], "flushed");
+    assert_rows(&rt, &t, &[[1, 2], [43, 84], [5, 6]], "flushed");
     Ok(())
 }
 
@@ -60,22 +46,12 @@ fn places_columns(rt: HostRuntime) -> Result<(), Fail> {
     Ok(())
 }
 
-fn assert_matrix(rt: &impl Abort, m: &Mat<Res>, want: [[u32; 2]; 2], at: &str) {
-    assert_eq!(rt; (m.rows(), m.cols()), (2, 2), "{at}");
-    for (i, row) in want.iter().enumerate() {
-        for (j, value) in row.iter().enumerate() {
-            assert!(rt; i < m.rows() && j < m.cols());
-            assert_eq!(rt; m.get(i, j).value(), *value, "{at}, row {i}, column {j}");
-        }
-    }
-}
-
 #[test]
 fn has_unit_matrices_before_any_pivot(rt: HostRuntime) -> Result<(), Fail> {
-    let q = matrix(rt.alloc(), &[[1, 2], [3, 4]])?;
+    let q = matrix(&rt, rt.alloc(), &[&[1, 2], &[3, 4]])?;
     let t = RowTable::open(rt.alloc(), &q)?;
-    assert_matrix(&rt, &t.p()?, [[1, 2], [3, 4]], "P");
-    assert_matrix(&rt, &t.s()?, [[1, 0], [0, 1]], "S");
-    assert_matrix(&rt, &t.u()?, [[1, 0], [0, 1]], "U");
+    assert_entries(&rt, &t.p()?, &[&[1, 2], &[3, 4]], "P");
+    assert_entries(&rt, &t.s()?, &[&[1, 0], &[0, 1]], "S");
+    assert_entries(&rt, &t.u()?, &[&[1, 0], &[0, 1]], "U");
     Ok(())
 }

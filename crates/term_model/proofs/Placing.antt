@@ -23,7 +23,8 @@ module _ (p : ℕ) (old : MixedModel) (i j : ℕ) (term : Term) (is : IsModel p 
   stands : (k l : ℕ) → k < length old.equations → l < length old.unknowns → stands_at (get_or old.equations k [])
       (get_or old.unknowns l []) term ≡ (nat_eq i k && nat_eq j l)
   stands k l rk cl =
-      (λ t. stands_once old.equations term.equation i k is.equations.distinct row rk at_equation t && stands_once old.unknowns term.unknown j l is.unknowns.distinct col cl at_unknown t)
+      (λ t. stands_once old.equations term.equation i k is.equations.distinct row rk at_equation t
+      && stands_once old.unknowns term.unknown j l is.unknowns.distinct col cl at_unknown t)
 
   -- where terms leave the place free, nothing stands there
   module _ (before : List Term) (says : Says p before old) (free : IsFree before term.equation term.unknown) where

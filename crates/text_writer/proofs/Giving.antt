@@ -47,7 +47,8 @@ module _ {S : Type 0} {K : Ghosts S} where
   }
 
   -- where no call has failed, the sink has all
-  has_all : (first sink : S) (progress : Progress) (text : List ℕ) → progress.failed ≡ false → (given : HasGiven K first sink progress text) → text ≡ given.has.part
+  has_all : (first sink : S) (progress : Progress) (text : List ℕ) → progress.failed ≡ false →
+      (given : HasGiven K first sink progress text) → text ≡ given.has.part
   has_all first sink progress text off given = given.has.prefix ∙ ap (λ z. given.has.part ++ z) (given.fine off).0 ∙ append-nil given.has.part
 
   -- a sink took all bytes

@@ -26,7 +26,8 @@ loop-column-preserved g c =
       ap
           (λ (l : Layers). length l.column_origins) c.layered.view_is,
     ) in
-    loop_goes_on (columns_left c.args.model.now origins c.loop-column.column c.column_origin-origin.result within c.column_origin-origin.ensures) c.loop-column.invariant c.put_column_line.ensures
+    loop_goes_on (columns_left c.args.model.now origins c.loop-column.column c.column_origin-origin.result within
+    c.column_origin-origin.ensures) c.loop-column.invariant c.put_column_line.ensures
 
 pub returns : goal.returns
 returns g c =

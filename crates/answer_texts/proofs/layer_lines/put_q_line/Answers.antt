@@ -9,4 +9,7 @@ use Rattle.answer_texts.proofs.layer_lines.put_q_line.Goals as goal
 pub returns : goal.returns
 returns g c = puts_then (puts_then (puts_then c.put_head.ensures
     (puts_is (ap (name_at c.args.model.now.equations)
-    (sym (got_or c.args.layered.now.q_origins c.args.row 0 c.q_origin.result c.q_origin.ensures))) c.put_equation_name.ensures)) (puts_is (ap (λ (l : Layers). row_entries_text 1 (row_at l.q c.args.row)) c.layered.view_is) c.put_entries.ensures)) c.piece.ensures
+    (sym (got_or c.args.layered.now.q_origins c.args.row 0 c.q_origin.result c.q_origin.ensures)))
+    c.put_equation_name.ensures))
+    (puts_is (ap (λ (l : Layers). row_entries_text 1 (row_at l.q c.args.row)) c.layered.view_is)
+    c.put_entries.ensures)) c.piece.ensures

@@ -18,4 +18,8 @@ loop-row-preserved g c =
 pub returns : goal.returns
 returns g c =
     let rows = c.args.layered.now.q.rows in
-    loop_ends {text = row_lines q_line c.args.model.now.equations c.args.layered.now.q_origins 0 c.args.layered.now.q.rows} (rows_end q_line c.args.model.now.equations c.args.layered.now.q_origins rows c.loop-row.row (omega (arith, c.rows-row-end.ensures.rows ∙ ap (λ (l : Layers). height l.q) c.layered.view_is))) c.loop-row.invariant
+    loop_ends {text = row_lines q_line c.args.model.now.equations c.args.layered.now.q_origins 0
+    c.args.layered.now.q.rows}
+    (rows_end q_line c.args.model.now.equations c.args.layered.now.q_origins rows c.loop-row.row
+    (omega (arith, c.rows-row-end.ensures.rows ∙ ap (λ (l : Layers). height l.q) c.layered.view_is)))
+    c.loop-row.invariant

@@ -18,4 +18,8 @@ loop-row-preserved g c =
 pub returns : goal.returns
 returns g c =
     let rows = c.args.layered.now.t.rows in
-    loop_ends {text = row_lines t_line c.args.model.now.equations c.args.layered.now.t_origins 0 c.args.layered.now.t.rows} (rows_end t_line c.args.model.now.equations c.args.layered.now.t_origins rows c.loop-row.row (omega (arith, c.rows-row-end.ensures.rows ∙ ap (λ (l : Layers). row_count l.t) c.layered.view_is))) c.loop-row.invariant
+    loop_ends {text = row_lines t_line c.args.model.now.equations c.args.layered.now.t_origins 0
+    c.args.layered.now.t.rows}
+    (rows_end t_line c.args.model.now.equations c.args.layered.now.t_origins rows c.loop-row.row
+    (omega (arith, c.rows-row-end.ensures.rows ∙ ap (λ (l : Layers). row_count l.t) c.layered.view_is)))
+    c.loop-row.invariant

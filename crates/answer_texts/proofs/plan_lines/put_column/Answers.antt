@@ -8,7 +8,8 @@ use Rattle.answer_texts.proofs.plan_lines.put_column.Goals as goal
 
 pub put_column_name-requires : goal.put_column_name-requires
 put_column_name-requires g c =
-    column_origin_within c.args.model.now c.args.layered.now c.args.column c.column_origin-origin.result c.requires.layers c.requires.column c.column_origin-origin.ensures
+    column_origin_within c.args.model.now c.args.layered.now c.args.column c.column_origin-origin.result
+    c.requires.layers c.requires.column c.column_origin-origin.ensures
 
 pub returns : goal.returns
 returns g c = puts_then c.piece.ensures

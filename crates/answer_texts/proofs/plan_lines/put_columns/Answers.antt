@@ -8,4 +8,5 @@ loop-column-init g c = loop_begins (column_items c.args.model.now c.args.layered
 
 pub loop-column-preserved : goal.loop-column-preserved
 loop-column-preserved g c =
-    loop_goes_on (columns_left c.args.model.now c.args.layered.now c.args.columns.now c.loop-column.column-index _ c.loop-column-test.true) c.loop-column.invariant c.put_column.ensures
+    loop_goes_on (columns_left c.args.model.now c.args.layered.now c.args.columns.now c.loop-column.column-index _
+    c.loop-column-test.true) c.loop-column.invariant c.put_column.ensures

@@ -14,4 +14,6 @@ put_row_line-requires g c =
 
 pub loop-row-preserved : goal.loop-row-preserved
 loop-row-preserved g c =
-    loop_goes_on (rows_left g.F.Field.number c.args.model.now c.args.rows.now c.loop-row.row-index c.row-item.result c.loop-row-test.true) c.loop-row.invariant (puts_is (ap (row_line g.F.Field.number c.args.model.now) c.row-item.is) c.put_row_line.ensures)
+    loop_goes_on (rows_left g.F.Field.number c.args.model.now c.args.rows.now c.loop-row.row-index c.row-item.result
+    c.loop-row-test.true) c.loop-row.invariant
+    (puts_is (ap (row_line g.F.Field.number c.args.model.now) c.row-item.is) c.put_row_line.ensures)

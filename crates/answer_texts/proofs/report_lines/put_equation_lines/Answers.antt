@@ -9,4 +9,6 @@ loop-equation-init g c = loop_begins (name_lines (codes "surplus") c.args.model.
 
 pub loop-equation-preserved : goal.loop-equation-preserved
 loop-equation-preserved g c =
-    loop_goes_on (names_left (codes "surplus") c.args.model.now.equations c.args.equations.now c.loop-equation.equation-index _ c.loop-equation-test.true) c.loop-equation.invariant c.put_equation_line.ensures
+    loop_goes_on (names_left (codes "surplus") c.args.model.now.equations c.args.equations.now
+    c.loop-equation.equation-index _ c.loop-equation-test.true) c.loop-equation.invariant
+    c.put_equation_line.ensures

@@ -9,4 +9,5 @@ loop-unknown-init g c = loop_begins (name_lines (codes "undetermined") c.args.mo
 
 pub loop-unknown-preserved : goal.loop-unknown-preserved
 loop-unknown-preserved g c =
-    loop_goes_on (names_left (codes "undetermined") c.args.model.now.unknowns c.args.unknowns.now c.loop-unknown.unknown-index _ c.loop-unknown-test.true) c.loop-unknown.invariant c.put_unknown_line.ensures
+    loop_goes_on (names_left (codes "undetermined") c.args.model.now.unknowns c.args.unknowns.now
+    c.loop-unknown.unknown-index _ c.loop-unknown-test.true) c.loop-unknown.invariant c.put_unknown_line.ensures

@@ -17,5 +17,8 @@ returns-then-not-get c = (
 )
 
 pub returns : goal.returns
-returns c =
-    ((λ _. items_are_blocks c.args.lower.now (bit_in c.args.direct.now) (bit_in c.args.deep.now) (λ j jl. c.loop-i.invariant j (omega (arith, jl, c.loop-i-test.false)))), (λ _. refl))
+returns c = (
+  (λ _. items_are_blocks c.args.lower.now (bit_in c.args.direct.now) (bit_in c.args.deep.now)
+      (λ j jl. c.loop-i.invariant j (omega (arith, jl, c.loop-i-test.false)))),
+  (λ _. refl),
+)

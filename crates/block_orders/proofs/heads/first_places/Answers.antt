@@ -4,4 +4,6 @@ use Rattle.block_orders.proofs.heads.first_places.Goals as goal
 
 pub returns-clause-places : goal.returns-clause-places
 returns-clause-places c =
-    first_places_are (length c.args.parts.now) (slice_index c.args.parts.now) c.args.blocks (slice_index c.loop-place.heads.items) c.loop-place.place (omega (arith, c.loop-place-test.false)) c.requires c.loop-place.invariant.first
+    first_places_are (length c.args.parts.now) (slice_index c.args.parts.now) c.args.blocks
+    (slice_index c.loop-place.heads.items) c.loop-place.place (omega (arith, c.loop-place-test.false)) c.requires
+    c.loop-place.invariant.first

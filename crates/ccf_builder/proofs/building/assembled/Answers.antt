@@ -3,7 +3,7 @@ use Rattle.row_transform.specs.Tableaus.{IsTableau}
 use Rattle.independent_matching.specs.Sides.{size_of}
 use Rattle.mixed_model.specs.Layers.{layered_matrix_of, split_of}
 use Rattle.minimiser_lattice.specs.Views.{parts_in}
-use Rattle.exchange_graph.specs.Results.{reached_of}
+use Rattle.exchange_graph.specs.Results.{vain_of}
 use Rattle.cert_text.specs.Contents.{Contents, numbered_rows}
 use Rattle.cert_text.specs.Right.{IsRightCcf}
 use Rattle.cert_text.specs.declared.shape.Shape.{Shape}
@@ -25,7 +25,7 @@ shape_of-requires-clause-rows g c =
     let rows = (c.rows-q_rows.ensures.rows ∙ ap (λ d. (g.T.Tableau.state d).rows) c.tableau.ensures) in
     subst (λ n. split_of of ≤ n + length of.t.rows) (sym rows)
     (split-rows p g.met.F.Field.prime g.met.F.Field.odd of c.split-split.ensures.layers S solved.engine.matching
-    (reached_of solved.engine.found) facts.solution tableau solved.pair.base.items solved.pair.mates.items facts.pair
+    (vain_of solved.engine.found) facts.solution tableau solved.pair.base.items solved.pair.mates.items facts.pair
     (numbered_rows number printed.tableau.s) (numbered_rows number printed.tableau.u)
     (numbered_rows number printed.tableau.p) lines.tableau printed.symbols lines.symbols
     (parts_in solved.lattice) facts.decomposed printed.parts.first printed.parts.blocks printed.parts.last
@@ -44,7 +44,7 @@ overflow_sub-size g c =
     let tableau = subst (λ d. IsTableau p (g.T.Tableau.state d)) c.tableau.ensures c.rows-q_rows.ensures.tableau in
     let few =
     split-size p g.met.F.Field.prime g.met.F.Field.odd of c.split-split.ensures.layers S solved.engine.matching
-    (reached_of solved.engine.found) facts.solution tableau solved.pair.base.items solved.pair.mates.items
+    (vain_of solved.engine.found) facts.solution tableau solved.pair.base.items solved.pair.mates.items
     facts.pair (numbered_rows number printed.tableau.s) (numbered_rows number printed.tableau.u)
     (numbered_rows number printed.tableau.p) lines.tableau printed.symbols lines.symbols
     (parts_in solved.lattice) facts.decomposed printed.parts.first printed.parts.blocks printed.parts.last
@@ -85,7 +85,7 @@ new-requires g c =
     let rank : c.size.result - c.split-split.result ≡ size_of S solved.engine.matching - split_of of =
     omega (arith, c.size.ensures.size, c.split-split.ensures.count) in
     copied-fits p g.met.F.Field.prime g.met.F.Field.odd of c.split-split.ensures.layers S solved.engine.matching
-    (reached_of solved.engine.found) facts.solution tableau solved.pair.base.items solved.pair.mates.items facts.pair
+    (vain_of solved.engine.found) facts.solution tableau solved.pair.base.items solved.pair.mates.items facts.pair
     (numbered_rows number printed.tableau.s) (numbered_rows number printed.tableau.u)
     (numbered_rows number printed.tableau.p) lines.tableau printed.symbols lines.symbols
     (parts_in solved.lattice) facts.decomposed printed.parts.first printed.parts.blocks printed.parts.last
@@ -127,7 +127,7 @@ returns g c =
     omega (arith, c.size.ensures.size, c.split-split.ensures.count) in
     subst (λ (k : Contents). OfEachModel p of (λ M O. IsRightCcf p M (layered_matrix_of of) O k)) (sym c.new.ensures)
     (copied-right p g.met.F.Field.prime g.met.F.Field.odd of c.split-split.ensures.layers S solved.engine.matching
-    (reached_of solved.engine.found) facts.solution tableau solved.pair.base.items solved.pair.mates.items facts.pair
+    (vain_of solved.engine.found) facts.solution tableau solved.pair.base.items solved.pair.mates.items facts.pair
     (numbered_rows number printed.tableau.s) (numbered_rows number printed.tableau.u)
     (numbered_rows number printed.tableau.p) lines.tableau printed.symbols lines.symbols
     (parts_in solved.lattice) facts.decomposed printed.parts.first printed.parts.blocks printed.parts.last

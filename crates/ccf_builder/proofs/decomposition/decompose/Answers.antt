@@ -1,9 +1,8 @@
-use Rattle.std.proofs.Common.{false, ap, ◌∙◌, subst}
-use Rattle.std.proofs.lemmas.Option.{get_or_from_slice_get}
+use Rattle.std.proofs.Common.{ap, ◌∙◌, subst}
 use Rattle.closed_sets.specs.Closed.{NoEndReached}
 use Rattle.closed_sets.specs.Rules.{KeepsRules}
 use Rattle.exchange_graph.specs.Marks.{members_of}
-use Rattle.mixed_matrices.specs.Arcs.{is_end, is_free, leads_to}
+use Rattle.mixed_matrices.specs.Arcs.{leads_to}
 use Rattle.independent_matching.specs.Sides.{layers_of, tableau_of}
 use Rattle.minimiser_lattice.specs.Parts.{IsLattice}
 use Rattle.minimiser_lattice.specs.Views.{parts_in}
@@ -11,23 +10,18 @@ use Rattle.ccf_builder.proofs.decomposition.decompose.Goals as goal
 
 pub returns : goal.returns
 returns g c =
-    let p = g.F.Field.modulus in
     let S = g.T.Tableau.state c.args.engine.now.tableau in
     let M = c.args.engine.now.matching in
-    let free = is_free (tableau_of S M) in
-    let end = is_end p (layers_of S M) (tableau_of S M) in
-    let arc = leads_to p (layers_of S M) (tableau_of S M) in
-    let starts = members_of c.deref.result.now in
-    let ends = members_of c.deref-2.result.now in
+    let arc = leads_to g.F.Field.modulus (layers_of S M) (tableau_of S M) in
+    let starts = members_of c.free_columns.result.now in
+    let ends = members_of c.end_columns.result.now in
     let v = parts_in c.fill.new.self in
     let places = c.in_ok-lattice.ensures ∙ c.columns.ensures.columns ∙ ap (λ d. (g.T.Tableau.state d).columns) c.tableau.ensures in
     record {
       starts = starts;
       ends = ends;
-      starts_are = λ x xl. ap (λ list. members_of list x) c.deref.ensures.value
-          ∙ get_or_from_slice_get c.in_ok-free.free.items x (free x) false (c.in_ok-free.ensures.at x xl);
-      ends_are = λ x xl. ap (λ list. members_of list x) c.deref-2.ensures.value
-          ∙ get_or_from_slice_get c.in_ok-ends.ends.items x (end x) false (c.in_ok-ends.ensures.at x xl);
+      starts_are = c.free_columns.ensures.marks;
+      ends_are = c.end_columns.ensures.marks;
       places = c.fill.ensures.places ∙ places;
       lattice = subst (λ n. IsLattice arc n starts ends v) places c.fill.ensures.lattice;
       rules = subst (λ n. NoEndReached arc n starts ends → KeepsRules arc n starts ends v.first v.last v.block v.blocks v.covers) places c.fill.ensures.rules;

@@ -8,7 +8,10 @@ pub returns-clause-right : goal.returns-clause-right
 returns-clause-right g c =
     let layered = c.in_ok-layered.layered in
     let are = c.in_ok-layered.ensures in
-    IfOk-weaker c.check_layered.result _ _ (λ done each. kept-for g.F.Field.modulus g.met.F.Field.prime g.met.F.Field.odd (mixed_matrix_of c.args.model.now) c.args.form.now c.shape-shape.ensures.ccf (matrix_of_rows layered) are.origins are.layered each) c.check_layered.ensures.kept
+    IfOk-weaker c.check_layered.result _ _
+    (λ done each. kept-for g.F.Field.modulus g.met.F.Field.prime g.met.F.Field.odd
+    (mixed_matrix_of c.args.model.now) c.args.form.now c.shape-shape.ensures.ccf (matrix_of_rows layered)
+    are.origins are.layered each) c.check_layered.ensures.kept
 
 pub returns-clause-rejected : goal.returns-clause-rejected
 returns-clause-rejected g c =

@@ -20,7 +20,8 @@ add_entries-requires-clause-rising g c =
     let low : c.coefficient-item.result.0 < m = subst (λ (e : ℕ × g.row.F.Denot). e.0 < m)
     (sym c.coefficient-item.is) (c.requires.rows c.loop-coefficient.coefficient-index c.coefficient-item.result c.loop-coefficient-test.true) in
     entry_rising number p n c.as_slice.result.now
-    (row_within number p m n c.args.matrix.now c.coefficient-item.result.0 c.as_slice.result.now c.index-matrix-coefficient.result c.requires.matrix low c.as_slice.ensures c.index-matrix-coefficient.is)
+    (row_within number p m n c.args.matrix.now c.coefficient-item.result.0 c.as_slice.result.now
+    c.index-matrix-coefficient.result c.requires.matrix low c.as_slice.ensures c.index-matrix-coefficient.is)
 
 pub add_entries-requires-clause-columns : goal.add_entries-requires-clause-columns
 add_entries-requires-clause-columns g c =
@@ -32,7 +33,8 @@ add_entries-requires-clause-columns g c =
     (sym c.coefficient-item.is) (c.requires.rows c.loop-coefficient.coefficient-index c.coefficient-item.result c.loop-coefficient-test.true) in
     let matrix = subst (λ k. IsMatrix p m k (numbered_rows number c.args.matrix.now)) (sym c.loop-coefficient.auto.row) c.requires.matrix in
     entry_columns number p n c.as_slice.result.now
-    (row_within number p m n c.args.matrix.now c.coefficient-item.result.0 c.as_slice.result.now c.index-matrix-coefficient.result matrix low c.as_slice.ensures c.index-matrix-coefficient.is)
+    (row_within number p m n c.args.matrix.now c.coefficient-item.result.0 c.as_slice.result.now
+    c.index-matrix-coefficient.result matrix low c.as_slice.ensures c.index-matrix-coefficient.is)
 
 pub loop-coefficient-preserved : goal.loop-coefficient-preserved
 loop-coefficient-preserved g c =

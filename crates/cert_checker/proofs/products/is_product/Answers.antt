@@ -19,7 +19,8 @@ is_combination-requires-clause-entries g c =
     let long : c.args.columns ≡ length c.deref_mut.result.now = omega (arith, c.deref_mut.ensures.len, c.loop-i.invariant.long) in
     subst (λ n. AreEntries g.F.Field.modulus n (numbered g.F.Field.number c.as_slice-in-loop-i.result.now)) long
     (row_within g.F.Field.number g.F.Field.modulus
-    (length c.args.a.now) c.args.columns c.args.c.now c.loop-i.i c.as_slice-in-loop-i.result.now c.index-c-i.result c.requires.c low c.as_slice-in-loop-i.ensures c.index-c-i.is)
+    (length c.args.a.now) c.args.columns c.args.c.now c.loop-i.i c.as_slice-in-loop-i.result.now c.index-c-i.result
+    c.requires.c low c.as_slice-in-loop-i.ensures c.index-c-i.is)
 
 pub returns-then-not-is_combination : goal.returns-then-not-is_combination
 returns-then-not-is_combination g c =

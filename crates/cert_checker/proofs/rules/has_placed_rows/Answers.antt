@@ -73,5 +73,6 @@ returns g c =
     IfOk-weaker c.stand_with_columns-2.result _ _ (λ answer h. (
       λ x. form-placed p L form c.base.ensures.ccf c.requires.sizes c.requires.differ c.args.columns.now c.requires.places q t q_told t_told
           (q_stand.0 (c.in_ok-stand_with_columns.ensures.0 c.if-not-branch.false)) (t_stand.0 (h.0 x)),
-      λ placed. h.1 (t_stand.1 (form-t p L form c.base.ensures.ccf c.requires.sizes c.requires.differ c.args.columns.now c.requires.places q t q_told t_told placed)),
+      λ placed. h.1 (t_stand.1 (form-t p L form c.base.ensures.ccf c.requires.sizes c.requires.differ c.args.columns.now
+          c.requires.places q t q_told t_told placed)),
     )) c.stand_with_columns-2.ensures

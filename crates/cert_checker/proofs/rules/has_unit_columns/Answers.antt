@@ -11,7 +11,8 @@ are_units-requires-clause-p g c =
     let P = printed-rows number c.p.result.now c.as_slice.result.now form.p c.as_slice.ensures c.p.ensures.p in
     printed-matrix number p form.shape.q_rows form.shape.columns
     (length c.as_slice.result.now) c.columns.result c.as_slice.result.now form.p P c.p.ensures.ccf.p
-    (sym (printed-count number p form.shape.q_rows form.shape.columns c.as_slice.result.now form.p P c.p.ensures.ccf.p)) (c.requires.columns ∙ sym c.columns.ensures)
+    (sym (printed-count number p form.shape.q_rows form.shape.columns c.as_slice.result.now form.p P c.p.ensures.ccf.p))
+    (c.requires.columns ∙ sym c.columns.ensures)
 
 pub are_units-requires-clause-base : goal.are_units-requires-clause-base
 are_units-requires-clause-base g c =
@@ -19,8 +20,10 @@ are_units-requires-clause-base g c =
     let p = g.F.Field.modulus in
     let form = c.args.form.now in
     let P = printed-rows number c.p.result.now c.as_slice.result.now form.p c.as_slice.ensures c.p.ensures.p in
-    pairs-as form.shape.q_rows form.shape.columns (length c.as_slice.result.now) c.columns.result form.base c.as_slice-2.result.now (c.as_slice-2.ensures ∙ c.base.ensures.base) c.base.ensures.ccf.base
-    (sym (printed-count number p form.shape.q_rows form.shape.columns c.as_slice.result.now form.p P c.p.ensures.ccf.p)) (c.requires.columns ∙ sym c.columns.ensures)
+    pairs-as form.shape.q_rows form.shape.columns (length c.as_slice.result.now) c.columns.result form.base
+    c.as_slice-2.result.now (c.as_slice-2.ensures ∙ c.base.ensures.base) c.base.ensures.ccf.base
+    (sym (printed-count number p form.shape.q_rows form.shape.columns c.as_slice.result.now form.p P c.p.ensures.ccf.p))
+    (c.requires.columns ∙ sym c.columns.ensures)
 
 pub returns : goal.returns
 returns g c =
@@ -28,5 +31,7 @@ returns g c =
     let p = g.F.Field.modulus in
     let form = c.args.form.now in
     let P = printed-rows number c.p.result.now c.as_slice.result.now form.p c.as_slice.ensures c.p.ensures.p in
-    let same = units_as p _ _ _ _ _ _ (printed-count number p form.shape.q_rows form.shape.columns c.as_slice.result.now form.p P c.p.ensures.ccf.p ∙ c.requires.q_rows) P (c.as_slice-2.ensures ∙ c.base.ensures.base) in
+    let same = units_as p _ _ _ _ _ _
+    (printed-count number p form.shape.q_rows form.shape.columns c.as_slice.result.now form.p P c.p.ensures.ccf.p
+    ∙ c.requires.q_rows) P (c.as_slice-2.ensures ∙ c.base.ensures.base) in
     IfOk-weaker c.are_units.result _ _ (λ answer h. (λ x. same.0 (h.0 x), λ y. h.1 (same.1 y))) c.are_units.ensures

@@ -16,7 +16,8 @@ is_product-requires-clause-a g c =
     let s = printed-rows number c.s.result.now c.as_slice.result.now form.s c.as_slice.ensures c.s.ensures.s in
     printed-matrix number p q q (length c.as_slice.result.now) (length c.constants.result.now) c.as_slice.result.now form.s s c.s.ensures.ccf.s
     (sym (printed-count number p q q c.as_slice.result.now form.s s c.s.ensures.ccf.s))
-    (c.requires.q_rows ∙ sym (printed-count number p m layered.symbols.width c.constants.result.now layered.constants c.constants.ensures.constants c.constants.ensures.rows))
+    (c.requires.q_rows ∙ sym (printed-count number p m layered.symbols.width c.constants.result.now layered.constants
+    c.constants.ensures.constants c.constants.ensures.rows))
 
 pub is_product-requires-clause-b : goal.is_product-requires-clause-b
 is_product-requires-clause-b g c =
@@ -25,7 +26,8 @@ is_product-requires-clause-b g c =
     let layered = c.args.layered.now in
     let m = length layered.constants in
     let n = layered.symbols.width in
-    printed-matrix number p m n (length c.constants.result.now) c.columns.result c.constants.result.now layered.constants c.constants.ensures.constants c.constants.ensures.rows
+    printed-matrix number p m n (length c.constants.result.now) c.columns.result c.constants.result.now
+    layered.constants c.constants.ensures.constants c.constants.ensures.rows
     (sym (printed-count number p m n c.constants.result.now layered.constants c.constants.ensures.constants c.constants.ensures.rows)) (sym c.columns.ensures)
 
 pub is_product-requires-clause-c : goal.is_product-requires-clause-c
@@ -55,5 +57,6 @@ returns g c =
     (numbered_rows number c.constants.result.now) layered.constants
     (length c.as_slice.result.now) m c.columns.result n (length c.constants.result.now) m
     (printed-count number p q q c.as_slice.result.now form.s s c.s.ensures.ccf.s ∙ c.requires.q_rows) c.columns.ensures
-    (printed-count number p m n c.constants.result.now layered.constants c.constants.ensures.constants c.constants.ensures.rows) P s c.constants.ensures.constants in
+    (printed-count number p m n c.constants.result.now layered.constants c.constants.ensures.constants
+    c.constants.ensures.rows) P s c.constants.ensures.constants in
     IfOk-weaker c.is_product.result _ _ (λ answer h. (λ x. same.0 (h.0 x), λ y. h.1 (same.1 y))) c.is_product.ensures

@@ -11,7 +11,8 @@ is_clear-requires g c =
     let p = g.F.Field.modulus in
     let n = length c.args.marks.now in
     entry_columns number p n c.as_slice.result.now
-    (row_within number p (length c.args.p.now) n c.args.p.now c.loop-i.i c.as_slice.result.now c.index-p-i.result c.requires c.loop-i-test.true c.as_slice.ensures c.index-p-i.is)
+    (row_within number p (length c.args.p.now) n c.args.p.now c.loop-i.i c.as_slice.result.now c.index-p-i.result
+    c.requires c.loop-i-test.true c.as_slice.ensures c.index-p-i.is)
 
 pub returns-then-not-is_clear : goal.returns-then-not-is_clear
 returns-then-not-is_clear g c =

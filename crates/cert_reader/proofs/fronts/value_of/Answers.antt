@@ -6,7 +6,13 @@ pub overflow_mul-value : goal.overflow_mul-value
 overflow_mul-value c = omega (arith, c.loop-byte.invariant, value_small c.args.digits.now c.loop-byte.byte-index c.requires.digits c.requires.short)
 
 pub overflow_add-value : goal.overflow_add-value
-overflow_add-value c = omega (arith, c.loop-byte.invariant, value_small c.args.digits.now c.loop-byte.byte-index c.requires.digits c.requires.short, c.type_inv.digits c.loop-byte.byte-index)
+overflow_add-value c = omega (
+  arith,
+  c.loop-byte.invariant,
+  value_small c.args.digits.now c.loop-byte.byte-index c.requires.digits
+      c.requires.short,
+  c.type_inv.digits c.loop-byte.byte-index,
+)
 
 pub loop-byte-preserved : goal.loop-byte-preserved
 loop-byte-preserved c =

@@ -14,7 +14,8 @@ returns-in_err-entry g c =
     let same = err_from_is_err_and c.from_residual.result c.from_residual.ensures.1 in
     let going : goes_on left ≡ true = sym c.goes_on.ensures ∙ c.loop-rest-test.true in
     rw (same.1, same.2)
-    (breaks goes_on (λ (p : ℕ × ℕ). p.0 + 1) (entry_at p c.args.n) c.args.line c.loop-rest.low front left all c.in_err-entry.field-0.0 (going_some left going) going c.in_err-entry.ensures.entry c.loop-rest.invariant)
+    (breaks goes_on (λ (p : ℕ × ℕ). p.0 + 1) (entry_at p c.args.n) c.args.line c.loop-rest.low front left all
+    c.in_err-entry.field-0.0 (going_some left going) going c.in_err-entry.ensures.entry c.loop-rest.invariant)
 
 pub loop-rest-smaller : goal.loop-rest-smaller
 loop-rest-smaller g c =
@@ -45,4 +46,6 @@ pub returns : goal.returns
 returns g c =
     let p = g.F.Field.modulus in
     let front = numbered g.F.Field.number c.loop-rest.entries.items in
-    is_done goes_on (λ (p : ℕ × ℕ). p.0 + 1) (entry_at p c.args.n) c.args.line c.loop-rest.low front c.loop-rest.rest.now (entries_at p c.args.n c.args.line c.args.bytes.now) (sym c.goes_on.ensures ∙ c.loop-rest-test.false) c.loop-rest.invariant
+    is_done goes_on (λ (p : ℕ × ℕ). p.0 + 1) (entry_at p c.args.n) c.args.line c.loop-rest.low front
+    c.loop-rest.rest.now (entries_at p c.args.n c.args.line c.args.bytes.now)
+    (sym c.goes_on.ensures ∙ c.loop-rest-test.false) c.loop-rest.invariant

@@ -28,7 +28,9 @@ loop-rest-preserved c =
     (marked_at c.args.mark.now c.args.n) c.args.line items (c.in_ok-row.row + 1) c.in_ok-row.after.now
     (letters_at c.args.mark.now c.args.n c.args.line c.args.bytes.now)) (sym c.in_ok-push.ensures.items)
     (goes_further (λ bytes. begins_with c.args.mark.now bytes) (λ (i : ℕ). i + 1)
-    (marked_at c.args.mark.now c.args.n) c.args.line c.loop-rest.low c.loop-rest.rows.items c.loop-rest.rest.now c.in_ok-row.row c.in_ok-row.after.now (letters_at c.args.mark.now c.args.n c.args.line c.args.bytes.now) going c.in_ok-row.ensures.index shorter c.loop-rest.invariant)
+    (marked_at c.args.mark.now c.args.n) c.args.line c.loop-rest.low c.loop-rest.rows.items c.loop-rest.rest.now
+    c.in_ok-row.row c.in_ok-row.after.now (letters_at c.args.mark.now c.args.n c.args.line c.args.bytes.now) going
+    c.in_ok-row.ensures.index shorter c.loop-rest.invariant)
 
 pub returns : goal.returns
 returns c = is_done (λ bytes. begins_with c.args.mark.now bytes) (λ (i : ℕ). i + 1)

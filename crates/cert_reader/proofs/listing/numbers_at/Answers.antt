@@ -28,7 +28,9 @@ loop-rest-preserved c =
     (c.in_ok-number.number + 1) c.in_ok-number.after.now (numbers_at c.args.n c.args.line c.args.bytes.now))
     (sym c.in_ok-push.ensures.items)
     (goes_further goes_on (λ (i : ℕ). i + 1) (marked_at
-    (codes " ") c.args.n) c.args.line c.loop-rest.low c.loop-rest.numbers.items c.loop-rest.rest.now c.in_ok-number.number c.in_ok-number.after.now (numbers_at c.args.n c.args.line c.args.bytes.now) going c.in_ok-number.ensures.index shorter c.loop-rest.invariant)
+    (codes " ") c.args.n) c.args.line c.loop-rest.low c.loop-rest.numbers.items c.loop-rest.rest.now
+    c.in_ok-number.number c.in_ok-number.after.now (numbers_at c.args.n c.args.line c.args.bytes.now) going
+    c.in_ok-number.ensures.index shorter c.loop-rest.invariant)
 
 pub returns : goal.returns
 returns c = is_done goes_on (λ (i : ℕ). i + 1) (marked_at

@@ -27,7 +27,9 @@ loop-rest-preserved c =
     (c.in_ok-pair.pair.0 + 1) c.in_ok-pair.after.now (pairs_at c.args.m c.args.n c.args.line c.args.bytes.now))
     (sym c.in_ok-push.ensures.items)
     (goes_further goes_on (λ (p : ℕ × ℕ). p.0 + 1)
-    (pair_at c.args.m c.args.n) c.args.line c.loop-rest.low c.loop-rest.pairs.items c.loop-rest.rest.now c.in_ok-pair.pair c.in_ok-pair.after.now (pairs_at c.args.m c.args.n c.args.line c.args.bytes.now) going c.in_ok-pair.ensures.pair shorter c.loop-rest.invariant)
+    (pair_at c.args.m c.args.n) c.args.line c.loop-rest.low c.loop-rest.pairs.items c.loop-rest.rest.now
+    c.in_ok-pair.pair c.in_ok-pair.after.now (pairs_at c.args.m c.args.n c.args.line c.args.bytes.now) going
+    c.in_ok-pair.ensures.pair shorter c.loop-rest.invariant)
 
 pub returns : goal.returns
 returns c = is_done goes_on (λ (p : ℕ × ℕ). p.0 + 1)

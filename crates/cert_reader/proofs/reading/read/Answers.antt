@@ -6,7 +6,8 @@ use Rattle.cert_reader.proofs.reading.read.Goals as goal
 pub returns-in_err-certificate-clause-only : goal.returns-in_err-certificate-clause-only
 returns-in_err-certificate-clause-only g c = λ d is text.
     let same = err_from_is_err_and c.from_residual.result c.from_residual.ensures.1 in
-    rw (same.1, same.2) (only_err g.F.Field.modulus g.met.F.Field.small c.args.bytes.now c.in_err-certificate.field-0.0 d c.requires c.in_err-certificate.ensures is text)
+    rw (same.1, same.2) (only_err g.F.Field.modulus g.met.F.Field.small c.args.bytes.now c.in_err-certificate.field-0.0
+    d c.requires c.in_err-certificate.ensures is text)
 
 pub returns-in_err-certificate-clause-refused : goal.returns-in_err-certificate-clause-refused
 returns-in_err-certificate-clause-refused g c =

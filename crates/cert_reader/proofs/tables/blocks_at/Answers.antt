@@ -44,8 +44,12 @@ pub returns-in_err-last : goal.returns-in_err-last
 returns-in_err-last c =
     let same = err_from_is_err_and c.from_residual-in_err-last.result c.from_residual-in_err-last.ensures.1 in
     rw (same.1, same.2)
-    (blocks_fail c.args.shape c.args.line c.args.bytes.now c.loop-blocks.blocks.items c.loop-blocks.at c.loop-blocks.rest.now c.in_err-last.field-0.0 (sym c.begins.ensures ∙ c.loop-blocks-test.false) c.in_err-last.ensures c.loop-blocks.invariant)
+    (blocks_fail c.args.shape c.args.line c.args.bytes.now c.loop-blocks.blocks.items c.loop-blocks.at
+    c.loop-blocks.rest.now c.in_err-last.field-0.0 (sym c.begins.ensures ∙ c.loop-blocks-test.false)
+    c.in_err-last.ensures c.loop-blocks.invariant)
 
 pub returns : goal.returns
 returns c =
-    blocks_done c.args.shape c.args.line c.args.bytes.now c.loop-blocks.blocks.items c.loop-blocks.at c.loop-blocks.rest.now c.in_ok-last.last c.in_ok-last.rest.now (sym c.begins.ensures ∙ c.loop-blocks-test.false) c.in_ok-last.ensures c.loop-blocks.invariant
+    blocks_done c.args.shape c.args.line c.args.bytes.now c.loop-blocks.blocks.items c.loop-blocks.at
+    c.loop-blocks.rest.now c.in_ok-last.last c.in_ok-last.rest.now (sym c.begins.ensures ∙ c.loop-blocks-test.false)
+    c.in_ok-last.ensures c.loop-blocks.invariant

@@ -21,7 +21,8 @@ returns-in_err-entries g c =
     let same = err_from_is_err_and c.from_residual.result c.from_residual.ensures.1 in
     rw (same.1, same.2)
     (rows_break row c.args.count c.loop-row.row c.args.line
-    (numbered_rows g.F.Field.number c.loop-row.rows.items) c.loop-row.rest.now all c.in_err-entries.field-0.0 c.loop-row-test.true c.in_err-entries.ensures c.loop-row.invariant)
+    (numbered_rows g.F.Field.number c.loop-row.rows.items) c.loop-row.rest.now all c.in_err-entries.field-0.0
+    c.loop-row-test.true c.in_err-entries.ensures c.loop-row.invariant)
 
 pub loop-row-preserved : goal.loop-row-preserved
 loop-row-preserved g c =

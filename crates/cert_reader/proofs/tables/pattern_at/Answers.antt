@@ -14,7 +14,10 @@ loop-row-init c = subst (λ items. with_front items (rows_at (columns_line_at c.
 pub returns-in_err-columns : goal.returns-in_err-columns
 returns-in_err-columns c =
     let p = err_from_is_err_and c.from_residual.result c.from_residual.ensures.1 in
-    rw (p.1, p.2) (rows_break (columns_line_at c.args.word.now c.args.n) c.args.count c.loop-row.row c.args.line c.loop-row.rows.items c.loop-row.rest.now (rows_at (columns_line_at c.args.word.now c.args.n) c.args.count 1 c.args.line c.args.bytes.now) c.in_err-columns.field-0.0 c.loop-row-test.true c.in_err-columns.ensures c.loop-row.invariant)
+    rw (p.1, p.2) (rows_break (columns_line_at c.args.word.now c.args.n) c.args.count c.loop-row.row c.args.line
+    c.loop-row.rows.items c.loop-row.rest.now
+    (rows_at (columns_line_at c.args.word.now c.args.n) c.args.count 1 c.args.line c.args.bytes.now)
+    c.in_err-columns.field-0.0 c.loop-row-test.true c.in_err-columns.ensures c.loop-row.invariant)
 
 pub loop-row-preserved : goal.loop-row-preserved
 loop-row-preserved c =
@@ -23,7 +26,13 @@ loop-row-preserved c =
     (c.args.line + (c.loop-row.row + 1)) c.in_ok-columns.after.now) ≡ rows_at
     (columns_line_at c.args.word.now c.args.n) c.args.count 1 c.args.line c.args.bytes.now)
     (sym (c.in_ok-push.ensures.items ∙ ap (λ x. c.loop-row.rows.items ++ x ∷ []) c.from_vec.ensures))
-    (rows_further (columns_line_at c.args.word.now c.args.n) c.args.count c.loop-row.row c.args.line c.loop-row.rows.items c.loop-row.rest.now c.in_ok-columns.columns.items c.in_ok-columns.after.now (rows_at (columns_line_at c.args.word.now c.args.n) c.args.count 1 c.args.line c.args.bytes.now) c.loop-row-test.true c.in_ok-columns.ensures c.loop-row.invariant)
+    (rows_further (columns_line_at c.args.word.now c.args.n) c.args.count c.loop-row.row c.args.line
+    c.loop-row.rows.items c.loop-row.rest.now c.in_ok-columns.columns.items c.in_ok-columns.after.now
+    (rows_at (columns_line_at c.args.word.now c.args.n) c.args.count 1 c.args.line c.args.bytes.now)
+    c.loop-row-test.true c.in_ok-columns.ensures c.loop-row.invariant)
 
 pub returns : goal.returns
-returns c = rows_done (columns_line_at c.args.word.now c.args.n) c.args.count c.loop-row.row c.args.line c.loop-row.rows.items c.loop-row.rest.now (rows_at (columns_line_at c.args.word.now c.args.n) c.args.count 1 c.args.line c.args.bytes.now) c.loop-row-test.false c.loop-row.invariant
+returns c = rows_done (columns_line_at c.args.word.now c.args.n) c.args.count c.loop-row.row c.args.line
+    c.loop-row.rows.items c.loop-row.rest.now
+    (rows_at (columns_line_at c.args.word.now c.args.n) c.args.count 1 c.args.line c.args.bytes.now)
+    c.loop-row-test.false c.loop-row.invariant

@@ -7,7 +7,10 @@ use Rattle.cert_text.proofs.Smallness.{small_block}
 use Rattle.cert_text.proofs.lines.put_blocks.Goals as goal
 
 pub loop-place-preserved : goal.loop-place-preserved
-loop-place-preserved g c = loop_goes_on (blocks_left c.args.blocks.now c.loop-place.place c.index-blocks-place.result c.loop-place-test.true) c.loop-place.invariant (puts_is (ap (block_line (c.loop-place.place + 1)) (c.index-blocks-place.is)) c.put_block.ensures)
+loop-place-preserved g c = loop_goes_on
+    (blocks_left c.args.blocks.now c.loop-place.place c.index-blocks-place.result c.loop-place-test.true)
+    c.loop-place.invariant (puts_is (ap (block_line (c.loop-place.place + 1)) (c.index-blocks-place.is))
+    c.put_block.ensures)
 
 pub put_block-requires : goal.put_block-requires
 put_block-requires g c =

@@ -10,4 +10,6 @@ loop-entry-init g c = loop_begins (entries_text (numbered g.F.Field.number c.arg
 
 pub loop-entry-preserved : goal.loop-entry-preserved
 loop-entry-preserved g c =
-    loop_goes_on (entries_left g.F.Field.number c.args.entries.now c.loop-entry.entry-index c.entry-item.result c.loop-entry-test.true) c.loop-entry.invariant (puts_is (ap (λ z. item (z.0 + 1) (g.F.Field.number z.1)) c.entry-item.is) c.put_entry.ensures)
+    loop_goes_on (entries_left g.F.Field.number c.args.entries.now c.loop-entry.entry-index c.entry-item.result
+    c.loop-entry-test.true) c.loop-entry.invariant
+    (puts_is (ap (λ z. item (z.0 + 1) (g.F.Field.number z.1)) c.entry-item.is) c.put_entry.ensures)

@@ -11,7 +11,8 @@ returns-in_err-add_component c =
     (refused-here component_in (components_in (map view c.args.items.now)) c.loop-place.names
     (map view (drop c.loop-place.place c.args.items.now))
     (map view (drop (c.loop-place.place + 1) c.args.items.now)) (view c.index-items-place.result)
-    c.loop-place.invariant.read left c.loop-place.names c.add_component.new.names c.add_component.result c.in_err-add_component.field-0.0 c.in_err-add_component.was c.add_component.ensures)
+    c.loop-place.invariant.read left c.loop-place.names c.add_component.new.names c.add_component.result
+    c.in_err-add_component.field-0.0 c.in_err-add_component.was c.add_component.ensures)
 
 pub loop-place-preserved : goal.loop-place-preserved
 loop-place-preserved c =

@@ -13,7 +13,8 @@ returns-in_err-add_stream c =
     (streams_in c.args.components.now (map view c.args.items.now)) c.loop-place.names
     (map view (drop c.loop-place.place c.args.items.now))
     (map view (drop (c.loop-place.place + 1) c.args.items.now)) (view c.index-items-place.result)
-    c.loop-place.invariant.read left c.loop-place.names c.add_stream.new.names c.add_stream.result c.in_err-add_stream.field-0.0 c.in_err-add_stream.was c.add_stream.ensures)
+    c.loop-place.invariant.read left c.loop-place.names c.add_stream.new.names c.add_stream.result
+    c.in_err-add_stream.field-0.0 c.in_err-add_stream.was c.add_stream.ensures)
 
 pub loop-place-preserved : goal.loop-place-preserved
 loop-place-preserved c =

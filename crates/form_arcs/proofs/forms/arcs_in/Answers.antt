@@ -11,5 +11,6 @@ returns g c =
     (led-as (map keys_of c.as_slice-2.result.now) (map keys_of form.p) c.as_slice.result.now form.base c.new-arcs.result.items [] c.put_entries.new.arcs.items
     (keys-as g.F.Field.number c.as_slice-2.result.now c.p.result.now form.p c.as_slice-2.ensures c.p.ensures.p)
     (c.as_slice.ensures ∙ c.base.ensures.base) c.new-arcs.ensures.items c.in_ok-put_entries.ensures)
-    (led-as c.as_slice-4.result.now form.t c.as_slice-3.result.now form.mates c.put_entries.new.arcs.items c.put_entries.new.arcs.items c.put_symbols.new.arcs.items
+    (led-as c.as_slice-4.result.now form.t c.as_slice-3.result.now form.mates c.put_entries.new.arcs.items
+    c.put_entries.new.arcs.items c.put_symbols.new.arcs.items
     (c.as_slice-4.ensures ∙ c.t.ensures.t) (c.as_slice-3.ensures ∙ c.mates.ensures.mates) refl c.in_ok-put_symbols.ensures)

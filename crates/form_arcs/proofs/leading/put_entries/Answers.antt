@@ -8,7 +8,9 @@ use Rattle.form_arcs.proofs.leading.put_entries.Goals as goal
 
 pub loop-pair-preserved : goal.loop-pair-preserved
 loop-pair-preserved g c = record {
-  led = rows-more (map keys_of c.args.rows.now) c.args.pairs.now c.loop-pair.pair-index c.args.arcs.now.items c.loop-pair.arcs.items c.put_keys.new.arcs.items (keys_of c.as_slice.result.now) (pair_at c.args.pairs.now c.loop-pair.pair-index).1
+  led = rows-more (map keys_of c.args.rows.now) c.args.pairs.now c.loop-pair.pair-index c.args.arcs.now.items
+      c.loop-pair.arcs.items c.put_keys.new.arcs.items (keys_of c.as_slice.result.now)
+      (pair_at c.args.pairs.now c.loop-pair.pair-index).1
       c.loop-pair.invariant.led (keys-row c.args.rows.now
       (pair_at c.args.pairs.now c.loop-pair.pair-index).0 c.as_slice.result.now c.index-rows-pair.result
       (c.requires c.loop-pair.pair-index (0, 0) c.loop-pair-test.true) (c.as_slice.ensures

@@ -8,4 +8,5 @@ loop-left-init g c = loop_begins (row_text c.args.ccf.now c.args.row c.args.top 
 
 pub loop-left-preserved : goal.loop-left-preserved
 loop-left-preserved g c =
-    loop_goes_on (row_left c.args.ccf.now c.args.row c.args.top c.args.columns.now c.loop-left.left _ c.loop-left-test.true) c.loop-left.invariant c.put_entry.ensures
+    loop_goes_on (row_left c.args.ccf.now c.args.row c.args.top c.args.columns.now c.loop-left.left _
+    c.loop-left-test.true) c.loop-left.invariant c.put_entry.ensures

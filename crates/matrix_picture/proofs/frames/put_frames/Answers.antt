@@ -9,4 +9,5 @@ loop-place-init g c = loop_begins (frames_text c.args.least (length c.args.frame
 
 pub loop-place-preserved : goal.loop-place-preserved
 loop-place-preserved g c =
-    loop_goes_on (frames_left c.args.least (length c.args.frames.now) c.args.frames.now c.loop-place.place _ c.loop-place-test.true) c.loop-place.invariant c.put_frame.ensures
+    loop_goes_on (frames_left c.args.least (length c.args.frames.now) c.args.frames.now c.loop-place.place _
+    c.loop-place-test.true) c.loop-place.invariant c.put_frame.ensures

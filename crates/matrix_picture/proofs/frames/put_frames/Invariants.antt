@@ -5,4 +5,5 @@ use Rattle.matrix_picture.proofs.frames.put_frames.Given as goal
 
 abbrev pub invariant-loop-place : goal.invariant-loop-place
 invariant-loop-place g l =
-    PutsUpTo g.K.Sink l.initial.out l.out (frames_text l.least (length l.frames) 0 l.frames) (frames_text l.least (length l.frames) l.place (drop l.place l.frames))
+    PutsUpTo g.K.Sink l.initial.out l.out (frames_text l.least (length l.frames) 0 l.frames)
+    (frames_text l.least (length l.frames) l.place (drop l.place l.frames))

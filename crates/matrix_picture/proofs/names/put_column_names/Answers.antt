@@ -8,4 +8,5 @@ loop-left-init g c = loop_begins (column_names_text c.args.model.now c.args.laye
 
 pub loop-left-preserved : goal.loop-left-preserved
 loop-left-preserved g c =
-    loop_goes_on (column_names_left c.args.model.now c.args.layered.now c.args.columns.now c.loop-left.left _ c.loop-left-test.true) c.loop-left.invariant c.put_column_name.ensures
+    loop_goes_on (column_names_left c.args.model.now c.args.layered.now c.args.columns.now c.loop-left.left _
+    c.loop-left-test.true) c.loop-left.invariant c.put_column_name.ensures

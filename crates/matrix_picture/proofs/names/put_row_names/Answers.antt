@@ -8,4 +8,5 @@ loop-top-init g c = loop_begins (row_names_text c.args.model.now c.args.layered.
 
 pub loop-top-preserved : goal.loop-top-preserved
 loop-top-preserved g c =
-    loop_goes_on (row_names_left c.args.model.now c.args.layered.now c.args.right c.args.rows.now c.loop-top.top _ c.loop-top-test.true) c.loop-top.invariant c.put_row_name.ensures
+    loop_goes_on (row_names_left c.args.model.now c.args.layered.now c.args.right c.args.rows.now c.loop-top.top _
+    c.loop-top-test.true) c.loop-top.invariant c.put_row_name.ensures

@@ -2,4 +2,7 @@ use Rattle.text_writer.proofs.Putting.{puts_then}
 use Rattle.matrix_picture.proofs.outline.put_outline_size.Goals as goal
 
 pub returns : goal.returns
-returns g c = puts_then (puts_then (puts_then (puts_then (puts_then (puts_then (puts_then (puts_then c.piece.ensures c.number.ensures) c.piece-2.ensures) c.number-2.ensures) c.piece-3.ensures) c.number-3.ensures) c.number-4.ensures) c.number-5.ensures) c.piece-4.ensures
+returns g c = puts_then (puts_then
+    (puts_then (puts_then (puts_then
+    (puts_then (puts_then (puts_then c.piece.ensures c.number.ensures) c.piece-2.ensures) c.number-2.ensures)
+    c.piece-3.ensures) c.number-3.ensures) c.number-4.ensures) c.number-5.ensures) c.piece-4.ensures

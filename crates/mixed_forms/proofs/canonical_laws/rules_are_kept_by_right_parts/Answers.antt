@@ -11,5 +11,6 @@ returns c p prime L S U F tab G below lower within = (
     closed-best p prime L F (tableau p prime L S U F tab) (least_set p L F) (least_set-closed p L F (checked-clear p L F G below lower K)),
     kept-right p prime L S U F tab G below lower K,
   ),
-  λ (best, right). right-kept p prime L S U F tab (best-clear p prime L F (tableau p prime L S U F tab) best) G right.form right.canonical below lower right.order right.lists within,
+  λ (best, right). right-kept p prime L S U F tab (best-clear p prime L F (tableau p prime L S U F tab) best) G
+      right.form right.canonical below lower right.order right.lists within,
 )

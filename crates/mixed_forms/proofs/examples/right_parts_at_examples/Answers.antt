@@ -12,12 +12,16 @@ returns-clause-holds c = record {
   form = triangle-form;
   canonical = triangle-canonical;
   order = λ k l kl ll. (
-    below-block 65521 prime_65521 symbol_triangle triangle_tableau triangle-has_tableau triangle_parts triangle_below triangle_lower triangle-rules_kept k l kl ll,
-    block-below 65521 prime_65521 symbol_triangle triangle_tableau triangle-has_tableau triangle_parts triangle_below triangle_lower triangle-rules_kept k l kl ll,
+    below-block 65521 prime_65521 symbol_triangle triangle_tableau triangle-has_tableau triangle_parts triangle_below
+        triangle_lower triangle-rules_kept k l kl ll,
+    block-below 65521 prime_65521 symbol_triangle triangle_tableau triangle-has_tableau triangle_parts triangle_below
+        triangle_lower triangle-rules_kept k l kl ll,
   );
   lists = λ k l kl ll. (
-    lower-block 65521 prime_65521 symbol_triangle triangle_tableau triangle-has_tableau triangle_parts triangle_below triangle_lower triangle-rules_kept k l kl ll,
-    block-lower 65521 prime_65521 symbol_triangle triangle_tableau triangle-has_tableau triangle_parts triangle_below triangle_lower triangle-rules_kept k l kl ll,
+    lower-block 65521 prime_65521 symbol_triangle triangle_tableau triangle-has_tableau triangle_parts triangle_below
+        triangle_lower triangle-rules_kept k l kl ll,
+    block-lower 65521 prime_65521 symbol_triangle triangle_tableau triangle-has_tableau triangle_parts triangle_below
+        triangle_lower triangle-rules_kept k l kl ll,
   );
 }
 

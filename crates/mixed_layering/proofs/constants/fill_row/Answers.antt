@@ -19,7 +19,9 @@ returns-in-Some g c =
     (c.set.ensures
     ∙ ap (λ j. with_entry c.put_constants.new.q c.args.row j (g.F.Field.number c.one.result)) column
     ∙ ap (λ x. with_entry c.put_constants.new.q c.args.row (length model.unknowns + place) x) c.one.ensures)
-    (λ b low. constant_place-some g.F.Field.modulus model c.put_constants.ensures.model c.args.equation c.requires.equation split place c.requires.split.rising c.in-Some.ensures b (omega (arith, low, c.requires.width)))
+    (λ b low. constant_place-some g.F.Field.modulus model c.put_constants.ensures.model c.args.equation
+    c.requires.equation split place c.requires.split.rising c.in-Some.ensures b
+    (omega (arith, low, c.requires.width)))
 
 pub returns-in_default : goal.returns-in_default
 returns-in_default g c =
@@ -27,4 +29,5 @@ returns-in_default g c =
     let split = c.args.split.now in
     fills-same c.args.q.now c.put_constants.new.q c.args.row
     (constant_at model c.args.equation) (constant_place (mixed_matrix_of model) split c.args.equation) c.put_constants.ensures.fills
-    (λ b low. constant_place-none g.F.Field.modulus model c.put_constants.ensures.model c.args.equation c.requires.equation split c.in_default.ensures b (omega (arith, low, c.requires.width)))
+    (λ b low. constant_place-none g.F.Field.modulus model c.put_constants.ensures.model c.args.equation
+    c.requires.equation split c.in_default.ensures b (omega (arith, low, c.requires.width)))

@@ -18,7 +18,8 @@ loop-entry-preserved-in-Some-constant g c =
     let rest = c.next.new.self in
     let row_is = is.rows c.args.equation [] (omega (arith, is.one_row_each, c.requires.equation)) in
     let split = c.loop-entry.invariant.split ∙ ap (λ left. seen ++ left) c.in-Some.ensures.steps in
-    let within = entry_within g.F.Field.modulus (row_of c.args.model.now c.args.equation) seen entry rest row_is.0 split (length c.args.model.now.unknowns) row_is.1 in
+    let within = entry_within g.F.Field.modulus (row_of c.args.model.now c.args.equation) seen entry rest row_is.0 split
+    (length c.args.model.now.unknowns) row_is.1 in
     record {
       can_next = tt;
       is_finite = tt;

@@ -12,28 +12,32 @@ constants_of-requires-clause-equations g c =
     let rows = c.in_ok-rows.rows in
     let model = c.args.model.now in
     subst (AreEquations (length model.equations)) (sym c.deref.ensures.value)
-    (q_equations-are (mixed_matrix_of model) (length model.equations) rows.constants.items rows.symbols.items rows.split.items c.in_ok-rows.ensures.rows c.in_ok-rows.ensures.model.equations.few)
+    (q_equations-are (mixed_matrix_of model) (length model.equations) rows.constants.items rows.symbols.items
+    rows.split.items c.in_ok-rows.ensures.rows c.in_ok-rows.ensures.model.equations.few)
 
 pub constants_of-requires-clause-split : goal.constants_of-requires-clause-split
 constants_of-requires-clause-split g c =
     let rows = c.in_ok-rows.rows in
     let model = c.args.model.now in
     subst (AreSplit (length model.equations)) (sym c.deref-2.ensures.value)
-    (split-are (mixed_matrix_of model) (length model.equations) rows.constants.items rows.symbols.items rows.split.items c.in_ok-rows.ensures.rows c.in_ok-rows.ensures.model.equations.few)
+    (split-are (mixed_matrix_of model) (length model.equations) rows.constants.items rows.symbols.items rows.split.items
+    c.in_ok-rows.ensures.rows c.in_ok-rows.ensures.model.equations.few)
 
 pub symbols_of-requires-clause-equations : goal.symbols_of-requires-clause-equations
 symbols_of-requires-clause-equations g c =
     let rows = c.in_ok-rows.rows in
     let model = c.args.model.now in
     subst (AreEquations (length model.equations)) (sym c.deref-3.ensures.value)
-    (t_equations-are (mixed_matrix_of model) (length model.equations) rows.constants.items rows.symbols.items rows.split.items c.in_ok-rows.ensures.rows c.in_ok-rows.ensures.model.equations.few)
+    (t_equations-are (mixed_matrix_of model) (length model.equations) rows.constants.items rows.symbols.items
+    rows.split.items c.in_ok-rows.ensures.rows c.in_ok-rows.ensures.model.equations.few)
 
 pub symbols_of-requires-clause-split : goal.symbols_of-requires-clause-split
 symbols_of-requires-clause-split g c =
     let rows = c.in_ok-rows.rows in
     let model = c.args.model.now in
     subst (AreSplit (length model.equations)) (sym c.deref-4.ensures.value)
-    (split-are (mixed_matrix_of model) (length model.equations) rows.constants.items rows.symbols.items rows.split.items c.in_ok-rows.ensures.rows c.in_ok-rows.ensures.model.equations.few)
+    (split-are (mixed_matrix_of model) (length model.equations) rows.constants.items rows.symbols.items rows.split.items
+    c.in_ok-rows.ensures.rows c.in_ok-rows.ensures.model.equations.few)
 
 pub returns : goal.returns
 returns g c =

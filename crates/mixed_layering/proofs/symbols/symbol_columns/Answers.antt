@@ -31,7 +31,8 @@ loop-entry-preserved-in-Continue-1 g c =
       rising = subst IsStrictlyIncreasing pushed (rising-append list entry.column c.loop-entry.invariant.rising lower);
       below = subst (IsBelow columns) pushed (below-append columns columns list entry.column c.loop-entry.invariant.below (omega arith) within);
       exact = subst (λ items. (j : ℕ) → has items j ≡ symbol_in (seen ++ entry ∷ []) j) pushed
-          (exact-next g.F.Field.modulus row seen entry rest row_is.0 split columns row_is.1 list c.loop-entry.invariant.exact (sym (ap (λ (x : RowEntry). x.symbol) c.entry.view_is) ∙ c.if-entry.true));
+          (exact-next g.F.Field.modulus row seen entry rest row_is.0 split columns row_is.1 list
+          c.loop-entry.invariant.exact (sym (ap (λ (x : RowEntry). x.symbol) c.entry.view_is) ∙ c.if-entry.true));
     }
 
 pub loop-entry-preserved : goal.loop-entry-preserved

@@ -7,7 +7,8 @@ use Rattle.mixed_model.proofs.rows.put_constant_in_row.Goals as goal
 pub returns-in_err-put_constant-clause-kept : goal.returns-in_err-put_constant-clause-kept
 returns-in_err-put_constant-clause-kept g c =
     let failed = err_from_is_err_and c.from_residual.result c.from_residual.ensures.1 in
-    rw failed.1 (rows_kept c.args.rows.now.items c.args.i c.index_mut-row.result.now c.put_constant.new.row c.index_mut-row.ensures.value c.in_err-put_constant.ensures.kept)
+    rw failed.1 (rows_kept c.args.rows.now.items c.args.i c.index_mut-row.result.now c.put_constant.new.row
+    c.index_mut-row.ensures.value c.in_err-put_constant.ensures.kept)
 
 pub returns-clause-put : goal.returns-clause-put
 returns-clause-put g c =

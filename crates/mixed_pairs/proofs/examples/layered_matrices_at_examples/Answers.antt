@@ -14,7 +14,14 @@ pub returns-clause-fails : goal.returns-clause-fails
 returns-clause-fails c lay = let one : size_on (has_symbol split_model) 1 ≡ 1 = refl in omega (arith, lay.t_rows.count)
 
 pub returns-clause-holds_of_members : goal.returns-clause-holds_of_members
-returns-clause-holds_of_members c = record { count = refl; below = λ k l. omega arith; member = λ k l. refl; place = below_one (λ k. size_on (only 1) 1 ≡ k) refl }
+returns-clause-holds_of_members c =
+    record {
+      count = refl;
+      below = λ k l. omega arith;
+      member = λ k l. refl;
+      place =
+          below_one (λ k. size_on (only 1) 1 ≡ k) refl;
+    }
 
 pub returns-clause-fails_of_members : goal.returns-clause-fails_of_members
 returns-clause-fails_of_members c m = differ refl (m.member 0 (omega arith))

@@ -30,14 +30,22 @@ returns-clause-without_t_row c = equation-symbols 65521 prime_65521 stacked_mode
     (has_symbol stacked_model) stacked_matrix stacked_origins stacked-layered (omega arith) 0 (omega arith) 1 stacked_first-rank
 
 pub returns-clause-constants_not_surplus : goal.returns-clause-constants_not_surplus
-returns-clause-constants_not_surplus c surplus = unused (stays-used 65521 prime_65521 stacked_matrix stacked_transform stacked_inverse stacked_tableau stacked-is_tableau stacked_parts triangle_below triangle_lower stacked-rules_kept 0 (omega arith) (surplus-rho 65521 prime_65521 (omega arith) stacked_model (gives_q stacked_model) (has_symbol stacked_model) stacked_matrix stacked_origins stacked-layered 0 (omega arith) refl surplus))
+returns-clause-constants_not_surplus c surplus =
+    unused (stays-used 65521 prime_65521 stacked_matrix stacked_transform stacked_inverse stacked_tableau
+    stacked-is_tableau stacked_parts triangle_below triangle_lower stacked-rules_kept 0 (omega arith)
+    (surplus-rho 65521 prime_65521 (omega arith) stacked_model (gives_q stacked_model) (has_symbol stacked_model)
+    stacked_matrix stacked_origins stacked-layered 0 (omega arith) refl surplus))
   where
     -- no row stands last
     unused : (k : ℕ) × (k < 2) × (k + 1 ≡ 3) × (stacked_transform k 0 % 65521 ≢ 0) → ⊥
     unused (k, kl, last, ne) = omega (arith, kl, last)
 
 pub returns-clause-split_not_surplus : goal.returns-clause-split_not_surplus
-returns-clause-split_not_surplus c surplus = bad (untouched-last 65521 prime_65521 stacked_matrix stacked_transform stacked_inverse stacked_tableau stacked-is_tableau stacked_parts triangle_below triangle_lower stacked-rules_kept 0 (omega arith) (surplus-untouched 65521 prime_65521 (omega arith) stacked_model (gives_q stacked_model) (has_symbol stacked_model) stacked_matrix stacked_origins stacked-layered 0 (omega arith) surplus))
+returns-clause-split_not_surplus c surplus =
+    bad (untouched-last 65521 prime_65521 stacked_matrix stacked_transform stacked_inverse stacked_tableau
+    stacked-is_tableau stacked_parts triangle_below triangle_lower stacked-rules_kept 0 (omega arith)
+    (surplus-untouched 65521 prime_65521 (omega arith) stacked_model (gives_q stacked_model) (has_symbol stacked_model)
+    stacked_matrix stacked_origins stacked-layered 0 (omega arith) surplus))
 
 pub returns-clause-first_not_undetermined : goal.returns-clause-first_not_undetermined
 returns-clause-first_not_undetermined c undetermined = bad_first

@@ -30,7 +30,9 @@ put_device-requires-clause-placed g c =
     let within : i < length devices = omega (arith, c.loop-device-test.true, ap length same) in
     let is : d ≡ get_or devices i d = c.device-item.is ∙ ap (λ all. get_or all i d) same in
     let fine : IsDevice p d = subst (IsDevice p) (sym is) (c.requires.circuit.devices i d within) in
-    let placed = all-placed devices i d within is (sourced p devices c.requires.circuit.distinct c.requires.sourced i d within is) (put_by p d.kind d) (forms p d g.met.F.Field.odd d.kind refl fine.nodes_wanted) in
+    let placed = all-placed devices i d within is
+    (sourced p devices c.requires.circuit.distinct c.requires.sourced i d within is) (put_by p d.kind d)
+    (forms p d g.met.F.Field.odd d.kind refl fine.nodes_wanted) in
     subst (λ equations. All (IsPlaced equations c.loop-device.model.unknowns) (put_by p d.kind d))
     (sym (c.loop-device.invariant.equations ∙ c.requires.equations))
     (subst (λ unknowns. All (IsPlaced (equations_of devices) unknowns) (put_by p d.kind d)) (sym (c.loop-device.invariant.unknowns ∙ c.requires.unknowns))

@@ -13,5 +13,7 @@ pub loop-term-preserved : goal.loop-term-preserved
 loop-term-preserved g c = record {
   equations = c.in_ok-put_term.ensures.equations ∙ c.loop-term.invariant.equations;
   unknowns = c.in_ok-put_term.ensures.unknowns ∙ c.loop-term.invariant.unknowns;
-  says = goes_on g.F.Field.modulus c.args.model.now c.loop-term.model c.args.terms.now c.loop-term.term-index c.term-item.result c.loop-term-test.true c.term-item.is c.loop-term.invariant.says c.put_term.new.model c.in_ok-put_term.ensures.says;
+  says = goes_on g.F.Field.modulus c.args.model.now c.loop-term.model c.args.terms.now c.loop-term.term-index
+      c.term-item.result c.loop-term-test.true c.term-item.is c.loop-term.invariant.says c.put_term.new.model
+      c.in_ok-put_term.ensures.says;
 }

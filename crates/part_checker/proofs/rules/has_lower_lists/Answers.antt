@@ -29,7 +29,9 @@ returns g c =
     (length form.blocks) c.deref.ensures.value c.deref-2.ensures.value (c.deref-2.ensures.len
     ∙ c.requires.told.head_count) in
     let view = covers-as c.deref-3.result.now told.arcs.arcs.items (length parts) (slice_index parts)
-    (length c.as_slice-blocks.result.now) (length form.blocks) c.deref-4.result.now told.lower.items c.deref-3.ensures.value (ap length (c.as_slice-blocks.ensures ∙ c.blocks-2.ensures.blocks)) c.deref-4.ensures.value in
+    (length c.as_slice-blocks.result.now) (length form.blocks) c.deref-4.result.now told.lower.items
+    c.deref-3.ensures.value (ap length (c.as_slice-blocks.ensures ∙ c.blocks-2.ensures.blocks))
+    c.deref-4.ensures.value in
     IfOk-weaker c.are_covers.result _ _ (λ answer h L P R G. (
       λ x. listed-lists p form c.blocks-2.ensures.ccf parts c.requires.parts told c.requires.told L P R G
           (view.0 (h.0 x)) (first.0 (c.in_ok-is_least_first.ensures.0 c.if-not-branch.false)),

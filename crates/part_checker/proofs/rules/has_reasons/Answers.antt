@@ -11,6 +11,8 @@ returns g c =
     let parts = c.args.parts.now in
     let told = c.args.told.now in
     IfOk-weaker c.are_met.result _ _ (λ answer S L P R. reasons-told p form c.blocks-2.ensures.ccf parts c.requires.parts told c.requires.told L P R answer
-    (searched-as c.deref.result.now told.arcs.arcs.items c.deref-2.result.now told.arcs.free.items c.deref-3.result.now told.arcs.ends.items (length parts) (slice_index parts) c.deref-4.result.now told.heads.items (length form.blocks) answer
+    (searched-as c.deref.result.now told.arcs.arcs.items c.deref-2.result.now told.arcs.free.items c.deref-3.result.now
+    told.arcs.ends.items (length parts) (slice_index parts) c.deref-4.result.now told.heads.items
+    (length form.blocks) answer
     c.deref.ensures.value c.deref-2.ensures.value c.deref-3.ensures.value c.deref-4.ensures.value
     (c.deref-4.ensures.len ∙ c.requires.told.head_count) S)) c.are_met.ensures

@@ -23,7 +23,9 @@ returns g c L P =
     subst (λ n. TellsChains (lower_of form) n (bit_in told.below)) (sym rows)
     (chains-told p form c.blocks-2.ensures.ccf parts c.requires.parts told c.requires.told) in
     let test = c.arcs_are_down.ensures (lower_of form) chains in
-    let view = down-as c.deref.result.now told.arcs.arcs.items c.deref-2.result.now told.arcs.free.items c.deref-3.result.now told.arcs.ends.items (length parts) (slice_index parts) told.below.rows (length form.blocks) (lower_of form)
+    let view = down-as c.deref.result.now told.arcs.arcs.items c.deref-2.result.now told.arcs.free.items
+    c.deref-3.result.now told.arcs.ends.items (length parts) (slice_index parts) told.below.rows
+    (length form.blocks) (lower_of form)
     c.deref.ensures.value c.deref-2.ensures.value c.deref-3.ensures.value rows in (
       λ h. tested-rule p form c.blocks-2.ensures.ccf parts c.requires.parts told c.requires.told L P (view.0 (test.0 h)),
       λ R. test.1 (view.1 (rule-tested p form c.blocks-2.ensures.ccf parts c.requires.parts told c.requires.told L P R)),

@@ -8,7 +8,8 @@ use Rattle.part_checker.proofs.PartNumbers.{block-place}
 use Rattle.part_checker.proofs.telling.told_of.Goals as goal
 
 pub first_places-requires : goal.first_places-requires
-first_places-requires g c k low = block-place g.F.Field.modulus c.args.form.now c.blocks-2.ensures.ccf c.args.parts.now c.requires.parts k (subst (λ n. k < n) (ap length (c.as_slice-blocks.ensures ∙ c.blocks-2.ensures.blocks)) low)
+first_places-requires g c k low = block-place g.F.Field.modulus c.args.form.now c.blocks-2.ensures.ccf c.args.parts.now
+    c.requires.parts k (subst (λ n. k < n) (ap length (c.as_slice-blocks.ensures ∙ c.blocks-2.ensures.blocks)) low)
 
 pub returns : goal.returns
 returns g c =

@@ -14,4 +14,5 @@ returns c =
     let arc = inner (arc_in c.args.arcs.now) (λ x. get_or c.args.parts.now x 0) in
     reaching-turned arc n (marked ends) now
     (reached-same (λ x y. arc y x) (listed lists) n (vec_len marks) (marked ends) (marked marks.items) now
-    (omega (arith, c.in_ok-marking.ensures.count, c.requires.ends)) c.in_ok-neighbours.ensures.tells (λ y l. c.in_ok-marking.ensures.same y (omega (arith, l, c.requires.ends))) c.in_ok-reach.ensures)
+    (omega (arith, c.in_ok-marking.ensures.count, c.requires.ends)) c.in_ok-neighbours.ensures.tells
+    (λ y l. c.in_ok-marking.ensures.same y (omega (arith, l, c.requires.ends))) c.in_ok-reach.ensures)

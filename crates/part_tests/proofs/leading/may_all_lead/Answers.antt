@@ -4,7 +4,8 @@ use Rattle.part_tests.proofs.leading.may_all_lead.Goals as goal
 
 pub loop-arc-preserved : goal.loop-arc-preserved
 loop-arc-preserved c = record {
-  lead = λ lower chains. one-more c.args.arcs.now c.args.parts.now c.args.below.now.rows c.loop-arc.arc-index lower (c.loop-arc.invariant.lead lower chains) ((c.may_lead.ensures lower chains).0 c.if-not-may_lead.false);
+  lead = λ lower chains. one-more c.args.arcs.now c.args.parts.now c.args.below.now.rows c.loop-arc.arc-index lower
+      (c.loop-arc.invariant.lead lower chains) ((c.may_lead.ensures lower chains).0 c.if-not-may_lead.false);
 }
 
 pub returns : goal.returns

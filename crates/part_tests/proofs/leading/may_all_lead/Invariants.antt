@@ -5,4 +5,7 @@ use Rattle.part_tests.specs.Steps.{MayAllLead}
 use Rattle.part_tests.proofs.leading.may_all_lead.Given as goal
 
 abbrev pub invariant-loop-arc : goal.invariant-loop-arc
-invariant-loop-arc l = record { lead : (lower : ℕ → ℕ → Bool) → TellsChains lower l.below.rows (bit_in l.below) → MayAllLead l.arcs l.parts l.below.rows lower l.arc-index }
+invariant-loop-arc l = record {
+  lead : (lower : ℕ → ℕ → Bool) → TellsChains lower l.below.rows (bit_in l.below) →
+      MayAllLead l.arcs l.parts l.below.rows lower l.arc-index;
+}

@@ -9,17 +9,26 @@ pub returns-then-not-are_marked_but : goal.returns-then-not-are_marked_but
 returns-then-not-are_marked_but c =
     let parts = c.args.parts.now in
     let within = inner (arc_in c.args.arcs.now) (slice_index parts) in
-    searched within parts c.args.heads.now c.args.starts.now c.args.ends.now c.in_ok-low.low.items c.in_ok-high.high.items c.in_ok-from.from.items c.in_ok-to.to.items c.args.last false c.requires.starts c.requires.ends c.requires.last
+    searched within parts c.args.heads.now c.args.starts.now c.args.ends.now c.in_ok-low.low.items
+    c.in_ok-high.high.items c.in_ok-from.from.items c.in_ok-to.to.items c.args.last false c.requires.starts
+    c.requires.ends c.requires.last
     c.in_ok-low.ensures.seeds c.in_ok-high.ensures.seeds
     (subst (λ marks. AreReached within (length parts) (marked marks) c.in_ok-from.from.items) c.deref.ensures.value c.in_ok-from.ensures)
-    (subst (λ marks. AreReaching within (length parts) (marked marks) c.in_ok-to.to.items) c.deref-2.ensures.value c.in_ok-to.ensures)
-    ((λ f. absurd (cc)), (λ met. absurd (differ c.if-not-are_marked_but.true (c.are_marked_but.ensures.1 (subst (λ marks. AreMarkedBut marks parts c.args.last (length parts)) (sym c.deref-3.ensures.value) met.0)))))
+    (subst (λ marks. AreReaching within (length parts) (marked marks) c.in_ok-to.to.items) c.deref-2.ensures.value c.in_ok-to.ensures) (
+      (λ f. absurd (cc)),
+      (λ met. absurd
+          (differ c.if-not-are_marked_but.true
+          (c.are_marked_but.ensures.1
+          (subst (λ marks. AreMarkedBut marks parts c.args.last (length parts)) (sym c.deref-3.ensures.value) met.0)))),
+    )
 
 pub returns : goal.returns
 returns c =
     let parts = c.args.parts.now in
     let within = inner (arc_in c.args.arcs.now) (slice_index parts) in
-    searched within parts c.args.heads.now c.args.starts.now c.args.ends.now c.in_ok-low.low.items c.in_ok-high.high.items c.in_ok-from.from.items c.in_ok-to.to.items c.args.last c.are_marked_but-2.result c.requires.starts c.requires.ends c.requires.last
+    searched within parts c.args.heads.now c.args.starts.now c.args.ends.now c.in_ok-low.low.items
+    c.in_ok-high.high.items c.in_ok-from.from.items c.in_ok-to.to.items c.args.last c.are_marked_but-2.result
+    c.requires.starts c.requires.ends c.requires.last
     c.in_ok-low.ensures.seeds c.in_ok-high.ensures.seeds
     (subst (λ marks. AreReached within (length parts) (marked marks) c.in_ok-from.from.items) c.deref.ensures.value c.in_ok-from.ensures)
     (subst (λ marks. AreReaching within (length parts) (marked marks) c.in_ok-to.to.items) c.deref-2.ensures.value c.in_ok-to.ensures) (

@@ -16,7 +16,8 @@ returns-in_err-next-clause-too_long g c = λ e.
     subst
     (λ n. TookExactly n (left c.args.source.now) (left c.next.new.source))
     all
-    (took_exactly (left c.args.source.now) (left c.loop-bytes.source) (left c.next.new.source) c.loop-bytes.bytes.items (c.next.new.self.taken - c.loop-bytes.pump.taken) inv.so_far (c.next.ensures.too_many long))
+    (took_exactly (left c.args.source.now) (left c.loop-bytes.source) (left c.next.new.source) c.loop-bytes.bytes.items
+    (c.next.new.self.taken - c.loop-bytes.pump.taken) inv.so_far (c.next.ensures.too_many long))
 
 pub returns-then-is_err-clause-memory_taken : goal.returns-then-is_err-clause-memory_taken
 returns-then-is_err-clause-memory_taken g c = λ e.
@@ -24,4 +25,5 @@ returns-then-is_err-clause-memory_taken g c = λ e.
     let inv = c.loop-bytes.invariant in
     let few : length c.loop-bytes.bytes.items + length c.next.new.self.piece ≤ c.args.limit =
     omega (arith, inv.limit, inv.taken, c.in_ok-next.ensures.piece, c.in_ok-next.ensures.counted, c.in_ok-next.ensures.within) in
-    took_at_most (left c.args.source.now) (left c.loop-bytes.source) (left c.next.new.source) c.loop-bytes.bytes.items c.next.new.self.piece c.args.limit inv.so_far c.in_ok-next.ensures.taken few
+    took_at_most (left c.args.source.now) (left c.loop-bytes.source) (left c.next.new.source) c.loop-bytes.bytes.items
+    c.next.new.self.piece c.args.limit inv.so_far c.in_ok-next.ensures.taken few

@@ -11,7 +11,10 @@ loop-done-preserved g c =
     let within : d + n ≤ length p = omega (arith, long, fits, c.loop-done.invariant.within) in
     record {
       within = within;
-      so_far = appended_is _ _ _ _ (take_on p d n within) (appended_more (g.K.Sink.written c.args.sink.now) (g.K.Sink.written c.loop-done.sink) (g.K.Sink.written c.write.new.self) (take d p) (take n part) c.loop-done.invariant.so_far c.in-Ok.ensures.appended);
+      so_far = appended_is _ _ _ _ (take_on p d n within)
+          (appended_more (g.K.Sink.written c.args.sink.now) (g.K.Sink.written c.loop-done.sink)
+          (g.K.Sink.written c.write.new.self) (take d p) (take n part) c.loop-done.invariant.so_far
+          c.in-Ok.ensures.appended);
       no_fault = c.in-Ok.ensures.cause.fine ∙ c.loop-done.invariant.no_fault;
       no_flush = c.write.ensures.no_flush ∙ c.loop-done.invariant.no_flush;
       steady = λ more h.

@@ -34,4 +34,6 @@ returns g c =
     let Used : List (List ℕ) → List ℕ → Type 0 = λ matrix list. Marks (OfSome (length list) (λ k. IsItem (row_of matrix (slice_index list k)))) none marks in
     let are : Marks (IsUsedLast form) none marks = subst (λ list. Used (map keys_of form.s) list) rows
     (subst (λ matrix. Used matrix c.as_slice-tail.result.now) keys c.mark_rows.ensures) in
-    subst (AreMarksOf n (IsUsedLast form)) (sym (back c.in_ok-marks.marks.len marks none _ long c.mark_rows.ensures.count)) (mark-fresh n (IsUsedLast form) none marks start are)
+    subst (AreMarksOf n (IsUsedLast form))
+    (sym (back c.in_ok-marks.marks.len marks none _ long c.mark_rows.ensures.count))
+    (mark-fresh n (IsUsedLast form) none marks start are)

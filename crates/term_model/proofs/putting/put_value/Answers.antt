@@ -16,7 +16,8 @@ returns-in-Constant-clause-says g c =
 pub returns-in-Constant-clause-refused : goal.returns-in-Constant-clause-refused
 returns-in-Constant-clause-refused g c =
     let term = term_of_value g.F.Field.number c.args.equation.now c.args.unknown.now c.args.value in
-    constant_refused g.F.Field.modulus c.args.model.now _ _ term c.put_constant.result c.place_of-i.ensures.model c.place_of-i.ensures.place c.put_constant.ensures.answer
+    constant_refused g.F.Field.modulus c.args.model.now _ _ term c.put_constant.result c.place_of-i.ensures.model
+    c.place_of-i.ensures.place c.put_constant.ensures.answer
 
 pub returns-in-Symbol-clause-says : goal.returns-in-Symbol-clause-says
 returns-in-Symbol-clause-says g c =
@@ -29,4 +30,5 @@ returns-in-Symbol-clause-says g c =
 pub returns-in-Symbol-clause-refused : goal.returns-in-Symbol-clause-refused
 returns-in-Symbol-clause-refused g c =
     let term = term_of_value g.F.Field.number c.args.equation.now c.args.unknown.now c.args.value in
-    symbol_refused g.F.Field.modulus c.args.model.now _ _ term c.put_symbol.result c.place_of-i.ensures.model c.place_of-i.ensures.place c.put_symbol.ensures.answer
+    symbol_refused g.F.Field.modulus c.args.model.now _ _ term c.put_symbol.result c.place_of-i.ensures.model
+    c.place_of-i.ensures.place c.put_symbol.ensures.answer

@@ -10,8 +10,10 @@ loop-left-preserved c =
       some = omega arith;
       room = omega arith;
       small = tenth_below c.loop-left.left c.loop-left.start (c.loop-left.start - 1) next c.loop-left.invariant.small;
-      told = digit_before c.args.number c.loop-left.left c.loop-left.start (c.loop-left.start - 1) c.loop-left.place next c.loop-left-test.true (omega arith) (omega arith) c.loop-left.invariant.told;
+      told = digit_before c.args.number c.loop-left.left c.loop-left.start (c.loop-left.start - 1) c.loop-left.place
+          next c.loop-left-test.true (omega arith) (omega arith) c.loop-left.invariant.told;
     }
 
 pub returns-clause-digits : goal.returns-clause-digits
-returns-clause-digits c = mark_before c.args.number c.loop-left.left c.loop-left.start (c.loop-left.start - 1) c.args.mark c.loop-left.place (omega arith) (omega arith) (omega arith) c.loop-left.invariant.told
+returns-clause-digits c = mark_before c.args.number c.loop-left.left c.loop-left.start (c.loop-left.start - 1)
+    c.args.mark c.loop-left.place (omega arith) (omega arith) (omega arith) c.loop-left.invariant.told

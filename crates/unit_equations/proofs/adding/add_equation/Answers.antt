@@ -14,7 +14,8 @@ put_summands-requires-clause-placed g c =
     let grown = c.in_ok-add_equation.ensures.added ∙ ap (with_equation c.args.model.now) (c.deref.ensures
     ∙ ap (λ (e : UnitEquation). e.name) c.equation.view_is) in
     subst (All (IsPlaced c.add_equation.new.self.equations c.add_equation.new.self.unknowns)) (sym same)
-    (new-placed g.F.Field.modulus c.args.model.now c.add_equation.new.self c.args.equation.now c.equations.ensures.model c.requires.new grown c.requires.summands)
+    (new-placed g.F.Field.modulus c.args.model.now c.add_equation.new.self c.args.equation.now c.equations.ensures.model
+    c.requires.new grown c.requires.summands)
 
 pub put_summands-requires-clause-constants : goal.put_summands-requires-clause-constants
 put_summands-requires-clause-constants g c =
@@ -30,7 +31,9 @@ returns-in_err-put_summands-clause-full g c =
     let grown = c.in_ok-add_equation.ensures.added ∙ ap (with_equation c.args.model.now) (c.deref.ensures
     ∙ ap (λ (e : UnitEquation). e.name) c.equation.view_is) in
     let error = c.in_err-put_summands.field-0.0 in
-    let none = equation-lacks p c.args.model.now mid of c.equations.ensures.model c.requires.new grown c.requires.summands error (subst (λ terms. LacksRoom p mid terms error) same c.in_err-put_summands.ensures.refused) in
+    let none = equation-lacks p c.args.model.now mid of c.equations.ensures.model c.requires.new grown
+    c.requires.summands error
+    (subst (λ terms. LacksRoom p mid terms error) same c.in_err-put_summands.ensures.refused) in
     let failed = err_from_is_err_and c.from_residual-in_err-put_summands.result c.from_residual-in_err-put_summands.ensures.1 in
     rw (failed.1, failed.2) (subst (λ error. IsFull (c.args.model.now.equations ++ of.name ∷ []) (fault_of error)) (sym none) tt)
 
@@ -42,5 +45,6 @@ returns-clause-grown g c =
     let same = (λ t. terms_of (equation (c.deref-2.ensures t) (c.deref-3.ensures.value t))) ∙ ap terms_of c.equation.view_is in
     let grown = c.in_ok-add_equation.ensures.added ∙ ap (with_equation c.args.model.now) (c.deref.ensures
     ∙ ap (λ (e : UnitEquation). e.name) c.equation.view_is) in
-    grows-equation p c.args.model.now mid c.args.equation.now c.equations.ensures.model c.requires.new grown c.requires.summands new c.in_ok-put_summands.ensures.equations c.in_ok-put_summands.ensures.unknowns
+    grows-equation p c.args.model.now mid c.args.equation.now c.equations.ensures.model c.requires.new grown
+    c.requires.summands new c.in_ok-put_summands.ensures.equations c.in_ok-put_summands.ensures.unknowns
     (subst (PutsTerms p mid new) same c.in_ok-put_summands.ensures.says)

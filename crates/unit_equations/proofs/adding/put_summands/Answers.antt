@@ -11,7 +11,8 @@ put_value-requires-clause-placed g c =
     let name = c.args.name.now in
     let next = next_term name c.args.summands.now c.loop-summand.summand-index c.summand-item.result _ c.loop-summand-test.true c.summand-item.is
     ((λ t. term_of_value g.F.Field.number name (c.deref.ensures t) c.summand.inside.value) ∙ ap (term_of name) c.summand.view_is) in
-    placed-at c.args.model.now.equations c.args.model.now.unknowns c.loop-summand.model.equations c.loop-summand.model.unknowns _ c.loop-summand.invariant.equations c.loop-summand.invariant.unknowns
+    placed-at c.args.model.now.equations c.args.model.now.unknowns c.loop-summand.model.equations
+    c.loop-summand.model.unknowns _ c.loop-summand.invariant.equations c.loop-summand.invariant.unknowns
     (subst (IsPlaced c.args.model.now.equations c.args.model.now.unknowns) (sym next.is) (c.requires.placed _ _ next.within))
 
 pub put_value-requires-clause-constant : goal.put_value-requires-clause-constant
@@ -37,7 +38,8 @@ loop-summand-preserved g c =
       equations = c.in_ok-put_value.ensures.equations ∙ c.loop-summand.invariant.equations;
       unknowns = c.in_ok-put_value.ensures.unknowns ∙ c.loop-summand.invariant.unknowns;
       says = goes_on g.F.Field.modulus c.args.model.now c.loop-summand.model
-          (terms_of (equation name c.args.summands.now)) _ _ next.within next.is c.loop-summand.invariant.says c.put_value.new.model c.in_ok-put_value.ensures.says;
+          (terms_of (equation name c.args.summands.now)) _ _ next.within next.is c.loop-summand.invariant.says
+          c.put_value.new.model c.in_ok-put_value.ensures.says;
     }
 
 pub returns-in_err-put_value-clause-refused : goal.returns-in_err-put_value-clause-refused

@@ -14,7 +14,9 @@ loop-component-preserved g c =
     let values = c.args.coefficients.now in
     let number = g.F.Field.number in
     let n = length c.loop-component.yielded in
-    let turn = zip_turn texts values c.loop-component.yielded c.into_iter-component-iterator.result c.loop-component.component-iterator c.next.new.self c.next.result (search rules) (search rules) c.loop-component.yielded_by (c.in-Some.component, c.in-Some.coefficient) c.in-Some.is c.next.ensures.steps in
+    let turn = zip_turn texts values c.loop-component.yielded c.into_iter-component-iterator.result
+    c.loop-component.component-iterator c.next.new.self c.next.result (search rules) (search rules)
+    c.loop-component.yielded_by (c.in-Some.component, c.in-Some.coefficient) c.in-Some.is c.next.ensures.steps in
     let text = c.in-Some.component.now in
     let value = c.in-Some.coefficient.now in
     let made : List ℕ → List UnitEquation = λ component.
@@ -35,7 +37,9 @@ returns g c =
     let texts = c.as_slice.result.now in
     let values = c.args.coefficients.now in
     let number = g.F.Field.number in
-    let turns = zip_end texts values c.loop-component.yielded c.into_iter-component-iterator.result c.loop-component.component-iterator c.next.new.self c.next.result (search rules) (search rules) c.loop-component.yielded_by c.in-None.is c.next.ensures.steps in
+    let turns = zip_end texts values c.loop-component.yielded c.into_iter-component-iterator.result
+    c.loop-component.component-iterator c.next.new.self c.next.result (search rules) (search rules)
+    c.loop-component.yielded_by c.in-None.is c.next.ensures.steps in
     let all = all_pairs c.args.components.now (map number values) (length c.loop-component.yielded)
     (omega (arith, turns, length-map values number, length-map texts string_bytes, ap length c.as_slice.ensures)) in
     let part : List (List ℕ) → List UnitEquation → UnitPart = λ unknowns equations. record { unknowns = unknowns; equations = equations } in

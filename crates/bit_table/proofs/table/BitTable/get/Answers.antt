@@ -9,4 +9,9 @@ returns c =
     let rows : t.rows ≡ c.args.self.now.rows = ap (λ v. v.rows) c.self.view_is in
     let size : t.size ≡ c.args.self.now.size = ap (λ v. v.size) c.self.view_is in
     rw (← c.self.view_is) (test_bit t.words.items (c.args.x * t.width + c.args.y / 64) c.index.result.now (c.args.y % 64)
-    (omega (arith, K.words_are, word_fits t.rows t.size t.width c.args.x c.args.y K.width_is (omega (arith, rows, c.requires.x)) (omega (arith, size, c.requires.y)))) c.index.ensures)
+    (omega (
+      arith,
+      K.words_are,
+      word_fits t.rows t.size t.width c.args.x c.args.y K.width_is
+          (omega (arith, rows, c.requires.x)) (omega (arith, size, c.requires.y)),
+    )) c.index.ensures)

@@ -9,13 +9,23 @@ loop-at-init c =
     let rows : t.rows ≡ c.args.self.now.rows = ap (λ v. v.rows) c.self.view_is in
     let size : t.size ≡ c.args.self.now.size = ap (λ v. v.size) c.self.view_is in
     record {
-      fits = λ y yl. omega (arith, K.words_are, word_fits t.rows t.size t.width c.args.x y K.width_is (omega (arith, rows, c.requires.x)) (omega (arith, size, c.requires.end, yl)));
+      fits = λ y yl. omega (
+        arith,
+        K.words_are,
+        word_fits t.rows t.size t.width c.args.x y K.width_is (omega (arith, rows, c.requires.x))
+            (omega (arith, size, c.requires.end, yl)),
+      );
       within = omega arith;
       none = λ y yf yl. absurd (omega (arith, yf, yl));
     }
 
 pub overflow_add-next : goal.overflow_add-next
-overflow_add-next c = let small : c.index.result.now < 2 ^ 64 = search rules in omega (arith, (lowest_from c.index.result.now (c.loop-at.at % 64) small c.if-word-ne0.true).0, c.loop-at.auto.at-fits)
+overflow_add-next c = let small : c.index.result.now < 2 ^ 64 = search rules in
+    omega (
+      arith,
+      (lowest_from c.index.result.now (c.loop-at.at % 64) small c.if-word-ne0.true).0,
+      c.loop-at.auto.at-fits,
+    )
 
 pub returns-then-next-end-clause-least : goal.returns-then-next-end-clause-least
 returns-then-next-end-clause-least c =
@@ -46,5 +56,6 @@ loop-at-preserved c =
     record {
       fits = I.fits;
       within = grind (arith, c.saturating_add-at.ensures, I.within, c.loop-at.auto.at-fits);
-      none = none_in_word t.words.items t.width c.args.x c.args.from c.loop-at.at c.saturating_add-at.result c.index.result.now I.none fits c.index.ensures c.if-word-ne0.false top;
+      none = none_in_word t.words.items t.width c.args.x c.args.from c.loop-at.at c.saturating_add-at.result
+          c.index.result.now I.none fits c.index.ensures c.if-word-ne0.false top;
     }

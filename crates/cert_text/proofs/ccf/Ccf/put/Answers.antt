@@ -20,7 +20,10 @@ returns g c =
     puts_is (ap contents_text c.self.view_is)
     (puts_then (puts_then (puts_then (puts_then c.put_shape.ensures
     (puts_is (same_pair _ c.as_slice.ensures c.as_slice-2.ensures) c.put_pair.ensures))
-    (puts_is (same_matrices g.F.Field.number c.as_slice-3.ensures c.as_slice-4.ensures c.as_slice-5.ensures c.as_slice-6.ensures) c.put_matrices.ensures)) (puts_is (ap (λ z. parts_text c.self.inside.first z c.self.inside.last) c.as_slice-7.ensures) c.put_parts.ensures)) c.piece.ensures)
+    (puts_is (same_matrices g.F.Field.number c.as_slice-3.ensures c.as_slice-4.ensures c.as_slice-5.ensures
+    c.as_slice-6.ensures) c.put_matrices.ensures))
+    (puts_is (ap (λ z. parts_text c.self.inside.first z c.self.inside.last) c.as_slice-7.ensures)
+    c.put_parts.ensures)) c.piece.ensures)
 
 pub put_matrices-requires-clause-s : goal.put_matrices-requires-clause-s
 put_matrices-requires-clause-s g c = subst (All HasSmallKeys) (sym c.as_slice-3.ensures)

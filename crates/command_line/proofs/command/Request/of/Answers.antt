@@ -24,4 +24,5 @@ returns-in-Ok c =
     )
 
 pub returns : goal.returns
-returns c = not_taken (app_of c.in_ok-line.line) (map string_bytes c.args.words.now) c.in-Err.error c.in_ok-line.ensures c.in-Err.ensures.kinds c.in_ok-told-in-Err.ensures
+returns c = not_taken (app_of c.in_ok-line.line) (map string_bytes c.args.words.now) c.in-Err.error c.in_ok-line.ensures
+    c.in-Err.ensures.kinds c.in_ok-told-in-Err.ensures

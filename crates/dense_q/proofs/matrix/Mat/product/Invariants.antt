@@ -7,6 +7,9 @@ abbrev pub invariant-loop-coefficients : goal.invariant-loop-coefficients
 invariant-loop-coefficients g l = record {
   count : length l.all.items ≡ l.coefficients-index;
   widths : All (λ row. vec_len row ≡ l.b-inside.width) l.all.items;
-  done : (k : ℕ) → k < l.coefficients-index → IsCombined g.F.Field.modulus (slice_index_or (map (λ row. map g.F.Field.number row.items) l.coefficients-items) k []) (map (λ row. map g.F.Field.number row.items) l.b-inside.rows.items) l.b-inside.width
+  done : (k : ℕ) → k < l.coefficients-index →
+      IsCombined g.F.Field.modulus
+      (slice_index_or (map (λ row. map g.F.Field.number row.items) l.coefficients-items) k [])
+      (map (λ row. map g.F.Field.number row.items) l.b-inside.rows.items) l.b-inside.width
       (slice_index_or (map (λ row. map g.F.Field.number row.items) l.all.items) k []);
 }

@@ -14,4 +14,5 @@ pub returns : goal.returns
 returns g c =
     let first : c.args.i < length c.self.inside.rows.items = grind (arith, common_steps, ap height c.self.view_is) in
     let second : c.args.j < length c.self.inside.rows.items = grind (arith, common_steps, ap height c.self.view_is) in
-    rw (c.swap.ensures.items, ← c.self.view_is) (ap (λ rs. record { width = c.self.inside.width; rows = rs }) (map-swap _ c.self.inside.rows.items c.args.i c.args.j first second))
+    rw (c.swap.ensures.items, ← c.self.view_is) (ap (λ rs. record { width = c.self.inside.width; rows = rs })
+    (map-swap _ c.self.inside.rows.items c.args.i c.args.j first second))

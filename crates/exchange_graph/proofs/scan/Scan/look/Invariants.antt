@@ -1,19 +1,20 @@
-use Rattle.std.proofs.Common.{◌≡◌, ◌-◌, ◌≤◌}
+use Rattle.std.proofs.Common.{◌≡◌, ◌-◌, ◌<◌, ◌^◌}
 use Rattle.exchange_graph.specs.Counts.{counted_on}
 use Rattle.exchange_graph.specs.Looks.{IsLookingFrom}
 use Rattle.exchange_graph.specs.Scans.{IsStored, places, state_of}
 use Rattle.exchange_graph.proofs.scan.Scan.look.Given as goal
 
-abbrev pub invariant-loop-next : goal.invariant-loop-next
-invariant-loop-next g l = record {
+abbrev pub invariant-loop-to : goal.invariant-loop-to
+invariant-loop-to g l = record {
   stored : IsStored l.self;
   same_places : places l.self ≡ places l.fn.self;
   same_looks : l.self.looks ≡ l.fn.self.looks;
   same_walk : l.self.walk ≡ l.fn.self.walk;
   counted : l.self.all_looks ≡ counted_on l.fn.self.all_looks 1;
-  within : l.from ≤ places l.fn.self;
-  looking : IsLookingFrom (g.A.Arcs.leads l.arcs) (places l.fn.self) (state_of l.fn.self) (state_of l.self) l.fn.self.filled l.head l.self.filled l.from l.place l.depth;
+  fits : l.from < 2 ^ 64;
+  looking : IsLookingFrom (g.A.Arcs.leads l.arcs) (g.A.Arcs.turn l.arcs) (places l.fn.self) (state_of l.fn.self) (state_of l.self)
+      l.fn.self.filled l.head l.self.filled l.from l.place l.depth;
 }
 
-abbrev pub decreases-loop-next : goal.decreases-loop-next
-decreases-loop-next g l = places l.fn.self - l.from
+abbrev pub decreases-loop-to : goal.decreases-loop-to
+decreases-loop-to g l = 2 ^ 64 - l.from

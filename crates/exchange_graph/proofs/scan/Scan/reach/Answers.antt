@@ -28,11 +28,15 @@ loop-head-preserved g c =
       same_looks = c.look.ensures.looks ∙ I.same_looks;
       same_walk = c.look.ensures.walk ∙ I.same_walk;
       counted = counted-more c.args.self.now.all_looks c.loop-head.self.all_looks c.look.new.self.all_looks c.loop-head.head I.counted c.look.ensures.all_looks;
-      search = subst (λ (n : ℕ). IsSearch (g.A.Arcs.leads c.args.arcs.now) n (state_of c.look.new.self) (c.loop-head.head + 1) c.look.new.self.filled) I.same_places c.look.ensures.search;
-      starts = looked-starts (places c.args.self.now) (members_of c.args.starts.now) (state_of c.loop-head.self) (state_of c.look.new.self) c.loop-head.self.filled
-          (subst (λ (n : ℕ). IsGrown n (state_of c.loop-head.self) (state_of c.look.new.self) c.loop-head.self.filled) I.same_places c.look.ensures.grown) I.starts;
+      search = subst (λ (n : ℕ). IsSearch (g.A.Arcs.leads c.args.arcs.now) n (state_of c.look.new.self)
+          (c.loop-head.head + 1) c.look.new.self.filled) I.same_places c.look.ensures.search;
+      starts = looked-starts (places c.args.self.now) (members_of c.args.starts.now) (state_of c.loop-head.self)
+          (state_of c.look.new.self) c.loop-head.self.filled
+          (subst (λ (n : ℕ). IsGrown n (state_of c.loop-head.self) (state_of c.look.new.self) c.loop-head.self.filled)
+          I.same_places c.look.ensures.grown) I.starts;
     }
 
 pub returns-clause-reached : goal.returns-clause-reached
-returns-clause-reached g c = search-reached_set (g.A.Arcs.leads c.args.arcs.now) (places c.args.self.now) (members_of c.args.starts.now) (λ _. false) (state_of c.loop-head.self) c.loop-head.head c.loop-head.self.filled
+returns-clause-reached g c = search-reached_set (g.A.Arcs.leads c.args.arcs.now) (places c.args.self.now)
+    (members_of c.args.starts.now) (λ _. false) (state_of c.loop-head.self) c.loop-head.head c.loop-head.self.filled
     c.loop-head.invariant.search c.loop-head.invariant.starts (λ j l. differs) (omega arith)

@@ -19,7 +19,9 @@ loop-place-init c =
       same_count = E.all_looks;
       starting = λ arc. starting-first arc (places c.args.self.now) (members_of c.args.starts.now) (state_of N) N.filled E.filled
           (subst (λ (n : ℕ). IsSearch arc n (state_of N) 0 0) E.places
-          (search-start arc (places N) (state_of N) (position_of N) E.stored.order_below E.stored.position_below E.stored.position_order E.stored.order_position (λ y l. E.reached y (omega (arith, l, E.places))))) E.reached;
+          (search-start arc (places N) (state_of N) (position_of N) E.stored.order_below E.stored.position_below
+          E.stored.position_order E.stored.order_position (λ y l. E.reached y (omega (arith, l, E.places)))))
+          E.reached;
     }
 
 pub put-requires-clause-waits : goal.put-requires-clause-waits
@@ -29,8 +31,10 @@ pub put-requires-clause-room : goal.put-requires-clause-room
 put-requires-clause-room c =
     let I = c.loop-place.invariant in
     let B = I.starting (λ _ _. false) in
-    waits-late (λ _ _. false) (places c.args.self.now) (state_of c.loop-place.self) 0 c.loop-place.self.filled (position_of c.loop-place.self c.loop-place.place) c.loop-place.place B.search
-    (I.stored.order_position c.loop-place.place (omega (arith, I.same_places, c.requires.starts))) (B.waiting c.loop-place.place (omega arith) (omega (arith, c.requires.starts)))
+    waits-late (λ _ _. false) (places c.args.self.now) (state_of c.loop-place.self) 0 c.loop-place.self.filled
+    (position_of c.loop-place.self c.loop-place.place) c.loop-place.place B.search
+    (I.stored.order_position c.loop-place.place (omega (arith, I.same_places, c.requires.starts)))
+    (B.waiting c.loop-place.place (omega arith) (omega (arith, c.requires.starts)))
 
 pub loop-place-preserved : goal.loop-place-preserved
 loop-place-preserved c =
@@ -44,8 +48,11 @@ loop-place-preserved c =
         same_looks = w.put.ensures.looks ∙ I.same_looks;
         same_walk = w.put.ensures.walk ∙ I.same_walk;
         same_count = w.put.ensures.all_looks ∙ I.same_count;
-        starting = λ arc. starting-put arc (places c.args.self.now) (members_of c.args.starts.now) (state_of c.loop-place.self) (state_of w.put.new.self) c.loop-place.self.filled w.put.new.self.filled (position_of c.loop-place.self here) here here (I.starting arc)
-            (omega (arith, I.same_places)) (omega (arith, I.same_places, I.stored.position_below here below)) (I.stored.order_position here below) w.if-is_start.true w.put.ensures.put w.put.ensures.filled;
+        starting = λ arc. starting-put arc (places c.args.self.now) (members_of c.args.starts.now)
+            (state_of c.loop-place.self) (state_of w.put.new.self) c.loop-place.self.filled w.put.new.self.filled
+            (position_of c.loop-place.self here) here here (I.starting arc)
+            (omega (arith, I.same_places)) (omega (arith, I.same_places, I.stored.position_below here below))
+            (I.stored.order_position here below) w.if-is_start.true w.put.ensures.put w.put.ensures.filled;
       })
       | else-is_start w ↦ rw w.self-is (record {
         stored = I.stored;
@@ -53,7 +60,8 @@ loop-place-preserved c =
         same_looks = I.same_looks;
         same_walk = I.same_walk;
         same_count = I.same_count;
-        starting = λ arc. starting-skip arc (places c.args.self.now) (members_of c.args.starts.now) (state_of c.loop-place.self) c.loop-place.self.filled here (I.starting arc) w.if-is_start.false;
+        starting = λ arc. starting-skip arc (places c.args.self.now) (members_of c.args.starts.now)
+            (state_of c.loop-place.self) c.loop-place.self.filled here (I.starting arc) w.if-is_start.false;
       })
     ]
 
@@ -61,4 +69,6 @@ pub returns-clause-search : goal.returns-clause-search
 returns-clause-search c = λ arc. (c.loop-place.invariant.starting arc).search
 
 pub returns-clause-starts : goal.returns-clause-starts
-returns-clause-starts c = starting-done (λ _ _. false) (places c.args.self.now) (members_of c.args.starts.now) (state_of c.loop-place.self) c.loop-place.self.filled c.loop-place.place (c.loop-place.invariant.starting (λ _ _. false)) (omega arith)
+returns-clause-starts c = starting-done (λ _ _. false) (places c.args.self.now) (members_of c.args.starts.now)
+    (state_of c.loop-place.self) c.loop-place.self.filled c.loop-place.place
+    (c.loop-place.invariant.starting (λ _ _. false)) (omega arith)

@@ -9,6 +9,9 @@ use Rattle.exchange_graph.proofs.search.Search.shortest.Goals as goal
 
 pub returns-clause-none : goal.returns-clause-none
 returns-clause-none g c =
-    subst (λ (n : ℕ). IsNone c.shortest.result ↔ NoEndReached (g.A.Arcs.leads c.args.arcs.now) n (members_of c.args.starts.now) (members_of c.args.ends.now)) (ap (λ (f : Found). f.places) c.self.view_is)
-    (none-exactly (g.A.Arcs.leads c.args.arcs.now) (places c.self.inside.scan) (members_of c.args.starts.now) (members_of c.args.ends.now) (members_of c.shortest.new.self.reached.items) (walk_of c.shortest.new.self) c.shortest.result
+    subst (λ (n : ℕ). IsNone c.shortest.result ↔ NoEndReached (g.A.Arcs.leads c.args.arcs.now) n
+    (members_of c.args.starts.now) (members_of c.args.ends.now)) (ap (λ (f : Found). f.places) c.self.view_is)
+    (none-exactly (g.A.Arcs.leads c.args.arcs.now) (places c.self.inside.sweep.scan) (members_of c.args.starts.now)
+    (members_of c.args.ends.now) (members_of c.shortest.new.self.reached.items) (walk_of c.shortest.new.self)
+    c.shortest.result
     c.shortest.ensures.found c.shortest.ensures.closed c.shortest.ensures.reached)

@@ -16,7 +16,8 @@ add_flows-requires-clause-unknowns g c =
     omega (
       arith,
       listed-few c.args.components c.args.streams c.requires,
-      ap (λ (model : MixedModel). length (model.unknowns ++ map string_bytes c.in_ok-flows.field-0.items)) c.in_ok-model.ensures.empty ∙ ap length c.in_ok-flows.ensures,
+      ap (λ (model : MixedModel). length (model.unknowns ++ map string_bytes c.in_ok-flows.field-0.items))
+          c.in_ok-model.ensures.empty ∙ ap length c.in_ok-flows.ensures,
     )
 
 pub returns : goal.returns
@@ -25,7 +26,8 @@ returns g c = record {
   components = refl;
   streams = refl;
   units = c.new-3.ensures;
-  model = start-model g.F.Field.modulus c.args.version c.args.components c.args.streams c.requires c.in_ok-model.model c.add_flows.new.model (map string_bytes c.in_ok-flows.field-0.items) c.new-2.result.items
+  model = start-model g.F.Field.modulus c.args.version c.args.components c.args.streams c.requires c.in_ok-model.model
+      c.add_flows.new.model (map string_bytes c.in_ok-flows.field-0.items) c.new-2.result.items
       c.in_ok-model.ensures.empty c.in_ok-model.ensures.model c.in_ok-flows.ensures c.new-2.ensures.items c.in_ok-add_flows.ensures;
   reached = record { listed = c.requires; unit_items = []; units = refl };
 }

@@ -23,7 +23,7 @@ returns-clause-empty g c =
     let S = g.T.Tableau.state c.args.tableau in
     let unmatched : (y : ℕ) → is_matched c.in_ok-mates.mates y ≡ false = λ y.
     subst (λ m. is_matched m y ≡ false) (sym c.in_ok-mates.ensures.empty) (empty-unmatched c.l.inside.t y) in
-    subst (λ t. size_of (g.T.Tableau.state t) c.in_ok-open.field-0.pair.mates ≡ 0) (sym c.in_ok-open.ensures.tableau)
+    subst (λ t. size_of (g.T.Tableau.state t) c.in_ok-open.field-0.mover.pair.mates ≡ 0) (sym c.in_ok-open.ensures.tableau)
     (subst (λ m. size_of S m ≡ 0) (sym c.in_ok-open.ensures.mates)
     (sym (open-size g.F.Field.modulus S c.in_ok-mates.mates c.requires.no_base unmatched)))
 
@@ -31,7 +31,7 @@ pub returns-clause-layers : goal.returns-clause-layers
 returns-clause-layers g c =
     let p = g.F.Field.modulus in
     let q = c.args.l.now.q in
-    over-layers p c.args.l.now (g.T.Tableau.state c.in_ok-open.field-0.pair.tableau) c.in_ok-open.field-0.pair.mates
+    over-layers p c.args.l.now (g.T.Tableau.state c.in_ok-open.field-0.mover.pair.tableau) c.in_ok-open.field-0.mover.pair.mates
     (subst (λ t. IsBareOver p (height q) q.width (entry q) (g.T.Tableau.state t)) (sym c.in_ok-open.ensures.tableau)
     c.requires)
     (ap (λ (m : Matching). m.pattern) (c.in_ok-open.ensures.mates ∙ c.in_ok-mates.ensures.empty) ∙

@@ -1,12 +1,12 @@
 use Rattle.std.proofs.Common.{◌≡◌, ◌+◌, ◌*◌, ◌<◌, ◌≤◌, ◌∙◌, ap, refl, subst, sym, arith}
 use Rattle.closed_sets.specs.Closed.{IsReachedSet, NoEndReached}
 use Rattle.exchange_graph.specs.Marks.{members_of}
-use Rattle.exchange_graph.specs.Results.{Found, reached_of, step_of}
+use Rattle.exchange_graph.specs.Results.{vain_of, step_of}
 use Rattle.mixed_augmentation.specs.Moves.{IsFreeRow}
 use Rattle.mixed_matrices.specs.Arcs.{leads_to}
 use Rattle.mixed_matrices.specs.LayeredMatrices.{LayeredMatrix}
 use Rattle.mixed_matrices.specs.Tableaus.{HasTableau}
-use Rattle.search_laws.specs.Searches.{IsShortest}
+use Rattle.exchange_graph.specs.Sweeps.{IsShortestFromOne}
 use Rattle.independent_matching.specs.Marks.{IsTMark}
 use Rattle.independent_matching.specs.Sides.{in_q, layers_of, number, size_of, tableau_of}
 use Rattle.independent_matching.proofs.MarkLaws.{left-mark}
@@ -17,15 +17,15 @@ use Rattle.independent_matching.proofs.improver.Improver.improve_along.Goals as 
 pub augment-requires-clause-route : goal.augment-requires-clause-route
 augment-requires-clause-route g c =
     let p = g.F.Field.modulus in
-    let S = g.T.Tableau.state c.args.self.now.pair.tableau in
-    let M = c.args.self.now.pair.mates in
+    let S = g.T.Tableau.state c.args.self.now.mover.pair.tableau in
+    let M = c.args.self.now.mover.pair.mates in
     let ready = c.requires.ready in
-    let marks = c.args.self.now.marks in
-    let at = step_of c.shortest.new.self in
+    let marks = c.args.self.now.mover.marks in
+    let at = step_of c.shortest_in_turn.new.self in
     let arc = leads_to p (layers_of S M) (tableau_of S M) in
     search-route p S M ready.width marks ready.marks c.args.self.now.search.places ready.search ready.pair at c.in-Some.last c.step-x.result
-    (subst (λ free. IsShortest arc c.args.self.now.search.places (members_of free) (members_of marks.ends.items) at c.in-Some.last) c.deref.ensures.value
-    (subst (λ ends. IsShortest arc c.args.self.now.search.places (members_of c.deref.result.now)
+    (subst (λ free. IsShortestFromOne arc c.args.self.now.search.places (members_of free) (members_of marks.ends.items) at c.in-Some.last) c.deref.ensures.value
+    (subst (λ ends. IsShortestFromOne arc c.args.self.now.search.places (members_of c.deref.result.now)
     (members_of ends) at c.in-Some.last) c.deref-2.ensures.value c.in-Some.ensures.found))
     c.step-x.ensures c.unwrap-end.result
     (some-read c.free_row.result c.unwrap-end.result
@@ -35,60 +35,58 @@ augment-requires-clause-route g c =
 pub unwrap-end-requires : goal.unwrap-end-requires
 unwrap-end-requires g c =
     let p = g.F.Field.modulus in
-    let S = g.T.Tableau.state c.args.self.now.pair.tableau in
-    let M = c.args.self.now.pair.mates in
+    let S = g.T.Tableau.state c.args.self.now.mover.pair.tableau in
+    let M = c.args.self.now.mover.pair.mates in
     let ready = c.requires.ready in
-    let marks = c.args.self.now.marks in
-    let at = step_of c.shortest.new.self in
+    let marks = c.args.self.now.mover.marks in
+    let at = step_of c.shortest_in_turn.new.self in
     let arc = leads_to p (layers_of S M) (tableau_of S M) in
     c.free_row.ensures.end ∙
     walk-end p S M ready.width marks ready.marks c.args.self.now.search.places ready.search at c.in-Some.last c.step-x.result
-    (subst (λ free. IsShortest arc c.args.self.now.search.places (members_of free) (members_of marks.ends.items) at c.in-Some.last) c.deref.ensures.value
-    (subst (λ ends. IsShortest arc c.args.self.now.search.places (members_of c.deref.result.now)
+    (subst (λ free. IsShortestFromOne arc c.args.self.now.search.places (members_of free) (members_of marks.ends.items) at c.in-Some.last) c.deref.ensures.value
+    (subst (λ ends. IsShortestFromOne arc c.args.self.now.search.places (members_of c.deref.result.now)
     (members_of ends) at c.in-Some.last) c.deref-2.ensures.value c.in-Some.ensures.found))
     c.step-x.ensures
 
 pub close-requires-clause-by_t : goal.close-requires-clause-by_t
 close-requires-clause-by_t g c =
-    let S = g.T.Tableau.state c.args.self.now.pair.tableau in
-    let M = c.args.self.now.pair.mates in
+    let S = g.T.Tableau.state c.args.self.now.mover.pair.tableau in
+    let M = c.args.self.now.mover.pair.mates in
     let S' = g.T.Tableau.state c.augment.new.self.pair.tableau in
     let M' = c.augment.new.self.pair.mates in
     λ x l apart. subst (λ b. IsTMark M' b.items x) (sym c.augment.ensures.by_t)
-    (left-mark S S' M M' c.augment.ensures.layers c.unwrap-end.result c.augment.ensures.rows c.args.self.now.marks.by_t.items x
+    (left-mark S S' M M' c.augment.ensures.layers c.unwrap-end.result c.augment.ensures.rows c.args.self.now.mover.marks.by_t.items x
     (c.requires.ready.marks.by_t x (subst (λ n. x < n) (ap (λ (L : LayeredMatrix). L.columns) c.augment.ensures.layers) l)) apart)
 
 pub close-requires-clause-free : goal.close-requires-clause-free
 close-requires-clause-free g c =
-    let S = g.T.Tableau.state c.args.self.now.pair.tableau in
+    let S = g.T.Tableau.state c.args.self.now.mover.pair.tableau in
     let S' = g.T.Tableau.state c.augment.new.self.pair.tableau in
     λ x l ne.
     let here : x < S.columns = subst (λ n. x < n) (ap (λ (L : LayeredMatrix). L.columns) c.augment.ensures.layers) l in
     ap (λ f. members_of f.items x) c.augment.ensures.free ∙ (c.requires.ready.marks.free x here
-    ∙ sym (c.augment.ensures.taken.others x here (λ e. ne (e ∙ sym (c.step.ensures ∙ ap (λ s. step_of s 0) c.augment.ensures.search)))))
+    ∙ sym (c.augment.ensures.taken.others x here (λ e. ne (e ∙ sym c.step.ensures))))
 
 pub overflow_add-self : goal.overflow_add-self
 overflow_add-self g c =
-    let S = g.T.Tableau.state c.args.self.now.pair.tableau in
-    let M = c.args.self.now.pair.mates in
-    let small : c.augment.new.self.size ≤ 8192 =
-    omega (arith, c.augment.ensures.count, c.requires.ready.count, size-bound g.F.Field.modulus S M c.requires.ready.pair, c.augment.ensures.narrow) in
+    let S = g.T.Tableau.state c.args.self.now.mover.pair.tableau in
+    let M = c.args.self.now.mover.pair.mates in
+    let small : c.args.self.now.size ≤ 8192 =
+    omega (arith, c.requires.ready.count, size-bound g.F.Field.modulus S M c.requires.ready.pair, c.augment.ensures.narrow) in
     omega (arith, small)
 
 pub overflow_add-self-in-Some : goal.overflow_add-self-in-Some
 overflow_add-self-in-Some g c =
     let p = g.F.Field.modulus in
-    let S = g.T.Tableau.state c.args.self.now.pair.tableau in
-    let M = c.args.self.now.pair.mates in
+    let S = g.T.Tableau.state c.args.self.now.mover.pair.tableau in
+    let M = c.args.self.now.mover.pair.mates in
     let ready = c.requires.ready in
     let columns = c.augment.ensures.narrow in
     let size : c.args.self.now.size ≤ 8192 = omega (arith, ready.count, size-bound p S M ready.pair, columns) in
     omega (
       arith,
-      c.augment.ensures.looks,
       looks-bound c.args.self.now.size S.columns c.args.self.now.looks ready.few_looks size columns,
       c.looks.ensures,
-      ap (λ (s : Found). s.looks) c.augment.ensures.search,
       c.in-Some.ensures.few,
       ready.search,
       columns,
@@ -97,10 +95,10 @@ overflow_add-self-in-Some g c =
 pub returns-in-None-clause-no_walk : goal.returns-in-None-clause-no_walk
 returns-in-None-clause-no_walk g c =
     let p = g.F.Field.modulus in
-    let S = g.T.Tableau.state c.args.self.now.pair.tableau in
-    let M = c.args.self.now.pair.mates in
+    let S = g.T.Tableau.state c.args.self.now.mover.pair.tableau in
+    let M = c.args.self.now.mover.pair.mates in
     let ready = c.requires.ready in
-    let marks = c.args.self.now.marks in
+    let marks = c.args.self.now.mover.marks in
     let arc = leads_to p (layers_of S M) (tableau_of S M) in
     let places = c.args.self.now.search.places in
     λ _. no_walk-told p S M ready.width marks ready.marks places ready.search
@@ -110,43 +108,36 @@ returns-in-None-clause-no_walk g c =
 pub returns-in-None-clause-reached : goal.returns-in-None-clause-reached
 returns-in-None-clause-reached g c =
     let p = g.F.Field.modulus in
-    let S = g.T.Tableau.state c.args.self.now.pair.tableau in
-    let M = c.args.self.now.pair.mates in
+    let S = g.T.Tableau.state c.args.self.now.mover.pair.tableau in
+    let M = c.args.self.now.mover.pair.mates in
     let ready = c.requires.ready in
-    let marks = c.args.self.now.marks in
+    let marks = c.args.self.now.mover.marks in
     let arc = leads_to p (layers_of S M) (tableau_of S M) in
     let places = c.args.self.now.search.places in
-    let found = reached_of c.shortest.new.self in
+    let found = vain_of c.shortest_in_turn.new.self in
     λ _. reached-told p S M ready.width marks ready.marks places ready.search found
     (subst (λ free. IsReachedSet arc places (members_of free) found) c.deref.ensures.value c.in-None.ensures.reached)
 
 pub returns-in-Some-clause-ready : goal.returns-in-Some-clause-ready
 returns-in-Some-clause-ready g c =
     let p = g.F.Field.modulus in
-    let S = g.T.Tableau.state c.args.self.now.pair.tableau in
-    let M = c.args.self.now.pair.mates in
+    let S = g.T.Tableau.state c.args.self.now.mover.pair.tableau in
+    let M = c.args.self.now.mover.pair.mates in
     let S' = g.T.Tableau.state c.augment.new.self.pair.tableau in
     let M' = c.augment.new.self.pair.mates in
     let ready = c.requires.ready in
     let E = c.augment.ensures in
     let same : S'.columns ≡ S.columns = ap (λ (L : LayeredMatrix). L.columns) E.layers in
-    let grown : size_of S' M' ≡ c.augment.new.self.size + 1 = omega (arith, E.size, E.count, ready.count) in
+    let grown : size_of S' M' ≡ c.args.self.now.size + 1 = omega (arith, E.size, ready.count) in
     record {
       pair = subst (λ L. HasTableau p L (tableau_of S' M')) (sym E.layers) E.pair;
       width = E.width ∙ (ready.width ∙ sym same);
-      search = ap (λ s. s.places) E.search ∙ (c.in-Some.ensures.places ∙ (ready.search ∙ sym same));
+      search = c.in-Some.ensures.places ∙ (ready.search ∙ sym same);
       marks = c.close.ensures;
       count = sym grown;
       few = subst (λ n. c.augment.new.self.pivots ≤ n * n) grown E.few;
-      few_looks = subst (λ n. c.augment.new.self.looks + c.looks.result ≤ (c.augment.new.self.size + 1) * n) (sym same)
-          (looks-more c.args.self.now.size (c.augment.new.self.size + 1) S.columns c.args.self.now.looks
-          c.looks.result (c.augment.new.self.looks + c.looks.result) ready.few_looks
-          (omega (arith, E.looks)) (omega (
-            arith,
-            c.looks.ensures,
-            ap
-                (λ (s : Found). s.looks) E.search,
-            c.in-Some.ensures.few,
-            ready.search,
-          )) (omega (arith, E.count)));
+      few_looks = subst (λ n. c.args.self.now.looks + c.looks.result ≤ (c.args.self.now.size + 1) * n) (sym same)
+          (looks-more c.args.self.now.size (c.args.self.now.size + 1) S.columns c.args.self.now.looks
+          c.looks.result (c.args.self.now.looks + c.looks.result) ready.few_looks
+          refl (omega (arith, c.looks.ensures, c.in-Some.ensures.few, ready.search)) refl);
     }

@@ -1,11 +1,6 @@
-use Rattle.std.proofs.Common.{◌≡◌, ◌<◌, ◌≤◌, ℕ, true, slice_index}
+use Rattle.std.proofs.Common.{◌≡◌, ◌<◌, ◌≤◌, ℕ, slice_index}
 use Rattle.bipartite_matching.specs.Matchings.{HasPair}
-use Rattle.independent_matching.specs.Sides.{IsNearer, t_arc}
 use Rattle.independent_matching.proofs.pair.Pair.next_in_t.Given as goal
 
-abbrev pub invariant-loop-row : goal.invariant-loop-row
-invariant-loop-row g l = record {
-  within : l.least ≤ l.end;
-  found : l.least < l.end → (l.from ≤ l.least) × (t_arc l.self.mates l.x l.least ≡ true);
-  none : (k y : ℕ) → k < l.row-index → IsNearer (HasPair l.self.mates (slice_index l.row-items k)) l.x l.from l.least y → ⊥;
-}
+abbrev pub invariant-loop-at : goal.invariant-loop-at
+invariant-loop-at g l = (k y : ℕ) → l.from ≤ k → k < l.at → HasPair l.self.mates (slice_index l.rows k) y → y ≡ l.x

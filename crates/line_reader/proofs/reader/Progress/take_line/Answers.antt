@@ -17,6 +17,8 @@ returns-then-is_within_line-clause-fed g c =
 pub returns-clause-fed : goal.returns-clause-fed
 returns-clause-fed g c =
     let at = c.args.self.now in
-    fed-whole g.R.LineFormat.rules g.R.LineFormat.has_read at.format at.number at.line.items at.commented c.args.part.now c.without_return.result.now at.refused c.read_or_refuse.new.format c.saturating_add-self.result c.in_ok-self.field-0
+    fed-whole g.R.LineFormat.rules g.R.LineFormat.has_read at.format at.number at.line.items at.commented
+    c.args.part.now c.without_return.result.now at.refused c.read_or_refuse.new.format c.saturating_add-self.result
+    c.in_ok-self.field-0
     c.requires.none (c.is_within_line.ensures.line c.if-is_within_line.false) (c.is_within_line.ensures.commented c.if-is_within_line.false)
     c.requires.unended c.without_return.ensures c.saturating_add-self.ensures c.in_ok-self.ensures.read

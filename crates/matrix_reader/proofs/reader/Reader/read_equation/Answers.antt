@@ -14,7 +14,8 @@ returns-in_err-i-clause-read g c = λ before read.
     let left = IsRead g.F.Field.modulus (before ++ (codes "eq" ∷ all) ∷ []) (c.args.line + 1) new.model new.last_lines.items in
     rw failed.1
     (subst (λ fault. AnswersRule (equation_line_rule g.F.Field.modulus before all) left (Err fault)) (sym failed.2)
-    (equation_fault g.F.Field.modulus before all (words c.next.new.self) c.in-Some.equation.text.now c.args.line c.args.self.now.model new.model c.args.self.now.last_lines.items c.in_err-i.field-0.0 left
+    (equation_fault g.F.Field.modulus before all (words c.next.new.self) c.in-Some.equation.text.now c.args.line
+    c.args.self.now.model new.model c.args.self.now.last_lines.items c.in_err-i.field-0.0 left
     (ap words c.in-Some.ensures.steps) read (c.in_err-i.ensures.added c.args.line)))
 
 pub returns-clause-read : goal.returns-clause-read

@@ -26,6 +26,8 @@ loop-item-preserved g c =
           (words tokens) c.args.line old lines) c.in-Some.ensures.steps
           (c.loop-item.invariant.progress before name numbered within) in
           let read = c.in_ok-read_item.ensures.read before name seen numbered progress.within in
-          subst (λ front. ItemsSoFar g.F.Field.modulus before name all front left c.args.line c.read_item.new.self.model c.read_item.new.self.last_lines.items) (sym more)
-          (ItemsSoFar-more g.F.Field.modulus before name all seen left item c.args.line old c.read_item.new.self.model lines c.read_item.new.self.last_lines.items progress read.0 read.1);
+          subst (λ front. ItemsSoFar g.F.Field.modulus before name all front left c.args.line c.read_item.new.self.model
+          c.read_item.new.self.last_lines.items) (sym more)
+          (ItemsSoFar-more g.F.Field.modulus before name all seen left item c.args.line old c.read_item.new.self.model
+          lines c.read_item.new.self.last_lines.items progress read.0 read.1);
     }

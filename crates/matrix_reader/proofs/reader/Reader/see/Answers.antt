@@ -16,7 +16,9 @@ returns-in_ok-push-clause-seen g c =
     let old = c.args.self.now.model in
     let place = position (bytes_eq c.args.unknown.now) old.unknowns in
     let found = FoundOrAdded-from old c.find_or_add_unknown.new.self c.args.unknown.now c.in_ok-j.j c.in_ok-j.ensures.answer c.in_ok-j.ensures.seen in
-    seen_new g.F.Field.modulus place old c.find_or_add_unknown.new.self c.args.unknown.now c.in_ok-j.j c.args.line c.args.self.now.last_lines.items c.push.new.self.items found c.in_ok-j.ensures.model (omega arith) c.in_ok-push.ensures.items
+    seen_new g.F.Field.modulus place old c.find_or_add_unknown.new.self c.args.unknown.now c.in_ok-j.j c.args.line
+    c.args.self.now.last_lines.items c.push.new.self.items found c.in_ok-j.ensures.model (omega arith)
+    c.in_ok-push.ensures.items
 
 pub returns-else-j-len-clause-lengths : goal.returns-else-j-len-clause-lengths
 returns-else-j-len-clause-lengths g c =
@@ -31,4 +33,5 @@ returns-else-j-len-clause-seen g c =
     let old = c.args.self.now.model in
     let place = position (bytes_eq c.args.unknown.now) old.unknowns in
     let found = FoundOrAdded-from old c.find_or_add_unknown.new.self c.args.unknown.now c.in_ok-j.j c.in_ok-j.ensures.answer c.in_ok-j.ensures.seen in
-    seen_known g.F.Field.modulus place old c.find_or_add_unknown.new.self c.args.unknown.now c.in_ok-j.j c.args.line c.args.self.now.last_lines.items found (λ last. omega (arith, last))
+    seen_known g.F.Field.modulus place old c.find_or_add_unknown.new.self c.args.unknown.now c.in_ok-j.j c.args.line
+    c.args.self.now.last_lines.items found (λ last. omega (arith, last))

@@ -25,6 +25,8 @@ loop-unknown-preserved g c =
           (words tokens) c.args.line old lines) c.in-Some.ensures.steps
           (c.loop-unknown.invariant.progress before names read) in
           let sees = c.in_ok-see_unknown.ensures.seen before (names ++ seen) progress.read in
-          subst (λ front. NamesSoFar g.F.Field.modulus before names all front left c.args.line c.see_unknown.new.self.model c.see_unknown.new.self.last_lines.items) (sym more)
-          (NamesSoFar-more g.F.Field.modulus before names all seen left name c.args.line old c.see_unknown.new.self.model lines c.see_unknown.new.self.last_lines.items progress sees.0 sees.1);
+          subst (λ front. NamesSoFar g.F.Field.modulus before names all front left c.args.line
+          c.see_unknown.new.self.model c.see_unknown.new.self.last_lines.items) (sym more)
+          (NamesSoFar-more g.F.Field.modulus before names all seen left name c.args.line old
+          c.see_unknown.new.self.model lines c.see_unknown.new.self.last_lines.items progress sees.0 sees.1);
     }

@@ -1,4 +1,4 @@
-use Rattle.std.proofs.Common.{◌≡◌, ◌-◌, ℕ, ◌<◌, true}
+use Rattle.std.proofs.Common.{◌≡◌, ◌-◌, ◌^◌, ℕ, ◌<◌, true}
 use Rattle.bit_table.specs.Bits.{bit_in}
 use Rattle.minimiser_lattice.specs.Components.{IsStored, places, state_of}
 use Rattle.minimiser_lattice.proofs.CloseLaws.{IsAbsorbing}
@@ -8,9 +8,10 @@ abbrev pub invariant-loop-to : goal.invariant-loop-to
 invariant-loop-to g l = record {
   stored : IsStored l.self;
   kept : l.self ≡ record l.fn.self { strict = l.self.strict };
-  absorbing : IsAbsorbing (g.A.Arcs.leads l.arcs) (places l.fn.self) (state_of l.self) l.place l.from;
+  fits : l.from < 2 ^ 64;
+  absorbing : IsAbsorbing (g.A.Arcs.leads l.arcs) (g.A.Arcs.turn l.arcs) (places l.fn.self) (state_of l.self) l.place l.from;
   row : (y : ℕ) → y < places l.fn.self → bit_in l.fn.self.strict l.fn.self.count y ≡ true → bit_in l.self.strict l.fn.self.count y ≡ true;
 }
 
 abbrev pub decreases-loop-to : goal.decreases-loop-to
-decreases-loop-to g l = places l.fn.self - l.from
+decreases-loop-to g l = 2 ^ 64 - l.from

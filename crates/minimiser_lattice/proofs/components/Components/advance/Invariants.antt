@@ -1,4 +1,4 @@
-use Rattle.std.proofs.Common.{◌≡◌, ◌-◌}
+use Rattle.std.proofs.Common.{◌≡◌, ◌-◌, ◌<◌, ◌^◌}
 use Rattle.minimiser_lattice.specs.Components.{IsStored, places, state_of}
 use Rattle.minimiser_lattice.proofs.PathLaws.{IsAdvancing}
 use Rattle.minimiser_lattice.proofs.components.Components.advance.Given as goal
@@ -8,8 +8,9 @@ invariant-loop-to g l = record {
   stored : IsStored l.self;
   seen : l.self.seen ≡ l.fn.self.seen;
   depth : l.self.depth ≡ l.fn.self.depth;
-  advancing : IsAdvancing (g.A.Arcs.leads l.arcs) (places l.fn.self) (state_of l.self) l.place l.from;
+  fits : l.from < 2 ^ 64;
+  advancing : IsAdvancing (g.A.Arcs.leads l.arcs) (g.A.Arcs.turn l.arcs) (places l.fn.self) (state_of l.self) l.place l.from;
 }
 
 abbrev pub decreases-loop-to : goal.decreases-loop-to
-decreases-loop-to g l = places l.fn.self - l.from
+decreases-loop-to g l = 2 ^ 64 - l.from

@@ -12,21 +12,23 @@ use Rattle.minimiser_lattice.proofs.components.Components.close.Goals as goal
 
 pub index-from-requires : goal.index-from-requires
 index-from-requires g c = let F =
-    going_fits (g.A.Arcs.leads c.args.arcs.now) (places c.args.self.now) (state_of c.args.self.now) c.requires.going
+    going_fits (g.A.Arcs.leads c.args.arcs.now) (g.A.Arcs.turn c.args.arcs.now) (places c.args.self.now) (state_of c.args.self.now) c.requires.going
     in omega (arith, F.0, F.2, c.requires.stored.path, c.requires.some)
 
 pub number_group-requires-clause-from : goal.number_group-requires-clause-from
 number_group-requires-clause-from g c =
     let s = c.args.self.now in
-    let F = going_fits (g.A.Arcs.leads c.args.arcs.now) (places s) (state_of s) c.requires.going in
+    let F = going_fits (g.A.Arcs.leads c.args.arcs.now) (g.A.Arcs.turn c.args.arcs.now) (places s) (state_of s) c.requires.going in
     omega (
       arith,
-      (last_below (g.A.Arcs.leads c.args.arcs.now) (places s) (state_of s) c.requires.going c.requires.some).0,
+      (last_below (g.A.Arcs.leads c.args.arcs.now) (g.A.Arcs.turn c.args.arcs.now) (places s) (state_of s) c.requires.going c.requires.some).0,
       item_is s.path.items (s.depth - 1) c.index-from.result.now (omega (arith, F.0, F.2, c.requires.stored.path, c.requires.some)) c.index-from.ensures,
     )
 
 pub number_group-requires-clause-fits : goal.number_group-requires-clause-fits
-number_group-requires-clause-fits g c = (going_fits (g.A.Arcs.leads c.args.arcs.now) (places c.args.self.now) (state_of c.args.self.now) c.requires.going).0
+number_group-requires-clause-fits g c =
+    (going_fits (g.A.Arcs.leads c.args.arcs.now) (g.A.Arcs.turn c.args.arcs.now) (places c.args.self.now)
+    (state_of c.args.self.now) c.requires.going).0
 
 pub number_group-requires-clause-below : goal.number_group-requires-clause-below
 number_group-requires-clause-below g c = c.requires.going.stack_below
@@ -35,12 +37,12 @@ pub loop-position-init : goal.loop-position-init
 loop-position-init g c =
     let s = c.args.self.now in
     let t = c.number_group.new.self in
-    let F = going_fits (g.A.Arcs.leads c.args.arcs.now) (places s) (state_of s) c.requires.going in
+    let F = going_fits (g.A.Arcs.leads c.args.arcs.now) (g.A.Arcs.turn c.args.arcs.now) (places s) (state_of s) c.requires.going in
     let is =
     item_is s.path.items (s.depth - 1) c.index-from.result.now
     (omega (arith, F.0, F.2, c.requires.stored.path, c.requires.some)) c.index-from.ensures in
     let C : IsClosing (g.A.Arcs.leads c.args.arcs.now) (places s) (members_of t.done.items) (number_of t) s.count (bit_in s.strict) =
-    closes-start (g.A.Arcs.leads c.args.arcs.now) (places s) (state_of s) c.index-from.result.now c.requires.going
+    closes-start (g.A.Arcs.leads c.args.arcs.now) (g.A.Arcs.turn c.args.arcs.now) (places s) (state_of s) c.index-from.result.now c.requires.going
     c.requires.some c.requires.finished c.requires.begins is (members_of t.done.items) (number_of t)
     c.number_group.ensures.numbered in
     record {
@@ -58,7 +60,7 @@ loop-position-init g c =
 pub index-place-requires : goal.index-place-requires
 index-place-requires g c =
     let I = c.loop-position.invariant in
-    let F = going_fits (g.A.Arcs.leads c.args.arcs.now) (places c.args.self.now) (state_of c.args.self.now) c.requires.going in
+    let F = going_fits (g.A.Arcs.leads c.args.arcs.now) (g.A.Arcs.turn c.args.arcs.now) (places c.args.self.now) (state_of c.args.self.now) c.requires.going in
     omega (arith, F.0, I.stored.stack, ap places I.kept, ap (λ (v : Components). v.height) c.number_group.ensures.kept)
 
 pub absorb-requires-clause-closing : goal.absorb-requires-clause-closing
@@ -70,7 +72,7 @@ pub absorb-requires-clause-place : goal.absorb-requires-clause-place
 absorb-requires-clause-place g c =
     let I = c.loop-position.invariant in
     let s = c.loop-position.self in
-    let F = going_fits (g.A.Arcs.leads c.args.arcs.now) (places c.args.self.now) (state_of c.args.self.now) c.requires.going in
+    let F = going_fits (g.A.Arcs.leads c.args.arcs.now) (g.A.Arcs.turn c.args.arcs.now) (places c.args.self.now) (state_of c.args.self.now) c.requires.going in
     let less : c.loop-position.position < c.args.self.now.height = omega (arith, ap (λ (v : Components). v.height) c.number_group.ensures.kept) in
     omega (
       arith,
@@ -85,7 +87,7 @@ pub absorb-requires-clause-done : goal.absorb-requires-clause-done
 absorb-requires-clause-done g c =
     let I = c.loop-position.invariant in
     let s = c.loop-position.self in
-    let F = going_fits (g.A.Arcs.leads c.args.arcs.now) (places c.args.self.now) (state_of c.args.self.now) c.requires.going in
+    let F = going_fits (g.A.Arcs.leads c.args.arcs.now) (g.A.Arcs.turn c.args.arcs.now) (places c.args.self.now) (state_of c.args.self.now) c.requires.going in
     let less : c.loop-position.position < c.args.self.now.height = omega (arith, ap (λ (v : Components). v.height) c.number_group.ensures.kept) in
     let is =
     item_is s.stack.items c.loop-position.position c.index-place.result.now
@@ -97,7 +99,7 @@ pub absorb-requires-clause-number : goal.absorb-requires-clause-number
 absorb-requires-clause-number g c =
     let I = c.loop-position.invariant in
     let s = c.loop-position.self in
-    let F = going_fits (g.A.Arcs.leads c.args.arcs.now) (places c.args.self.now) (state_of c.args.self.now) c.requires.going in
+    let F = going_fits (g.A.Arcs.leads c.args.arcs.now) (g.A.Arcs.turn c.args.arcs.now) (places c.args.self.now) (state_of c.args.self.now) c.requires.going in
     let less : c.loop-position.position < c.args.self.now.height = omega (arith, ap (λ (v : Components). v.height) c.number_group.ensures.kept) in
     let is =
     item_is s.stack.items c.loop-position.position c.index-place.result.now
@@ -113,7 +115,7 @@ loop-position-preserved g c =
     let E = c.absorb.ensures in
     let n = places c.args.self.now in
     let same : places s ≡ n = ap places I.kept in
-    let F = going_fits (g.A.Arcs.leads c.args.arcs.now) n (state_of c.args.self.now) c.requires.going in
+    let F = going_fits (g.A.Arcs.leads c.args.arcs.now) (g.A.Arcs.turn c.args.arcs.now) n (state_of c.args.self.now) c.requires.going in
     let less : c.loop-position.position < c.args.self.now.height = omega (arith, ap (λ (v : Components). v.height) c.number_group.ensures.kept) in
     let is = item_is s.stack.items c.loop-position.position c.index-place.result.now (omega (arith, F.0, I.stored.stack, same, less)) c.index-place.ensures in
     let stack : (p : ℕ) → get_or t.stack.items p 0 ≡ get_or s.stack.items p 0 = λ p. ap (λ (v : Components). get_or v.stack.items p 0) E.kept in
@@ -164,11 +166,11 @@ pub returns-clause-going : goal.returns-clause-going
 returns-clause-going g c =
     let s = c.args.self.now in
     let I = c.loop-position.invariant in
-    let F = going_fits (g.A.Arcs.leads c.args.arcs.now) (places s) (state_of s) c.requires.going in
+    let F = going_fits (g.A.Arcs.leads c.args.arcs.now) (g.A.Arcs.turn c.args.arcs.now) (places s) (state_of s) c.requires.going in
     let is =
     item_is s.path.items (s.depth - 1) c.index-from.result.now
     (omega (arith, F.0, F.2, c.requires.stored.path, c.requires.some)) c.index-from.ensures in
-    closes-end (g.A.Arcs.leads c.args.arcs.now) (places s) (state_of s) c.index-from.result.now c.requires.going
+    closes-end (g.A.Arcs.leads c.args.arcs.now) (g.A.Arcs.turn c.args.arcs.now) (places s) (state_of s) c.index-from.result.now c.requires.going
     c.requires.some c.requires.finished c.requires.begins is
     (state_of c.loop-position.self) I.numbered (ap state_of I.kept) I.closing
     (λ p y a l. I.told p y a

@@ -10,7 +10,7 @@ advance-requires-clause-places g c = omega (arith, c.requires.places, c.loop-sel
 
 pub advance-requires-clause-going : goal.advance-requires-clause-going
 advance-requires-clause-going g c =
-    subst (λ (n : ℕ). IsGoing (g.A.Arcs.leads c.args.arcs.now) n (state_of c.loop-self.self))
+    subst (λ (n : ℕ). IsGoing (g.A.Arcs.leads c.args.arcs.now) (g.A.Arcs.turn c.args.arcs.now) n (state_of c.loop-self.self))
     (sym c.loop-self.invariant.same_places) c.loop-self.invariant.going
 
 pub enter-requires-clause-height : goal.enter-requires-clause-height
@@ -18,7 +18,7 @@ enter-requires-clause-height g c = let E = c.in-Some.ensures.found in let t = c.
     omega (
       arith,
       ap Rattle.std.specs.Prelude.vec_len c.advance.ensures.seen,
-      (enter_room (g.A.Arcs.leads c.args.arcs.now) (places c.loop-self.self) (state_of t) c.advance.ensures.going
+      (enter_room (g.A.Arcs.leads c.args.arcs.now) (g.A.Arcs.turn c.args.arcs.now) (places c.loop-self.self) (state_of t) c.advance.ensures.going
           c.in-Some.place E.0 E.1).0,
     )
 
@@ -27,7 +27,7 @@ enter-requires-clause-groups g c = let E = c.in-Some.ensures.found in let t = c.
     omega (
       arith,
       ap Rattle.std.specs.Prelude.vec_len c.advance.ensures.seen,
-      (enter_room (g.A.Arcs.leads c.args.arcs.now) (places c.loop-self.self) (state_of t) c.advance.ensures.going
+      (enter_room (g.A.Arcs.leads c.args.arcs.now) (g.A.Arcs.turn c.args.arcs.now) (places c.loop-self.self) (state_of t) c.advance.ensures.going
           c.in-Some.place E.0 E.1).1,
     )
 
@@ -36,7 +36,7 @@ enter-requires-clause-depth g c = let E = c.in-Some.ensures.found in let t = c.a
     omega (
       arith,
       ap Rattle.std.specs.Prelude.vec_len c.advance.ensures.seen,
-      (enter_room (g.A.Arcs.leads c.args.arcs.now) (places c.loop-self.self) (state_of t) c.advance.ensures.going
+      (enter_room (g.A.Arcs.leads c.args.arcs.now) (g.A.Arcs.turn c.args.arcs.now) (places c.loop-self.self) (state_of t) c.advance.ensures.going
           c.in-Some.place E.0 E.1).2,
     )
 
@@ -63,8 +63,8 @@ loop-self-preserved-in-Some g c =
     record {
       stored = c.enter.ensures.stored;
       same_places = c.enter.ensures.places ∙ (same ∙ I.same_places);
-      going = entered-next (g.A.Arcs.leads c.args.arcs.now) n (state_of t) (state_of c.enter.new.self) c.in-Some.place
-          (subst (λ (m : ℕ). IsGoing (g.A.Arcs.leads c.args.arcs.now) m (state_of t)) I.same_places
+      going = entered-next (g.A.Arcs.leads c.args.arcs.now) (g.A.Arcs.turn c.args.arcs.now) n (state_of t) (state_of c.enter.new.self) c.in-Some.place
+          (subst (λ (m : ℕ). IsGoing (g.A.Arcs.leads c.args.arcs.now) (g.A.Arcs.turn c.args.arcs.now) m (state_of t)) I.same_places
           c.advance.ensures.going) (omega (arith, c.advance.ensures.depth, c.loop-self-test.true))
           c.enter.ensures.entered (omega (arith, E.0, I.same_places)) E.1 E.2;
       seen = λ y h. entered-seen (state_of t) (state_of c.enter.new.self) c.in-Some.place y c.enter.ensures.entered

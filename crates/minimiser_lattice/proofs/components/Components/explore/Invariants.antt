@@ -9,7 +9,7 @@ abbrev pub invariant-loop-self : goal.invariant-loop-self
 invariant-loop-self g l = record {
   stored : IsStored l.self;
   same_places : places l.self ≡ places l.fn.self;
-  going : IsGoing (g.A.Arcs.leads l.arcs) (places l.fn.self) (state_of l.self);
+  going : IsGoing (g.A.Arcs.leads l.arcs) (g.A.Arcs.turn l.arcs) (places l.fn.self) (state_of l.self);
   seen : (y : ℕ) → members_of l.fn.self.seen.items y ≡ true → members_of l.self.seen.items y ≡ true;
 }
 

@@ -13,7 +13,7 @@ pub loop-root-init : goal.loop-root-init
 loop-root-init g c = record {
   stored = c.clear.ensures.stored;
   same_places = c.clear.ensures.places;
-  going = c.clear.ensures.going (g.A.Arcs.leads c.args.arcs.now);
+  going = c.clear.ensures.going (g.A.Arcs.leads c.args.arcs.now) (g.A.Arcs.turn c.args.arcs.now);
   depth = c.clear.ensures.depth;
   seen = λ y l. absurd (omega arith);
 }
@@ -22,20 +22,31 @@ pub enter-requires-clause-height : goal.enter-requires-clause-height
 enter-requires-clause-height g c = let I = c.loop-root.invariant in let s = c.loop-root.self in
     let below : c.loop-root.root < places c.args.self.now = omega (arith, c.clear.ensures.places) in
     let fresh = mark_read s.seen.items c.loop-root.root c.index.result.now (omega (arith, I.same_places, below)) c.index.ensures ∙ c.if-not-index.true in
-    omega (arith, I.same_places, (enter_room (g.A.Arcs.leads c.args.arcs.now) (places c.args.self.now) (state_of s) I.going c.loop-root.root below fresh).0)
+    omega (
+      arith,
+      I.same_places,
+      (enter_room (g.A.Arcs.leads c.args.arcs.now) (g.A.Arcs.turn c.args.arcs.now) (places c.args.self.now)
+          (state_of s) I.going c.loop-root.root below fresh).0,
+    )
 
 pub enter-requires-clause-groups : goal.enter-requires-clause-groups
 enter-requires-clause-groups g c = let I = c.loop-root.invariant in let s = c.loop-root.self in
     let below : c.loop-root.root < places c.args.self.now = omega (arith, c.clear.ensures.places) in
     let fresh = mark_read s.seen.items c.loop-root.root c.index.result.now (omega (arith, I.same_places, below)) c.index.ensures ∙ c.if-not-index.true in
-    omega (arith, I.same_places, (enter_room (g.A.Arcs.leads c.args.arcs.now) (places c.args.self.now) (state_of s) I.going c.loop-root.root below fresh).1)
+    omega (
+      arith,
+      I.same_places,
+      (enter_room (g.A.Arcs.leads c.args.arcs.now) (g.A.Arcs.turn c.args.arcs.now) (places c.args.self.now)
+          (state_of s) I.going c.loop-root.root below fresh).1,
+    )
 
 pub explore-requires-clause-going : goal.explore-requires-clause-going
 explore-requires-clause-going g c = let I = c.loop-root.invariant in let s = c.loop-root.self in
     let below : c.loop-root.root < places c.args.self.now = omega (arith, c.clear.ensures.places) in
     let fresh = mark_read s.seen.items c.loop-root.root c.index.result.now (omega (arith, I.same_places, below)) c.index.ensures ∙ c.if-not-index.true in
-    subst (λ (n : ℕ). IsGoing (g.A.Arcs.leads c.args.arcs.now) n (state_of c.enter.new.self)) (sym (c.enter.ensures.places ∙ I.same_places))
-    (entered-first (g.A.Arcs.leads c.args.arcs.now) (places c.args.self.now) (state_of s) (state_of c.enter.new.self)
+    subst (λ (n : ℕ). IsGoing (g.A.Arcs.leads c.args.arcs.now) (g.A.Arcs.turn c.args.arcs.now) n
+    (state_of c.enter.new.self)) (sym (c.enter.ensures.places ∙ I.same_places))
+    (entered-first (g.A.Arcs.leads c.args.arcs.now) (g.A.Arcs.turn c.args.arcs.now) (places c.args.self.now) (state_of s) (state_of c.enter.new.self)
     c.loop-root.root I.going I.depth c.enter.ensures.entered below fresh)
 
 pub loop-root-preserved : goal.loop-root-preserved
@@ -49,7 +60,7 @@ loop-root-preserved g c =
       | then-not-index w ↦ rw w.self-is (record {
         stored = w.explore.ensures.stored;
         same_places = w.explore.ensures.places ∙ (w.enter.ensures.places ∙ I.same_places);
-        going = subst (λ (n : ℕ). IsGoing (g.A.Arcs.leads c.args.arcs.now) n (state_of w.explore.new.self))
+        going = subst (λ (n : ℕ). IsGoing (g.A.Arcs.leads c.args.arcs.now) (g.A.Arcs.turn c.args.arcs.now) n (state_of w.explore.new.self))
             (w.enter.ensures.places ∙ I.same_places) w.explore.ensures.going;
         depth = w.explore.ensures.depth;
         seen = λ y l. w.explore.ensures.seen y (elim (nat_cases y root) [
@@ -72,6 +83,6 @@ loop-root-preserved g c =
 pub returns-clause-quotient : goal.returns-clause-quotient
 returns-clause-quotient g c =
     let I = c.loop-root.invariant in
-    quotient (g.A.Arcs.leads c.args.arcs.now) (places c.args.self.now) (state_of c.loop-root.self) I.going
-    (λ y l. all_done (g.A.Arcs.leads c.args.arcs.now) (places c.args.self.now) (state_of c.loop-root.self) I.going
+    quotient (g.A.Arcs.leads c.args.arcs.now) (g.A.Arcs.turn c.args.arcs.now) (places c.args.self.now) (state_of c.loop-root.self) I.going
+    (λ y l. all_done (g.A.Arcs.leads c.args.arcs.now) (g.A.Arcs.turn c.args.arcs.now) (places c.args.self.now) (state_of c.loop-root.self) I.going
     I.depth y l (I.seen y (omega (arith, c.clear.ensures.places))))

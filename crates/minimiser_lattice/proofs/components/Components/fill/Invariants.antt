@@ -8,7 +8,7 @@ abbrev pub invariant-loop-root : goal.invariant-loop-root
 invariant-loop-root g l = record {
   stored : IsStored l.self;
   same_places : places l.self ≡ places l.fn.self;
-  going : IsGoing (g.A.Arcs.leads l.arcs) (places l.fn.self) (state_of l.self);
+  going : IsGoing (g.A.Arcs.leads l.arcs) (g.A.Arcs.turn l.arcs) (places l.fn.self) (state_of l.self);
   depth : l.self.depth ≡ 0;
   seen : (y : ℕ) → y < l.root → members_of l.self.seen.items y ≡ true;
 }

@@ -22,12 +22,12 @@ returns-clause-lattice g c =
     subst (λ (n : ℕ). IsQuotient arc n (number_of cs) cs.count (bit_in cs.strict)) (sym c.fill.ensures.places)
     c.fill.ensures.quotient in
     let D = middle-tells arc (places cs) starts ends (number_of cs) cs.count (bit_in cs.strict) Q
-    (members_of m.first.items) (members_of m.last.items) (members_of m.middle.items) c.mark.ensures.marked in
+    (members_of m.first.items) (members_of m.last.items) c.mark.ensures.marked in
     let is =
     lattice-is arc (places cs) starts ends (number_of cs) cs.count (bit_in cs.strict) Q
-    (members_of m.first.items) (members_of m.last.items) (members_of m.middle.items) c.mark.ensures.marked
+    (members_of m.first.items) (members_of m.last.items) c.mark.ensures.marked
     (λ k. get_or l.rank.items k 0) (λ j. get_or l.listed.items j 0) l.blocks
-    (c.list.ensures.listing arc starts ends D) (members_of l.placed.items) c.list.ensures.has (bit_in r.between)
+    (c.list.ensures.listing arc starts ends D) c.list.ensures.has (bit_in r.between)
     c.cover.ensures.between in
     subst (λ (n : ℕ). IsLattice arc n starts ends
     (parts_from (places cs) (number_of cs) (members_of r.first.items) (members_of r.last.items)

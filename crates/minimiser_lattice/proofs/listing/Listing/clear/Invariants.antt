@@ -10,6 +10,5 @@ invariant-loop-k l = record {
   blocks : l.self.blocks ≡ 0;
   first : (k : ℕ) → k < l.k → members_of l.self.first.items k ≡ false;
   last : (k : ℕ) → k < l.k → members_of l.self.last.items k ≡ false;
-  placed : (k : ℕ) → k < l.k → members_of l.self.placed.items k ≡ false;
   watch : (k : ℕ) → k < l.k → slice_index l.self.watch.items k ≡ 0;
 }

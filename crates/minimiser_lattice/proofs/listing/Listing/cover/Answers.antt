@@ -17,7 +17,8 @@ loop-l-preserved c =
       kept = E.kept ∙ ap (λ (v : Listing). record v { between = c.cover_row.new.self.between }) I.kept;
       rows = λ k l. elim (nat_cases k c.loop-l.l) [
         | inl q ↦ subst (λ (v : ℕ). IsBetweenFrom (places cs) (bit_in cs.strict) (bit_in c.cover_row.new.self.between) v 0) (sym q) E.row
-        | inr ne ↦ between-same (places cs) (bit_in cs.strict) (bit_in c.loop-l.self.between) (bit_in c.cover_row.new.self.between) k 0 (λ y yl. E.others k y yl ne) (I.rows k (omega arith))
+        | inr ne ↦ between-same (places cs) (bit_in cs.strict) (bit_in c.loop-l.self.between)
+            (bit_in c.cover_row.new.self.between) k 0 (λ y yl. E.others k y yl ne) (I.rows k (omega arith))
       ];
       empty = λ k y le yl. E.others k y yl (λ q. omega arith) ∙ I.empty k y (omega arith) yl;
     }

@@ -1,9 +1,8 @@
 use Rattle.std.proofs.Common.{ℕ, inl, inr, refl, ap, sym, subst, ◌∙◌, arith}
 use Rattle.residue_theory.proofs.SumLaws.{nat_cases}
-use Rattle.exchange_graph.specs.Marks.{members_of}
 use Rattle.bit_table.specs.Bits.{bit_in}
 use Rattle.minimiser_lattice.specs.Components.{number_of}
-use Rattle.minimiser_lattice.specs.Listings.{IsReadyAt, IsWatched, watch_of}
+use Rattle.minimiser_lattice.specs.Listings.{IsReadyAt, IsWatched, standing_of, watch_of}
 use Rattle.minimiser_lattice.specs.declared.listing.Listing.{Listing}
 use Rattle.bit_table.proofs.BitLaws.{item_is}
 use Rattle.minimiser_lattice.proofs.listing.Listing.least_ready.Goals as goal
@@ -17,11 +16,12 @@ loop-place-preserved c =
     record {
       opened = E.opened;
       kept = E.kept ∙ ap (λ (v : Listing). record v { watch = c.is_ready.new.self.watch }) I.kept;
-      watched = subst (λ (v : Listing). IsWatched cs.count (bit_in cs.strict) (members_of v.middle.items) (members_of v.placed.items) (watch_of c.is_ready.new.self)) I.kept E.watched;
+      watched = subst (λ (v : Listing). IsWatched cs.count (bit_in cs.strict) (standing_of v)
+          (watch_of c.is_ready.new.self)) I.kept E.watched;
       none = λ j l R. elim (nat_cases j c.loop-place.place) [
         | inl q ↦ c.if-is_ready.ensures.held refl
-            (subst (λ (v : ℕ). IsReadyAt (bit_in cs.strict) (members_of c.loop-place.self.middle.items) (members_of c.loop-place.self.placed.items) v) (ap (number_of cs) q ∙ is)
-            (subst (λ (v : Listing). IsReadyAt (bit_in cs.strict) (members_of v.middle.items) (members_of v.placed.items) (number_of cs j)) (sym I.kept) R))
+            (subst (λ (v : ℕ). IsReadyAt (bit_in cs.strict) (standing_of c.loop-place.self) v) (ap (number_of cs) q ∙ is)
+            (subst (λ (v : Listing). IsReadyAt (bit_in cs.strict) (standing_of v) (number_of cs j)) (sym I.kept) R))
         | inr ne ↦ I.none j (omega arith) R
       ];
     }

@@ -21,4 +21,5 @@ returns-else-not-index c =
     let place = c.args.place in
     let below : place < length marks = omega arith in
     grown-same (only place) marks c.args.self.now.queue.items c.requires.queued
-    (λ y h. subst (λ (x : ℕ). marked marks x ≡ true) (sym (eqb_true y place h)) (mark-read marks place c.index.result.now below c.index.ensures ∙ c.if-not-index.false))
+    (λ y h. subst (λ (x : ℕ). marked marks x ≡ true) (sym (eqb_true y place h))
+    (mark-read marks place c.index.result.now below c.index.ensures ∙ c.if-not-index.false))

@@ -37,7 +37,8 @@ loop-head-preserved c =
     let at = item-read old.queue.items head place more c.index-place.ensures in
     let below : place < length lists = omega (arith, at, S.queued.below head more, S.count, c.requires.count) in
     let read = c.deref.ensures.value ∙ sym (list-read lists place c.index.result.now below c.index.ensures) in
-    search-next (listed lists) (vec_len first.marks) (marked first.marks.items) old.marks.items now.marks.items old.queue.items now.queue.items head place S more at
+    search-next (listed lists) (vec_len first.marks) (marked first.marks.items) old.marks.items now.marks.items
+    old.queue.items now.queue.items head place S more at
     (subst (λ (ys : List ℕ). IsGrown (has ys) old.marks.items old.queue.items now.marks.items now.queue.items) read c.in_ok-look.ensures)
 
 pub loop-head-smaller : goal.loop-head-smaller
@@ -49,4 +50,5 @@ pub returns : goal.returns
 returns c =
     let first = c.args.self.now in
     let now = c.loop-head.self in
-    search-last (listed c.args.neighbours.now.lists.items) (vec_len first.marks) (marked first.marks.items) now.marks.items now.queue.items c.loop-head.head c.loop-head.invariant (omega arith)
+    search-last (listed c.args.neighbours.now.lists.items) (vec_len first.marks) (marked first.marks.items)
+    now.marks.items now.queue.items c.loop-head.head c.loop-head.invariant (omega arith)

@@ -15,7 +15,8 @@ loop-place-preserved c =
           rw w.marking-is (record {
             queued = G.queued;
             count = omega (arith, G.count, I.count);
-            done = starts-put c.args.starts.now marking.marks.items place I.done now.marks.items marking.queue.items now.queue.items I.rest G w.if-is_start.true;
+            done = starts-put c.args.starts.now marking.marks.items place I.done now.marks.items marking.queue.items
+                now.queue.items I.rest G w.if-is_start.true;
             rest = rest-put marking.marks.items now.marks.items marking.queue.items now.queue.items place G I.rest;
           })
       | else-is_start w ↦ rw w.marking-is (record {

@@ -7,7 +7,8 @@ use Rattle.part_search.proofs.neighbours.Neighbours.back.Goals.{then-parts-to+in
 pub loop-from-init : goal.loop-from-init
 loop-from-init c = record {
   count = c.in_ok-neighbours.ensures.count;
-  sum = λ x y. sum-first c.args.arcs.now (λ x. get_or c.args.parts.now x 0) (λ x y. listed c.in_ok-neighbours.neighbours.lists.items y x) (λ x y. c.in_ok-neighbours.ensures.none y x) y x;
+  sum = λ x y. sum-first c.args.arcs.now (λ x. get_or c.args.parts.now x 0)
+      (λ x y. listed c.in_ok-neighbours.neighbours.lists.items y x) (λ x y. c.in_ok-neighbours.ensures.none y x) y x;
 }
 
 pub loop-from-preserved : goal.loop-from-preserved
@@ -21,17 +22,25 @@ loop-from-preserved c =
     elim c.if-parts-to.branch [
       | then-parts-to+in_ok-enter w ↦ rw w.neighbours-is (record {
         count = omega (arith, w.in_ok-enter.ensures.count, I.count);
-        sum = λ x y. sum-taken arcs (λ x. get_or c.args.parts.now x 0) (λ x y. listed c.loop-from.neighbours.lists.items y x) k from to (omega arith) refl (λ x y. I.sum y x) (λ x y. listed w.enter.new.self.lists.items y x) (λ x y. told-turned (listed lists y x) (eqb to y) (eqb from x) (listed w.enter.new.self.lists.items y x) (w.in_ok-enter.ensures.holds y x)) (sym w.if-parts-to.true) y x;
+        sum = λ x y. sum-taken arcs (λ x. get_or c.args.parts.now x 0)
+            (λ x y. listed c.loop-from.neighbours.lists.items y x) k from to (omega arith) refl (λ x y. I.sum y x)
+            (λ x y. listed w.enter.new.self.lists.items y x)
+            (λ x y. told-turned (listed lists y x) (eqb to y) (eqb from x) (listed w.enter.new.self.lists.items y x)
+            (w.in_ok-enter.ensures.holds y x)) (sym w.if-parts-to.true) y x;
       })
       | else-parts-to w ↦ rw w.neighbours-is (record {
         count = I.count;
-        sum = λ x y. sum-passed arcs (λ x. get_or c.args.parts.now x 0) (λ x y. listed c.loop-from.neighbours.lists.items y x) k from to (omega arith) refl (λ x y. I.sum y x) (λ q. w.if-parts-to.false (sym q)) y x;
+        sum = λ x y. sum-passed arcs (λ x. get_or c.args.parts.now x 0)
+            (λ x y. listed c.loop-from.neighbours.lists.items y x) k from to (omega arith) refl (λ x y. I.sum y x)
+            (λ q. w.if-parts-to.false (sym q)) y x;
       })
     ]
 
 pub returns : goal.returns
 returns c =
-    let tells = sum-last c.args.arcs.now (λ x. get_or c.args.parts.now x 0) (λ x y. listed c.loop-from.neighbours.lists.items y x) c.loop-from.from-index c.loop-from-test.false (λ x y. c.loop-from.invariant.sum y x) in
+    let tells = sum-last c.args.arcs.now (λ x. get_or c.args.parts.now x 0)
+    (λ x y. listed c.loop-from.neighbours.lists.items y x) c.loop-from.from-index c.loop-from-test.false
+    (λ x y. c.loop-from.invariant.sum y x) in
     record {
       count = omega (arith, c.loop-from.invariant.count);
       tells = λ x y. tells y x;

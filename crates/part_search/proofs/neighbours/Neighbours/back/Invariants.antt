@@ -6,5 +6,6 @@ use Rattle.part_search.proofs.neighbours.Neighbours.back.Given as goal
 abbrev pub invariant-loop-from : goal.invariant-loop-from
 invariant-loop-from l = record {
   count : vec_len l.neighbours.lists ≡ length l.parts;
-  sum : (x y : ℕ) → listed l.neighbours.lists.items x y || inner (arc_in (drop l.from-index l.arcs)) (slice_index l.parts) y x ≡ inner (arc_in l.arcs) (slice_index l.parts) y x;
+  sum : (x y : ℕ) → listed l.neighbours.lists.items x y
+      || inner (arc_in (drop l.from-index l.arcs)) (slice_index l.parts) y x ≡ inner (arc_in l.arcs) (slice_index l.parts) y x;
 }

@@ -21,17 +21,21 @@ loop-from-preserved c =
     elim c.if-parts-from.branch [
       | then-parts-from+in_ok-enter w ↦ rw w.neighbours-is (record {
         count = omega (arith, w.in_ok-enter.ensures.count, I.count);
-        sum = sum-taken arcs (λ x. get_or c.args.parts.now x 0) (listed c.loop-from.neighbours.lists.items) k from to (omega arith) refl I.sum (listed w.enter.new.self.lists.items) w.in_ok-enter.ensures.holds w.if-parts-from.true;
+        sum = sum-taken arcs (λ x. get_or c.args.parts.now x 0) (listed c.loop-from.neighbours.lists.items) k from to
+            (omega arith) refl I.sum (listed w.enter.new.self.lists.items) w.in_ok-enter.ensures.holds
+            w.if-parts-from.true;
       })
       | else-parts-from w ↦ rw w.neighbours-is (record {
         count = I.count;
-        sum = sum-passed arcs (λ x. get_or c.args.parts.now x 0) (listed c.loop-from.neighbours.lists.items) k from to (omega arith) refl I.sum w.if-parts-from.false;
+        sum = sum-passed arcs (λ x. get_or c.args.parts.now x 0) (listed c.loop-from.neighbours.lists.items) k from to
+            (omega arith) refl I.sum w.if-parts-from.false;
       })
     ]
 
 pub returns : goal.returns
 returns c =
-    let tells = sum-last c.args.arcs.now (λ x. get_or c.args.parts.now x 0) (listed c.loop-from.neighbours.lists.items) c.loop-from.from-index c.loop-from-test.false c.loop-from.invariant.sum in
+    let tells = sum-last c.args.arcs.now (λ x. get_or c.args.parts.now x 0) (listed c.loop-from.neighbours.lists.items)
+    c.loop-from.from-index c.loop-from-test.false c.loop-from.invariant.sum in
     record {
       count = omega (arith, c.loop-from.invariant.count);
       tells = tells;

@@ -9,6 +9,8 @@ loop-column-preserved c =
     let x = get_or c.args.columns.now c.loop-column.column-index 0 in
     let below : x < length lists = omega (arith, I.same.count, c.requires.below c.loop-column.column-index (omega arith)) in
     record {
-      same = same-step lists x c.index_mut.result.now c.reserve.new.self below c.index_mut.ensures.value c.args.self.now.lists.items c.in_ok-reserve.ensures.items I.same;
-      room = room-step lists x c.index_mut.result.now c.reserve.new.self below c.index_mut.ensures.value c.args.columns.now c.loop-column.column-index refl c.in_ok-reserve.ensures.ok I.room;
+      same = same-step lists x c.index_mut.result.now c.reserve.new.self below c.index_mut.ensures.value
+          c.args.self.now.lists.items c.in_ok-reserve.ensures.items I.same;
+      room = room-step lists x c.index_mut.result.now c.reserve.new.self below c.index_mut.ensures.value
+          c.args.columns.now c.loop-column.column-index refl c.in_ok-reserve.ensures.ok I.room;
     }

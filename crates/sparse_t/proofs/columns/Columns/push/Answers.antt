@@ -8,8 +8,12 @@ push_reserved-requires c =
     let I = c.loop-column.invariant in
     let lists = c.loop-column.self.lists.items in
     let x = get_or c.args.columns.now c.loop-column.column-index 0 in
-    let below : x < length lists = omega (arith, I.count, c.requires.below c.loop-column.column-index (omega arith)) in
-    (omega arith, room-here c.args.self.now.lists.items lists c.args.columns.now c.loop-column.column-index x c.index_mut.result.now below c.index_mut.ensures.value c.requires.rising (omega arith) refl c.requires.room I.others I.capacities)
+    let below : x < length lists = omega (arith, I.count, c.requires.below c.loop-column.column-index (omega arith)) in (
+      omega arith,
+      room-here c.args.self.now.lists.items lists c.args.columns.now c.loop-column.column-index x
+          c.index_mut.result.now below c.index_mut.ensures.value c.requires.rising (omega arith) refl c.requires.room
+          I.others I.capacities,
+    )
 
 pub loop-column-preserved : goal.loop-column-preserved
 loop-column-preserved c =
@@ -34,4 +38,5 @@ loop-column-preserved c =
 pub returns : goal.returns
 returns c =
     let I = c.loop-column.invariant in
-    entered-all c.args.self.now.lists.items c.loop-column.self.lists.items c.args.columns.now c.args.row c.loop-column.column-index I.count (omega arith) (omega arith) I.entered I.others
+    entered-all c.args.self.now.lists.items c.loop-column.self.lists.items c.args.columns.now c.args.row
+    c.loop-column.column-index I.count (omega arith) (omega arith) I.entered I.others

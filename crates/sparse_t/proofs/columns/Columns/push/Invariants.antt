@@ -5,7 +5,8 @@ use Rattle.sparse_t.proofs.columns.Columns.push.Given as goal
 abbrev pub invariant-loop-column : goal.invariant-loop-column
 invariant-loop-column l = record {
   count : length l.self.lists.items ≡ length l.fn.self.lists.items;
-  entered : (k : ℕ) → k < l.column-index → items_at l.self.lists.items (slice_index l.columns k) ≡ items_at l.fn.self.lists.items (slice_index l.columns k) ++ l.row ∷ [];
+  entered : (k : ℕ) → k < l.column-index → items_at l.self.lists.items (slice_index l.columns k) ≡ items_at
+      l.fn.self.lists.items (slice_index l.columns k) ++ l.row ∷ [];
   others : (j : ℕ) → ((k : ℕ) → k < l.column-index → slice_index l.columns k ≢ j) → items_at l.self.lists.items j ≡ items_at l.fn.self.lists.items j;
   capacities : (j : ℕ) → capacity_at l.self.lists.items j ≡ capacity_at l.fn.self.lists.items j;
 }

@@ -12,16 +12,22 @@ pub push_row-requires-clause-rising : goal.push_row-requires-clause-rising
 push_row-requires-clause-rising c =
     let rows = c.self.inside.rows.items in
     let same : c.deref-row-items.result.now ≡ rows = c.deref-row-items.ensures.value in
-    let within : c.loop-row.row-index < row_count c.args.self.now = omega (arith, ap length same, length-map rows (λ (r : SmallVec ℕ). r.items), ap row_count c.self.view_is) in
-    let R = row-stored c.args.self.now rows c.self.inside.columns.lists.items c.loop-row.row-index c.row-item.result c.self.view_is c.self.invariant within (c.row-item.is ∙ ap (λ (rs : List (SmallVec ℕ)). get_or rs c.loop-row.row-index c.row-item.result) same) in
+    let within : c.loop-row.row-index < row_count c.args.self.now =
+    omega (arith, ap length same, length-map rows (λ (r : SmallVec ℕ). r.items), ap row_count c.self.view_is) in
+    let R = row-stored c.args.self.now rows c.self.inside.columns.lists.items c.loop-row.row-index c.row-item.result
+    c.self.view_is c.self.invariant within
+    (c.row-item.is ∙ ap (λ (rs : List (SmallVec ℕ)). get_or rs c.loop-row.row-index c.row-item.result) same) in
     subst IsStrictlyIncreasing (sym c.as_slice.ensures) R.0
 
 pub push_row-requires-clause-below : goal.push_row-requires-clause-below
 push_row-requires-clause-below c =
     let rows = c.self.inside.rows.items in
     let same : c.deref-row-items.result.now ≡ rows = c.deref-row-items.ensures.value in
-    let within : c.loop-row.row-index < row_count c.args.self.now = omega (arith, ap length same, length-map rows (λ (r : SmallVec ℕ). r.items), ap row_count c.self.view_is) in
-    let R = row-stored c.args.self.now rows c.self.inside.columns.lists.items c.loop-row.row-index c.row-item.result c.self.view_is c.self.invariant within (c.row-item.is ∙ ap (λ (rs : List (SmallVec ℕ)). get_or rs c.loop-row.row-index c.row-item.result) same) in
+    let within : c.loop-row.row-index < row_count c.args.self.now =
+    omega (arith, ap length same, length-map rows (λ (r : SmallVec ℕ). r.items), ap row_count c.self.view_is) in
+    let R = row-stored c.args.self.now rows c.self.inside.columns.lists.items c.loop-row.row-index c.row-item.result
+    c.self.view_is c.self.invariant within
+    (c.row-item.is ∙ ap (λ (rs : List (SmallVec ℕ)). get_or rs c.loop-row.row-index c.row-item.result) same) in
     let narrow = subst (IsBelow c.args.self.now.width) (sym c.as_slice.ensures) R.1 in
     subst (λ (n : ℕ). IsBelow n c.as_slice.result.now) (sym (ap (λ (p : Incidence). p.width) c.loop-row.invariant)) narrow
 
@@ -29,6 +35,10 @@ pub loop-row-preserved : goal.loop-row-preserved
 loop-row-preserved c =
     let rows = c.self.inside.rows.items in
     let same : c.deref-row-items.result.now ≡ rows = c.deref-row-items.ensures.value in
-    let within : c.loop-row.row-index < row_count c.args.self.now = omega (arith, ap length same, length-map rows (λ (r : SmallVec ℕ). r.items), ap row_count c.self.view_is) in
-    let R = row-stored c.args.self.now rows c.self.inside.columns.lists.items c.loop-row.row-index c.row-item.result c.self.view_is c.self.invariant within (c.row-item.is ∙ ap (λ (rs : List (SmallVec ℕ)). get_or rs c.loop-row.row-index c.row-item.result) same) in
-    copied-next c.args.self.now c.loop-row.copy c.push_row.new.self c.loop-row.row-index c.as_slice.result.now c.loop-row.invariant c.in_ok-push_row.ensures.ok (R.2 ∙ sym c.as_slice.ensures) within
+    let within : c.loop-row.row-index < row_count c.args.self.now =
+    omega (arith, ap length same, length-map rows (λ (r : SmallVec ℕ). r.items), ap row_count c.self.view_is) in
+    let R = row-stored c.args.self.now rows c.self.inside.columns.lists.items c.loop-row.row-index c.row-item.result
+    c.self.view_is c.self.invariant within
+    (c.row-item.is ∙ ap (λ (rs : List (SmallVec ℕ)). get_or rs c.loop-row.row-index c.row-item.result) same) in
+    copied-next c.args.self.now c.loop-row.copy c.push_row.new.self c.loop-row.row-index c.as_slice.result.now
+    c.loop-row.invariant c.in_ok-push_row.ensures.ok (R.2 ∙ sym c.as_slice.ensures) within

@@ -14,7 +14,9 @@ loop-place-preserved g c =
     let values = c.args.fractions.now in
     let number = g.F.Field.number in
     let yielded = c.loop-place.yielded in
-    let turn = turn_of texts values yielded c.into_iter-place-iterator.result c.loop-place.place-iterator c.next.new.self c.next.result (search rules) (search rules) (search rules) c.loop-place.yielded_by c.in-Some.place c.in-Some.outlet c.in-Some.fraction c.in-Some.is c.next.ensures.steps in
+    let turn = turn_of texts values yielded c.into_iter-place-iterator.result c.loop-place.place-iterator
+    c.next.new.self c.next.result (search rules) (search rules) (search rules) c.loop-place.yielded_by
+    c.in-Some.place c.in-Some.outlet c.in-Some.fraction c.in-Some.is c.next.ensures.steps in
     let n = length yielded in
     let keys = but_last (map string_bytes c.args.outlets.now) in
     let text = c.in-Some.outlet.now in
@@ -27,7 +29,8 @@ loop-place-preserved g c =
     let put = c.in_ok-fixed_split.ensures
     ∙ (λ t. c.loop-place.self ++ equation (name t)
     (times 1 (flow (c.deref.ensures t) c.args.component.now) ∷ less g.F.Field.modulus (number value) (flow c.args.inlet.now c.args.component.now)) ∷ []) in
-    next_pair (fixed_split g.F.Field.modulus c.args.version c.args.unit.now c.args.inlet.now c.args.component.now) keys (map number values) c.args.self.now c.loop-place.self c.fixed_split.new.self
+    next_pair (fixed_split g.F.Field.modulus c.args.version c.args.unit.now c.args.inlet.now c.args.component.now) keys
+    (map number values) c.args.self.now c.loop-place.self c.fixed_split.new.self
     n (length (yielded ++ (c.in-Some.place, (c.in-Some.outlet, c.in-Some.fraction)) ∷ [])) next (number value)
     (subst (λ (ks : List (ℕ × List ℕ)). n < length ks) same (numbered-within string_bytes texts n text turn.first_within turn.first))
     (seen-within number values n value turn.second_within turn.second (map number values) refl)
@@ -41,7 +44,9 @@ returns g c =
     let values = c.args.fractions.now in
     let number = g.F.Field.number in
     let keys = but_last (map string_bytes c.args.outlets.now) in
-    let turns = turns_all texts values c.loop-place.yielded c.into_iter-place-iterator.result c.loop-place.place-iterator c.next.new.self c.next.result (search rules) (search rules) (search rules) c.loop-place.yielded_by c.in-None.is c.next.ensures.steps in
+    let turns = turns_all texts values c.loop-place.yielded c.into_iter-place-iterator.result
+    c.loop-place.place-iterator c.next.new.self c.next.result (search rules) (search rules) (search rules)
+    c.loop-place.yielded_by c.in-None.is c.next.ensures.steps in
     let long : length keys ≡ length texts = ap length
     (but_last-seen string_bytes c.args.outlets.now texts c.but_last.ensures)
     ∙ length-enumerate_from 1 (map string_bytes texts) ∙ length-map texts string_bytes in

@@ -1,0 +1,17 @@
+use Rattle.std.proofs.Common.{◌≡◌, ◌+◌, ◌<◌, ◌≤◌, ℕ, true}
+use Rattle.residue_theory.specs.Sets.{IsWithin}
+use Rattle.exchange_graph.specs.Counts.{counted_on}
+use Rattle.exchange_graph.specs.Marks.{members_of}
+use Rattle.exchange_graph.specs.SweepStates.{IsSweeping, left_by, places}
+use Rattle.exchange_graph.proofs.sweep.Sweep.search_over.Given as goal
+
+abbrev pub invariant-loop-start : goal.invariant-loop-start
+invariant-loop-start g l = record {
+  sweeping : IsSweeping (g.A.Arcs.leads l.arcs) (places l.fn.self) (members_of l.starts) (members_of l.ends) l.self;
+  held : (x : ℕ) → l.from ≤ x → x < l.start → members_of l.starts x ≡ true → left_by l.self x ≡ true;
+  grown : IsWithin (places l.fn.self) (left_by l.fn.self) (left_by l.self);
+  walk : l.self.scan.walk ≡ l.fn.self.scan.walk;
+  told : l.steps + l.fn.self.scan.looks ≡ l.fn.steps + l.self.scan.looks;
+  counted : (first : ℕ) → l.fn.self.scan.all_looks ≡ counted_on first l.fn.self.scan.looks →
+      l.self.scan.all_looks ≡ counted_on first l.self.scan.looks;
+}

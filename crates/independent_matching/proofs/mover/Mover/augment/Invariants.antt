@@ -1,0 +1,25 @@
+use Rattle.std.proofs.Common.{◌≡◌, ◌+◌}
+use Rattle.residue_theory.specs.Sums.{size_on}
+use Rattle.exchange_graph.specs.Results.{step_of}
+use Rattle.mixed_augmentation.specs.Moves.{route}
+use Rattle.independent_matching.specs.Marks.{AreMarksOfQ}
+use Rattle.independent_matching.specs.Sides.{AreRowsMoving, IsMoving, in_q, number, tableau_of}
+use Rattle.independent_matching.proofs.mover.Mover.augment.Given as goal
+
+abbrev pub invariant-loop-next : goal.invariant-loop-next
+invariant-loop-next g l =
+    let S = g.T.Tableau.state l.fn.self.pair.tableau in
+    let M = l.fn.self.pair.mates in
+    let R = route (tableau_of S M) (step_of l.fn.search) l.last (in_q l.fn.end) (number l.fn.end) in
+    record {
+      moving : IsMoving g.F.Field.modulus S M R (g.T.Tableau.state l.self.pair.tableau) l.self.pair.mates l.next l.left;
+      rows : AreRowsMoving M l.fn.end l.self.pair.mates l.next;
+      marks : AreMarksOfQ g.F.Field.modulus (g.T.Tableau.state l.self.pair.tableau) l.self.marks;
+      count : l.steps + size_on R.in_q l.left ≡ l.fn.steps + size_on R.in_q (l.last + 1);
+      pivots : l.steps + l.fn.self.pivots ≡ l.fn.steps + l.self.pivots;
+      free : l.self.marks.free ≡ l.fn.self.marks.free;
+      by_t : l.self.marks.by_t ≡ l.fn.self.marks.by_t;
+    }
+
+abbrev pub decreases-loop-next : goal.decreases-loop-next
+decreases-loop-next g l = l.left
