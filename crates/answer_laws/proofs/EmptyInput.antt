@@ -1,8 +1,7 @@
 -- The certificate of the empty input.
-use Rattle.std.proofs.Common.{◌≡◌, ℕ, ◌<◌, List, [], ◌∷◌, ◌++◌, length, get_or, codes, refl, ap, ◌∙◌, arith}
+use Rattle.std.proofs.Common.{◌≡◌, ℕ, ◌<◌, List, [], ◌∷◌, ◌++◌, length, get_or, codes, Option, None, Some, refl, ap, ◌∙◌, arith}
 use Rattle.std.specs.Fmt.{digits}
 use Rattle.std.proofs.lemmas.List.Elements.{All-head}
-use Rattle.residue_field.specs.Modulus.{res_modulus}
 use Rattle.cert_text.specs.Contents.{Contents, Certificate}
 use Rattle.cert_text.specs.Ranges.{IsCcf, IsPart, IsBlock, AreRising, ArePairs}
 use Rattle.cert_text.specs.Texts.{shape_text, pair_text, matrices_text, parts_text, echo_text, certificate_text}
@@ -12,8 +11,12 @@ use Rattle.cert_text.specs.declared.part.CcfBlock.{CcfBlock}
 use Rattle.cert_text.specs.declared.part.CcfPart.{CcfPart}
 use Rattle.cert_text.specs.declared.shape.Shape.{Shape}
 use Rattle.report_cli.specs.Answer.{IsAnswer}
+use Rattle.cert_text.specs.declared.version.Version.{Version}
+use Rattle.report_cli.specs.Fields.{modulus, version_of}
 use Rattle.report_cli.specs.RightFor.{IsRightFor}
-use Rattle.command_line.specs.Words.{AsksFor}
+use Rattle.command_line.specs.Words.{AsksFor, over}
+use Rattle.command_line.specs.declared.command.FieldName.{FieldName}
+use Rattle.command_line.specs.declared.command.FieldName.TheVariants.{Large, Small}
 use Rattle.command_line.specs.declared.command.Command.TheVariants.{OfModel}
 use Rattle.command_line.specs.declared.command.Task.TheVariants.{Analyse}
 use Rattle.report_cli.specs.declared.status.Status.TheVariants.{Done}
@@ -64,26 +67,29 @@ one-shape shape e u q t n is_e is_u is_q is_t is_n =
     ∙ ap (λ x. made e u x shape.t_rows shape.columns) is_q ∙ ap (λ x. made e u q x shape.columns) is_t ∙ ap (λ x. made e u q t x) is_n
 
 -- a certificate's text, by its parts
-abbrev pub text_with : Kind → List ℕ → Shape → ℕ → List (ℕ × ℕ) → List (ℕ × ℕ) → List ℕ → List ℕ → List ℕ
-text_with kind echo shape rank base mates matrices parts =
-    echo_text kind echo ++ (shape_text shape ++ pair_text rank base mates ++ matrices ++ parts ++ codes "end\n")
+abbrev pub text_with : Version → ℕ → Kind → List ℕ → Shape → ℕ → List (ℕ × ℕ) → List (ℕ × ℕ) → List ℕ → List ℕ → List ℕ
+text_with version p kind echo shape rank base mates matrices parts =
+    echo_text version p kind echo ++ (shape_text shape ++ pair_text rank base mates ++ matrices ++ parts ++ codes "end\n")
 
-pub text-with : (c : Certificate) (kind : Kind) (echo : List ℕ) (shape : Shape) (rank : ℕ) (base mates : List (ℕ × ℕ)) →
-    c.kind ≡ kind → c.echo ≡ echo → c.ccf.shape ≡ shape → c.ccf.rank ≡ rank → c.ccf.base ≡ base → c.ccf.mates ≡ mates →
-    certificate_text c ≡ text_with kind echo shape rank base mates (matrices_text c.ccf.s c.ccf.u c.ccf.p c.ccf.t)
+pub text-with : (c : Certificate) (version : Version) (p : ℕ) (kind : Kind) (echo : List ℕ) (shape : Shape) (rank : ℕ) (base mates : List (ℕ × ℕ)) →
+    c.version ≡ version → c.modulus ≡ p → c.kind ≡ kind → c.echo ≡ echo → c.ccf.shape ≡ shape → c.ccf.rank ≡ rank → c.ccf.base ≡ base →
+    c.ccf.mates ≡ mates →
+    certificate_text c ≡ text_with version p kind echo shape rank base mates (matrices_text c.ccf.s c.ccf.u c.ccf.p c.ccf.t)
     (parts_text c.ccf.first c.ccf.blocks c.ccf.last)
-text-with c kind echo shape rank base mates is_kind is_echo is_shape is_rank is_base is_mates =
+text-with c version p kind echo shape rank base mates is_version is_p is_kind is_echo is_shape is_rank is_base is_mates =
     let X : List ℕ = matrices_text c.ccf.s c.ccf.u c.ccf.p c.ccf.t in
     let Y : List ℕ = parts_text c.ccf.first c.ccf.blocks c.ccf.last in
-    ap (λ x. text_with x c.echo c.ccf.shape c.ccf.rank c.ccf.base c.ccf.mates X Y) is_kind
-    ∙ ap (λ x. text_with kind x c.ccf.shape c.ccf.rank c.ccf.base c.ccf.mates X Y) is_echo
-    ∙ ap (λ x. text_with kind echo x c.ccf.rank c.ccf.base c.ccf.mates X Y) is_shape
-    ∙ ap (λ x. text_with kind echo shape x c.ccf.base c.ccf.mates X Y) is_rank
-    ∙ ap (λ x. text_with kind echo shape rank x c.ccf.mates X Y) is_base
-    ∙ ap (λ x. text_with kind echo shape rank base x X Y) is_mates
+    ap (λ x. text_with x c.modulus c.kind c.echo c.ccf.shape c.ccf.rank c.ccf.base c.ccf.mates X Y) is_version
+    ∙ ap (λ x. text_with version x c.kind c.echo c.ccf.shape c.ccf.rank c.ccf.base c.ccf.mates X Y) is_p
+    ∙ ap (λ x. text_with version p x c.echo c.ccf.shape c.ccf.rank c.ccf.base c.ccf.mates X Y) is_kind
+    ∙ ap (λ x. text_with version p kind x c.ccf.shape c.ccf.rank c.ccf.base c.ccf.mates X Y) is_echo
+    ∙ ap (λ x. text_with version p kind echo x c.ccf.rank c.ccf.base c.ccf.mates X Y) is_shape
+    ∙ ap (λ x. text_with version p kind echo shape x c.ccf.base c.ccf.mates X Y) is_rank
+    ∙ ap (λ x. text_with version p kind echo shape rank x c.ccf.mates X Y) is_base
+    ∙ ap (λ x. text_with version p kind echo shape rank base x X Y) is_mates
 
-empty-matrices : (c : Contents) → IsCcf res_modulus c → c.shape.q_rows ≡ 0 → c.shape.t_rows ≡ 0 → matrices_text c.s c.u c.p c.t ≡ []
-empty-matrices c is q t =
+empty-matrices : (p : ℕ) (c : Contents) → IsCcf p c → c.shape.q_rows ≡ 0 → c.shape.t_rows ≡ 0 → matrices_text c.s c.u c.p c.t ≡ []
+empty-matrices p c is q t =
     ap (λ x. matrices_text x c.u c.p c.t) (empty-list c.s ((is.s).count ∙ q))
     ∙ ap (λ x. matrices_text [] x c.p c.t) (empty-list c.u ((is.u).count ∙ q))
     ∙ ap (λ x. matrices_text [] [] x c.t) (empty-list c.p ((is.p).count ∙ q))
@@ -92,30 +98,37 @@ empty-matrices c is q t =
 abbrev nothing : CcfPart
 nothing = part [] [] []
 
-empty-parts : (c : Contents) → IsCcf res_modulus c → c.shape.q_rows ≡ 0 → c.shape.t_rows ≡ 0 → c.shape.columns ≡ 0 →
+empty-parts : (p : ℕ) (c : Contents) → IsCcf p c → c.shape.q_rows ≡ 0 → c.shape.t_rows ≡ 0 → c.shape.columns ≡ 0 →
     parts_text c.first c.blocks c.last ≡ codes "first |\nlast |\n"
-empty-parts c is q t n =
+empty-parts p c is q t n =
     ap (λ x. parts_text x c.blocks c.last) (empty-part c.shape c.first q t n is.first)
     ∙ ap (λ x. parts_text nothing x c.last) (empty-blocks c.shape c.blocks n is.blocks)
     ∙ ap (λ x. parts_text nothing [] x) (empty-part c.shape c.last q t n is.last)
 
--- the text of a certificate of nothing, by its kind
-nothing-text : (kind : Kind) → text_with kind [] (record {
-  equations = 0;
-  unknowns = 0;
-  q_rows = 0;
-  t_rows =
-      0;
-  columns = 0;
-}) 0 [] [] [] (codes "first |\nlast |\n") ≡ empty_text kind
-unfolding digits
-nothing-text Matrix = refl
-nothing-text Netlist = refl
-nothing-text Flowsheet = refl
+-- nothing has a shape
+abbrev nowhere : Shape
+nowhere = record { equations = 0; unknowns = 0; q_rows = 0; t_rows = 0; columns = 0 }
 
-empty-certificate : (kind : Kind) (c : Certificate) → IsRightFor kind [] c → certificate_text c ≡ empty_text kind
-empty-certificate kind c right =
-    let few = no-names kind right.model right.gives in
+-- the text of a certificate of nothing, by its field and its kind
+nothing-text : (field : Option FieldName) (kind : Kind) →
+    text_with (version_of field) (modulus (over field)) kind [] nowhere 0 [] [] [] (codes "first |\nlast |\n") ≡ empty_text field kind
+unfolding digits
+nothing-text None Matrix = refl
+nothing-text None Netlist = refl
+nothing-text None Flowsheet = refl
+nothing-text (Some Small) Matrix = refl
+nothing-text (Some Small) Netlist = refl
+nothing-text (Some Small) Flowsheet = refl
+nothing-text (Some Large) Matrix = refl
+nothing-text (Some Large) Netlist = refl
+nothing-text (Some Large) Flowsheet = refl
+
+empty-certificate : (field : Option FieldName) (kind : Kind) (c : Certificate) →
+    IsRightFor (modulus (over field)) (version_of field) kind [] c → certificate_text c ≡ empty_text field kind
+empty-certificate field kind c right =
+    let p : ℕ = modulus (over field) in
+    let version = version_of field in
+    let few = no-names p kind right.model right.gives in
     let shape = (right.right).shape in
     let lay = right.layers in
     let pair = (right.right).pair_and_rank in
@@ -129,14 +142,16 @@ empty-certificate kind c right =
     let base : c.ccf.base ≡ [] = empty-pairs c.ccf.shape.q_rows c.ccf.shape.columns c.ccf.base (shape.q_rows ∙ q) is.base in
     let mates : c.ccf.mates ≡ [] = empty-pairs c.ccf.shape.t_rows c.ccf.shape.columns c.ccf.mates (shape.t_rows ∙ t) is.mates in
     let rank : c.ccf.rank ≡ 0 = omega (arith, pair.size, s, ap length base, ap length mates) in
-    let zero_shape : c.ccf.shape ≡ record { equations = 0; unknowns = 0; q_rows = 0; t_rows = 0; columns = 0 } =
+    let zero_shape : c.ccf.shape ≡ nowhere =
     one-shape c.ccf.shape 0 0 0 0 0 (shape.equations ∙ rows) (shape.unknowns ∙ columns) (shape.q_rows ∙ q) (shape.t_rows ∙ t) (shape.columns ∙ n) in
-    let S : Shape = record { equations = 0; unknowns = 0; q_rows = 0; t_rows = 0; columns = 0 } in
-    text-with c kind [] S 0 [] [] right.kind_is right.echo zero_shape rank base mates
-    ∙ ap (λ x. text_with kind [] S 0 [] [] x (parts_text c.ccf.first c.ccf.blocks c.ccf.last)) (empty-matrices c.ccf is (shape.q_rows ∙ q) (shape.t_rows ∙ t))
-    ∙ ap (λ x. text_with kind [] S 0 [] [] [] x) (empty-parts c.ccf is (shape.q_rows ∙ q) (shape.t_rows ∙ t) (shape.columns ∙ n))
-    ∙ nothing-text kind
+    text-with c version p kind [] nowhere 0 [] [] right.version_is right.modulus_is right.kind_is right.echo zero_shape rank base mates
+    ∙ ap (λ x. text_with version p kind [] nowhere 0 [] [] x (parts_text c.ccf.first c.ccf.blocks c.ccf.last))
+    (empty-matrices p c.ccf is (shape.q_rows ∙ q) (shape.t_rows ∙ t))
+    ∙ ap (λ x. text_with version p kind [] nowhere 0 [] [] [] x)
+    (empty-parts p c.ccf is (shape.q_rows ∙ q) (shape.t_rows ∙ t) (shape.columns ∙ n))
+    ∙ nothing-text field kind
 
-pub empty-answer : (words : List (List ℕ)) (kind : Kind) (text : List ℕ) → AsksFor words (OfModel Analyse kind) →
-    IsAnswer words [] Done text → text ≡ empty_text kind
-empty-answer words kind text asks answer = let one = analysed words kind [] text asks answer in one.text_is ∙ empty-certificate kind one.certificate one.right
+pub empty-answer : (words : List (List ℕ)) (kind : Kind) (field : Option FieldName) (text : List ℕ) →
+    AsksFor words (OfModel Analyse kind field) → IsAnswer words [] Done text → text ≡ empty_text field kind
+empty-answer words kind field text asks answer =
+    let one = analysed words kind field [] text asks answer in one.text_is ∙ empty-certificate field kind one.certificate one.right

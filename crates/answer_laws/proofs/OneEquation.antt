@@ -1,6 +1,6 @@
 -- What answers one equation in one unknown.
 use Rattle.std.proofs.Common.{◌≡◌, ℕ, zero, suc, ◌+◌, ◌<◌, Bool, true, false, cond, not, ◌||◌, ◌⊎◌, List, [], ◌∷◌}
-use Rattle.std.proofs.Common.{◌++◌, length, get_or, decimal, codes, Some, refl, ap, sym, subst, ◌∙◌, arith, inl, inr}
+use Rattle.std.proofs.Common.{◌++◌, length, get_or, decimal, codes, None, Some, refl, ap, sym, subst, ◌∙◌, arith, inl, inr}
 use Rattle.std.proofs.Common.{⊎_elim}
 use Rattle.std.specs.Fmt.{digits}
 use Rattle.std.specs.List.{slice_get}
@@ -22,6 +22,7 @@ use Rattle.cert_text.specs.Texts.{certificate_text, matrices_text, parts_text}
 use Rattle.cert_text.specs.Contents.{Certificate}
 use Rattle.cert_text.specs.declared.kind.Kind.TheVariants.{Matrix}
 use Rattle.cert_text.specs.declared.shape.Shape.{Shape}
+use Rattle.cert_text.specs.declared.version.Version.TheVariants.{One}
 use Rattle.answer_texts.specs.LayerTexts.{column_lines, layer_text, q_line, row_lines, t_line}
 use Rattle.report_cli.specs.RightFor.{IsRightFor}
 use Rattle.answer_texts.specs.WholeLayers.{AreWholeLayers}
@@ -98,7 +99,7 @@ small-base m n (pair ∷ next ∷ pairs) one two are =
     let within = are.within 1 next (omega arith) in
     absurd (omega (arith, rises, within.0, one))
 
-module _ (c : Certificate) (right : IsRightFor Matrix one_equation c) where
+module _ (c : Certificate) (right : IsRightFor res_modulus One Matrix one_equation c) where
   shape-is : c.ccf.shape ≡ record { equations = 1; unknowns = 1; q_rows = 1; t_rows = 0; columns = 1 }
   shape-is =
       let shape = (right.right).shape in
@@ -120,9 +121,12 @@ module _ (c : Certificate) (right : IsRightFor Matrix one_equation c) where
   )
 
   text-is : (base : List (ℕ × ℕ)) → c.ccf.base ≡ base →
-      certificate_text c ≡ text_with Matrix one_equation (record { equations = 1; unknowns = 1; q_rows = 1; t_rows = 0; columns = 1 }) (length base) base []
+      certificate_text c ≡ text_with One res_modulus Matrix one_equation (record { equations = 1; unknowns = 1; q_rows = 1; t_rows = 0; columns = 1 })
+      (length base) base []
       (matrices_text c.ccf.s c.ccf.u c.ccf.p c.ccf.t) (parts_text c.ccf.first c.ccf.blocks c.ccf.last)
-  text-is base is = text-with c Matrix one_equation _ (length base) base [] right.kind_is right.echo shape-is (rank-is base is) is mates-are
+  text-is base is =
+      text-with c One res_modulus Matrix one_equation _ (length base) base [] right.version_is right.modulus_is right.kind_is right.echo
+      shape-is (rank-is base is) is mates-are
 
   -- the digit of the rank, or that of the base column, is another one
   never-bad : certificate_text c ≡ out_of_range → ⊥
@@ -137,7 +141,7 @@ module _ (c : Certificate) (right : IsRightFor Matrix one_equation c) where
 
 pub in-range : NoListLeavesItsRange
 in-range words asks answer =
-    let one = analysed words Matrix one_equation out_of_range asks answer in
+    let one = analysed words Matrix None one_equation out_of_range asks answer in
     never-bad one.certificate one.right (sym one.text_is)
 
 -- the lines of one column, and of one row
@@ -174,5 +178,5 @@ never-made-up model layers gives are whole same =
     absurd (omega (arith, at, there))
 
 pub no-line : NoColumnLineIsMadeUp
-no-line words asks answer = let one = layered words Matrix one_equation _ asks answer in
+no-line words asks answer = let one = layered words Matrix None one_equation _ asks answer in
     never-made-up one.model one.layers one.gives one.are one.whole (sym one.text_is)

@@ -1,7 +1,6 @@
 -- A made model has one text, which fits in its room.
-use Rattle.std.proofs.Common.{◌≡◌, ◌⊎◌, ℕ, ◌+◌, ◌≤◌, List, [], ◌∷◌, ◌++◌, length, map, get_or, suc, codes, inl, inr, refl, ap, sym, subst, ◌∙◌, lit<}
-use Rattle.residue_field.specs.Modulus.{res_modulus}
-use Rattle.residue_theory.proofs.Primes.{prime_65521}
+use Rattle.std.proofs.Common.{◌≡◌, ◌⊎◌, ℕ, ◌+◌, ◌≤◌, List, [], ◌∷◌, ◌++◌, length, map, get_or, suc, codes, inl, inr, refl, ap, sym, subst, ◌<◌, Option, ◌∙◌}
+use Rattle.residue_theory.specs.Residues.{IsPrime}
 use Rattle.text_writer.specs.Numbers.{spaced}
 use Rattle.mixed_matrices.specs.Layerings.{IsLayeredMatrixOf}
 use Rattle.mixed_model.specs.Models.{mixed_matrix_of}
@@ -15,7 +14,10 @@ use Rattle.made_models.proofs.MadeLaws.{made-one}
 use Rattle.answer_texts.specs.MadeTexts.{made_text, system_line, tail_sizes}
 use Rattle.answer_texts.specs.ReportTexts.{count_line}
 use Rattle.answer_texts.specs.Rooms.{made_room}
-use Rattle.command_line.specs.Words.{AsksToMake}
+use Rattle.command_line.specs.Words.{AsksToMake, over}
+use Rattle.command_line.specs.declared.command.FieldName.{FieldName}
+use Rattle.report_cli.specs.Fields.{modulus}
+use Rattle.report_cli.proofs.FieldFacts.{odd-of, prime-of}
 use Rattle.command_line.proofs.Asking.{makes-one, not-both}
 use Rattle.report_cli.specs.Answer.{HasText, IsAnswer, IsCommandAnswer, IsMakeAnswer}
 use Rattle.report_cli.specs.MadeFor.{IsMakeText}
@@ -77,40 +79,43 @@ module _ (n split : ℕ) (c d : Contents) (agree : Agree c d) where
       ∙ ap (λ l. text d.rank (tail_sizes (codes "first") d.first) (length d.blocks) l) last-same
 
 -- what is told of a made model is one text
-made-text-one : (n : ℕ) (one two : List ℕ) → IsMakeText n one → IsMakeText n two → one ≡ two
-made-text-one n one two first second =
+made-text-one : (p : ℕ) → IsPrime p → 2 < p → (n : ℕ) (one two : List ℕ) → IsMakeText p n one → IsMakeText p n two → one ≡ two
+made-text-one p prime odd n one two first second =
     let a = first.right in
     let b = second.right in
-    let same : b.model ≡ a.model = made-one res_modulus n b.model a.model b.is a.is b.made a.made in
+    let same : b.model ≡ a.model = made-one p n b.model a.model b.is a.is b.made a.made in
     let layers : IsLayeredMatrixOf (mixed_matrix_of a.model) b.layered b.origins =
     subst (λ m. IsLayeredMatrixOf (mixed_matrix_of m) b.layered b.origins) same b.layers in
-    let right : IsRightCcf res_modulus (mixed_matrix_of a.model) b.layered b.origins second.ccf =
-    subst (λ m. IsRightCcf res_modulus (mixed_matrix_of m) b.layered b.origins second.ccf) same b.right in
+    let right : IsRightCcf p (mixed_matrix_of a.model) b.layered b.origins second.ccf =
+    subst (λ m. IsRightCcf p (mixed_matrix_of m) b.layered b.origins second.ccf) same b.right in
     let splits : first.split ≡ second.split =
     a.split_is ∙ sym ((a.layers).auxiliary).count ∙ (layers.auxiliary).count ∙ sym b.split_is in
     let agree : Agree first.ccf second.ccf =
-    agreed res_modulus prime_65521 (lit< tt) (mixed_matrix_of a.model) a.layered b.layered a.origins b.origins a.layers layers
+    agreed p prime odd (mixed_matrix_of a.model) a.layered b.layered a.origins b.origins a.layers layers
     first.ccf second.ccf a.form b.form a.right right in
     first.text_is ∙ ap (λ s. made_text n s first.ccf) splits ∙ text-same n second.split first.ccf second.ccf agree ∙ sym second.text_is
 
 -- an answer to words that ask for a made model tells of it
-told-of : (words : List (List ℕ)) (n : ℕ) (input text : List ℕ) → AsksToMake words n →
-    IsCommandAnswer words input Done text ⊎ IsMakeAnswer words text → IsMakeText n text
-told-of words n input text makes (inl (command, asks, given)) = not-both words command n asks makes
-told-of words n input text makes (inr (m, made, told)) = subst (λ k. IsMakeText k text) (makes-one words m n made makes) told
+told-of : (words : List (List ℕ)) (n : ℕ) (field : Option FieldName) (input text : List ℕ) → AsksToMake words n field →
+    IsCommandAnswer words input Done text ⊎ IsMakeAnswer words text → IsMakeText (modulus (over field)) n text
+told-of words n field input text makes (inl (command, asks, given)) = not-both words command n field asks makes
+told-of words n field input text makes (inr (m, named, made, told)) =
+    let same = makes-one words m n named field made makes in
+    subst (λ f. IsMakeText (modulus (over f)) n text) same.1 (subst (λ k. IsMakeText (modulus (over named)) k text) same.0 told)
 
-pub one-make-text : (words : List (List ℕ)) (n : ℕ) (input another text other : List ℕ) → AsksToMake words n →
+pub one-make-text : (words : List (List ℕ)) (n : ℕ) (field : Option FieldName) (input another text other : List ℕ) → AsksToMake words n field →
     IsAnswer words input Done text → IsAnswer words another Done other → text ≡ other
-one-make-text words n input another text other makes first second =
-    made-text-one n text other (told-of words n input text makes first) (told-of words n another other makes second)
+one-make-text words n field input another text other makes first second =
+    made-text-one (modulus (over field)) (prime-of (over field)) (odd-of (over field)) n text other
+    (told-of words n field input text makes first) (told-of words n field another other makes second)
 
-fits : (n : ℕ) (text : List ℕ) → IsMakeText n text → length text ≤ made_room
-fits n text told = subst (λ t. length t ≤ made_room) (sym told.text_is) (made-fits n told.split told.ccf told.right)
+fits : (p n : ℕ) (text : List ℕ) → IsMakeText p n text → length text ≤ made_room
+fits p n text told = subst (λ t. length t ≤ made_room) (sym told.text_is) (made-fits p n told.split told.ccf told.right)
 
-pub fitting_make : (words : List (List ℕ)) (n : ℕ) (input : List ℕ) (status : Status) (text : List ℕ) → AsksToMake words n → HasText status →
-    IsAnswer words input status text → length text ≤ made_room
-fitting_make words n input status text makes (inl done) answer =
-    fits n text (told-of words n input text makes (subst (λ s. IsAnswer words input s text) done answer))
-fitting_make words n input status text makes (inr other) answer =
+pub fitting_make : (words : List (List ℕ)) (n : ℕ) (field : Option FieldName) (input : List ℕ) (status : Status) (text : List ℕ) →
+    AsksToMake words n field → HasText status → IsAnswer words input status text → length text ≤ made_room
+fitting_make words n field input status text makes (inl done) answer =
+    fits (modulus (over field)) n text (told-of words n field input text makes (subst (λ s. IsAnswer words input s text) done answer))
+fitting_make words n field input status text makes (inr other) answer =
     let given : IsCommandAnswer words input NotRegular text = subst (λ s. IsAnswer words input s text) other answer in
-    not-both words given.0 n given.1 makes
+    not-both words given.0 n field given.1 makes

@@ -1,41 +1,47 @@
 -- What any two answers to one input share.
-use Rattle.std.specs.Prelude.{◌≡◌, ℕ, List}
+use Rattle.std.specs.Prelude.{◌≡◌, ℕ, List, Option}
 use Rattle.cert_text.specs.Texts.{certificate_text}
 use Rattle.cert_text.specs.Contents.{Certificate}
 use Rattle.cert_text.specs.declared.kind.Kind.{Kind}
 use Rattle.certificate_laws.specs.Agreement.{Agree}
 use Rattle.report_cli.specs.Answer.{IsAnswer}
+use Rattle.report_cli.specs.Fields.{modulus, version_of}
 use Rattle.report_cli.specs.RightFor.{IsRightFor}
-use Rattle.command_line.specs.Words.{Asks, AsksFor, AsksToMake}
+use Rattle.command_line.specs.Words.{Asks, AsksFor, AsksToMake, over}
+use Rattle.command_line.specs.declared.command.FieldName.{FieldName}
 use Rattle.command_line.specs.declared.command.Request.{Request}
 use Rattle.command_line.specs.declared.command.Command.TheVariants.{OfModel}
 use Rattle.command_line.specs.declared.command.Task.TheVariants.{Analyse, Layer}
 use Rattle.report_cli.specs.declared.status.Status.TheVariants.{Done}
 
--- the texts are those of two certificates, both right for the input of this kind, that agree
-pub record AreAgreed (kind : Kind) (input text other : List ℕ) : Type 0 where
+-- the texts are those of two certificates over the field that is named, both right for the input of this kind, that
+-- agree
+pub record AreAgreed (field : Option FieldName) (kind : Kind) (input text other : List ℕ) : Type 0 where
   pub first : Certificate
   pub second : Certificate
   pub first_text : text ≡ certificate_text first
   pub second_text : other ≡ certificate_text second
-  pub first_right : IsRightFor kind input first
-  pub second_right : IsRightFor kind input second
+  pub first_right : IsRightFor (modulus (over field)) (version_of field) kind input first
+  pub second_right : IsRightFor (modulus (over field)) (version_of field) kind input second
   pub agree : Agree first.ccf second.ccf
 
 abbrev pub AnswersOfAnalyseAgree : Type 0
 AnswersOfAnalyseAgree =
-    (words : List (List ℕ)) (kind : Kind) (input text other : List ℕ) → AsksFor words (OfModel Analyse kind) →
-    IsAnswer words input Done text → IsAnswer words input Done other → AreAgreed kind input text other
+    (words : List (List ℕ)) (kind : Kind) (field : Option FieldName) (input text other : List ℕ) →
+    AsksFor words (OfModel Analyse kind field) →
+    IsAnswer words input Done text → IsAnswer words input Done other → AreAgreed field kind input text other
 
 abbrev pub AnswersOfLayerAreOne : Type 0
 AnswersOfLayerAreOne =
-    (words : List (List ℕ)) (kind : Kind) (input text other : List ℕ) → AsksFor words (OfModel Layer kind) →
+    (words : List (List ℕ)) (kind : Kind) (field : Option FieldName) (input text other : List ℕ) →
+    AsksFor words (OfModel Layer kind field) →
     IsAnswer words input Done text → IsAnswer words input Done other → text ≡ other
 
--- any two texts about a made model are the same, whatever the inputs are
+-- any two texts about a made model over one field are the same, whatever the inputs are
 abbrev pub AnswersOfMakeAreOne : Type 0
 AnswersOfMakeAreOne =
-    (words : List (List ℕ)) (n : ℕ) (input another text other : List ℕ) → AsksToMake words n →
+    (words : List (List ℕ)) (n : ℕ) (field : Option FieldName) (input another text other : List ℕ) →
+    AsksToMake words n field →
     IsAnswer words input Done text → IsAnswer words another Done other → text ≡ other
 
 -- words ask for one thing at most

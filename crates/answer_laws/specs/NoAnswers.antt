@@ -1,5 +1,5 @@
 -- Texts that answer nothing.
-use Rattle.std.specs.Prelude.{◌≡◌, ℕ, List, [], ◌++◌, codes}
+use Rattle.std.specs.Prelude.{◌≡◌, ℕ, List, [], ◌++◌, Option, None, Some, codes}
 use Rattle.cert_text.specs.Texts.{kind_text}
 use Rattle.cert_text.specs.declared.kind.Kind.{Kind}
 use Rattle.cert_text.specs.declared.kind.Kind.TheVariants.{Matrix}
@@ -7,6 +7,8 @@ use Rattle.report_cli.specs.Answer.{IsAnswer}
 use Rattle.command_line.specs.Words.{AsksFor}
 use Rattle.command_line.specs.declared.command.Command.{Command}
 use Rattle.command_line.specs.declared.command.Command.TheVariants.{OfModel}
+use Rattle.command_line.specs.declared.command.FieldName.{FieldName}
+use Rattle.command_line.specs.declared.command.FieldName.TheVariants.{Large, Small}
 use Rattle.command_line.specs.declared.command.Task.TheVariants.{Analyse, Layer}
 use Rattle.report_cli.specs.declared.status.Status.TheVariants.{Done}
 
@@ -14,32 +16,39 @@ use Rattle.report_cli.specs.declared.status.Status.TheVariants.{Done}
 abbrev pub NeverAnswers : Command → List ℕ → List ℕ → Type 0
 NeverAnswers command input text = (words : List (List ℕ)) → AsksFor words command → IsAnswer words input Done text → ⊥
 
--- the text of a certificate of the empty input of a kind, with these parts
-abbrev pub empty_certificate : Kind → List ℕ → List ℕ
-empty_certificate kind parts =
-    codes "mixed-certificate 1\nkind " ++ kind_text kind
+-- how a certificate begins where this field is named
+abbrev pub version_lines : Option FieldName → List ℕ
+version_lines None = codes "mixed-certificate 1\n"
+version_lines (Some Small) = codes "mixed-certificate 2\nfield 65521\n"
+version_lines (Some Large) = codes "mixed-certificate 2\nfield 2147483647\n"
+
+-- the text of a certificate of the empty input of a kind, with these parts, where this field is named
+abbrev pub empty_certificate : Option FieldName → Kind → List ℕ → List ℕ
+empty_certificate field kind parts =
+    version_lines field ++ codes "kind " ++ kind_text kind
     ++ codes "\nlength 0\n\nshape 0 0 0 0 0\nrank 0\nbase\nmatch\n" ++ parts ++ codes "end\n"
 
 -- the certificate of the empty input
-abbrev pub empty_text : Kind → List ℕ
-empty_text kind = empty_certificate kind (codes "first |\nlast |\n")
+abbrev pub empty_text : Option FieldName → Kind → List ℕ
+empty_text field kind = empty_certificate field kind (codes "first |\nlast |\n")
 
 -- the empty input has that certificate alone
 abbrev pub TheEmptyInputHasOneAnswer : Type 0
 TheEmptyInputHasOneAnswer =
-    (words : List (List ℕ)) (kind : Kind) (text : List ℕ) → AsksFor words (OfModel Analyse kind) →
-    IsAnswer words [] Done text → text ≡ empty_text kind
+    (words : List (List ℕ)) (kind : Kind) (field : Option FieldName) (text : List ℕ) →
+    AsksFor words (OfModel Analyse kind field) → IsAnswer words [] Done text → text ≡ empty_text field kind
 
 -- a first tail with a column that is not there
 abbrev pub NoColumnIsMadeUp : Type 0
 NoColumnIsMadeUp =
-    (kind : Kind) → NeverAnswers (OfModel Analyse kind) [] (empty_certificate kind (codes "first 6 |\nlast |\n"))
+    (kind : Kind) →
+    NeverAnswers (OfModel Analyse kind None) [] (empty_certificate None kind (codes "first 6 |\nlast |\n"))
 
 -- a block of nothing
 abbrev pub NoBlockIsEmpty : Type 0
 NoBlockIsEmpty =
     (kind : Kind) →
-    NeverAnswers (OfModel Analyse kind) [] (empty_certificate kind (codes "first |\nblock 1: | |\nlast |\n"))
+    NeverAnswers (OfModel Analyse kind None) [] (empty_certificate None kind (codes "first |\nblock 1: | |\nlast |\n"))
 
 -- one equation in one unknown, as an equation list
 abbrev pub one_equation : List ℕ
@@ -52,8 +61,9 @@ out_of_range =
     ++ codes "S 1: 1=1 1=5\nU 1: 1=1\nP 1: 1=1 8=1\nfirst 9 9 |\nblock 1: 1 | q1 |\nlast |\nend\n"
 
 abbrev pub NoListLeavesItsRange : Type 0
-NoListLeavesItsRange = NeverAnswers (OfModel Analyse Matrix) one_equation out_of_range
+NoListLeavesItsRange = NeverAnswers (OfModel Analyse Matrix None) one_equation out_of_range
 
 -- a line for a column that is not there
 abbrev pub NoColumnLineIsMadeUp : Type 0
-NoColumnLineIsMadeUp = NeverAnswers (OfModel Layer Matrix) one_equation (codes "columns 1\nc1 x\nc2 x\nq1 a 1=1\n")
+NoColumnLineIsMadeUp = NeverAnswers (OfModel Layer Matrix None) one_equation
+    (codes "columns 1\nc1 x\nc2 x\nq1 a 1=1\n")

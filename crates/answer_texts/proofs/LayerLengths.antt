@@ -1,13 +1,13 @@
 -- The length of a layer text.
-use Rattle.std.proofs.Common.{◌≡◌, ℕ, ◌+◌, ◌-◌, ◌*◌, ◌<◌, ◌≤◌, ◌==◌, Bool, true, false, cond, eqb, List, [], ◌∷◌}
+use Rattle.std.proofs.Common.{◌≡◌, ◌≢◌, ℕ, ◌+◌, ◌-◌, ◌*◌, ◌^◌, ◌<◌, ◌≤◌, ◌==◌, Bool, true, false, cond, eqb, List, [], ◌∷◌}
 use Rattle.std.proofs.Common.{◌++◌, length, get_or, codes, Option, Some, None, unwrap_or, nat_eq, if◌then◌else◌, refl}
-use Rattle.std.proofs.Common.{sym, ap, subst, arith, suc-mul, ⊎_elim, slice_index}
+use Rattle.std.proofs.Common.{sym, ap, subst, arith, mul_comm, mul-le-mul_right, suc-mul, ⊎_elim, slice_index}
 use Rattle.std.specs.List.{All}
 use Rattle.std.proofs.Math.ListN.{get_or-eq_default}
-use Rattle.std.proofs.lemmas.Bool.{cases_lt, leb-true}
+use Rattle.std.proofs.Math.Nat.{pow-le-pow_right}
+use Rattle.std.proofs.lemmas.Bool.{cases_lt, eqb-false, leb-true}
 use Rattle.std.proofs.lemmas.List.{length-append, get_or_default}
 use Rattle.std.proofs.lemmas.List.Elements.{All-head, All-tail}
-use Rattle.residue_field.specs.Modulus.{res_modulus}
 use Rattle.residue_theory.proofs.SetLaws.{both-first, both-second}
 use Rattle.dense_q.specs.Tables.{height, row_at, entry}
 use Rattle.mixed_model.specs.Models.{MixedModel, IsModel, constant_at}
@@ -41,32 +41,32 @@ head-short : (letter number : ℕ) → number < 100000 → length (line_head let
 head-short letter number few = omega (arith, length-append (marked letter number) (codes " "), marked-short letter number few)
 
 -- the lines of columns
-pub column-name-short : (model : MixedModel) → IsModel res_modulus model → (origin : Origin) → length (column_name model origin) ≤ 97
-column-name-short model is (Unknown unknown) = omega (arith, name-short model.unknowns is.unknowns unknown)
-column-name-short model is (Split equation) = omega (
+pub column-name-short : (p : ℕ) (model : MixedModel) → IsModel p model → (origin : Origin) → length (column_name model origin) ≤ 97
+column-name-short p model is (Unknown unknown) = omega (arith, name-short model.unknowns is.unknowns unknown)
+column-name-short p model is (Split equation) = omega (
   arith,
   name-short model.equations is.equations equation,
   length-append (codes "*")
       (name_at model.equations equation),
 )
 
-columns-short : (model : MixedModel) → IsModel res_modulus model → (number : ℕ) (origins : List Origin) →
+columns-short : (p : ℕ) (model : MixedModel) → IsModel p model → (number : ℕ) (origins : List Origin) →
     number + length origins ≤ 8193 → length (column_lines model number origins) ≤ length origins * 105
-columns-short model is number [] few = omega arith
-columns-short model is number (origin ∷ origins) few =
+columns-short p model is number [] few = omega arith
+columns-short p model is number (origin ∷ origins) few =
     let head : List ℕ = line_head 99 number in
     let name : List ℕ = column_name model origin in
     let line : length (column_line model number origin) ≤ 105 = omega (
       arith,
       head-short 99 number (omega (arith, few)),
-      column-name-short model is origin,
+      column-name-short p model is origin,
       length-append head name,
       length-append (head ++ name) (codes "\n"),
     ) in
     rw (suc-mul (length origins) 105) (omega (
       arith,
       line,
-      columns-short model is (number + 1) origins
+      columns-short p model is (number + 1) origins
           (omega (arith, few)),
       length-append (column_line model number origin)
           (column_lines model (number + 1) origins),
@@ -89,46 +89,55 @@ rows-short line names origins w P each are k (row ∷ rows) few all =
           (line (k + 1) (name_at names (slice_index origins k)) row) (row_lines line names origins (k + 1) rows),
     ))
 
--- the entries of a row of constants
-entry-short : (column number : ℕ) → column < 100000 → number < 65521 → length (entry_text column number) ≤ 12
-entry-short column number few small = go (number == 0)
+-- the entries of a row of numbers of so many digits
+entry-short : (digits column number : ℕ) → column < 100000 → number < 10 ^ digits → length (entry_text column number) ≤ 7 + digits
+entry-short digits column number few small = go (number == 0) refl
   where
-    go : (b : Bool) → length (if b then [] else item column number) ≤ 12
-    go true = omega arith
-    go false = item-short column number few (omega (arith, small))
+    go : (b : Bool) → number == 0 ≡ b → length (if b then [] else item column number) ≤ 7 + digits
+    go true is = omega arith
+    go false is = item-short digits column number few (let other : number ≢ 0 = eqb-false number 0 is in omega (arith, other)) small
 
-entries-short : (column : ℕ) (row : List ℕ) → column + length row ≤ 8193 → All (λ number. number < 65521) row →
-    length (row_entries_text column row) ≤ 12 * length row
-entries-short column [] few small = omega arith
-entries-short column (number ∷ row) few small =
-    let here : number < 65521 = All-head (λ number. number < 65521) number row small in
-    let rest = entries-short (column + 1) row (omega (arith, few)) (All-tail (λ number. number < 65521) number row small) in
-    omega (arith, rest, length-append (entry_text column number) (row_entries_text (column + 1) row), entry-short column number (omega (arith, few)) here)
+entries-short : (digits column : ℕ) (row : List ℕ) → column + length row ≤ 8193 → All (λ number. number < 10 ^ digits) row →
+    length (row_entries_text column row) ≤ length row * (7 + digits)
+entries-short digits column [] few small = omega arith
+entries-short digits column (number ∷ row) few small =
+    let here : number < 10 ^ digits = All-head (λ number. number < 10 ^ digits) number row small in
+    let rest = entries-short digits (column + 1) row (omega (arith, few)) (All-tail (λ number. number < 10 ^ digits) number row small) in
+    rw (suc-mul (length row) (7 + digits)) (omega (
+      arith,
+      rest,
+      length-append (entry_text column number) (row_entries_text (column + 1) row),
+      entry-short digits column number (omega (arith, few)) here,
+    ))
 
--- the constants of a model are residues
-filled-small : (constant : Option ℕ) → ((c : ℕ) → constant ≡ Some c → c < res_modulus) → unwrap_or constant 0 < 65521
-filled-small None residue = omega arith
-filled-small (Some c) residue = residue c refl
+-- the constants of a model are residues, and where there is none stands 0
+module _ (p n : ℕ) (some : 0 < n) (short : p ≤ n) where
+  filled-small : (constant : Option ℕ) → ((c : ℕ) → constant ≡ Some c → c < p) → unwrap_or constant 0 < n
+  filled-small None residue = some
+  filled-small (Some c) residue = omega (arith, residue c refl, short)
 
-constants-small : (first : ℕ) (row : List RowEntry) → RisesFrom res_modulus first row → (j : ℕ) → unwrap_or (constant_in row j) 0 < 65521
-constants-small first [] rises j = omega arith
-constants-small first (item ∷ row) rises j = go (constants-small (item.column + 1) row rises.2 j) (nat_eq item.column j)
-  where
-    go : unwrap_or (constant_in row j) 0 < 65521 → (b : Bool) → unwrap_or (constant_at_place (if b then Some item else entry_in row j)) 0 < 65521
-    go rest true = filled-small item.constant (rises.1).residue
-    go rest false = rest
+  constants-small : (first : ℕ) (row : List RowEntry) → RisesFrom p first row → (j : ℕ) → unwrap_or (constant_in row j) 0 < n
+  constants-small first [] rises j = some
+  constants-small first (item ∷ row) rises j = go (constants-small (item.column + 1) row rises.2 j) (nat_eq item.column j)
+    where
+      go : unwrap_or (constant_in row j) 0 < n → (b : Bool) → unwrap_or (constant_at_place (if b then Some item else entry_in row j)) 0 < n
+      go rest true = filled-small item.constant (rises.1).residue
+      go rest false = rest
 
-constant-small : (model : MixedModel) → IsModel res_modulus model → (i j : ℕ) → i < length model.equations → constant_at model i j < 65521
-constant-small model is i j within = constants-small 0 (get_or model.rows i []) (is.rows i [] (omega (arith, within, is.one_row_each))).0 j
+  constant-small : (model : MixedModel) → IsModel p model → (i j : ℕ) → i < length model.equations → constant_at model i j < n
+  constant-small model is i j within = constants-small 0 (get_or model.rows i []) (is.rows i [] (omega (arith, within, is.one_row_each))).0 j
 
-module _ (model : MixedModel) (is : IsModel res_modulus model) (layers : Layers) (are : AreLayersOf model layers)
-    (whole : AreWholeLayers layers) (k : ℕ) (few : k ≤ 8192)
+module _ (p digits : ℕ) (some : 0 < digits) (short : p ≤ 10 ^ digits) (model : MixedModel) (is : IsModel p model)
+    (layers : Layers) (are : AreLayersOf model layers) (whole : AreWholeLayers layers) (k : ℕ) (few : k ≤ 8192)
     (low_q : height layers.q ≤ k) (low_t : length layers.t.rows ≤ k) (low : layers.q.width ≤ k) where
-  entry-small : (i j : ℕ) → i < height layers.q → j < layers.q.width → entry layers.q i j < 65521
+  ten : 10 ≤ 10 ^ digits
+  ten = pow-le-pow_right (omega arith) {i = 1} some
+
+  entry-small : (i j : ℕ) → i < height layers.q → j < layers.q.width → entry layers.q i j < 10 ^ digits
   entry-small i j il jl = ⊎_elim
       (λ unknown. let e : entry layers.q i j ≡ constant_at model (slice_index layers.q_origins i) j = (are.layered).q i j il unknown in
       let origin : slice_index layers.q_origins i < length model.equations = ((are.layered).q_rows).below i il in
-      omega (arith, e, constant-small model is (slice_index layers.q_origins i) j origin))
+      omega (arith, e, constant-small p (10 ^ digits) (omega (arith, ten)) short model is (slice_index layers.q_origins i) j origin))
       (λ auxiliary.
       let n : ℕ = j - length model.unknowns in
       let within : n < length are.split = omega (arith, (are.layered).columns, auxiliary, jl) in
@@ -137,31 +146,36 @@ module _ (model : MixedModel) (is : IsModel res_modulus model) (layers : Layers)
       (slice_index are.split n)) 1 0 = (are.layered).q_auxiliary i n il within in
       let unit : cond (eqb (slice_index layers.q_origins i) (slice_index are.split n)) 1 0 ≤ 1 =
       one (eqb (slice_index layers.q_origins i) (slice_index are.split n)) in
-      subst (λ c. entry layers.q i c < 65521) place (omega (arith, e, unit)))
+      subst (λ c. entry layers.q i c < 10 ^ digits) place (omega (arith, e, unit, ten)))
       (cases_lt j (length model.unknowns))
     where
       one : (b : Bool) → cond b 1 0 ≤ 1
       one true = omega arith
       one false = omega arith
 
-  row-small : (i : ℕ) (d : List ℕ) → i < height layers.q → All (λ number. number < 65521) (get_or layers.q.rows i d) × (length (get_or layers.q.rows i d) ≤ k)
+  -- at most k numbers of so many digits
+  abbrev IsSmallRow : List ℕ → Type 0
+  IsSmallRow row = All (λ number. number < 10 ^ digits) row × (length row ≤ k)
+
+  row-small : (i : ℕ) (d : List ℕ) → i < height layers.q → IsSmallRow (get_or layers.q.rows i d)
   row-small i d il =
       let same : get_or layers.q.rows i d ≡ row_at layers.q i = get_or_default layers.q.rows i d [] il in
       let long : length (row_at layers.q i) ≡ layers.q.width = row_long layers.q i il whole.q in
-      let small : All (λ number. number < 65521) (row_at layers.q i) = λ j e jl. subst (λ number. number < 65521) (get_or_default (row_at layers.q i) j 0 e jl)
-      (entry-small i j il (omega (arith, jl, long))) in
-      subst (λ row. All (λ number. number < 65521) row × (length row ≤ k)) (sym same) (small, omega (arith, long, low))
+      let small : All (λ number. number < 10 ^ digits) (row_at layers.q i) =
+      λ j e jl. subst (λ number. number < 10 ^ digits) (get_or_default (row_at layers.q i) j 0 e jl) (entry-small i j il (omega (arith, jl, long))) in
+      subst IsSmallRow (sym same) (small, omega (arith, long, low))
 
   q-line-short : (number : ℕ) (name row : List ℕ) → number < 100000 → length name ≤ 96 →
-      All (λ number. number < 65521) row × (length row ≤ k) → length (q_line number name row) ≤ 104 + 12 * k
-  q-line-short number name row small short row_is =
+      IsSmallRow row → length (q_line number name row) ≤ 104 + (7 + digits) * k
+  q-line-short number name row small brief row_is =
       let head : List ℕ = line_head 113 number in
       omega (
         arith,
         head-short 113 number small,
-        short,
-        row_is.1,
-        entries-short 1 row (omega (arith, row_is.1, few)) row_is.0,
+        brief,
+        mul-le-mul_right (7 + digits) row_is.1,
+        mul_comm k (7 + digits),
+        entries-short digits 1 row (omega (arith, row_is.1, few)) row_is.0,
         length-append head name,
         length-append (head ++ name) (row_entries_text 1 row),
         length-append (head ++ name ++ row_entries_text 1 row) (codes "\n"),
@@ -169,12 +183,12 @@ module _ (model : MixedModel) (is : IsModel res_modulus model) (layers : Layers)
 
   t-line-short : (number : ℕ) (name row : List ℕ) → number < 100000 → length name ≤ 96 →
       All (λ column. column < 8192) row × (length row ≤ k) → length (t_line number name row) ≤ 104 + 6 * k
-  t-line-short number name row small short row_is =
+  t-line-short number name row small brief row_is =
       let head : List ℕ = line_head 116 number in
       omega (
         arith,
         head-short 116 number small,
-        short,
+        brief,
         row_is.1,
         numbers-short row row_is.0,
         length-append head name,
@@ -185,7 +199,7 @@ module _ (model : MixedModel) (is : IsModel res_modulus model) (layers : Layers)
   columns-text-short : length (columns_text model layers) ≤ 14 + 105 * k
   columns-text-short =
       let count : length layers.column_origins ≡ layers.q.width = (whole.origins).column_origins in
-      let lines = columns-short model is 1 layers.column_origins (omega (arith, count, low, few)) in
+      let lines = columns-short p model is 1 layers.column_origins (omega (arith, count, low, few)) in
       let one : List ℕ = codes "columns" ++ spaced layers.q.width in
       omega (
         arith,
@@ -199,13 +213,12 @@ module _ (model : MixedModel) (is : IsModel res_modulus model) (layers : Layers)
         length-append (one ++ codes "\n") (column_lines model 1 layers.column_origins),
       )
 
-  q-lines-short : length (row_lines q_line model.equations layers.q_origins 0 layers.q.rows) ≤ 104 * k + 12 * (k * k)
+  q-lines-short : length (row_lines q_line model.equations layers.q_origins 0 layers.q.rows) ≤ 104 * k + (7 + digits) * (k * k)
   q-lines-short = omega (
     arith,
-    at_most (height layers.q) k 104 12 low_q,
-    rows-short q_line model.equations layers.q_origins (104 + 12 * k) (λ row. All (λ number. number < 65521) row
-        × (length row ≤ k)) q-line-short is.equations 0 layers.q.rows
-        (omega (arith, low_q, few)) (λ i d il. row-small i d il),
+    at_most (height layers.q) k 104 (7 + digits) low_q,
+    rows-short q_line model.equations layers.q_origins (104 + (7 + digits) * k) IsSmallRow q-line-short is.equations 0 layers.q.rows
+        (omega (arith, low_q, few)) row-small,
   )
 
   t-row-small : (i : ℕ) (d : List ℕ) → i < length layers.t.rows → All (λ column. column < 8192)
@@ -229,7 +242,7 @@ module _ (model : MixedModel) (is : IsModel res_modulus model) (layers : Layers)
         (omega (arith, low_t, few)) (λ i d il. t-row-small i d il),
   )
 
-  pub layer-text-short : length (layer_text model layers) ≤ layer_room k
+  pub layer-text-short : length (layer_text model layers) ≤ layer_room digits k
   layer-text-short =
       let one : List ℕ = columns_text model layers in
       let two : List ℕ = row_lines q_line model.equations layers.q_origins 0 layers.q.rows in

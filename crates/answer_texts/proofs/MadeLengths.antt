@@ -2,7 +2,6 @@
 use Rattle.std.proofs.Common.{ℕ, ◌+◌, ◌<◌, ◌≤◌, List, ◌++◌, length, codes, arith}
 use Rattle.std.proofs.lemmas.List.{length-append}
 use Rattle.limits.specs.Limits.{column_limit}
-use Rattle.residue_field.specs.Modulus.{res_modulus}
 use Rattle.text_writer.specs.Numbers.{spaced}
 use Rattle.text_lengths.proofs.Lengths.{marked-short, rising-few}
 use Rattle.text_lengths.proofs.TextLengths.{blocks-few}
@@ -62,9 +61,9 @@ tail-short word k shape part short low is =
     )
 
 -- the ranges of a form tell no number of blocks, since they let blocks share columns
-pub made-text-short : (n split : ℕ) (c : Contents) → IsCcf res_modulus c → length c.blocks ≤ column_limit → n ≤ 400 → split ≤ 8192 →
+pub made-text-short : (p n split : ℕ) (c : Contents) → IsCcf p c → length c.blocks ≤ column_limit → n ≤ 400 → split ≤ 8192 →
     length (made_text n split c) ≤ made_room
-made-text-short n split c is blocks few less =
+made-text-short p n split c is blocks few less =
     let make : List ℕ = count_line (codes "make") n in
     let system : List ℕ = system_line n split in
     let rank : List ℕ = count_line (codes "rank") c.rank in
@@ -87,8 +86,8 @@ made-text-short n split c is blocks few less =
     )
 
 -- a right form has no more blocks than columns
-pub right-made-text-short : (n split : ℕ) (M : MixedMatrix) (L : LayeredMatrix) (O : Origins) (c : Contents) → IsCcf res_modulus c →
-    IsRightCcf res_modulus M L O c → n ≤ 400 → split ≤ 8192 → length (made_text n split c) ≤ made_room
-right-made-text-short n split M L O c is right few less =
-    let blocks : length c.blocks ≤ L.columns = blocks-few res_modulus L (parts_of c) (right.canonical_listing).parts in
-    made-text-short n split c is (omega (arith, blocks, (right.shape).columns, (is.shape).columns)) few less
+pub right-made-text-short : (p n split : ℕ) (M : MixedMatrix) (L : LayeredMatrix) (O : Origins) (c : Contents) → IsCcf p c →
+    IsRightCcf p M L O c → n ≤ 400 → split ≤ 8192 → length (made_text n split c) ≤ made_room
+right-made-text-short p n split M L O c is right few less =
+    let blocks : length c.blocks ≤ L.columns = blocks-few p L (parts_of c) (right.canonical_listing).parts in
+    made-text-short p n split c is (omega (arith, blocks, (right.shape).columns, (is.shape).columns)) few less

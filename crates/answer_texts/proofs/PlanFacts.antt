@@ -7,7 +7,6 @@ use Rattle.std.proofs.lemmas.List.Elements.{All-append, All-cons, All-from_get_o
 use Rattle.dense_q.specs.Tables.{height}
 use Rattle.form_arcs.proofs.FormLaws.{some-has}
 use Rattle.limits.specs.Limits.{column_limit}
-use Rattle.residue_field.specs.Modulus.{res_modulus}
 use Rattle.text_lengths.proofs.Lengths.{rising-few}
 use Rattle.text_lengths.proofs.TextLengths.{blocks-few}
 use Rattle.mixed_model.specs.Layers.{Layers, layered_matrix_of}
@@ -137,13 +136,13 @@ module _ {T : Type 0} (number : T → ℕ) where
   row-below m (Combined terms) below = unmapped (λ (t : ℕ × ℕ). t.1 < m) numbers terms below
   row-below m (Symbols equation) below = below
 
-  row-short : (k : ℕ) (row : StepRow T) → IsShortRow (λ x. x) k (row_numbers number row) → IsShortRow number k row
-  row-short k (Combined terms) short =
-      (omega (arith, short.0, length-map terms numbers), unmapped (λ (t : ℕ × ℕ). t.0 < res_modulus) numbers terms short.1)
-  row-short k (Symbols equation) short = tt
+  row-short : (p k : ℕ) (row : StepRow T) → IsShortRow (λ x. x) p k (row_numbers number row) → IsShortRow number p k row
+  row-short p k (Combined terms) short =
+      (omega (arith, short.0, length-map terms numbers), unmapped (λ (t : ℕ × ℕ). t.0 < p) numbers terms short.1)
+  row-short p k (Symbols equation) short = tt
 
   -- ---- the step of a part
-  module _ (layers : Layers) (c : Contents) (form : IsCcf res_modulus c) (of : StepPart × CcfPart) (step : Step T)
+  module _ (p : ℕ) (layers : Layers) (c : Contents) (form : IsCcf p c) (of : StepPart × CcfPart) (step : Step T)
       (at : IsStepOf number layers c of step) (part : IsPart c.shape of.1) where
     rows-each : (P : StepRow ℕ → Type 0) → ((q : ℕ) → q < c.shape.q_rows → P (combined_row layers c q)) →
         ((t : ℕ) → t < c.shape.t_rows → P (symbol_row layers t)) → All (λ row. P (row_numbers number row)) step.rows
@@ -156,7 +155,7 @@ module _ {T : Type 0} (number : T → ℕ) where
         (All-append P (map (combined_row layers c) of.1.q_rows) (map (symbol_row layers) of.1.t_rows)
         (All-map P (combined_row layers c) of.1.q_rows qs) (All-map P (symbol_row layers) of.1.t_rows ts)))
 
-    s-row : (q : ℕ) → q < c.shape.q_rows → AreEntries res_modulus c.shape.q_rows (slice_index_or c.s q [])
+    s-row : (q : ℕ) → q < c.shape.q_rows → AreEntries p c.shape.q_rows (slice_index_or c.s q [])
     s-row q low = (form.s).entries q [] (omega (arith, low, (form.s).count))
 
     step-in : (m n : ℕ) → IsPartBelow column_limit of.0 → c.shape.columns ≡ n → ((q : ℕ) → q < c.shape.q_rows → slice_index layers.q_origins q < m) →
@@ -165,14 +164,14 @@ module _ {T : Type 0} (number : T → ℕ) where
       part = subst (IsPartBelow column_limit) (sym at.name) name;
       columns = subst (λ w. All (λ x. x < w) step.columns) wide (subst (All (λ x. x < c.shape.columns)) (sym at.columns) (part.columns).below);
       rows = All-weaker (λ row. IsRowBelow m (row_numbers number row)) (IsRowBelow m) (row-below m) step.rows
-          (rows-each (IsRowBelow m) (λ q low. terms-below res_modulus c.shape.q_rows (slice_index_or c.s q []) (s-row q low) layers.q_origins m q_low) t_low);
+          (rows-each (IsRowBelow m) (λ q low. terms-below p c.shape.q_rows (slice_index_or c.s q []) (s-row q low) layers.q_origins m q_low) t_low);
       uses = subst (λ w. All (λ x. x < w) step.uses) wide uses-below;
     }
       where
         uses-below : All (λ x. x < c.shape.columns) step.uses
         uses-below = members-below c.shape.columns step.uses at.uses
 
-    step-short : (k : ℕ) → c.shape.q_rows + c.shape.t_rows ≤ k → c.shape.columns ≤ k → IsShortStep number k step
+    step-short : (k : ℕ) → c.shape.q_rows + c.shape.t_rows ≤ k → c.shape.columns ≤ k → IsShortStep number p k step
     step-short k high wide = record {
       columns = omega (arith, wide, ap length at.columns, rising-few c.shape.columns of.1.columns (part.columns).rising (part.columns).below);
       rows = omega (
@@ -187,33 +186,33 @@ module _ {T : Type 0} (number : T → ℕ) where
         rising-few c.shape.t_rows of.1.t_rows (part.t_rows).rising (part.t_rows).below,
       );
       uses = omega (arith, wide, rising-few c.shape.columns step.uses (at.uses).rising (members-below c.shape.columns step.uses at.uses));
-      short = All-weaker (λ row. IsShortRow (λ x. x) k (row_numbers number row)) (IsShortRow number k) (row-short k) step.rows
-          (rows-each (IsShortRow (λ x. x) k) short-combined (λ t low. tt));
+      short = All-weaker (λ row. IsShortRow (λ x. x) p k (row_numbers number row)) (IsShortRow number p k) (row-short p k) step.rows
+          (rows-each (IsShortRow (λ x. x) p k) short-combined (λ t low. tt));
     }
       where
-        short-combined : (q : ℕ) → q < c.shape.q_rows → IsShortRow (λ x. x) k (combined_row layers c q)
+        short-combined : (q : ℕ) → q < c.shape.q_rows → IsShortRow (λ x. x) p k (combined_row layers c q)
         short-combined q low = (
-          omega (arith, high, terms-few res_modulus c.shape.q_rows (slice_index_or c.s q []) (s-row q low) layers.q_origins),
-          terms-small res_modulus c.shape.q_rows (slice_index_or c.s q []) (s-row q low) layers.q_origins,
+          omega (arith, high, terms-few p c.shape.q_rows (slice_index_or c.s q []) (s-row q low) layers.q_origins),
+          terms-small p c.shape.q_rows (slice_index_or c.s q []) (s-row q low) layers.q_origins,
         )
 
 -- ---- the steps of a plan of a right form
-module _ (model : MixedModel) (is : IsModel res_modulus model) (layers : Layers) (are : AreLayersOf model layers) (whole : AreWholeLayers layers)
-    (c : Contents) (form : IsCcf res_modulus c)
-    (right : IsRightCcf res_modulus (mixed_matrix_of model) (layered_matrix_of layers) (origins_of layers are.split) c) (plan : Plan ℕ)
-    (planned : IsPlanOf (λ x. x) res_modulus (mixed_matrix_of model) (layered_matrix_of layers) layers c plan) where
+module _ {T : Type 0} (number : T → ℕ) (p : ℕ) (model : MixedModel) (is : IsModel p model) (layers : Layers) (are : AreLayersOf model layers)
+    (whole : AreWholeLayers layers) (c : Contents) (form : IsCcf p c)
+    (right : IsRightCcf p (mixed_matrix_of model) (layered_matrix_of layers) (origins_of layers are.split) c) (plan : Plan T)
+    (planned : IsPlanOf number p (mixed_matrix_of model) (layered_matrix_of layers) layers c plan) where
   blocks : length c.blocks ≤ layers.q.width
-  blocks = blocks-few res_modulus (layered_matrix_of layers) (parts_of c) (right.canonical_listing).parts
+  blocks = blocks-few p (layered_matrix_of layers) (parts_of c) (right.canonical_listing).parts
 
   none : StepPart × CcfPart
   none = (First, record { columns = []; q_rows = []; t_rows = [] })
 
-  each : (P : Step ℕ → Type 0) →
-      ((of : StepPart × CcfPart) (step : Step ℕ) → IsStepOf (λ x. x) layers c of step → IsPartOf c.shape (length c.blocks) of → P step) →
+  each : (P : Step T → Type 0) →
+      ((of : StepPart × CcfPart) (step : Step T) → IsStepOf number layers c of step → IsPartOf c.shape (length c.blocks) of → P step) →
       All P plan.steps
   each P from k d kl =
       let low : k < length (solved_parts c) = omega (arith, kl, (planned.are).count) in
-      from (get_or (solved_parts c) k none) (get_or plan.steps k d) ((planned.are).each k none d low) (solved-within res_modulus c form k none low)
+      from (get_or (solved_parts c) k none) (get_or plan.steps k d) ((planned.are).each k none d low) (solved-within p c form k none low)
 
   q_below : (q : ℕ) → q < c.shape.q_rows → slice_index layers.q_origins q < length model.equations
   q_below q low = are.layered.q_rows.below q (subst (λ n. q < n) (right.shape).q_rows low)
@@ -224,7 +223,7 @@ module _ (model : MixedModel) (is : IsModel res_modulus model) (layers : Layers)
   -- numbers of blocks, columns and equations are in range
   pub steps-in : All (IsStepIn (length model.equations) layers.q.width) plan.steps
   steps-in = each (IsStepIn (length model.equations) layers.q.width) (λ of step at part.
-      step-in (λ x. x) layers c form of step at part.1 (length model.equations) layers.q.width
+      step-in number p layers c form of step at part.1 (length model.equations) layers.q.width
       (part-below of.0 (length c.blocks) column_limit (omega (arith, blocks, (right.shape).columns, (form.shape).columns)) part.0) (right.shape).columns
       q_below t_below)
 
@@ -233,7 +232,7 @@ module _ (model : MixedModel) (is : IsModel res_modulus model) (layers : Layers)
   steps-few k wide = omega (arith, wide, blocks, solved-few c, (planned.are).count)
 
   -- lists that rise below k have at most k numbers
-  pub steps-short : (k : ℕ) → height layers.q + length layers.t.rows ≤ k → layers.q.width ≤ k → All (IsShortStep (λ x. x) k) plan.steps
-  steps-short k high wide = each (IsShortStep (λ x. x) k) (λ of step at part.
-      step-short (λ x. x) layers c form of step at part.1 k (omega (arith, high, (right.shape).q_rows, (right.shape).t_rows))
+  pub steps-short : (k : ℕ) → height layers.q + length layers.t.rows ≤ k → layers.q.width ≤ k → All (IsShortStep number p k) plan.steps
+  steps-short k high wide = each (IsShortStep number p k) (λ of step at part.
+      step-short number p layers c form of step at part.1 k (omega (arith, high, (right.shape).q_rows, (right.shape).t_rows))
       (omega (arith, wide, (right.shape).columns)))

@@ -1,7 +1,6 @@
 -- The length of the text of a report.
 use Rattle.std.proofs.Common.{ℕ, ◌+◌, ◌-◌, ◌*◌, ◌≤◌, List, [], ◌∷◌, ◌++◌, length, codes, arith}
 use Rattle.std.proofs.lemmas.List.{length-append}
-use Rattle.residue_field.specs.Modulus.{res_modulus}
 use Rattle.text_writer.specs.Numbers.{spaced}
 use Rattle.text_lengths.proofs.Lengths.{marked-short}
 use Rattle.mixed_model.specs.Models.{MixedModel, IsModel}
@@ -57,7 +56,7 @@ sizes-short report equations unknowns rank =
     )
 
 -- the names of a model are short, and a report on it lists few
-module _ (model : MixedModel) (is : IsModel res_modulus model) (report : Report) (k : ℕ) (few : k ≤ 4096)
+module _ (p : ℕ) (model : MixedModel) (is : IsModel p model) (report : Report) (k : ℕ) (few : k ≤ 4096)
     (equations : report.equations ≤ k) (unknowns : report.unknowns ≤ k) (rank : report.rank ≤ k)
     (surplus : length report.surplus.items ≤ k) (undetermined : length report.undetermined.items ≤ k) where
   surplus-short : length (surplus_text model report) ≤ 15 + 110 * k

@@ -2,7 +2,6 @@
 use Rattle.std.specs.Prelude.{ℕ, ◌<◌, ◌≤◌, length}
 use Rattle.std.specs.List.{All}
 use Rattle.limits.specs.Limits.{column_limit}
-use Rattle.residue_field.specs.Modulus.{res_modulus}
 use Rattle.solve_plan.specs.declared.steps.Step.{Step}
 use Rattle.solve_plan.specs.declared.steps.StepPart.{StepPart}
 use Rattle.solve_plan.specs.declared.steps.StepPart.TheVariants.{First, Block, Last}
@@ -27,14 +26,14 @@ pub record IsStepIn {T : Type 0} (m n : ℕ) (step : Step T) : Type 0 where
   pub rows : All (IsRowBelow m) step.rows
   pub uses : All (λ column. column < n) step.uses
 
--- a sum has at most k terms, and its coefficients are residues
-abbrev pub IsShortRow : {T : Type 0} → (T → ℕ) → ℕ → StepRow T → Type 0
-IsShortRow number k (Combined terms) = (length terms ≤ k) × All (λ term. number term.0 < res_modulus) terms
-IsShortRow number k (Symbols equation) = Unit {0}
+-- a sum has at most k terms, and its coefficients are residues modulo p
+abbrev pub IsShortRow : {T : Type 0} → (T → ℕ) → ℕ → ℕ → StepRow T → Type 0
+IsShortRow number p k (Combined terms) = (length terms ≤ k) × All (λ term. number term.0 < p) terms
+IsShortRow number p k (Symbols equation) = Unit {0}
 
 -- a step has at most k columns, rows and columns that it uses, and short rows
-pub record IsShortStep {T : Type 0} (number : T → ℕ) (k : ℕ) (step : Step T) : Type 0 where
+pub record IsShortStep {T : Type 0} (number : T → ℕ) (p k : ℕ) (step : Step T) : Type 0 where
   pub columns : length step.columns ≤ k
   pub rows : length step.rows ≤ k
   pub uses : length step.uses ≤ k
-  pub short : All (IsShortRow number k) step.rows
+  pub short : All (IsShortRow number p k) step.rows

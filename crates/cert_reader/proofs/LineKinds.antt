@@ -1,12 +1,14 @@
 -- The lines of a certificate.
 use Rattle.std.proofs.Common.{◌≡◌, ℕ, ◌+◌, ◌^◌, ◌<◌, ◌≤◌, Bool, true, false, cond, eqb, List, [], ◌∷◌, ◌++◌, length}
-use Rattle.std.proofs.Common.{take, drop, Result, Ok, Err, refl, sym, ap, subst, ◌∙◌, append_assoc, length-append}
+use Rattle.std.proofs.Common.{take, drop, Result, Ok, Err, refl, sym, ap, subst, ◌∙◌, append_assoc, length-append, ◌⊎◌, inl, inr}
 use Rattle.std.proofs.Common.{arith, le-leb, eqb-true, eq-eqb}
 use Rattle.std.specs.Prelude.{decimal, codes, nat_lt, nat_le}
+use Rattle.std.specs.Fmt.{digits}
 use Rattle.std.specs.List.Sorted.{IsStrictlyIncreasing}
 use Rattle.std.proofs.lemmas.List.{take-append-drop, take_at, drop_at, length-take, map-id}
 use Rattle.std.proofs.lemmas.Bool.Decides.{nat_tests}
 use Rattle.limits.specs.Limits.{column_limit, equation_limit}
+use Rattle.cert_text.specs.Moduli.{res_modulus, large_modulus}
 use Rattle.cert_text.specs.Texts.{spaced, item, lettered, pairs_text, entries_text, numbers_text, letters_text}
 use Rattle.cert_text.specs.Texts.{head_text, entries_line, columns_line, part_text, tail_line, block_line, kind_text}
 use Rattle.cert_text.specs.Texts.{shape_text}
@@ -14,17 +16,27 @@ use Rattle.cert_text.specs.Ranges.{IsShape, AreRising, ArePairs, AreEntries, IsP
 use Rattle.cert_text.specs.declared.kind.Kind.{Kind}
 use Rattle.cert_text.specs.declared.kind.Kind.TheVariants.{Matrix, Netlist, Flowsheet}
 use Rattle.cert_text.specs.declared.shape.Shape.{Shape}
+use Rattle.cert_text.specs.declared.version.Version.{Version}
+use Rattle.cert_text.specs.declared.version.Version.TheVariants.{One, Two}
 use Rattle.cert_reader.specs.Fronts.{◌>>=◌, text_at, number_at, begins_with}
 use Rattle.cert_reader.specs.Items.{goes_on, numbers_at, letters_at, pairs_at, entries_at, marked_at, pair_at, entry_at}
-use Rattle.cert_reader.specs.LineReading.{kind_at, count_at, bytes_at, echo_at, spaced_at, both_at, before_at}
+use Rattle.cert_reader.specs.LineReading.{either_at, version_at, field_line_at, kind_at, count_at, bytes_at, echo_at, spaced_at, both_at, before_at}
 use Rattle.cert_reader.specs.LineReading.{line_at, exact_at, head_at, sizes_at, shape_at, pairs_line_at}
 use Rattle.cert_reader.specs.LineReading.{entries_line_at, columns_line_at, part_at, tail_at, block_at}
-use Rattle.cert_reader.proofs.Texts.{begins-is}
+use Rattle.cert_reader.proofs.Texts.{begins-is, begins-again, drop-again}
 use Rattle.cert_reader.proofs.Numbers.{EndsNumber}
 use Rattle.cert_reader.proofs.Spells.{Spells, Any, Spells-then, Spells-where, Spells-behind, Spells-before, Spells-number, Spells-text}
 use Rattle.cert_reader.proofs.Items.{RiseFrom, EndsItems, Spells-items}
 use Rattle.cert_reader.proofs.Rising.{Above, rising-from, rising-to}
 use Rattle.cert_reader.proofs.ItemKinds.{ltb-true, from-ltb, are-numbers, are-letters, are-pairs, are-entries}
+
+-- the line of the version, and that of the field
+abbrev pub version_line : Version → List ℕ
+version_line One = codes "mixed-certificate 1\n"
+version_line Two = codes "mixed-certificate 2\n"
+
+abbrev pub field_line : ℕ → List ℕ
+field_line modulus = codes "field" ++ (spaced modulus ++ codes "\n")
 
 -- the same values
 pub Spells-same : {A : Type 0} {E : List ℕ → Type 0} {F G : A → Type 0} {t : A → List ℕ} (p : ℕ → List ℕ →
@@ -70,6 +82,65 @@ Spells-entries modulus n small narrow = Spells-same (entries_at modulus n) (Spel
     (λ ps are. rising-to (λ p. p.0) (λ p. (p.0 < n) × (0 < p.1) × (p.1 < modulus)) 0 ps are.rising are.within (λ some. omega arith))
 
 -- ---- the head
+
+-- one of two texts of which the second does not begin with the first
+Spells-either : {A : Type 0} (text : A → List ℕ) (a b : A) → ((rest : List ℕ) → begins_with (text a) (text b ++ rest) ≡ false) →
+    Spells Any (λ x. (x ≡ a) ⊎ (x ≡ b)) text (either_at (text a) a (text b) b)
+Spells-either {A} text a b apart = record {
+  takes = λ line bytes x e. took line bytes x (begins_with (text a) bytes) (begins_with (text b) bytes) refl refl e;
+  again = λ line x rest fits ending. elim fits [
+    | inl first ↦ subst (λ y. read line (text y ++ rest) ≡ Ok (y, rest)) (sym first) (again-first line rest)
+    | inr second ↦ subst (λ y. read line (text y ++ rest) ≡ Ok (y, rest)) (sym second) (again-second line rest)
+  ];
+  fails = λ line bytes l e. failed line bytes l (begins_with (text a) bytes) (begins_with (text b) bytes) e;
+}
+  where
+    read : ℕ → List ℕ → Result (A × List ℕ) ℕ
+    read = either_at (text a) a (text b) b
+
+    by : Bool → Bool → ℕ → List ℕ → Result (A × List ℕ) ℕ
+    by first second line bytes =
+        cond first (Ok (a, drop (length (text a)) bytes)) (cond second (Ok (b, drop (length (text b)) bytes)) (Err line))
+
+    again-first : (line : ℕ) (rest : List ℕ) → by (begins_with (text a) (text a ++ rest)) (begins_with (text b) (text a ++ rest)) line
+        (text a ++ rest) ≡ Ok (a, rest)
+    again-first line rest =
+        ap (λ first. by first (begins_with (text b) (text a ++ rest)) line (text a ++ rest)) (begins-again (text a) rest)
+        ∙ ap (λ left. Ok (a, left)) (drop-again (text a) rest)
+
+    again-second : (line : ℕ) (rest : List ℕ) → by (begins_with (text a) (text b ++ rest)) (begins_with (text b) (text b ++ rest)) line
+        (text b ++ rest) ≡ Ok (b, rest)
+    again-second line rest =
+        (λ i. by (apart rest i) (begins-again (text b) rest i) line (text b ++ rest))
+        ∙ ap (λ left. Ok (b, left)) (drop-again (text b) rest)
+
+    took : (line : ℕ) (bytes : List ℕ) (x : A × List ℕ) (first second : Bool) → begins_with (text a) bytes ≡ first →
+        begins_with (text b) bytes ≡ second → by first second line bytes ≡ Ok x →
+        (bytes ≡ text x.0 ++ x.1) × ((x.0 ≡ a) ⊎ (x.0 ≡ b))
+    took line bytes x true second begins other e = (let same : (a, drop (length (text a)) bytes) ≡ x = cc in
+        subst (λ (y : A × List ℕ). (bytes ≡ text y.0 ++ y.1) × ((y.0 ≡ a) ⊎ (y.0 ≡ b))) same
+        (begins-is (text a) bytes begins, inl refl))
+    took line bytes x false true other begins e = (let same : (b, drop (length (text b)) bytes) ≡ x = cc in
+        subst (λ (y : A × List ℕ). (bytes ≡ text y.0 ++ y.1) × ((y.0 ≡ a) ⊎ (y.0 ≡ b))) same
+        (begins-is (text b) bytes begins, inr refl))
+    took line bytes x false false first second e = (let f : ⊥ = cc in absurd f)
+
+    failed : (line : ℕ) (bytes : List ℕ) (l : ℕ) (first second : Bool) → by first second line bytes ≡ Err l → l ≡ line
+    failed line bytes l true second e = (let f : ⊥ = cc in absurd f)
+    failed line bytes l false true e = (let f : ⊥ = cc in absurd f)
+    failed line bytes l false false e = cc
+
+pub Spells-version : Spells Any (λ version. Unit {0}) version_line version_at
+unfolding version_at
+Spells-version = Spells-same version_at (Spells-either version_line One Two (λ rest. refl)) (λ version fits. tt) (λ version fits. either version)
+  where
+    either : (version : Version) → (version ≡ One) ⊎ (version ≡ Two)
+    either One = inl refl
+    either Two = inr refl
+
+pub Spells-field_line : Spells Any (λ modulus. (modulus ≡ res_modulus) ⊎ (modulus ≡ large_modulus)) field_line field_line_at
+unfolding field_line_at digits
+Spells-field_line = Spells-either field_line res_modulus large_modulus (λ rest. refl)
 
 pub Spells-kind : Spells Any (λ kind. Unit {0}) (λ kind. codes "kind " ++ (kind_text kind ++ codes "\n")) kind_at
 unfolding kind_at

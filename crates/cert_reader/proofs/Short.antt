@@ -6,13 +6,15 @@ use Rattle.cert_text.specs.Ranges.{IsShape}
 use Rattle.cert_text.specs.Texts.{entries_line, columns_line}
 use Rattle.cert_text.specs.declared.shape.Shape.{Shape}
 use Rattle.cert_text.specs.declared.part.CcfPart.{CcfPart}
-use Rattle.cert_reader.specs.LineReading.{count_at, tail_at, pairs_line_at, entries_line_at, columns_line_at}
+use Rattle.cert_text.specs.declared.version.Version.{Version}
+use Rattle.cert_reader.specs.LineReading.{version_at, field_at, count_at, tail_at, pairs_line_at, entries_line_at, columns_line_at}
 use Rattle.cert_reader.specs.CertReading.{rows_at}
 use Rattle.cert_reader.proofs.Empty.{no-numbers, no-entries}
 use Rattle.cert_reader.proofs.Spells.{Spells, Any}
 use Rattle.cert_reader.proofs.Lines.{Reads}
-use Rattle.cert_reader.proofs.LineKinds.{Spells-tail, Spells-count, Spells-pairs_line, Spells-entries_line, Spells-columns_line}
+use Rattle.cert_reader.proofs.LineKinds.{Spells-version, Spells-tail, Spells-count, Spells-pairs_line, Spells-entries_line, Spells-columns_line}
 use Rattle.cert_reader.proofs.Rows.{Reads-rows}
+use Rattle.cert_reader.proofs.Whole.{Reads-field}
 
 pub spells_short : {A : Type 0} {E : List ℕ → Type 0} {F : A → Type 0} {t : A → List ℕ} {p : ℕ → List ℕ →
     Result (A × List ℕ) ℕ} → Spells E F t p → (line : ℕ) (bytes : List ℕ) (x : A × List ℕ) → p line bytes ≡ Ok x →
@@ -48,3 +50,12 @@ pairs_short word m n line bytes x few small e = spells_short (Spells-pairs_line 
 pub count_short : (word : List ℕ) (limit line : ℕ) (bytes : List ℕ) (x : ℕ × List ℕ) → limit < 10 ^ 10 →
     count_at word limit line bytes ≡ Ok x → length x.1 ≤ length bytes
 count_short word limit line bytes x small e = spells_short (Spells-count word limit small) line bytes x e
+
+-- behind the version and the field
+pub fields_short : (line next : ℕ) (bytes : List ℕ) (version : Version × List ℕ) (modulus : ℕ × List ℕ) →
+    version_at line bytes ≡ Ok version → field_at version.0 next version.1 ≡ Ok modulus → length modulus.1 ≤ length bytes
+fields_short line next bytes version modulus e f = omega (
+  arith,
+  spells_short Spells-version line bytes version e,
+  reads_short (Reads-field version.0) next version.1 modulus f,
+)

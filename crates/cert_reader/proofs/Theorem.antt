@@ -7,12 +7,14 @@ use Rattle.std.proofs.lemmas.List.Folds.{concat-append}
 use Rattle.cert_text.specs.Contents.{Certificate, Contents}
 use Rattle.cert_text.specs.Texts.{spaced, kind_text, shape_text, pairs_text, entries_line, columns_line, tail_line}
 use Rattle.cert_text.specs.Texts.{block_line, matrix_text, pattern_text, blocks_text, contents_text, certificate_text}
-use Rattle.cert_text.specs.Texts.{echo_text}
+use Rattle.cert_text.specs.Texts.{echo_text, version_text}
 use Rattle.cert_text.specs.declared.part.CcfBlock.{CcfBlock}
+use Rattle.cert_text.specs.declared.version.Version.{Version}
+use Rattle.cert_text.specs.declared.version.Version.TheVariants.{One, Two}
 use Rattle.cert_reader.specs.declared.fault.ReadCert.{ReadCert}
 use Rattle.cert_reader.specs.declared.fault.ReadCert.TheVariants as errors
 use Rattle.cert_reader.specs.Fronts.{Fails}
-use Rattle.cert_reader.specs.CertLines.{row_lines, contents_lines, certificate_lines, IsCertificate, IsCause}
+use Rattle.cert_reader.specs.CertLines.{row_lines, contents_lines, version_lines, body_lines, certificate_lines, IsCertificate, IsCause}
 use Rattle.cert_text.specs.Ranges.{IsCcf}
 use Rattle.cert_reader.specs.CertReading.{contents_at, certificate_at}
 use Rattle.cert_reader.proofs.Lines.{ok_is}
@@ -73,52 +75,61 @@ contents-lines c =
 
 headed : (v k kind nl l size echo rest : List ℕ) → v ++
     ((k ++ (kind ++ nl)) ++ ((l ++ (size ++ nl)) ++ ((echo ++ nl) ++ rest))) ≡
-    ((v ++ k) ++ kind ++ (nl ++ l) ++ size ++ nl ++ echo ++ nl) ++ rest
+    (v ++ k ++ kind ++ (nl ++ l) ++ size ++ nl ++ echo ++ nl) ++ rest
 headed v k kind nl l size echo rest = simp append_assoc
+
+told : (v f modulus nl : List ℕ) → v ++ ((f ++ (modulus ++ nl)) ++ []) ≡ (v ++ f) ++ modulus ++ nl
+told v f modulus nl = simp (append_assoc, append-nil)
+
+version-lines : (version : Version) (modulus : ℕ) → concat (version_lines version modulus) ≡ version_text version modulus
+version-lines One modulus = refl
+version-lines Two modulus = told (codes "mixed-certificate 2\n") (codes "field") (spaced modulus) (codes "\n")
 
 pub certificate-lines : (c : Certificate) → concat (certificate_lines c) ≡ certificate_text c
 certificate-lines c =
-    headed (codes "mixed-certificate 1\n") (codes "kind ") (kind_text c.kind) (codes "\n") (codes "length")
+    concat-append (version_lines c.version c.modulus) (body_lines c)
+    ∙ ap (λ ws. ws ++ concat (body_lines c)) (version-lines c.version c.modulus)
+    ∙ headed (version_text c.version c.modulus) (codes "kind ") (kind_text c.kind) (codes "\n") (codes "length")
     (spaced (length c.echo)) c.echo (concat (contents_lines c.ccf))
-    ∙ ap (λ ws. echo_text c.kind c.echo ++ ws) (contents-lines c.ccf)
+    ∙ ap (λ ws. echo_text c.version c.modulus c.kind c.echo ++ ws) (contents-lines c.ccf)
 
 -- ---- the clauses of `read`
 
 the-text : (c : Certificate) → concat (certificate_lines c) ++ [] ≡ certificate_text c
 the-text c = append-nil (concat (certificate_lines c)) ∙ certificate-lines c
 
-pub found_is : (modulus : ℕ) → modulus < 2 ^ 32 → (bytes : List ℕ) (x : Certificate × List ℕ) → Short bytes →
-    certificate_at modulus 1 bytes ≡ Ok x → IsCertificate modulus x.0 × (bytes ≡ certificate_text x.0)
-found_is modulus small bytes x short e =
-    let h = (whole-certificate modulus small).reads.takes 1 bytes x short e in
+pub found_is : (bytes : List ℕ) (x : Certificate × List ℕ) → Short bytes →
+    certificate_at 1 bytes ≡ Ok x → IsCertificate x.0 × (bytes ≡ certificate_text x.0)
+found_is bytes x short e =
+    let h = whole-certificate.reads.takes 1 bytes x short e in
     (h.1, h.0 ∙ ap (λ ws. concat (certificate_lines x.0) ++ ws) h.2 ∙ the-text x.0)
 
-read-again : (modulus : ℕ) → modulus < 2 ^ 32 → (bytes : List ℕ) (c : Certificate) → Short bytes →
-    IsCertificate modulus c → bytes ≡ certificate_text c → certificate_at modulus 1 bytes ≡ Ok (c, [])
-read-again modulus small bytes c short is text =
+read-again : (bytes : List ℕ) (c : Certificate) → Short bytes →
+    IsCertificate c → bytes ≡ certificate_text c → certificate_at 1 bytes ≡ Ok (c, [])
+read-again bytes c short is text =
     let whole : bytes ≡ concat (certificate_lines c) ++ [] = text ∙ sym (the-text c) in
-    ap (certificate_at modulus 1) whole ∙ (whole-certificate modulus small).reads.again 1 c [] (subst Short whole short) is refl
+    ap (certificate_at 1) whole ∙ whole-certificate.reads.again 1 c [] (subst Short whole short) is refl
 
-pub only_ok : (modulus : ℕ) → modulus < 2 ^ 32 → (bytes : List ℕ) (x : Certificate × List ℕ) (c : Certificate) →
-    Short bytes → certificate_at modulus 1 bytes ≡ Ok x → IsCertificate modulus c → bytes ≡ certificate_text c →
+pub only_ok : (bytes : List ℕ) (x : Certificate × List ℕ) (c : Certificate) →
+    Short bytes → certificate_at 1 bytes ≡ Ok x → IsCertificate c → bytes ≡ certificate_text c →
     c ≡ x.0
-only_ok modulus small bytes x c short e is text = ap (λ y. y.0) (ok_is (c, []) x (sym (read-again modulus small bytes c short is text) ∙ e))
+only_ok bytes x c short e is text = ap (λ y. y.0) (ok_is (c, []) x (sym (read-again bytes c short is text) ∙ e))
 
 -- reading gives one or the other
 differ : {Y : Type 0} (x : Certificate × List ℕ) (l : ℕ) → as_read (Ok x) ≡ Err l → Y
 differ x l h = (let f : ⊥ = cc in absurd f)
 
-pub only_err : (modulus : ℕ) → modulus < 2 ^ 32 → (bytes : List ℕ) (e : ReadCert) (c : Certificate) → Short bytes →
-    Fails e (certificate_at modulus 1 bytes) → IsCertificate modulus c → bytes ≡ certificate_text c →
+pub only_err : (bytes : List ℕ) (e : ReadCert) (c : Certificate) → Short bytes →
+    Fails e (certificate_at 1 bytes) → IsCertificate c → bytes ≡ certificate_text c →
     Fails e (as_one c)
-only_err modulus small bytes errors.NoMemory c short failed is text = tt
-only_err modulus small bytes (errors.Refused l) c short failed is text = differ (c, []) l (sym (read-again modulus small bytes c short is text) ∙ failed)
+only_err bytes errors.NoMemory c short failed is text = tt
+only_err bytes (errors.Refused l) c short failed is text = differ (c, []) l (sym (read-again bytes c short is text) ∙ failed)
 
-pub cause_is : (modulus : ℕ) → modulus < 2 ^ 32 → (bytes : List ℕ) (e : ReadCert) → Short bytes →
-    Fails e (certificate_at modulus 1 bytes) → IsCause modulus e bytes
-cause_is modulus small bytes errors.NoMemory short failed = tt
-cause_is modulus small bytes (errors.Refused l) short failed =
-    (let h = (whole-certificate modulus small).reads.fails 1 bytes l short failed in (h.0, omega (arith, h.1), h.2))
+pub cause_is : (bytes : List ℕ) (e : ReadCert) → Short bytes →
+    Fails e (certificate_at 1 bytes) → IsCause e bytes
+cause_is bytes errors.NoMemory short failed = tt
+cause_is bytes (errors.Refused l) short failed =
+    (let h = whole-certificate.reads.fails 1 bytes l short failed in (h.0, omega (arith, h.1), h.2))
 
 pub contents_are : (modulus : ℕ) → modulus < 2 ^ 32 → (line : ℕ) (bytes : List ℕ) (x : Contents × List ℕ) →
     Short bytes → contents_at modulus line bytes ≡ Ok x → IsCcf modulus x.0
@@ -126,16 +137,16 @@ contents_are modulus small line bytes x short e = ((whole-contents modulus small
 
 -- ---- one text, one certificate
 
-pub one_certificate : (modulus : ℕ) → modulus < 2 ^ 32 → (a b : Certificate) → IsCertificate modulus a →
-    IsCertificate modulus b → Short (certificate_text b) → certificate_text a ≡ certificate_text b → a ≡ b
-one_certificate modulus small a b one two short same =
-    ap (λ y. y.0) (ok_is (a, []) (b, []) (sym (read-again modulus small (certificate_text b) a short one (sym same))
-    ∙ read-again modulus small (certificate_text b) b short two refl))
+pub one_certificate : (a b : Certificate) → IsCertificate a →
+    IsCertificate b → Short (certificate_text b) → certificate_text a ≡ certificate_text b → a ≡ b
+one_certificate a b one two short same =
+    ap (λ y. y.0) (ok_is (a, []) (b, []) (sym (read-again (certificate_text b) a short one (sym same))
+    ∙ read-again (certificate_text b) b short two refl))
 
-pub no_more : (modulus : ℕ) → modulus < 2 ^ 32 → (a b : Certificate) (more : List ℕ) → IsCertificate modulus a →
-    IsCertificate modulus b → Short (certificate_text b) → certificate_text a ++ more ≡ certificate_text b → more ≡ []
-no_more modulus small a b [] one two short same = refl
-no_more modulus small a b (byte ∷ more) one two short same =
+pub no_more : (a b : Certificate) (more : List ℕ) → IsCertificate a →
+    IsCertificate b → Short (certificate_text b) → certificate_text a ++ more ≡ certificate_text b → more ≡ []
+no_more a b [] one two short same = refl
+no_more a b (byte ∷ more) one two short same =
     let whole : certificate_text b ≡ concat (certificate_lines a) ++ (byte ∷ more) = sym same ∙ ap (λ ws. ws ++ (byte ∷ more)) (sym (certificate-lines a)) in
-    let stopped = (whole-certificate modulus small).reads.stops 1 a (byte ∷ more) (subst Short whole short) one (λ e. (let f : ⊥ = cc in f)) in
-    differ (b, []) stopped.0 (sym (read-again modulus small (certificate_text b) b short two refl) ∙ ap (certificate_at modulus 1) whole ∙ stopped.1)
+    let stopped = whole-certificate.reads.stops 1 a (byte ∷ more) (subst Short whole short) one (λ e. (let f : ⊥ = cc in f)) in
+    differ (b, []) stopped.0 (sym (read-again (certificate_text b) b short two refl) ∙ ap (certificate_at 1) whole ∙ stopped.1)

@@ -1,12 +1,13 @@
 -- The whole of a certificate.
 use Rattle.std.proofs.lemmas.List.{length-replicate}
 use Rattle.std.proofs.Common.{replicate, ◌≡◌, ℕ, zero, suc, ◌+◌, ◌^◌, ◌<◌, ◌≤◌, List, [], ◌∷◌, ◌++◌, length, get_or}
-use Rattle.std.proofs.Common.{Result, refl, sym, ap, subst, ◌∙◌, length-append, arith}
+use Rattle.std.proofs.Common.{Result, refl, sym, ap, subst, ◌∙◌, length-append, arith, ◌⊎◌, inl, inr}
 use Rattle.std.specs.Prelude.{codes, decimal}
 use Rattle.std.specs.List.{concat}
 use Rattle.std.proofs.lemmas.List.Elements.{All-from_recursion, recursion_from_All}
 use Rattle.limits.specs.Limits.{column_limit, input_limit}
 use Rattle.cert_text.specs.Contents.{Certificate, Contents}
+use Rattle.cert_text.specs.Moduli.{res_modulus, large_modulus}
 use Rattle.cert_text.specs.Texts.{tail_line, entries_line, columns_line, kind_text, shape_text, pairs_text}
 use Rattle.cert_text.specs.Ranges.{IsShape, AreRising, ArePairs, AreEntries, IsMatrix, IsPattern, IsPart, IsBlock, IsCcf}
 use Rattle.cert_text.specs.declared.kind.Kind.{Kind}
@@ -14,15 +15,18 @@ use Rattle.cert_text.specs.declared.kind.Kind.TheVariants.{Matrix}
 use Rattle.cert_text.specs.declared.shape.Shape.{Shape}
 use Rattle.cert_text.specs.declared.part.CcfPart.{CcfPart}
 use Rattle.cert_text.specs.declared.part.CcfBlock.{CcfBlock}
+use Rattle.cert_text.specs.declared.version.Version.{Version}
+use Rattle.cert_text.specs.declared.version.Version.TheVariants.{One, Two}
 use Rattle.cert_reader.specs.Limits.{certificate_limit}
-use Rattle.cert_reader.specs.CertLines.{row_lines, contents_lines, certificate_lines, IsCertificate}
-use Rattle.cert_reader.specs.LineReading.{version_at, kind_at, echo_at, shape_at, pairs_line_at, entries_line_at, columns_line_at, tail_at}
+use Rattle.cert_reader.specs.CertLines.{row_lines, contents_lines, version_lines, body_lines, certificate_lines, IsCertificate}
+use Rattle.cert_reader.specs.Fronts.{◌>>=◌}
+use Rattle.cert_reader.specs.LineReading.{version_at, field_line_at, field_at, kind_at, echo_at, shape_at, pairs_line_at, entries_line_at, columns_line_at, tail_at}
 use Rattle.cert_reader.specs.CertReading.{then_at, rows_at, all_blocks_at, parts_at, matrices_at, pieces_at, Matrices}
-use Rattle.cert_reader.specs.CertReading.{Pieces, size_at, rank_at, contents_from, contents_at, certificate_at}
-use Rattle.cert_reader.proofs.Spells.{Spells, Any, Spells-text}
-use Rattle.cert_reader.proofs.LineKinds.{Spells-kind, Spells-count, Spells-echo, Spells-shape, Spells-pairs_line}
+use Rattle.cert_reader.specs.CertReading.{Pieces, size_at, rank_at, contents_from, contents_at, body_at, field_count, certificate_at}
+use Rattle.cert_reader.proofs.Spells.{Spells, Any}
+use Rattle.cert_reader.proofs.LineKinds.{version_line, field_line, Spells-version, Spells-field_line, Spells-kind, Spells-count, Spells-echo, Spells-shape, Spells-pairs_line}
 use Rattle.cert_reader.proofs.LineKinds.{Spells-entries_line, Spells-columns_line, Spells-tail}
-use Rattle.cert_reader.proofs.Lines.{Reads, Reads-pair, Reads-map, Reads-line}
+use Rattle.cert_reader.proofs.Lines.{Reads, Reads-then, Reads-pair, Reads-map, Reads-line, Reads-nothing}
 use Rattle.cert_reader.proofs.Rows.{Reads-same, AreRows, rows-some, Reads-rows, rows-to, rows-from, row_lines-count}
 use Rattle.cert_reader.proofs.Blocks.{IsEmpty, AreBlocks, AreParts, parts_lines, Reads-blocks}
 use Rattle.cert_reader.proofs.Empty.{no-numbers, no-entries, no-pairs, no_part, no_part-is, no_shape, no_shape-is}
@@ -246,8 +250,8 @@ whole-contents modulus small =
 
 -- ---- the certificate
 
-abbrev Parted : Type 0
-Parted = Unit {0} × (Kind × (ℕ × (List ℕ × Contents)))
+abbrev Body : Type 0
+Body = Kind × (ℕ × (List ℕ × Contents))
 
 whole-sized : (modulus : ℕ) → modulus < 2 ^ 32 → Whole (λ (x : ℕ × (List ℕ × Contents)). (x.0 ≤ input_limit)
     × ((length x.1.0 ≡ x.0) × IsCcf modulus x.1.1)) (λ x. ((codes "length " ++ (decimal x.0 ++ codes "\n")) ∷ []) ++
@@ -260,44 +264,169 @@ whole-sized modulus small = Whole-pair {FA = λ n. n ≤ input_limit} {FB = λ s
     (Reads-line size_at 0 (omega arith) (Spells-count (codes "length ") input_limit (omega arith))) 0 (omega arith) (λ size fit. refl)
     (λ size fit. Whole-line (echo_at size) (replicate size 0) (length-replicate size 0) (Spells-echo size) (contents_at modulus) (whole-contents modulus small))
 
-whole-parted : (modulus : ℕ) → modulus < 2 ^ 32 → Whole (λ (x : Parted). Unit {0}
-    × (Unit {0} × ((x.1.1.0 ≤ input_limit) × ((length x.1.1.1.0 ≡ x.1.1.0) × IsCcf modulus x.1.1.1.1))))
-    (λ x. (codes "mixed-certificate 1\n" ∷ []) ++ (((codes "kind " ++ (kind_text x.1.0 ++ codes "\n")) ∷ []) ++
-    (((codes "length " ++ (decimal x.1.1.0 ++ codes "\n")) ∷ []) ++
-    (((x.1.1.1.0 ++ codes "\n") ∷ []) ++ contents_lines x.1.1.1.1))))
-    (then_at 1 version_at (λ version. then_at 1 kind_at (λ kind. then_at 1 size_at (λ size. then_at 1 (echo_at size) (λ echo. contents_at modulus)))))
-whole-parted modulus small = Whole-line version_at tt tt (Spells-text (codes "mixed-certificate 1\n")) _
-    (Whole-line kind_at Matrix tt Spells-kind _ (whole-sized modulus small))
+whole-kind : (modulus : ℕ) → modulus < 2 ^ 32 → Whole (λ (x : Body). Unit {0}
+    × ((x.1.0 ≤ input_limit) × ((length x.1.1.0 ≡ x.1.0) × IsCcf modulus x.1.1.1)))
+    (λ x. ((codes "kind " ++ (kind_text x.0 ++ codes "\n")) ∷ []) ++
+    (((codes "length " ++ (decimal x.1.0 ++ codes "\n")) ∷ []) ++
+    (((x.1.1.0 ++ codes "\n") ∷ []) ++ contents_lines x.1.1.1)))
+    (then_at 1 kind_at (λ kind. then_at 1 size_at (λ size. then_at 1 (echo_at size) (λ echo. contents_at modulus))))
+whole-kind modulus small = Whole-line kind_at Matrix tt Spells-kind _ (whole-sized modulus small)
 
-parted : Certificate → Parted
-parted c = (tt, (c.kind, (length c.echo, (c.echo, c.ccf))))
+-- a certificate of this version and field
+record IsBody (version : Version) (modulus : ℕ) (c : Certificate) : Type 0 where
+  pub version_is : c.version ≡ version
+  pub modulus_is : c.modulus ≡ modulus
+  pub echo : length c.echo ≤ input_limit
+  pub ccf : IsCcf modulus c.ccf
 
-pub whole-certificate : (modulus : ℕ) → modulus < 2 ^ 32 → Whole (IsCertificate modulus) certificate_lines (certificate_at modulus)
-unfolding certificate_at parted
-whole-certificate modulus small =
-    let whole = whole-parted modulus small in
+body_of : Certificate → Body
+body_of c = (c.kind, (length c.echo, (c.echo, c.ccf)))
+
+made : Version → ℕ → Body → Certificate
+made version modulus x = record { version = version; modulus = modulus; kind = x.0; echo = x.1.1.0; ccf = x.1.1.1 }
+
+whole-body : (version : Version) (modulus : ℕ) → modulus < 2 ^ 32 → Whole (IsBody version modulus) body_lines (body_at version modulus)
+unfolding body_at body_of made
+whole-body version modulus small =
+    let whole = whole-kind modulus small in
     let x = whole.some in
     record {
-      reads = Reads-same (Reads-map {G = IsCertificate modulus}
-          (then_at 1 version_at (λ version. then_at 1 kind_at
-          (λ kind. then_at 1 size_at (λ size. then_at 1 (echo_at size) (λ echo. contents_at modulus)))))
-          (λ x. record { kind = x.1.0; echo = x.1.1.1.0; ccf = x.1.1.1.1 }) parted whole.reads
-          (λ x fits. (
-            record {
-              echo = subst (λ n. n ≤ input_limit) (sym fits.1.1.1.0) fits.1.1.0;
-              ccf =
-                  fits.1.1.1.1;
-            },
-            ap (λ n. (tt {0}, (x.1.0, (n, (x.1.1.1.0, x.1.1.1.1))))) fits.1.1.1.0,
-          ))
-          (λ c is. ((tt, (tt, (is.echo, (refl, is.ccf)))), refl)))
+      reads = Reads-same (Reads-map {G = IsBody version modulus}
+          (then_at 1 kind_at (λ kind. then_at 1 size_at (λ size. then_at 1 (echo_at size) (λ echo. contents_at modulus))))
+          (made version modulus) body_of whole.reads
+          (λ x fits. (is x fits, ap (λ n. (x.0, (n, (x.1.1.0, x.1.1.1)))) fits.1.1.0))
+          (λ c is. (
+            (tt, (is.echo, (refl, is.ccf))),
+            (λ i. record {
+              version = sym is.version_is i;
+              modulus = sym is.modulus_is i;
+              kind = c.kind;
+              echo = c.echo;
+              ccf = c.ccf;
+            }),
+          )))
           (λ c is. (is, refl)) (λ c is. is);
-      some = (
-        record { kind = x.0.1.0; echo = x.0.1.1.1.0; ccf = x.0.1.1.1.1 },
-        record {
-          echo =
-              subst (λ n. n ≤ input_limit) (sym x.1.1.1.1.0) x.1.1.1.0;
-          ccf = x.1.1.1.1.1;
-        },
-      );
+      some = (made version modulus x.0, is x.0 x.1);
     }
+  where
+    is : (x : Body) → Unit {0} × ((x.1.0 ≤ input_limit) × ((length x.1.1.0 ≡ x.1.0) × IsCcf modulus x.1.1.1)) →
+        IsBody version modulus (made version modulus x)
+    is x fits = record {
+      version_is = refl;
+      modulus_is = refl;
+      echo = subst (λ n. n ≤ input_limit) (sym fits.1.1.0) fits.1.0;
+      ccf = fits.1.1.1;
+    }
+
+-- ---- the version and the field
+
+abbrev pub IsFieldOf : Version → ℕ → Type 0
+IsFieldOf One modulus = modulus ≡ res_modulus
+IsFieldOf Two modulus = (modulus ≡ res_modulus) ⊎ (modulus ≡ large_modulus)
+
+field_small : (version : Version) (modulus : ℕ) → IsFieldOf version modulus → modulus < 2 ^ 32
+field_small One modulus is = omega (arith, is)
+field_small Two modulus (inl is) = omega (arith, is)
+field_small Two modulus (inr is) = omega (arith, is)
+
+field_some : (version : Version) → IsFieldOf version res_modulus
+field_some One = refl
+field_some Two = inl refl
+
+abbrev pub field_lines : Version → ℕ → List (List ℕ)
+field_lines One modulus = []
+field_lines Two modulus = field_line modulus ∷ []
+
+field_lines-count : (version : Version) (modulus : ℕ) → length (field_lines version modulus) ≡ field_count version
+field_lines-count One modulus = refl
+field_lines-count Two modulus = refl
+
+split : (version : Version) (modulus : ℕ) (others : List (List ℕ)) →
+    version_lines version modulus ++ others ≡ (version_line version ∷ []) ++ (field_lines version modulus ++ others)
+split One modulus others = refl
+split Two modulus others = refl
+
+pub Reads-field : (version : Version) → Reads Any Any (IsFieldOf version) (field_lines version) (field_at version)
+unfolding field_at
+Reads-field One = Reads-nothing res_modulus
+Reads-field Two = Reads-line field_line_at res_modulus (inl refl) Spells-field_line
+
+-- a certificate of this version
+record IsOf (version : Version) (c : Certificate) : Type 0 where
+  pub version_is : c.version ≡ version
+  pub is : IsCertificate c
+
+field_of : (version : Version) (c : Certificate) → IsOf version c → IsFieldOf version c.modulus
+field_of One c of = of.is.version of.version_is
+field_of Two c of = of.is.field
+
+of-body : (version : Version) (modulus : ℕ) (c : Certificate) → IsFieldOf version modulus → IsBody version modulus c → IsOf version c
+of-body version modulus c field is = record {
+  version_is = is.version_is;
+  is = record {
+    field = subst (λ m. (m ≡ res_modulus) ⊎ (m ≡ large_modulus)) (sym is.modulus_is) (one_of version field);
+    version = λ one. is.modulus_is ∙ small version field (sym is.version_is ∙ one);
+    echo = is.echo;
+    ccf = subst (λ m. IsCcf m c.ccf) (sym is.modulus_is) is.ccf;
+  };
+}
+  where
+    one_of : (version : Version) → IsFieldOf version modulus → (modulus ≡ res_modulus) ⊎ (modulus ≡ large_modulus)
+    one_of One field = inl field
+    one_of Two field = field
+
+    small : (version : Version) → IsFieldOf version modulus → version ≡ One → modulus ≡ res_modulus
+    small One field one = field
+    small Two field one = (let f : ⊥ = cc in absurd f)
+
+whole-fielded : (version : Version) → Whole (IsOf version) (λ c. field_lines version c.modulus ++ body_lines c)
+    (λ line bytes. field_at version line bytes >>= λ modulus. body_at version modulus.0 (line + field_count version) modulus.1)
+whole-fielded version = record {
+  reads = Reads-then {OC = Short} {OB = Short} {FA = IsFieldOf version} {FB = IsBody version} {FC = IsOf version}
+      {la = field_lines version} {lb = λ modulus. body_lines} {lc = λ c. field_lines version c.modulus ++ body_lines c}
+      (field_count version) (field_at version) (body_at version) (Reads-field version)
+      (λ modulus field. (whole modulus field).reads)
+      (record {
+        count = λ modulus field. field_lines-count version modulus;
+        some = λ modulus field. (whole modulus field).some;
+        apart = λ c of. (
+          c.modulus,
+          field_of version c of,
+          record { version_is = of.version_is; modulus_is = refl; echo = of.is.echo; ccf = of.is.ccf },
+          refl,
+        );
+        joined = λ modulus c field is. (
+          of-body version modulus c field is,
+          ap (λ m. field_lines version m ++ body_lines c) is.modulus_is,
+        );
+      })
+      (λ modulus rest field short. shorter (concat (field_lines version modulus)) rest short);
+  some =
+      let c = (whole res_modulus (field_some version)).some in
+      (c.0, of-body version res_modulus c.0 (field_some version) c.1);
+}
+  where
+    whole : (modulus : ℕ) → IsFieldOf version modulus → Whole (IsBody version modulus) body_lines (body_at version modulus)
+    whole modulus field = whole-body version modulus (field_small version modulus field)
+
+pub whole-certificate : Whole IsCertificate certificate_lines certificate_at
+unfolding certificate_at
+whole-certificate = record {
+  reads = Reads-then {OC = Short} {OB = Short} {FA = λ version. Unit {0}} {FB = IsOf} {FC = IsCertificate}
+      {la = λ version. version_line version ∷ []} {lb = λ version c. field_lines version c.modulus ++ body_lines c}
+      {lc = certificate_lines} 1 version_at
+      (λ version line bytes. field_at version line bytes >>= λ modulus. body_at version modulus.0 (line + field_count version) modulus.1)
+      (Reads-line version_at One tt Spells-version) (λ version any. (whole-fielded version).reads)
+      (record {
+        count = λ version any. refl;
+        some = λ version any. (whole-fielded version).some;
+        apart = λ c is. (c.version, tt, record { version_is = refl; is = is }, split c.version c.modulus (body_lines c));
+        joined = λ version c any of. (
+          of.is,
+          split c.version c.modulus (body_lines c)
+              ∙ ap (λ v. (version_line v ∷ []) ++ (field_lines v c.modulus ++ body_lines c)) of.version_is,
+        );
+      })
+      (λ version rest any short. shorter (version_line version ++ []) rest short);
+  some = (let c = (whole-fielded One).some in (c.0, c.1.is));
+}

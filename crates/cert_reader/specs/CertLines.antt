@@ -1,17 +1,22 @@
 -- The lines of a certificate, and which of them a text has.
-use Rattle.std.specs.Prelude.{ℕ, ◌≡◌, ◌+◌, ◌≤◌, List, [], ◌∷◌, ◌++◌, length, codes}
+use Rattle.std.specs.Prelude.{ℕ, ◌≡◌, ◌⊎◌, ◌+◌, ◌≤◌, List, [], ◌∷◌, ◌++◌, length, codes}
 use Rattle.limits.specs.Limits.{input_limit}
 use Rattle.cert_text.specs.Contents.{Certificate, Contents}
+use Rattle.cert_text.specs.Moduli.{res_modulus, large_modulus}
 use Rattle.cert_text.specs.Ranges.{IsCcf}
 use Rattle.cert_text.specs.Texts.{spaced, kind_text, shape_text, pairs_text, entries_line, columns_line, tail_line, block_line}
+use Rattle.cert_text.specs.declared.version.Version.{Version}
+use Rattle.cert_text.specs.declared.version.Version.TheVariants.{One, Two}
 use Rattle.cert_reader.specs.declared.fault.ReadCert.{ReadCert}
 use Rattle.cert_reader.specs.declared.fault.ReadCert.TheVariants as errors
 use Rattle.cert_reader.specs.Lines.{HasJust}
 
--- what is a certificate with values modulo this number
-pub record IsCertificate (modulus : ℕ) (c : Certificate) : Type 0 where
+-- what is a certificate: over one of the two fields, in version 1 over the smaller one, with values of its field
+pub record IsCertificate (c : Certificate) : Type 0 where
+  pub field : (c.modulus ≡ res_modulus) ⊎ (c.modulus ≡ large_modulus)
+  pub version : c.version ≡ One → c.modulus ≡ res_modulus
   pub echo : length c.echo ≤ input_limit
-  pub ccf : IsCcf modulus c.ccf
+  pub ccf : IsCcf c.modulus c.ccf
 
 -- a line for each row, the first of them with this number
 abbrev pub row_lines : {A : Type 0} → (ℕ → A → List ℕ) → ℕ → List A → List (List ℕ)
@@ -31,22 +36,29 @@ contents_lines c =
     ++ (tail_line (codes "first") c.first
     ∷ (row_lines block_line 1 c.blocks ++ (tail_line (codes "last") c.last ∷ codes "end\n" ∷ [])))))))
 
--- the lines of a certificate; the echo is one line
-abbrev pub certificate_lines : Certificate → List (List ℕ)
-certificate_lines c =
-    codes "mixed-certificate 1\n"
-    ∷ (codes "kind " ++ (kind_text c.kind ++ codes "\n"))
+-- the line of the version, and in version 2 that of the field
+abbrev pub version_lines : Version → ℕ → List (List ℕ)
+version_lines One modulus = codes "mixed-certificate 1\n" ∷ []
+version_lines Two modulus = codes "mixed-certificate 2\n" ∷ (codes "field" ++ (spaced modulus ++ codes "\n")) ∷ []
+
+-- the lines from that of the kind on; the echo is one line
+abbrev pub body_lines : Certificate → List (List ℕ)
+body_lines c =
+    (codes "kind " ++ (kind_text c.kind ++ codes "\n"))
     ∷ (codes "length" ++ (spaced (length c.echo) ++ codes "\n"))
     ∷ (c.echo ++ codes "\n")
     ∷ contents_lines c.ccf
 
+-- the lines of a certificate
+abbrev pub certificate_lines : Certificate → List (List ℕ)
+certificate_lines c = version_lines c.version c.modulus ++ body_lines c
+
 -- The first line of a text that is refused: the lines before it begin the text of a certificate, and with this one they
 -- do not.
-abbrev pub IsRefused : ℕ → List ℕ → ℕ → Type 0
-IsRefused modulus text line =
-    (before : ℕ) × (line ≡ before + 1) × HasJust (IsCertificate modulus) certificate_lines before text
+abbrev pub IsRefused : List ℕ → ℕ → Type 0
+IsRefused text line = (before : ℕ) × (line ≡ before + 1) × HasJust IsCertificate certificate_lines before text
 
 -- why a text was not read: memory ran out, or this line is refused
-abbrev pub IsCause : ℕ → ReadCert → List ℕ → Type 0
-IsCause modulus errors.NoMemory text = Unit {0}
-IsCause modulus (errors.Refused line) text = IsRefused modulus text line
+abbrev pub IsCause : ReadCert → List ℕ → Type 0
+IsCause errors.NoMemory text = Unit {0}
+IsCause (errors.Refused line) text = IsRefused text line

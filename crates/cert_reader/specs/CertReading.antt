@@ -5,8 +5,10 @@ use Rattle.cert_text.specs.Contents.{Certificate, Contents}
 use Rattle.cert_text.specs.declared.shape.Shape.{Shape}
 use Rattle.cert_text.specs.declared.part.CcfPart.{CcfPart}
 use Rattle.cert_text.specs.declared.part.CcfBlock.{CcfBlock}
+use Rattle.cert_text.specs.declared.version.Version.{Version}
+use Rattle.cert_text.specs.declared.version.Version.TheVariants.{One, Two}
 use Rattle.cert_reader.specs.Fronts.{◌>>=◌, text_at, begins_with}
-use Rattle.cert_reader.specs.LineReading.{version_at, kind_at, count_at, echo_at, shape_at, pairs_line_at, entries_line_at, columns_line_at, tail_at, block_at}
+use Rattle.cert_reader.specs.LineReading.{version_at, field_at, kind_at, count_at, echo_at, shape_at, pairs_line_at, entries_line_at, columns_line_at, tail_at, block_at}
 
 -- what is read, and what is read then, so many lines later
 abbrev pub then_at : {A B : Type 0} → ℕ → (ℕ → List ℕ → Result (A × List ℕ) ℕ) →
@@ -95,8 +97,22 @@ unfoldable pub contents_at : ℕ → ℕ → List ℕ → Result (Contents × Li
 contents_at modulus line bytes =
     then_at 1 shape_at (pieces_at modulus) line bytes >>= λ x. Ok (contents_from x.0, x.1)
 
-unfoldable pub certificate_at : ℕ → ℕ → List ℕ → Result (Certificate × List ℕ) ℕ
-certificate_at modulus line bytes =
-    then_at 1 version_at (λ version. then_at 1 kind_at (λ kind. then_at 1 size_at (λ size.
-    then_at 1 (echo_at size) (λ echo. contents_at modulus)))) line bytes >>= λ x.
-    Ok (record { kind = x.0.1.0; echo = x.0.1.1.1.0; ccf = x.0.1.1.1.1 }, x.1)
+-- the lines from that of the kind on, of a certificate of this version and with values modulo this number
+unfoldable pub body_at : Version → ℕ → ℕ → List ℕ → Result (Certificate × List ℕ) ℕ
+body_at version modulus line bytes =
+    then_at 1 kind_at (λ kind. then_at 1 size_at (λ size. then_at 1 (echo_at size) (λ echo. contents_at modulus)))
+    line bytes >>= λ x.
+    Ok (
+      record { version = version; modulus = modulus; kind = x.0.0; echo = x.0.1.1.0; ccf = x.0.1.1.1 },
+      x.1,
+    )
+
+-- how many lines tell the field
+abbrev pub field_count : Version → ℕ
+field_count One = 0
+field_count Two = 1
+
+unfoldable pub certificate_at : ℕ → List ℕ → Result (Certificate × List ℕ) ℕ
+certificate_at line bytes =
+    version_at line bytes >>= λ version. field_at version.0 (line + 1) version.1 >>= λ modulus.
+    body_at version.0 modulus.0 (line + 1 + field_count version.0) modulus.1

@@ -5,3 +5,4 @@ pub mod Lines
 pub mod LineReading
 pub mod CertLines
 pub mod CertReading
+pub mod Certificates

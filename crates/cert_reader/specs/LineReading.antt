@@ -1,17 +1,36 @@
 -- Reading the lines of a certificate, each with the line feed that ends it.
 use Rattle.std.specs.Prelude.{ℕ, ◌+◌, List, length, take, drop, codes, Result, Ok, Err, nat_lt, nat_le, nat_eq, if◌then◌else◌}
 use Rattle.limits.specs.Limits.{column_limit, equation_limit}
+use Rattle.cert_text.specs.Moduli.{res_modulus, large_modulus}
 use Rattle.cert_text.specs.Texts.{head_text}
 use Rattle.cert_text.specs.declared.kind.Kind.{Kind}
 use Rattle.cert_text.specs.declared.kind.Kind.TheVariants.{Matrix, Netlist, Flowsheet}
 use Rattle.cert_text.specs.declared.shape.Shape.{Shape}
 use Rattle.cert_text.specs.declared.part.CcfPart.{CcfPart}
 use Rattle.cert_text.specs.declared.part.CcfBlock.{CcfBlock}
+use Rattle.cert_text.specs.declared.version.Version.{Version}
+use Rattle.cert_text.specs.declared.version.Version.TheVariants.{One, Two}
 use Rattle.cert_reader.specs.Fronts.{◌>>=◌, text_at, number_at, begins_with}
 use Rattle.cert_reader.specs.Items.{numbers_at, letters_at, pairs_at, entries_at}
 
-abbrev pub version_at : ℕ → List ℕ → Result (Unit {0} × List ℕ) ℕ
-version_at line bytes = text_at (codes "mixed-certificate 1\n") line bytes
+-- one of two texts, each of which stands for a value
+abbrev pub either_at : {A : Type 0} → List ℕ → A → List ℕ → A → ℕ → List ℕ → Result (A × List ℕ) ℕ
+either_at one a two b line bytes =
+    if begins_with one bytes then Ok (a, drop (length one) bytes)
+    else (if begins_with two bytes then Ok (b, drop (length two) bytes) else Err line)
+
+unfoldable pub version_at : ℕ → List ℕ → Result (Version × List ℕ) ℕ
+version_at line bytes = either_at (codes "mixed-certificate 1\n") One (codes "mixed-certificate 2\n") Two line bytes
+
+-- the line of the field, by its modulus
+unfoldable pub field_line_at : ℕ → List ℕ → Result (ℕ × List ℕ) ℕ
+field_line_at line bytes =
+    either_at (codes "field 65521\n") res_modulus (codes "field 2147483647\n") large_modulus line bytes
+
+-- the field, which version 1 does not tell
+unfoldable pub field_at : Version → ℕ → List ℕ → Result (ℕ × List ℕ) ℕ
+field_at One line bytes = Ok (res_modulus, bytes)
+field_at Two line bytes = field_line_at line bytes
 
 unfoldable pub kind_at : ℕ → List ℕ → Result (Kind × List ℕ) ℕ
 kind_at line bytes =

@@ -1,6 +1,6 @@
 //! What the lines of a certificate are, and that a text has one certificate or one line that is refused first.
 
-ghost use Rattle.std.specs.Prelude.{◌≡◌, ◌<◌, ◌≤◌, ◌^◌, ◌++◌, ℕ, List, [], length};
+ghost use Rattle.std.specs.Prelude.{◌≡◌, ◌≤◌, ◌++◌, ℕ, List, [], length};
 ghost use Rattle.std.specs.List.{concat};
 ghost use Rattle.cert_text.specs.Contents.{Certificate};
 ghost use Rattle.cert_text.specs.Texts.{certificate_text};
@@ -14,18 +14,18 @@ pub fn a_text_is_its_lines()
 
 /// A text has at most one line that is the first refused.
 pub fn one_line_is_refused()
-    ensures { (p : ℕ) (text : List ℕ) (j k : ℕ) → IsRefused p text j → IsRefused p text k → j ≡ k }
+    ensures { (text : List ℕ) (j k : ℕ) → IsRefused text j → IsRefused text k → j ≡ k }
 {}
 
-/// Two certificates of one field with the same text are the same.
+/// Two certificates with the same text are the same.
 pub fn a_text_has_one_certificate()
-    ensures { (p : ℕ) (a b : Certificate) → p < 2 ^ 32 → IsCertificate p a → IsCertificate p b →
+    ensures { (a b : Certificate) → IsCertificate a → IsCertificate b →
         length (certificate_text b) ≤ certificate_limit → certificate_text a ≡ certificate_text b → a ≡ b }
 {}
 
 /// No text of a certificate goes on to that of another.
 pub fn no_text_goes_on_to_another()
-    ensures { (p : ℕ) (a b : Certificate) (more : List ℕ) → p < 2 ^ 32 → IsCertificate p a → IsCertificate p b →
+    ensures { (a b : Certificate) (more : List ℕ) → IsCertificate a → IsCertificate b →
         length (certificate_text b) ≤ certificate_limit → certificate_text a ++ more ≡ certificate_text b →
         more ≡ [] }
 {}

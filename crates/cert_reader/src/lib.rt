@@ -1,7 +1,9 @@
 //! Certificates, read from their text.
 #![tactic(auto)]
 
+mod any_certificate;
 mod fault;
+mod field_lines;
 mod fronts;
 pub mod laws;
 mod linewise;
@@ -10,5 +12,6 @@ mod pieces;
 mod reading;
 mod tables;
 
+pub use any_certificate::AnyCertificate;
 pub use fault::ReadCert;
 pub use reading::{CERTIFICATE_LIMIT, read};

@@ -9,13 +9,15 @@ ghost use Rattle.cert_text.specs.Texts.{certificate_text};
 ghost use Rattle.cert_reader.specs.Fronts.{Gives};
 ghost use Rattle.cert_reader.specs.Limits.{certificate_limit};
 ghost use Rattle.cert_reader.specs.CertLines.{IsCertificate, IsCause};
-ghost use Rattle.cert_reader.specs.CertReading.{contents_at, certificate_at, parts_at, matrices_at, pieces_at};
+ghost use Rattle.cert_reader.specs.CertReading.{contents_at, body_at, certificate_at, parts_at, matrices_at, pieces_at};
+ghost use Rattle.cert_reader.specs.Certificates.{certificate_in};
 
+use crate::any_certificate::AnyCertificate;
 use crate::fault::ReadCert;
-use crate::fronts::text_at;
+use crate::field_lines::{FieldName, field_at, field_count, version_at};
 use crate::linewise::{count_at, echo_at, kind_at, pairs_line_at, shape_at, tail_at};
 use crate::tables::{blocks_at, matrix_at, pattern_at};
-use cert_text::{Ccf, CcfBlock, CcfPart, Certificate, Items, Shape};
+use cert_text::{Ccf, CcfBlock, CcfPart, Certificate, Items, Shape, Version};
 use limits::{COLUMN_LIMIT, INPUT_LIMIT};
 use residue_field::Field;
 use std::alloc::Global;
@@ -178,35 +180,67 @@ fn contents_at<F: Field>(
     Ok((ccf, rest))
 }
 
-// The echo is copied once the whole text is read.
-#[tactic(auto, unfolding(crate::specs::CertReading::certificate_at))]
-fn certificate_at<F: Field>(
+// The lines from that of the kind on. The echo is copied once the whole text is read.
+#[tactic(auto, unfolding(crate::specs::CertReading::body_at))]
+fn body_at<F: Field>(
     alloc: Global,
+    version: Version,
+    line: u32,
     bytes: &[u8],
 ) -> Result<(Certificate<F>, &[u8]), ReadCert>
-    requires { length bytes.now ≤ certificate_limit }
-    ensures { Gives (λ x. (x.0, x.1.now)) result (certificate_at F.modulus 1 bytes.now) }
+    requires short { length bytes.now ≤ certificate_limit }
+    requires room { line ≤ 3 }
+    ensures { Gives (λ x. (x.0, x.1.now)) result (body_at version F.modulus line bytes.now) }
 {
-    let from_kind = text_at(1, b"mixed-certificate 1\n", bytes)?;
-    let (kind, from_length) = kind_at(2, from_kind)?;
-    let (size, from_echo) = count_at(3, b"length ", INPUT_LIMIT, from_length)?;
-    let (echo, from_shape) = echo_at(4, size, from_echo)?;
-    let (ccf, rest) = contents_at(alloc, 5, from_shape)?;
+    let at_size = line + 1;
+    let at_echo = at_size + 1;
+    let at_shape = at_echo + 1;
+    let (kind, from_size) = kind_at(line, bytes)?;
+    let (size, from_echo) = count_at(at_size, b"length ", INPUT_LIMIT, from_size)?;
+    let (echo, from_shape) = echo_at(at_echo, size, from_echo)?;
+    let (ccf, rest) = contents_at(alloc, at_shape, from_shape)?;
     let echo = Items::from_vec(Vec::from_slice(alloc, echo)?);
-    Ok((Certificate { kind, echo, ccf }, rest))
+    let certificate = Certificate {
+        version,
+        kind,
+        echo,
+        ccf,
+    };
+    Ok((certificate, rest))
 }
 
-/// The certificate whose text the bytes are, at most 2,147,483,648 of them. It takes room for what stands there, and
-/// none for a number that a line only tells.
+#[tactic(auto, unfolding(crate::specs::CertReading::certificate_at))]
+fn certificate_at(alloc: Global, bytes: &[u8]) -> Result<(AnyCertificate, &[u8]), ReadCert>
+    requires { length bytes.now ≤ certificate_limit }
+    ensures { Gives (λ x. (certificate_in x.0, x.1.now)) result (certificate_at 1 bytes.now) }
+{
+    let (version, from_field) = version_at(1, bytes)?;
+    let (field, from_kind) = field_at(2, version, from_field)?;
+    let line = 2 + field_count(version);
+    match field {
+        FieldName::Small => {
+            let (certificate, rest) = body_at(alloc, version, line, from_kind)?;
+            Ok((AnyCertificate::Small(certificate), rest))
+        }
+        FieldName::Large => {
+            let (certificate, rest) = body_at(alloc, version, line, from_kind)?;
+            Ok((AnyCertificate::Large(certificate), rest))
+        }
+    }
+}
+
+/// The certificate whose text the bytes are, at most 2,147,483,648 of them, over the field that the text tells: in version
+/// 1 that of 65,521 elements. It takes room for what stands there, and none for a number that a line only tells.
 ///
 /// Refuses the first line that no certificate has behind the lines before it. So a text that breaks off is refused at the
 /// line that is not whole, or else at the next, and bytes behind the last line at the line that they begin.
-pub fn read<F: Field>(alloc: Global, bytes: &[u8]) -> Result<Certificate<F>, ReadCert>
+pub fn read(alloc: Global, bytes: &[u8]) -> Result<AnyCertificate, ReadCert>
     requires { length bytes.now ≤ certificate_limit }
-    ensures found { IfOk result (λ c. IsCertificate F.modulus c × (bytes.now ≡ certificate_text c)) }
-    ensures only { (c : contents.Certificate) → IsCertificate F.modulus c → bytes.now ≡ certificate_text c →
-        Gives (λ x. x) result (Ok c) }
-    ensures refused { IfErr result (λ e. IsCause F.modulus e bytes.now) }
+    ensures found { IfOk result (λ any. IsCertificate (certificate_in any) ×
+        (bytes.now ≡ certificate_text (certificate_in any))) }
+    ensures only { (c : contents.Certificate) → IsCertificate c → bytes.now ≡ certificate_text c →
+        Gives certificate_in result (Ok c) }
+    ensures refused { IfErr result (λ e. IsCause e bytes.now) }
 {
     let (certificate, _rest) = certificate_at(alloc, bytes)?;
     Ok(certificate)

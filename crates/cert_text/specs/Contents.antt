@@ -2,6 +2,7 @@
 use Rattle.std.specs.Prelude.{ℕ, List, map}
 use Rattle.cert_text.specs.declared.kind.Kind.{Kind}
 use Rattle.cert_text.specs.declared.shape.Shape.{Shape}
+use Rattle.cert_text.specs.declared.version.Version.{Version}
 use Rattle.cert_text.specs.declared.part.CcfPart.{CcfPart}
 use Rattle.cert_text.specs.declared.part.CcfBlock.{CcfBlock}
 
@@ -20,8 +21,10 @@ pub record Contents : Type 0 where
   pub blocks : List CcfBlock
   pub last : CcfPart
 
--- a certificate: the kind of an input, its bytes, and the form
+-- a certificate: the layout of its text, the modulus of its values, the kind of an input, its bytes, and the form
 pub record Certificate : Type 0 where
+  pub version : Version
+  pub modulus : ℕ
   pub kind : Kind
   pub echo : List ℕ
   pub ccf : Contents

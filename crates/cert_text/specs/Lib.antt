@@ -1,3 +1,4 @@
+pub mod Moduli
 pub mod Contents
 pub mod Ranges
 pub mod Texts

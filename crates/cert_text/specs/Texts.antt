@@ -8,6 +8,8 @@ use Rattle.cert_text.specs.declared.kind.Kind.TheVariants.{Flowsheet, Matrix, Ne
 use Rattle.cert_text.specs.declared.shape.Shape.{Shape}
 use Rattle.cert_text.specs.declared.part.CcfPart.{CcfPart}
 use Rattle.cert_text.specs.declared.part.CcfBlock.{CcfBlock}
+use Rattle.cert_text.specs.declared.version.Version.{Version}
+use Rattle.cert_text.specs.declared.version.Version.TheVariants.{One, Two}
 
 -- a row behind its letter, behind a space
 abbrev pub lettered : ℕ → ℕ → List ℕ
@@ -76,11 +78,16 @@ kind_text Matrix = codes "matrix"
 kind_text Netlist = codes "netlist"
 kind_text Flowsheet = codes "flowsheet"
 
--- the version, the kind, the length and the echo
-abbrev pub echo_text : Kind → List ℕ → List ℕ
-echo_text kind echo =
-    codes "mixed-certificate 1\nkind " ++ kind_text kind ++ codes "\nlength" ++ spaced (length echo) ++ codes "\n"
-    ++ echo ++ codes "\n"
+-- the line of the version, and in version 2 that of the field
+abbrev pub version_text : Version → ℕ → List ℕ
+version_text One modulus = codes "mixed-certificate 1\n"
+version_text Two modulus = codes "mixed-certificate 2\nfield" ++ spaced modulus ++ codes "\n"
+
+-- the version and the field, the kind, the length and the echo
+abbrev pub echo_text : Version → ℕ → Kind → List ℕ → List ℕ
+echo_text version modulus kind echo =
+    version_text version modulus ++ codes "kind " ++ kind_text kind ++ codes "\nlength" ++ spaced (length echo)
+    ++ codes "\n" ++ echo ++ codes "\n"
 
 abbrev pub shape_text : Shape → List ℕ
 shape_text shape =
@@ -109,4 +116,4 @@ contents_text c =
 
 -- the text of a certificate
 abbrev pub certificate_text : Certificate → List ℕ
-certificate_text c = echo_text c.kind c.echo ++ contents_text c.ccf
+certificate_text c = echo_text c.version c.modulus c.kind c.echo ++ contents_text c.ccf

@@ -10,6 +10,7 @@ mod lines;
 mod lists;
 mod part;
 mod shape;
+mod version;
 
 pub use ccf::Ccf;
 pub use certificate::{Certificate, write};
@@ -17,3 +18,4 @@ pub use items::Items;
 pub use kind::Kind;
 pub use part::{CcfBlock, CcfPart};
 pub use shape::Shape;
+pub use version::Version;

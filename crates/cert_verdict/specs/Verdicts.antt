@@ -1,6 +1,5 @@
--- What the text of a certificate is worth, over the field of p elements.
-use Rattle.std.specs.Prelude.{ℕ, ◌<◌, ◌≤◌, ◌≡◌, ◌≢◌, ◌^◌, ◌⊎◌, List, Result, Ok, Err, length}
-use Rattle.residue_theory.specs.Residues.{IsPrime}
+-- What the text of a certificate is worth, over the field that it tells.
+use Rattle.std.specs.Prelude.{ℕ, ◌≤◌, ◌≡◌, ◌≢◌, ◌⊎◌, List, Result, Ok, Err, length}
 use Rattle.refusals.specs.declared.Refused.{Refused}
 use Rattle.mixed_model.specs.Models.{MixedModel, mixed_matrix_of}
 use Rattle.cert_text.specs.Contents.{Certificate}
@@ -13,56 +12,56 @@ use Rattle.cert_verdict.specs.declared.judging.NotAccepted.{NotAccepted}
 use Rattle.cert_verdict.specs.declared.judging.NotAccepted.TheVariants.{NoMemory, Refused as Unread, Rejected}
 
 -- rules 1 to 12: the echo gives a model of its kind, and the form is right for that model
-pub record KeepsRules (p : ℕ) (c : Certificate) : Type 0 where
+pub record KeepsRules (c : Certificate) : Type 0 where
   pub model : MixedModel
-  pub gives : GivesModel p c.kind c.echo model
-  pub right : IsRightFor p (mixed_matrix_of model) c.ccf
+  pub gives : GivesModel c.modulus c.kind c.echo model
+  pub right : IsRightFor c.modulus (mixed_matrix_of model) c.ccf
 
 -- this is the number of the first rule that is broken: rule 1, as the echo gives no model, or one of the others
-abbrev pub BreaksFirst : ℕ → Certificate → ℕ → Type 0
-BreaksFirst p c rule = ((rule ≡ 1) × ((refused : Refused) × IsRefused p c.kind c.echo refused))
-    ⊎ ((model : MixedModel) × GivesModel p c.kind c.echo model × IsRejected p (mixed_matrix_of model) c.ccf rule)
+abbrev pub BreaksFirst : Certificate → ℕ → Type 0
+BreaksFirst c rule = ((rule ≡ 1) × ((refused : Refused) × IsRefused c.modulus c.kind c.echo refused))
+    ⊎ ((model : MixedModel) × GivesModel c.modulus c.kind c.echo model
+    × IsRejected c.modulus (mixed_matrix_of model) c.ccf rule)
 
 -- the text is that of a certificate that keeps all rules
-pub record IsAccepted (p : ℕ) (text : List ℕ) : Type 0 where
+pub record IsAccepted (text : List ℕ) : Type 0 where
   pub certificate : Certificate
-  pub is : IsCertificate p certificate
+  pub is : IsCertificate certificate
   pub text_is : text ≡ certificate_text certificate
-  pub keeps : KeepsRules p certificate
+  pub keeps : KeepsRules certificate
 
 -- the text is that of this certificate, which keeps all rules, and its echo gives this model
-pub record IsAcceptedAs (p : ℕ) (text : List ℕ) (certificate : Certificate) (model : MixedModel) : Type 0 where
-  pub is : IsCertificate p certificate
+pub record IsAcceptedAs (text : List ℕ) (certificate : Certificate) (model : MixedModel) : Type 0 where
+  pub is : IsCertificate certificate
   pub text_is : text ≡ certificate_text certificate
-  pub gives : GivesModel p certificate.kind certificate.echo model
-  pub right : IsRightFor p (mixed_matrix_of model) certificate.ccf
+  pub gives : GivesModel certificate.modulus certificate.kind certificate.echo model
+  pub right : IsRightFor certificate.modulus (mixed_matrix_of model) certificate.ccf
 
 -- the text is that of a certificate, and this rule is the first that it breaks
-pub record IsRejectedBy (p : ℕ) (text : List ℕ) (rule : ℕ) : Type 0 where
+pub record IsRejectedBy (text : List ℕ) (rule : ℕ) : Type 0 where
   pub certificate : Certificate
-  pub is : IsCertificate p certificate
+  pub is : IsCertificate certificate
   pub text_is : text ≡ certificate_text certificate
-  pub broken : BreaksFirst p certificate rule
+  pub broken : BreaksFirst certificate rule
 
 -- no certificate has the text, and this line of it is the first that is refused
-pub record IsNoCertificate (p : ℕ) (text : List ℕ) (line : ℕ) : Type 0 where
-  pub none : (certificate : Certificate) → IsCertificate p certificate → text ≢ certificate_text certificate
-  pub refused : IsRefusedLine p text line
+pub record IsNoCertificate (text : List ℕ) (line : ℕ) : Type 0 where
+  pub none : (certificate : Certificate) → IsCertificate certificate → text ≢ certificate_text certificate
+  pub refused : IsRefusedLine text line
 
 -- why a text is not accepted: no certificate has it, or it breaks a rule, or memory ran out
-abbrev pub IsWhyNotAccepted : ℕ → List ℕ → NotAccepted → Type 0
-IsWhyNotAccepted p text (Unread line) = IsNoCertificate p text line
-IsWhyNotAccepted p text (Rejected rule) = IsRejectedBy p text rule
-IsWhyNotAccepted p text NoMemory = Unit {0}
+abbrev pub IsWhyNotAccepted : List ℕ → NotAccepted → Type 0
+IsWhyNotAccepted text (Unread line) = IsNoCertificate text line
+IsWhyNotAccepted text (Rejected rule) = IsRejectedBy text rule
+IsWhyNotAccepted text NoMemory = Unit {0}
 
 -- what is said of a text
-abbrev pub IsVerdict : ℕ → List ℕ → Result (Unit {0}) NotAccepted → Type 0
-IsVerdict p text (Ok accepted) = IsAccepted p text
-IsVerdict p text (Err why) = IsWhyNotAccepted p text why
+abbrev pub IsVerdict : List ℕ → Result (Unit {0}) NotAccepted → Type 0
+IsVerdict text (Ok accepted) = IsAccepted text
+IsVerdict text (Err why) = IsWhyNotAccepted text why
 
--- of a text one thing is said, but for want of memory; p is a prime above 2 and below 2 ^ 32
+-- of a text one thing is said, but for want of memory
 abbrev pub TextsHaveOneVerdict : Type 0
 TextsHaveOneVerdict =
-    (p : ℕ) → IsPrime p → 2 < p → p < 2 ^ 32 → (text : List ℕ) → length text ≤ certificate_limit →
-    (a b : Result (Unit {0}) NotAccepted) → IsVerdict p text a → IsVerdict p text b →
-    a ≢ Err NoMemory → b ≢ Err NoMemory → a ≡ b
+    (text : List ℕ) → length text ≤ certificate_limit → (a b : Result (Unit {0}) NotAccepted) →
+    IsVerdict text a → IsVerdict text b → a ≢ Err NoMemory → b ≢ Err NoMemory → a ≡ b

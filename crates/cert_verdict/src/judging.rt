@@ -1,9 +1,11 @@
 //! A certificate's text read, its echo read by its kind, and its form checked.
 
 ghost use Rattle.std.specs.Prelude.{◌≡◌, ◌≤◌, IfErr, IfOk, length};
+ghost use Rattle.cert_reader.specs.Certificates.{certificate_in};
 ghost use Rattle.cert_reader.specs.CertLines.{IsCertificate};
 ghost use Rattle.cert_reader.specs.Limits.{certificate_limit};
 ghost use Rattle.cert_text.specs.Texts.{certificate_text};
+ghost use Rattle.cert_verdict.specs.Accepted.{accepted_in};
 ghost use Rattle.cert_verdict.specs.Judging.{IsWhyBroken};
 ghost use Rattle.cert_checker.specs.Answers.{IsRightFor};
 ghost use Rattle.input_kinds.specs.Kinds.{GivesModel};
@@ -11,12 +13,12 @@ ghost use Rattle.mixed_model.specs.Models.{mixed_matrix_of};
 ghost use Rattle.cert_verdict.specs.Verdicts.{IsAccepted, IsAcceptedAs, IsWhyNotAccepted};
 
 use cert_checker::{CheckError, check};
-use cert_reader::{ReadCert, read};
+use cert_reader::{AnyCertificate, ReadCert, read};
 use cert_text::Certificate;
 use input_kinds::read_model;
 use mixed_model::Mixed;
 use refusals::ReadModel;
-use residue_field::Field;
+use residue_field::{Field, Res, Res31};
 use std::alloc::Global;
 
 /// Why a certificate's text is not accepted.
@@ -39,11 +41,21 @@ pub struct Accepted<F: Field> {
     pub model: Mixed<F>,
 }
 
+/// What was accepted, over one of the two fields.
+#[derive(Drop)]
+pub enum AnyAccepted {
+    /// With values modulo 65,521.
+    Small(Accepted<Res>),
+    /// With values modulo 2,147,483,647.
+    Large(Accepted<Res31>),
+}
+
 // The certificate that has this text. The text is let go.
-fn certificate_of<F: Field>(alloc: Global, text: Vec<u8>) -> Result<Certificate<F>, NotAccepted>
+fn read_certificate(alloc: Global, text: Vec<u8>) -> Result<AnyCertificate, NotAccepted>
     requires { length text.items ≤ certificate_limit }
-    ensures found { IfOk result (λ c. IsCertificate F.modulus c × (text.items ≡ certificate_text c)) }
-    ensures unread { IfErr result (IsWhyNotAccepted F.modulus text.items) }
+    ensures found { IfOk result (λ any. IsCertificate (certificate_in any) ×
+        (text.items ≡ certificate_text (certificate_in any))) }
+    ensures unread { IfErr result (IsWhyNotAccepted text.items) }
 {
     match read(alloc, &text) {
         Ok(certificate) => Ok(certificate),
@@ -53,10 +65,13 @@ fn certificate_of<F: Field>(alloc: Global, text: Vec<u8>) -> Result<Certificate<
 }
 
 // The model that the echo of a certificate gives.
-fn model_of<F: Field>(alloc: Global, certificate: &Certificate<F>) -> Result<Mixed<F>, NotAccepted>
-    requires { IsCertificate F.modulus certificate.now }
-    ensures gives { IfOk result (GivesModel F.modulus certificate.now.kind certificate.now.echo) }
-    ensures broken { IfErr result (IsWhyBroken F.modulus certificate.now) }
+fn echoed_model<F: Field>(
+    alloc: Global,
+    certificate: &Certificate<F>,
+) -> Result<Mixed<F>, NotAccepted>
+    requires { IsCertificate certificate.now }
+    ensures gives { IfOk result (GivesModel certificate.now.modulus certificate.now.kind certificate.now.echo) }
+    ensures broken { IfErr result (IsWhyBroken certificate.now) }
 {
     match read_model(alloc, certificate.kind, certificate.echo.as_slice()) {
         Ok(model) => Ok(model),
@@ -71,10 +86,11 @@ fn check_form<F: Field>(
     certificate: &Certificate<F>,
     model: &Mixed<F>,
 ) -> Result<(), NotAccepted>
-    requires form { IsCertificate F.modulus certificate.now }
-    requires gives { GivesModel F.modulus certificate.now.kind certificate.now.echo model.now }
-    ensures right { IfOk result (λ kept. IsRightFor F.modulus (mixed_matrix_of model.now) certificate.now.ccf) }
-    ensures broken { IfErr result (IsWhyBroken F.modulus certificate.now) }
+    requires form { IsCertificate certificate.now }
+    requires gives { GivesModel certificate.now.modulus certificate.now.kind certificate.now.echo model.now }
+    ensures right { IfOk result (λ kept.
+        IsRightFor certificate.now.modulus (mixed_matrix_of model.now) certificate.now.ccf) }
+    ensures broken { IfErr result (IsWhyBroken certificate.now) }
 {
     match check(alloc, model, &certificate.ccf) {
         Ok(()) => Ok(()),
@@ -83,28 +99,51 @@ fn check_form<F: Field>(
     }
 }
 
-/// What the text of a certificate is accepted as, under the premises of `judge`: the certificate that has the text, and
-/// the model that its echo gives. (Murota, chapters 2 and 4.)
-pub fn accept<F: Field>(alloc: Global, text: Vec<u8>) -> Result<Accepted<F>, NotAccepted>
-    requires { length text.items ≤ certificate_limit }
-    ensures accepted { IfOk result (λ accepted.
-        IsAcceptedAs F.modulus text.items accepted.certificate accepted.model) }
-    ensures why { IfErr result (IsWhyNotAccepted F.modulus text.items) }
+// What the certificate that has a text is accepted as.
+fn accept_certificate<F: Field>(
+    alloc: Global,
+    certificate: Certificate<F>,
+) -> Result<Accepted<F>, NotAccepted>
+    requires { IsCertificate certificate }
+    ensures same { IfOk result (λ accepted. accepted.certificate ≡ certificate) }
+    ensures gives { IfOk result (λ accepted.
+        GivesModel certificate.modulus certificate.kind certificate.echo accepted.model) }
+    ensures right { IfOk result (λ accepted.
+        IsRightFor certificate.modulus (mixed_matrix_of accepted.model) certificate.ccf) }
+    ensures broken { IfErr result (IsWhyBroken certificate) }
 {
-    let certificate = certificate_of::<F>(alloc, text)?;
-    let model = model_of(alloc, &certificate)?;
+    let model = echoed_model(alloc, &certificate)?;
     check_form(alloc, &certificate, &model)?;
     Ok(Accepted { certificate, model })
 }
 
-/// Accepts the text of a certificate, of at most 2,147,483,648 bytes, exactly where it is right for the input that it
-/// repeats, whoever wrote it. The text is let go before the form is checked. (Murota, chapters 2 and 4.)
-pub fn judge<F: Field>(alloc: Global, text: Vec<u8>) -> Result<(), NotAccepted>
+/// What the text of a certificate is accepted as, under the premises of `judge`: the certificate that has the text, and
+/// the model that its echo gives, over the field that the text tells. (Murota, chapters 2 and 4.)
+pub fn accept(alloc: Global, text: Vec<u8>) -> Result<AnyAccepted, NotAccepted>
     requires { length text.items ≤ certificate_limit }
-    ensures accepted { IfOk result (λ accepted. IsAccepted F.modulus text.items) }
-    ensures why { IfErr result (IsWhyNotAccepted F.modulus text.items) }
+    ensures accepted { IfOk result (λ any.
+        IsAcceptedAs text.items (accepted_in any).certificate (accepted_in any).model) }
+    ensures why { IfErr result (IsWhyNotAccepted text.items) }
 {
-    match accept::<F>(alloc, text) {
+    match read_certificate(alloc, text)? {
+        AnyCertificate::Small(certificate) => {
+            Ok(AnyAccepted::Small(accept_certificate(alloc, certificate)?))
+        }
+        AnyCertificate::Large(certificate) => {
+            Ok(AnyAccepted::Large(accept_certificate(alloc, certificate)?))
+        }
+    }
+}
+
+/// Accepts the text of a certificate, of at most 2,147,483,648 bytes, exactly where it is right for the input that it
+/// repeats, over the field that it tells, whoever wrote it. The text is let go before the form is checked. (Murota,
+/// chapters 2 and 4.)
+pub fn judge(alloc: Global, text: Vec<u8>) -> Result<(), NotAccepted>
+    requires { length text.items ≤ certificate_limit }
+    ensures accepted { IfOk result (λ accepted. IsAccepted text.items) }
+    ensures why { IfErr result (IsWhyNotAccepted text.items) }
+{
+    match accept(alloc, text) {
         Ok(_) => Ok(()),
         Err(why) => Err(why),
     }

@@ -4,4 +4,4 @@
 mod judging;
 pub mod laws;
 
-pub use judging::{Accepted, NotAccepted, accept, judge};
+pub use judging::{Accepted, AnyAccepted, NotAccepted, accept, judge};

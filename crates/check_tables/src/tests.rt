@@ -25,6 +25,10 @@ const TRIANGLE: &str =
 const MIXED: &str =
     "mixed-certificate 1\nkind matrix\nlength 26\neq a x=1 y=1\neq b x=1 y=?\n\nshape 2 2 2 1 3\nrank 2\nbase 1=1 2=2\nmatch 1=3\nS 1: 2=1\nS 2: 1=1 2=65520\nU 1: 1=1 2=1\nU 2: 1=1\nP 1: 1=1 3=1\nP 2: 2=1 3=65520\nT 1: 2 3\nfirst |\nblock 1: 1 | q1 |\nblock 2: 2 3 | q2 t1 | 1\nlast |\nend\n";
 
+/// A right certificate of version 2, over the larger field.
+const LARGE: &str =
+    "mixed-certificate 2\nfield 2147483647\nkind matrix\nlength 13\neq a x=65521\n\nshape 1 1 1 0 1\nrank 1\nbase 1=1\nmatch\nS 1: 1=1675614749\nU 1: 1=65521\nP 1: 1=1\nfirst |\nblock 1: 1 | q1 |\nlast |\nend\n";
+
 // The text with other lines in the place of some.
 fn altered(alloc: Global, text: &str, lines: &[(&str, &str)]) -> Result<String, Fail> {
     let mut now = String::from_str(alloc, text)?;
@@ -63,7 +67,7 @@ fn expect_unread(
 
 #[test]
 fn right_certificates_are_taken(rt: HostRuntime) -> Result<(), Fail> {
-    for text in [EMPTY, CONSTANT, LOOSE, TRIANGLE, MIXED] {
+    for text in [EMPTY, CONSTANT, LOOSE, TRIANGLE, MIXED, LARGE] {
         expect_accepted(&rt, rt.alloc(), text.as_bytes())?;
     }
     Ok(())
@@ -226,6 +230,35 @@ fn lines_that_are_refused(rt: HostRuntime) -> Result<(), Fail> {
         3,
         b"mixed: line 1: not a certificate line\n",
     )
+}
+
+// A certificate of version 2 is read and tried over the field that it states.
+#[test]
+fn certificates_that_state_a_field(rt: HostRuntime) -> Result<(), Fail> {
+    let alloc = rt.alloc();
+    let small: &[(&str, &str)] = &[(
+        "mixed-certificate 1\n",
+        "mixed-certificate 2\nfield 65521\n",
+    )];
+    let large: &[(&str, &str)] = &[(
+        "mixed-certificate 1\n",
+        "mixed-certificate 2\nfield 2147483647\n",
+    )];
+    for text in [EMPTY, CONSTANT, LOOSE, TRIANGLE, MIXED] {
+        expect_accepted(&rt, alloc, altered(alloc, text, small)?.as_bytes())?;
+    }
+    for text in [EMPTY, CONSTANT, LOOSE, TRIANGLE] {
+        expect_accepted(&rt, alloc, altered(alloc, text, large)?.as_bytes())?;
+    }
+    // 65520 is -1 over the smaller field alone
+    expect_broken(&rt, alloc, MIXED, 3, large)?;
+    expect_unread(&rt, alloc, LARGE, 10, &[("2147483647", "65521")])?;
+    expect_unread(&rt, alloc, LARGE, 2, &[("2147483647", "7")])?;
+    expect_unread(&rt, alloc, LARGE, 2, &[("field 2147483647\n", "")])?;
+    expect_unread(&rt, alloc, LARGE, 1, &[("certificate 2", "certificate 3")])?;
+    // version 1 states no field
+    expect_unread(&rt, alloc, LARGE, 2, &[("certificate 2", "certificate 1")])?;
+    expect_broken(&rt, alloc, LARGE, 1, &[("65521\n\n", "6552?\n\n")])
 }
 
 #[test]

@@ -6,7 +6,9 @@ use Rattle.command_line.specs.CommandLine.{command_line}
 use Rattle.cert_text.specs.Texts.{kind_text}
 use Rattle.cert_text.specs.declared.kind.Kind.{Kind}
 use Rattle.cert_text.specs.declared.kind.Kind.TheVariants.{Flowsheet, Matrix, Netlist}
-use Rattle.command_line.specs.Words.{Asks, AsksFor, AsksToMake, IsSizeWord, Names, format_of, name_of, task_text, word_of}
+use Rattle.command_line.specs.Words.{Asks, AsksFor, AsksToMake, IsSizeWord, Names, field_of, field_word, format_of, name_of, task_text, word_of}
+use Rattle.command_line.specs.declared.command.FieldName.{FieldName}
+use Rattle.command_line.specs.declared.command.FieldName.TheVariants.{Large, Small}
 use Rattle.command_line.specs.declared.command.Command.{Command}
 use Rattle.command_line.specs.declared.command.Command.TheVariants.{Check, OfModel}
 use Rattle.command_line.specs.declared.command.Request.{Request}
@@ -54,6 +56,18 @@ kind-one Flowsheet Matrix same = absurd cc
 kind-one Flowsheet Netlist same = absurd cc
 kind-one Flowsheet Flowsheet same = refl
 
+-- and so have fields
+field-one : (a b : Option FieldName) → field_word a ≡ field_word b → a ≡ b
+field-one None None same = refl
+field-one None (Some Small) same = absurd cc
+field-one None (Some Large) same = absurd cc
+field-one (Some Small) None same = absurd cc
+field-one (Some Small) (Some Small) same = refl
+field-one (Some Small) (Some Large) same = absurd cc
+field-one (Some Large) None same = absurd cc
+field-one (Some Large) (Some Small) same = absurd cc
+field-one (Some Large) (Some Large) same = refl
+
 -- texts with other first letters are not the same
 other-letter : {A : Type 0} (text word : List ℕ) (a b : ℕ) → get_or text 0 0 ≡ a → get_or word 0 0 ≡ b → (a ≡ b → ⊥) → text ≡ word → A
 other-letter text word a b first second other same = absurd (other (sym first ∙ ap (λ t. get_or t 0 0) same ∙ second))
@@ -71,17 +85,19 @@ check-no-task task same =
     no-task (codes "check") 99 refl (λ e. omega (arith, e)) (λ e. omega (arith, e)) (λ e. omega (arith, e)) (λ e. omega (arith, e)) task same
 
 pub make-no-command : {A : Type 0} (command : Command) → name_of command ≡ codes "make" → A
-make-no-command (OfModel task kind) same =
+make-no-command (OfModel task kind field) same =
     no-task (codes "make") 109 refl (λ e. omega (arith, e)) (λ e. omega (arith, e)) (λ e. omega (arith, e)) (λ e. omega (arith, e)) task same
 make-no-command Check same = other-letter (codes "check") (codes "make") 99 109 refl refl (λ e. omega (arith, e)) same
 
-command-one : (a b : Command) → name_of a ≡ name_of b → word_of (format_of a) ≡ word_of (format_of b) → a ≡ b
-command-one (OfModel task kind) (OfModel other one) name word =
+command-one : (a b : Command) → name_of a ≡ name_of b → word_of (format_of a) ≡ word_of (format_of b) →
+    field_word (field_of a) ≡ field_word (field_of b) → a ≡ b
+command-one (OfModel task kind field) (OfModel other one named) name word over =
     let words : kind_text kind ≡ kind_text one = cc in
-    ap (λ t. OfModel t kind) (task-one task other name) ∙ ap (OfModel other) (kind-one kind one words)
-command-one (OfModel task kind) Check name word = check-no-task task name
-command-one Check (OfModel task kind) name word = check-no-task task (sym name)
-command-one Check Check name word = refl
+    ap (λ t. OfModel t kind field) (task-one task other name) ∙ ap (λ k. OfModel other k field) (kind-one kind one words)
+    ∙ ap (OfModel other one) (field-one field named over)
+command-one (OfModel task kind field) Check name word over = check-no-task task name
+command-one Check (OfModel task kind field) name word over = check-no-task task (sym name)
+command-one Check Check name word over = refl
 
 size-one : (word : Option (List ℕ)) (m n : ℕ) → IsSizeWord word m → IsSizeWord word n → m ≡ n
 size-one None m n one two = absurd one
@@ -89,10 +105,12 @@ size-one (Some word) m n one two = one.0.1 ∙ sym two.0.1
 
 names-one : (met : Option (Text × List Row)) (a b : Request) → Names met a → Names met b → a ≡ b
 names-one None a b one two = absurd one
-names-one (Some (name, values)) (OfInput a) (OfInput b) one two = ap OfInput (command-one a b (sym one.0 ∙ two.0) (sym one.1 ∙ two.1))
-names-one (Some (name, values)) (OfInput a) (Make n) one two = make-no-command a (sym one.0 ∙ two.0)
-names-one (Some (name, values)) (Make m) (OfInput b) one two = make-no-command b (sym two.0 ∙ one.0)
-names-one (Some (name, values)) (Make m) (Make n) one two = ap Make (size-one _ m n one.1 two.1)
+names-one (Some (name, values)) (OfInput a) (OfInput b) one two =
+    ap OfInput (command-one a b (sym one.0 ∙ two.0) (sym one.1 ∙ two.1) (sym one.2 ∙ two.2))
+names-one (Some (name, values)) (OfInput a) (Make n field) one two = make-no-command a (sym one.0 ∙ two.0)
+names-one (Some (name, values)) (Make m field) (OfInput b) one two = make-no-command b (sym two.0 ∙ one.0)
+names-one (Some (name, values)) (Make m field) (Make n named) one two =
+    ap (λ k. Make k field) (size-one _ m n one.1.0 two.1.0) ∙ ap (Make n) (field-one field named (sym one.1.1 ∙ two.1.1))
 
 pub request-one : (words : List (List ℕ)) (a b : Request) → Asks words a → Asks words b → a ≡ b
 request-one words a b one two = names-one (subcommand_of command_line words) a b one.1 two.1
@@ -100,8 +118,12 @@ request-one words a b one two = names-one (subcommand_of command_line words) a b
 pub asks-one : (words : List (List ℕ)) (a b : Command) → AsksFor words a → AsksFor words b → a ≡ b
 asks-one words a b one two = let same : OfInput a ≡ OfInput b = request-one words (OfInput a) (OfInput b) one two in cc
 
-pub makes-one : (words : List (List ℕ)) (m n : ℕ) → AsksToMake words m → AsksToMake words n → m ≡ n
-makes-one words m n one two = let same : Make m ≡ Make n = request-one words (Make m) (Make n) one two in cc
+pub makes-one : (words : List (List ℕ)) (m n : ℕ) (field named : Option FieldName) → AsksToMake words m field → AsksToMake words n named →
+    (m ≡ n) × (field ≡ named)
+makes-one words m n field named one two =
+    let same : Make m field ≡ Make n named = request-one words (Make m field) (Make n named) one two in (cc, cc)
 
-pub not-both : {A : Type 0} (words : List (List ℕ)) (command : Command) (n : ℕ) → AsksFor words command → AsksToMake words n → A
-not-both words command n asks makes = let same : OfInput command ≡ Make n = request-one words (OfInput command) (Make n) asks makes in absurd cc
+pub not-both : {A : Type 0} (words : List (List ℕ)) (command : Command) (n : ℕ) (field : Option FieldName) →
+    AsksFor words command → AsksToMake words n field → A
+not-both words command n field asks makes =
+    let same : OfInput command ≡ Make n field = request-one words (OfInput command) (Make n field) asks makes in absurd cc

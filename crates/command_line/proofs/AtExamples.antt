@@ -1,13 +1,15 @@
 -- What words ask for, by computation.
-use Rattle.std.proofs.Common.{◌≡◌, List, ℕ, refl, codes, [], ◌∷◌, Some, sym, ap, get_or, arith, ◌∙◌}
+use Rattle.std.proofs.Common.{◌≡◌, List, ℕ, refl, codes, [], ◌∷◌, Option, None, Some, sym, ap, get_or, arith, ◌∙◌}
 use Rattle.clap.specs.Kinds.{Kinds}
 use Rattle.clap.specs.Faults.{fault_of}
 use Rattle.clap.specs.declared.error.kind.ErrorKind.{ErrorKind}
 use Rattle.clap.proofs.OnLiterals.{clap_on_literals}
 use Rattle.cert_text.specs.declared.kind.Kind.TheVariants.{Flowsheet, Matrix, Netlist}
 use Rattle.command_line.specs.CommandLine.{command_line}
-use Rattle.command_line.specs.Words.{AsksFor, AsksForNothing, AsksToMake}
+use Rattle.command_line.specs.Words.{AsksFor, AsksForNothing, AsksToMake, field_of, field_word}
 use Rattle.command_line.specs.declared.command.Command.TheVariants.{Check, OfModel}
+use Rattle.command_line.specs.declared.command.FieldName.{FieldName}
+use Rattle.command_line.specs.declared.command.FieldName.TheVariants.{Large, Small}
 use Rattle.command_line.specs.declared.command.Request.TheVariants.{Make, OfInput}
 use Rattle.command_line.specs.declared.command.Task.TheVariants.{Analyse, Layer, Plan, Report}
 
@@ -15,43 +17,55 @@ use Rattle.command_line.specs.declared.command.Task.TheVariants.{Analyse, Layer,
 untaken : (words : List (List ℕ)) (kind : ErrorKind) (kinds : Kinds) → fault_of command_line words ≡ kind ∷ kinds → AsksForNothing words
 untaken words kind kinds fails request asks = let none : kind ∷ kinds ≡ [] = sym fails ∙ asks.0 in absurd cc
 
-pub analyse : AsksFor (codes "mixed" ∷ codes "analyse" ∷ codes "matrix" ∷ []) (OfModel Analyse Matrix)
+pub analyse : AsksFor (codes "mixed" ∷ codes "analyse" ∷ codes "matrix" ∷ []) (OfModel Analyse Matrix None)
 unfolding clap_on_literals
-analyse = (refl, (refl, refl))
+analyse = (refl, (refl, refl, refl))
 
-pub layer : AsksFor (codes "mixed" ∷ codes "layer" ∷ codes "netlist" ∷ []) (OfModel Layer Netlist)
+pub layer : AsksFor (codes "mixed" ∷ codes "layer" ∷ codes "netlist" ∷ []) (OfModel Layer Netlist None)
 unfolding clap_on_literals
-layer = (refl, (refl, refl))
+layer = (refl, (refl, refl, refl))
 
-pub report : AsksFor (codes "mixed" ∷ codes "report" ∷ codes "flowsheet" ∷ []) (OfModel Report Flowsheet)
+pub report : AsksFor (codes "mixed" ∷ codes "report" ∷ codes "flowsheet" ∷ []) (OfModel Report Flowsheet None)
 unfolding clap_on_literals
-report = (refl, (refl, refl))
+report = (refl, (refl, refl, refl))
 
-pub plan : AsksFor (codes "mixed" ∷ codes "plan" ∷ codes "matrix" ∷ []) (OfModel Plan Matrix)
+pub plan : AsksFor (codes "mixed" ∷ codes "plan" ∷ codes "matrix" ∷ []) (OfModel Plan Matrix None)
 unfolding clap_on_literals
-plan = (refl, (refl, refl))
+plan = (refl, (refl, refl, refl))
 
 pub check : AsksFor (codes "mixed" ∷ codes "check" ∷ []) Check
 unfolding clap_on_literals
-check = (refl, (refl, refl))
+check = (refl, (refl, refl, refl))
 
-pub make : AsksToMake (codes "mixed" ∷ codes "make" ∷ codes "2" ∷ []) 2
+pub make : AsksToMake (codes "mixed" ∷ codes "make" ∷ codes "2" ∷ []) 2 None
 unfolding clap_on_literals
-make = (refl, (refl, (((omega arith, (omega arith, tt)), refl), record { least = omega arith; most = omega arith })))
+make = (refl, (refl, ((((omega arith, (omega arith, tt)), refl), record { least = omega arith; most = omega arith }), refl)))
 
-pub make_most : AsksToMake (codes "mixed" ∷ codes "make" ∷ codes "400" ∷ []) 400
+pub make_most : AsksToMake (codes "mixed" ∷ codes "make" ∷ codes "400" ∷ []) 400 None
 unfolding clap_on_literals
 make_most =
-    (refl, (refl, (((omega arith, (omega arith, (omega arith, (omega arith, tt)))), refl), record { least = omega arith; most = omega arith })))
+    (refl, (refl, ((((omega arith, (omega arith, (omega arith, (omega arith, tt)))), refl), record { least = omega arith; most = omega arith }), refl)))
 
-pub make_zeros : AsksToMake (codes "mixed" ∷ codes "make" ∷ codes "007" ∷ []) 7
+pub make_zeros : AsksToMake (codes "mixed" ∷ codes "make" ∷ codes "007" ∷ []) 7 None
 unfolding clap_on_literals
 make_zeros =
-    (refl, (refl, (((omega arith, (omega arith, (omega arith, (omega arith, tt)))), refl), record { least = omega arith; most = omega arith })))
+    (refl, (refl, ((((omega arith, (omega arith, (omega arith, (omega arith, tt)))), refl), record { least = omega arith; most = omega arith }), refl)))
 
-pub make_plus : AsksToMake (codes "mixed" ∷ codes "make" ∷ codes "+5" ∷ []) 5
+pub make_plus : AsksToMake (codes "mixed" ∷ codes "make" ∷ codes "+5" ∷ []) 5 None
 unfolding clap_on_literals
-make_plus = (refl, (refl, (((omega arith, (omega arith, tt)), refl), record { least = omega arith; most = omega arith })))
+make_plus = (refl, (refl, ((((omega arith, (omega arith, tt)), refl), record { least = omega arith; most = omega arith }), refl)))
+
+pub layer_large : AsksFor (codes "mixed" ∷ codes "layer" ∷ codes "matrix" ∷ codes "2147483647" ∷ []) (OfModel Layer Matrix (Some Large))
+unfolding clap_on_literals
+layer_large = (refl, (refl, refl, refl))
+
+pub report_small : AsksFor (codes "mixed" ∷ codes "report" ∷ codes "netlist" ∷ codes "65521" ∷ []) (OfModel Report Netlist (Some Small))
+unfolding clap_on_literals
+report_small = (refl, (refl, refl, refl))
+
+pub make_large : AsksToMake (codes "mixed" ∷ codes "make" ∷ codes "2" ∷ codes "2147483647" ∷ []) 2 (Some Large)
+unfolding clap_on_literals
+make_large = (refl, (refl, ((((omega arith, (omega arith, tt)), refl), record { least = omega arith; most = omega arith }), refl)))
 
 pub make_none : AsksForNothing (codes "mixed" ∷ codes "make" ∷ codes "0" ∷ [])
 unfolding clap_on_literals
@@ -79,11 +93,43 @@ unknown word there = let same : codes "picture" ≡ word = cc in ap (λ t. get_o
 
 pub unknown_kind : AsksForNothing (codes "mixed" ∷ codes "analyse" ∷ codes "picture" ∷ [])
 unfolding clap_on_literals
-unknown_kind (OfInput (OfModel task Matrix)) (taken, names) = let other : 109 ≡ 112 = unknown _ names.1 in absurd (omega (arith, other))
-unknown_kind (OfInput (OfModel task Netlist)) (taken, names) = let other : 110 ≡ 112 = unknown _ names.1 in absurd (omega (arith, other))
-unknown_kind (OfInput (OfModel task Flowsheet)) (taken, names) = let other : 102 ≡ 112 = unknown _ names.1 in absurd (omega (arith, other))
+unknown_kind (OfInput (OfModel task Matrix field)) (taken, names) = let other : 109 ≡ 112 = unknown _ names.1 in absurd (omega (arith, other))
+unknown_kind (OfInput (OfModel task Netlist field)) (taken, names) = let other : 110 ≡ 112 = unknown _ names.1 in absurd (omega (arith, other))
+unknown_kind (OfInput (OfModel task Flowsheet field)) (taken, names) = let other : 102 ≡ 112 = unknown _ names.1 in absurd (omega (arith, other))
 unknown_kind (OfInput Check) (taken, names) = absurd cc
-unknown_kind (Make n) (taken, names) = absurd cc
+unknown_kind (Make n field) (taken, names) = absurd cc
+
+-- a word that begins otherwise is that of no field
+no_field : {A : Type 0} (word : List ℕ) (letter : ℕ) → get_or word 0 0 ≡ letter → (54 ≡ letter → ⊥) → (50 ≡ letter → ⊥) →
+    (field : Option FieldName) → Some word ≡ field_word field → A
+no_field word letter first small large None same = absurd cc
+no_field word letter first small large (Some Small) same =
+    let is : word ≡ codes "65521" = cc in absurd (small (sym (ap (λ t. get_or t 0 0) is) ∙ first))
+no_field word letter first small large (Some Large) same =
+    let is : word ≡ codes "2147483647" = cc in absurd (large (sym (ap (λ t. get_or t 0 0) is) ∙ first))
+
+pub unknown_field : AsksForNothing (codes "mixed" ∷ codes "analyse" ∷ codes "matrix" ∷ codes "7" ∷ [])
+unfolding clap_on_literals
+unknown_field (OfInput command) (taken, names) =
+    no_field (codes "7") 55 refl (λ e. omega (arith, e)) (λ e. omega (arith, e)) (field_of command) names.2
+unknown_field (Make n field) (taken, names) = absurd cc
+
+pub field_of_zeros : AsksForNothing (codes "mixed" ∷ codes "plan" ∷ codes "matrix" ∷ codes "065521" ∷ [])
+unfolding clap_on_literals
+field_of_zeros (OfInput command) (taken, names) =
+    no_field (codes "065521") 48 refl (λ e. omega (arith, e)) (λ e. omega (arith, e)) (field_of command) names.2
+field_of_zeros (Make n field) (taken, names) = absurd cc
+
+pub make_unknown_field : AsksForNothing (codes "mixed" ∷ codes "make" ∷ codes "2" ∷ codes "7" ∷ [])
+unfolding clap_on_literals
+make_unknown_field (OfInput command) (taken, names) =
+    no_field (codes "7") 55 refl (λ e. omega (arith, e)) (λ e. omega (arith, e)) (field_of command) names.2
+make_unknown_field (Make n field) (taken, names) =
+    no_field (codes "7") 55 refl (λ e. omega (arith, e)) (λ e. omega (arith, e)) field names.1.1
+
+pub check_of_field : AsksForNothing (codes "mixed" ∷ codes "check" ∷ codes "65521" ∷ [])
+unfolding clap_on_literals
+check_of_field = untaken (codes "mixed" ∷ codes "check" ∷ codes "65521" ∷ []) _ _ refl
 
 pub no_word : AsksForNothing (codes "mixed" ∷ [])
 unfolding clap_on_literals
@@ -93,9 +139,9 @@ pub no_kind : AsksForNothing (codes "mixed" ∷ codes "analyse" ∷ [])
 unfolding clap_on_literals
 no_kind = untaken (codes "mixed" ∷ codes "analyse" ∷ []) _ _ refl
 
-pub too_many : AsksForNothing (codes "mixed" ∷ codes "analyse" ∷ codes "matrix" ∷ codes "more" ∷ [])
+pub too_many : AsksForNothing (codes "mixed" ∷ codes "analyse" ∷ codes "matrix" ∷ codes "65521" ∷ codes "more" ∷ [])
 unfolding clap_on_literals
-too_many = untaken (codes "mixed" ∷ codes "analyse" ∷ codes "matrix" ∷ codes "more" ∷ []) _ _ refl
+too_many = untaken (codes "mixed" ∷ codes "analyse" ∷ codes "matrix" ∷ codes "65521" ∷ codes "more" ∷ []) _ _ refl
 
 pub help : AsksForNothing (codes "mixed" ∷ codes "help" ∷ [])
 unfolding clap_on_literals

@@ -10,8 +10,9 @@ use Rattle.clap.specs.declared.error.kind.ErrorKind.TheVariants.{OutOfMemory}
 use Rattle.clap.specs.declared.parser.matches.ArgMatches.{ArgMatches}
 use Rattle.clap.proofs.OnLiterals.{clap_on_literals}
 use Rattle.command_line.specs.CommandLine.{command_line}
-use Rattle.command_line.specs.Words.{AreNamesOf, AreTaken, IsSizeWord, Names, NamesNone, format_of, word_of}
+use Rattle.command_line.specs.Words.{AreNamesOf, AreSizeWords, AreTaken, Names, NamesNone}
 use Rattle.command_line.specs.declared.command.Command.{Command}
+use Rattle.command_line.specs.declared.command.FieldName.{FieldName}
 use Rattle.command_line.specs.declared.command.Request.{Request}
 use Rattle.command_line.specs.declared.command.Request.TheVariants.{Make, OfInput}
 use Rattle.command_line.proofs.Asking.{make-no-command}
@@ -26,38 +27,48 @@ met_by (Some b) f g name rows is_name are_rows =
     let two : rows ≡ g b = cc in
     rw (one, two) refl
 
--- by its name and the word at KIND
-abbrev pub IsOnInput : Text → Option Text → Request → Type 0
-IsOnInput name word request = (command : Command) × (request ≡ OfInput command) × AreNamesOf name word command
+-- by its name and the words at KIND and at FIELD
+abbrev pub IsOnInput : Text → Option Text → Option Text → Request → Type 0
+IsOnInput name kind field request = (command : Command) × (request ≡ OfInput command) × AreNamesOf name kind field command
 
-no-input : (name : Text) (word : Option Text) (rows : List Row) → (name ≡ codes "make" → ⊥) → word ≡ first_of (codes "KIND") rows →
-    ((command : Command) → AreNamesOf name word command → ⊥) → NamesNone (Some (name, rows))
-no-input name word rows other is never (OfInput command) names =
-    never command (names.0, subst (λ w. w ≡ word_of (format_of command)) (sym is) names.1)
-no-input name word rows other is never (Make n) names = other names.0
-
-pub input_names : (name : Text) (word : Option Text) (rows : List Row) (result : Option Request) → (name ≡ codes "make" → ⊥) →
-    word ≡ first_of (codes "KIND") rows → MatchOption result ((command : Command) → AreNamesOf name word command → ⊥) (IsOnInput name word) →
+pub input_names : (name : Text) (kind field : Option Text) (rows : List Row) (result : Option Request) → (name ≡ codes "make" → ⊥) →
+    kind ≡ first_of (codes "KIND") rows → field ≡ first_of (codes "FIELD") rows →
+    MatchOption result ((command : Command) → AreNamesOf name kind field command → ⊥) (IsOnInput name kind field) →
     MatchOption result (NamesNone (Some (name, rows))) (Names (Some (name, rows)))
-input_names name word rows None other is never = no-input name word rows other is never
-input_names name word rows (Some request) other is (command, same, names) =
-    subst (Names (Some (name, rows))) (sym same) (names.0, sym is ∙ names.1)
+input_names name kind field rows result other kind_is field_is = rw (kind_is, field_is) (on_input result)
+  where
+    on_input : (result : Option Request) →
+        MatchOption result ((command : Command) → AreNamesOf name (first_of (codes "KIND") rows) (first_of (codes "FIELD") rows) command → ⊥)
+        (IsOnInput name (first_of (codes "KIND") rows) (first_of (codes "FIELD") rows)) →
+        MatchOption result (NamesNone (Some (name, rows))) (Names (Some (name, rows)))
+    on_input None never = λ request. none request
+      where
+        none : (request : Request) → Names (Some (name, rows)) request → ⊥
+        none (OfInput command) names = never command names
+        none (Make n named) names = other names.0
+    on_input (Some request) (command, same, names) = subst (Names (Some (name, rows))) (sym same) names
 
--- by the name `make` and the word at N
-abbrev pub IsMaking : Option Text → Request → Type 0
-IsMaking word request = (n : ℕ) × (request ≡ Make n) × IsSizeWord word n
+-- by the name `make` and the words at N and at FIELD
+abbrev pub IsMaking : Option Text → Option Text → Request → Type 0
+IsMaking size field request = (n : ℕ) × (named : Option FieldName) × (request ≡ Make n named) × AreSizeWords size field n named
 
-no-make : (word : Option Text) (rows : List Row) → word ≡ first_of (codes "N") rows → ((n : ℕ) → IsSizeWord word n → ⊥) →
-    NamesNone (Some (codes "make", rows))
-no-make word rows is never (OfInput command) names = make-no-command command (sym names.0)
-no-make word rows is never (Make n) names = never n (subst (λ w. IsSizeWord w n) (sym is) names.1)
-
-pub make_names : (word : Option Text) (rows : List Row) (result : Option Request) → word ≡ first_of (codes "N") rows →
-    MatchOption result ((n : ℕ) → IsSizeWord word n → ⊥) (IsMaking word) →
+pub make_names : (size field : Option Text) (rows : List Row) (result : Option Request) → size ≡ first_of (codes "N") rows →
+    field ≡ first_of (codes "FIELD") rows →
+    MatchOption result ((n : ℕ) (named : Option FieldName) → AreSizeWords size field n named → ⊥) (IsMaking size field) →
     MatchOption result (NamesNone (Some (codes "make", rows))) (Names (Some (codes "make", rows)))
-make_names word rows None is never = no-make word rows is never
-make_names word rows (Some request) is (n, same, size) =
-    subst (Names (Some (codes "make", rows))) (sym same) (refl, subst (λ w. IsSizeWord w n) is size)
+make_names size field rows result size_is field_is = rw (size_is, field_is) (making result)
+  where
+    making : (result : Option Request) →
+        MatchOption result ((n : ℕ) (named : Option FieldName) →
+        AreSizeWords (first_of (codes "N") rows) (first_of (codes "FIELD") rows) n named → ⊥)
+        (IsMaking (first_of (codes "N") rows) (first_of (codes "FIELD") rows)) →
+        MatchOption result (NamesNone (Some (codes "make", rows))) (Names (Some (codes "make", rows)))
+    making None never = λ request. none request
+      where
+        none : (request : Request) → Names (Some (codes "make", rows)) request → ⊥
+        none (OfInput command) names = make-no-command command (sym names.0)
+        none (Make n named) names = never n named names.1
+    making (Some request) (n, named, same, words) = subst (Names (Some (codes "make", rows))) (sym same) (refl, words)
 
 pub with_none : {T : Type 0} (P : Type 0) (Q : T → Type 0) (result : Option T) → result ≡ None → P → MatchOption result P Q
 with_none P Q None is holds = holds

@@ -1,28 +1,32 @@
--- The command line `mixed SUBCOMMAND KIND`, `mixed check` or `mixed make N`, as clap reads it.
+-- The command line `mixed SUBCOMMAND KIND [FIELD]`, `mixed check` or `mixed make N [FIELD]`, as clap reads it.
 use Rattle.std.specs.Prelude.{[], ◌∷◌, true, false, codes, Some}
 use Rattle.clap.specs.Simple.{App, Shape, new_rule, new_shape}
 use Rattle.clap.specs.Walk.{Rule, Text}
 use Rattle.clap.specs.declared.builder.value_parser.ValueParser.TheVariants.{Unsigned}
 use Rattle.made_models.specs.MadeModels.{size_limit}
 
--- the one argument of a subcommand, which is required; each word is one to clap
+-- the kind of an input, which is required; each word is one to clap
 abbrev pub kind_argument : Rule
 kind_argument = record (new_rule (codes "KIND")) { required = true }
 
--- a subcommand of this name, with that argument
-abbrev pub with_kind : Text → Shape
-with_kind name = record (new_shape name) { rules = kind_argument ∷ [] }
+-- the field, which need not be there; each word is one to clap
+abbrev pub field_argument : Rule
+field_argument = new_rule (codes "FIELD")
 
--- the one argument of `make`, which is required, and a number from 1 to the greatest size
+-- a subcommand of this name, with these arguments
+abbrev pub with_kind : Text → Shape
+with_kind name = record (new_shape name) { rules = kind_argument ∷ field_argument ∷ [] }
+
+-- the size of a made model, which is required, and a number from 1 to the greatest size
 abbrev pub size_argument : Rule
 size_argument = record (new_rule (codes "N")) {
   required = true;
   parser = Some (Unsigned 1 size_limit);
 }
 
--- a subcommand of this name, with that argument
+-- a subcommand of this name, with a size and the field
 abbrev pub with_size : Text → Shape
-with_size name = record (new_shape name) { rules = size_argument ∷ [] }
+with_size name = record (new_shape name) { rules = size_argument ∷ field_argument ∷ [] }
 
 -- a subcommand of this name, without an argument
 abbrev pub without_kind : Text → Shape

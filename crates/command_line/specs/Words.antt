@@ -15,10 +15,12 @@ use Rattle.command_line.specs.declared.command.Format.{Format}
 use Rattle.command_line.specs.declared.command.Format.TheVariants.{Certificate, Model}
 use Rattle.command_line.specs.declared.command.Task.{Task}
 use Rattle.command_line.specs.declared.command.Task.TheVariants.{Analyse, Layer, Plan, Report}
+use Rattle.command_line.specs.declared.command.FieldName.{FieldName}
+use Rattle.command_line.specs.declared.command.FieldName.TheVariants.{Large, Small}
 use Rattle.command_line.specs.declared.command.Request.{Request}
 use Rattle.command_line.specs.declared.command.Request.TheVariants.{Make, OfInput}
 use Rattle.command_line.specs.declared.command.WordsError.{WordsError}
-use Rattle.command_line.specs.declared.command.WordsError.TheVariants.{Told, UnknownKind, NoMemory}
+use Rattle.command_line.specs.declared.command.WordsError.TheVariants.{Told, UnknownWord, NoMemory}
 
 -- the name of a task
 abbrev pub task_text : Task → List ℕ
@@ -29,7 +31,7 @@ task_text Plan = codes "plan"
 
 -- the name of a command
 abbrev pub name_of : Command → List ℕ
-name_of (OfModel task kind) = task_text task
+name_of (OfModel task kind field) = task_text task
 name_of Check = codes "check"
 
 -- the word at KIND: a certificate tells its own
@@ -39,16 +41,36 @@ word_of Certificate = None
 
 -- what a command's input is to be
 abbrev pub format_of : Command → Format
-format_of (OfModel task kind) = Model kind
+format_of (OfModel task kind field) = Model kind
 format_of Check = Certificate
+
+-- the name of a field
+abbrev pub field_text : FieldName → List ℕ
+field_text Small = codes "65521"
+field_text Large = codes "2147483647"
+
+-- the word at FIELD, which need not be there
+abbrev pub field_word : Option FieldName → Option (List ℕ)
+field_word field = option_map field_text field
+
+-- the field that a command names: a certificate tells its own
+abbrev pub field_of : Command → Option FieldName
+field_of (OfModel task kind field) = field
+field_of Check = None
+
+-- the field that is meant: the smaller one where none is named
+abbrev pub over : Option FieldName → FieldName
+over None = Small
+over (Some field) = field
 
 -- clap's definition takes the words: no step of the parse fails
 abbrev pub AreTaken : List (List ℕ) → Type 0
 AreTaken words = fault_of command_line words ≡ []
 
--- these are the name of a command, and the word at KIND where it has one
-abbrev pub AreNamesOf : List ℕ → Option (List ℕ) → Command → Type 0
-AreNamesOf name word command = (name ≡ name_of command) × (word ≡ word_of (format_of command))
+-- these are the name of a command, the word at KIND where it has one, and the word at FIELD where it names one
+abbrev pub AreNamesOf : List ℕ → Option (List ℕ) → Option (List ℕ) → Command → Type 0
+AreNamesOf name kind field command =
+    (name ≡ name_of command) × (kind ≡ word_of (format_of command)) × (field ≡ field_word (field_of command))
 
 -- the text of a word, where there is one
 abbrev pub text_at : Option (Bor (List ℕ)) → Option (List ℕ)
@@ -63,10 +85,16 @@ abbrev pub IsSizeWord : Option (List ℕ) → ℕ → Type 0
 IsSizeWord (Some word) n = IsNumber word n × IsSize n
 IsSizeWord None n = ⊥
 
--- a subcommand with its values is that of a request: by its name, and by the word at KIND or at N
+-- these are the words at N and at FIELD for the made model of this size over this field
+abbrev pub AreSizeWords : Option (List ℕ) → Option (List ℕ) → ℕ → Option FieldName → Type 0
+AreSizeWords size field n named = IsSizeWord size n × (field ≡ field_word named)
+
+-- a subcommand with its values is that of a request: by its name, and by the words at KIND or at N and at FIELD
 abbrev pub Names : Option (Text × List Row) → Request → Type 0
-Names (Some (name, values)) (OfInput command) = AreNamesOf name (first_of (codes "KIND") values) command
-Names (Some (name, values)) (Make n) = (name ≡ codes "make") × IsSizeWord (first_of (codes "N") values) n
+Names (Some (name, values)) (OfInput command) =
+    AreNamesOf name (first_of (codes "KIND") values) (first_of (codes "FIELD") values) command
+Names (Some (name, values)) (Make n field) =
+    (name ≡ codes "make") × AreSizeWords (first_of (codes "N") values) (first_of (codes "FIELD") values) n field
 Names None request = ⊥
 
 -- it is that of no request
@@ -81,9 +109,9 @@ Asks words request = AreTaken words × Names (subcommand_of command_line words) 
 abbrev pub AsksFor : List (List ℕ) → Command → Type 0
 AsksFor words command = Asks words (OfInput command)
 
--- the words ask for the made model of this size
-abbrev pub AsksToMake : List (List ℕ) → ℕ → Type 0
-AsksToMake words n = Asks words (Make n)
+-- the words ask for the made model of this size over this field
+abbrev pub AsksToMake : List (List ℕ) → ℕ → Option FieldName → Type 0
+AsksToMake words n field = Asks words (Make n field)
 
 -- the words ask for nothing
 abbrev pub AsksForNothing : List (List ℕ) → Type 0
@@ -93,8 +121,8 @@ AsksForNothing words = (request : Request) → Asks words request → ⊥
 abbrev pub AsksForNoInput : List (List ℕ) → Type 0
 AsksForNoInput words = (command : Command) → AsksFor words command → ⊥
 
--- why the words ask for nothing: clap's definition does not take them, or the kind alone is unknown
+-- why the words ask for nothing: clap's definition does not take them, or the kind or the field alone is unknown
 abbrev pub IsWhy : List (List ℕ) → WordsError → Type 0
 IsWhy words (Told text) = ¬ AreTaken words
-IsWhy words UnknownKind = AreTaken words × AsksForNothing words
+IsWhy words UnknownWord = AreTaken words × AsksForNothing words
 IsWhy words NoMemory = Unit {0}

@@ -1,10 +1,10 @@
 //! What the words of the command line ask for.
 
-ghost use Rattle.std.specs.Prelude.{◌≡◌, ◌≢◌, List, ℕ, map, MatchOption, MatchResult, OnOk, Some, None};
+ghost use Rattle.std.specs.Prelude.{◌≡◌, ◌≢◌, List, ℕ, Option, map, MatchOption, MatchResult, OnOk, Some, None};
 ghost use Rattle.std.specs.String.{string_bytes};
 ghost use Rattle.cert_text.specs.Texts.{kind_text};
 ghost use Rattle.clap.specs.Words.{kind_of as error_kind, subcommand_rows_of};
-ghost use Rattle.command_line.specs.Words.{AreNamesOf, Asks, IsSizeWord, IsWhy, Names, NamesNone, task_text, text_at};
+ghost use Rattle.command_line.specs.Words.{AreNamesOf, AreSizeWords, Asks, IsWhy, Names, NamesNone, field_of, field_text, over, task_text, text_at};
 
 use crate::command_line::command_line;
 use cert_text::Kind;
@@ -26,11 +26,32 @@ pub enum Task {
     Plan,
 }
 
+/// A field that the words may name: that of the residues modulo a prime.
+#[derive(Clone, Copy, Debug, PartialEq, Eq)]
+pub enum FieldName {
+    /// Modulo 65,521.
+    Small,
+    /// Modulo 2,147,483,647.
+    Large,
+}
+
+impl FieldName {
+    /// The field that is meant: the smaller one where none is named.
+    pub fn over(named: Option<FieldName>) -> FieldName
+        ensures { result ≡ over named }
+    {
+        match named {
+            Some(field) => field,
+            None => FieldName::Small,
+        }
+    }
+}
+
 /// What to do with an input.
 #[derive(Clone, Copy, Debug, PartialEq, Eq)]
 pub enum Command {
-    /// To write something of the model that an input of this kind gives.
-    OfModel(Task, Kind),
+    /// To write something of the model that an input of this kind gives over the field that is named.
+    OfModel(Task, Kind, Option<FieldName>),
     /// To tell whether a certificate is right for the input that it repeats.
     Check,
 }
@@ -40,8 +61,8 @@ pub enum Command {
 pub enum Request {
     /// A command on an input.
     OfInput(Command),
-    /// To tell of the made model of this size.
-    Make(usize),
+    /// To tell of the made model of this size over the field that is named.
+    Make(usize, Option<FieldName>),
 }
 
 /// What an input is to be.
@@ -58,8 +79,8 @@ pub enum Format {
 pub enum WordsError {
     /// clap has no matches for them, and tells this.
     Told(String),
-    /// clap has matches for them, and the word at KIND is that of no kind.
-    UnknownKind,
+    /// clap has matches for them, and the word at KIND is that of no kind, or the word at FIELD that of no field.
+    UnknownWord,
     /// Memory ran out.
     NoMemory,
 }
@@ -73,7 +94,7 @@ impl Request {
         match line.try_get_matches_from(words) {
             Ok(matches) => match Request::matched(&matches) {
                 Some(request) => Ok(request),
-                None => Err(WordsError::UnknownKind),
+                None => Err(WordsError::UnknownWord),
             },
             Err(error) => Err(WordsError::Told(told(alloc, error)?)),
         }
@@ -85,57 +106,78 @@ impl Request {
             (Names (subcommand_rows_of matches.now)) }
     {
         let (name, values) = matches.subcommand()?;
+        let field = values.get_str("FIELD");
         match name {
-            "make" => Request::make(values.get_str("N")),
-            _ => Request::on_input(name, values.get_str("KIND")),
+            "make" => Request::make(values.get_str("N"), field),
+            _ => Request::on_input(name, values.get_str("KIND"), field),
         }
     }
 
-    // To tell of the made model of the size that this word writes.
-    fn make(word: Option<&str>) -> Option<Request>
-        ensures { MatchOption result ((n : ℕ) → IsSizeWord (text_at word.entry) n → ⊥)
-            (λ request. (n : ℕ) × (request ≡ Request.Make n) × IsSizeWord (text_at word.entry) n) }
+    // To tell of the made model of the size that a word writes, over the field that another names.
+    fn make(size: Option<&str>, field: Option<&str>) -> Option<Request>
+        ensures { MatchOption result
+            ((n : ℕ) (named : Option FieldName) → AreSizeWords (text_at size.entry) (text_at field.entry) n named → ⊥)
+            (λ request. (n : ℕ) × (named : Option FieldName) × (request ≡ Request.Make n named)
+            × AreSizeWords (text_at size.entry) (text_at field.entry) n named) }
     {
-        let number = word?.parse::<usize>().ok()?;
+        let number = size?.parse::<usize>().ok()?;
         if number < 1 || SIZE_LIMIT < number {
             return None;
         }
-        Some(Request::Make(number))
+        match field {
+            Some(field) => Some(Request::Make(number, Some(field_named(field)?))),
+            None => Some(Request::Make(number, None)),
+        }
     }
 
-    // The command of this name, on the kind of this name where it has one.
-    fn on_input(name: &str, kind: Option<&str>) -> Option<Request>
+    // The command of this name, on the kind of this name where it has one, over the field of this name.
+    fn on_input(name: &str, kind: Option<&str>, field: Option<&str>) -> Option<Request>
         ensures { MatchOption result
-            ((command : Command) → AreNamesOf name.now (text_at kind.entry) command → ⊥)
+            ((command : Command) → AreNamesOf name.now (text_at kind.entry) (text_at field.entry) command → ⊥)
             (λ request. (command : Command) × (request ≡ Request.OfInput command)
-            × AreNamesOf name.now (text_at kind.entry) command) }
+            × AreNamesOf name.now (text_at kind.entry) (text_at field.entry) command) }
     {
         let command = match kind {
-            Some(kind) => Command::of_kind(name, kind)?,
-            None => Command::alone(name)?,
+            Some(kind) => Command::of_kind(name, kind, field)?,
+            None => Command::alone(name, field)?,
         };
         Some(Request::OfInput(command))
     }
 }
 
 impl Command {
-    // The command of this name, on the kind of this name.
-    fn of_kind(name: &str, kind: &str) -> Option<Command>
-        ensures { MatchOption result ((command : Command) → AreNamesOf name.now (Some kind.now) command → ⊥)
-            (AreNamesOf name.now (Some kind.now)) }
+    /// The field that the command is over. A certificate tells its own.
+    pub fn field(self) -> FieldName
+        ensures { result ≡ over (field_of self) }
+    {
+        match self {
+            Command::OfModel(_, _, named) => FieldName::over(named),
+            Command::Check => FieldName::Small,
+        }
+    }
+
+    // The command of this name, on the kind of this name, over the field of this name.
+    fn of_kind(name: &str, kind: &str, field: Option<&str>) -> Option<Command>
+        ensures { MatchOption result
+            ((command : Command) → AreNamesOf name.now (Some kind.now) (text_at field.entry) command → ⊥)
+            (AreNamesOf name.now (Some kind.now) (text_at field.entry)) }
     {
         let task = task_named(name)?;
         let kind = kind_named(kind)?;
-        Some(Command::OfModel(task, kind))
+        match field {
+            Some(field) => Some(Command::OfModel(task, kind, Some(field_named(field)?))),
+            None => Some(Command::OfModel(task, kind, None)),
+        }
     }
 
-    // The command of this name that has no kind.
-    fn alone(name: &str) -> Option<Command>
-        ensures { MatchOption result ((command : Command) → AreNamesOf name.now None command → ⊥)
-            (AreNamesOf name.now None) }
+    // The command of this name that has no kind, and no field.
+    fn alone(name: &str, field: Option<&str>) -> Option<Command>
+        ensures { MatchOption result
+            ((command : Command) → AreNamesOf name.now None (text_at field.entry) command → ⊥)
+            (AreNamesOf name.now None (text_at field.entry)) }
     {
-        match name {
-            "check" => Some(Command::Check),
+        match (name, field) {
+            ("check", None) => Some(Command::Check),
             _ => None,
         }
     }
@@ -162,6 +204,18 @@ fn kind_named(word: &str) -> Option<Kind>
         "matrix" => Some(Kind::Matrix),
         "netlist" => Some(Kind::Netlist),
         "flowsheet" => Some(Kind::Flowsheet),
+        _ => None,
+    }
+}
+
+// The field of this name.
+fn field_named(word: &str) -> Option<FieldName>
+    ensures { MatchOption result ((field : FieldName) → word.now ≢ field_text field)
+        (λ field. word.now ≡ field_text field) }
+{
+    match word {
+        "65521" => Some(FieldName::Small),
+        "2147483647" => Some(FieldName::Large),
         _ => None,
     }
 }

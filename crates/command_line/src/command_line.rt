@@ -1,9 +1,9 @@
 //! The command line, as clap reads it.
 
 ghost use Rattle.std.specs.Prelude.{◌≡◌, IfOk, false};
-ghost use Rattle.clap.specs.Words.{app_of, shape_of, with_subcommand};
+ghost use Rattle.clap.specs.Words.{app_of, rule_of, shape_of, with_subcommand};
 ghost use Rattle.clap.specs.declared.builder.command.Command.TheViews.{out-Command as fields_of};
-ghost use Rattle.command_line.specs.CommandLine.{bare_line, command_line, with_kind, with_size, without_kind};
+ghost use Rattle.command_line.specs.CommandLine.{bare_line, command_line, field_argument, with_kind, with_size, without_kind};
 
 use clap::builder::ValueParser;
 use clap::{Arg, Command};
@@ -101,7 +101,17 @@ fn and_sized<'a>(
     command.subcommand(with_size(alloc, name, about)?)
 }
 
-// A subcommand that takes the kind of the input.
+// The field, which need not be named.
+fn field<'a>(alloc: Global) -> Arg<'a>
+    ensures local { result.global ≡ false }
+    ensures rule { rule_of result ≡ field_argument }
+{
+    Arg::new(alloc, "FIELD").help(
+        "The field of the constants, the residues modulo a prime: `65521`, which it is where none is named, or `2147483647`",
+    )
+}
+
+// A subcommand that takes the kind of the input, and the field.
 fn with_kind<'a>(alloc: Global, name: &'a str, about: &'a str) -> Result<Command<'a>, AllocError>
     ensures local { IfOk result (λ command. (fields_of command).has_globals ≡ false) }
     ensures shape { IfOk result (λ command. shape_of command ≡ with_kind name.now) }
@@ -109,10 +119,13 @@ fn with_kind<'a>(alloc: Global, name: &'a str, about: &'a str) -> Result<Command
     let kind = Arg::new(alloc, "KIND").required(true).help(
         "What the input is: `matrix`, a list of equations, `netlist`, a circuit, or `flowsheet`, a plant",
     );
-    Command::new(alloc, name).about(about).arg(kind)
+    Command::new(alloc, name)
+        .about(about)
+        .arg(kind)?
+        .arg(field(alloc))
 }
 
-// A subcommand that takes the size of a made model.
+// A subcommand that takes the size of a made model, and the field.
 fn with_size<'a>(alloc: Global, name: &'a str, about: &'a str) -> Result<Command<'a>, AllocError>
     ensures local { IfOk result (λ command. (fields_of command).has_globals ≡ false) }
     ensures shape { IfOk result (λ command. shape_of command ≡ with_size name.now) }
@@ -121,7 +134,10 @@ fn with_size<'a>(alloc: Global, name: &'a str, about: &'a str) -> Result<Command
         .required(true)
         .value_parser(ValueParser::Unsigned(1, SIZE_LIMIT as u64))
         .help("How many equations the model has, and how many unknowns: 1 to 400");
-    Command::new(alloc, name).about(about).arg(size)
+    Command::new(alloc, name)
+        .about(about)
+        .arg(size)?
+        .arg(field(alloc))
 }
 
 // A subcommand that takes no argument.

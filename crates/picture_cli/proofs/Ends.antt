@@ -4,14 +4,11 @@ use Rattle.port_io.specs.Bytes.{Appended, Ended, Took, TookAtMost, TookExactly}
 use Rattle.port_io.specs.declared.reading.ReadError.{ReadError}
 use Rattle.port_io.specs.declared.reading.ReadError.TheVariants.{ReadFault as Failed, TooLong as Longer, NoMemory as Wanting}
 use Rattle.text_writer.specs.Giving.{AppendedPart}
-use Rattle.cert_text.specs.Contents.{Certificate}
 use Rattle.cert_reader.specs.Limits.{certificate_limit}
-use Rattle.mixed_model.specs.Layers.{Layers}
-use Rattle.mixed_model.specs.Models.{MixedModel}
-use Rattle.matrix_picture.specs.Orders.{Order}
-use Rattle.matrix_picture.specs.Texts.{picture_text}
 use Rattle.picture_cli.specs.Answer.{Answered, CutShort, IsDelivered, IsDrawnFor, IsUnread, IsWhyUndrawn, ReadsAll, ReadsWhole, Tells, WritesNothing}
+use Rattle.picture_cli.specs.Drawings.{drawing_text}
 use Rattle.picture_cli.specs.Statuses.{status_of_error}
+use Rattle.picture_cli.specs.declared.drawing.Drawing.{Drawing}
 use Rattle.picture_cli.proofs.Runs.{picture-of}
 use Rattle.picture_cli.specs.declared.status.Status.{Status}
 use Rattle.picture_cli.specs.declared.status.Status.TheVariants.{BadCertificate, Done, Memory, ReadFault, Rejected, TooLong, WriteFault}
@@ -87,17 +84,17 @@ module _ (left after : Option (List ℕ)) where
   }
 
   -- a picture that is delivered, or is not
-  module _ (written written' : Option (List ℕ)) (certificate : Certificate) (model : MixedModel) (layers : Layers) (order : Order)
-      (whole : ReadsWhole left after (λ input. IsDrawnFor input certificate model layers order)) where
+  module _ (written written' : Option (List ℕ)) (drawing : Drawing ℕ)
+      (whole : ReadsWhole left after (λ input. IsDrawnFor input drawing)) where
     pub answered-by : (flushed failed : Type 0) (status : Status) →
-        IsDelivered status (Appended written written' (picture_text model layers certificate.ccf order) × flushed) failed →
+        IsDelivered status (Appended written written' (drawing_text drawing) × flushed) failed →
         Tells status (Answered left after written written' status)
     answered-by flushed failed Done (appended, done) = record {
       read = whole.input;
-      text = picture_text model layers certificate.ccf order;
+      text = drawing_text drawing;
       took = whole.took;
       appended = appended;
-      answer = (whole.short, picture-of whole.input certificate model layers order whole.holds);
+      answer = (whole.short, picture-of whole.input drawing whole.holds);
     }
     answered-by flushed failed (TooLong limit) ends = absurd ends
     answered-by flushed failed (BadCertificate line) ends = absurd ends
@@ -107,18 +104,18 @@ module _ (left after : Option (List ℕ)) where
     answered-by flushed failed (Rejected rule) ends = absurd ends
 
     pub cut-by : (sent rose : Type 0) (status : Status) → status ≡ WriteFault →
-        IsDelivered status sent (rose × AppendedPart written written' (picture_text model layers certificate.ccf order)) →
+        IsDelivered status sent (rose × AppendedPart written written' (drawing_text drawing)) →
         rose × CutShort left after written written'
     cut-by sent rose status is ends =
-        let failed : rose × AppendedPart written written' (picture_text model layers certificate.ccf order) =
-        subst (λ s. IsDelivered s sent (rose × AppendedPart written written' (picture_text model layers certificate.ccf order))) is ends in (
+        let failed : rose × AppendedPart written written' (drawing_text drawing) =
+        subst (λ s. IsDelivered s sent (rose × AppendedPart written written' (drawing_text drawing))) is ends in (
           failed.0,
           record {
             read = whole.input;
-            text = picture_text model layers certificate.ccf order;
+            text = drawing_text drawing;
             took = whole.took;
             cut = failed.1;
-            answer = (whole.short, picture-of whole.input certificate model layers order whole.holds);
+            answer = (whole.short, picture-of whole.input drawing whole.holds);
           },
         )
 

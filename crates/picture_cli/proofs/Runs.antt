@@ -1,21 +1,17 @@
 -- A run has one answer to a whole input.
-use Rattle.std.proofs.Common.{◌≡◌, ◌≢◌, ℕ, ◌+◌, ◌≤◌, ◌<◌, ◌⊎◌, List, ◌++◌, length, Option, Some, None, Result, Ok, Err, refl, sym, ◌∙◌, ap, subst, arith, inl, inr, append-nil, lit<}
+use Rattle.std.proofs.Common.{◌≡◌, ◌≢◌, ℕ, ◌+◌, ◌≤◌, ◌<◌, ◌⊎◌, List, ◌++◌, length, Option, Some, None, Result, Ok, Err, refl, sym, ◌∙◌, ap, subst, arith, inl, inr, append-nil}
 use Rattle.std.proofs.lemmas.List.{length-append}
 use Rattle.port_io.specs.Bytes.{Ended, Took}
-use Rattle.residue_field.specs.Modulus.{res_modulus}
-use Rattle.residue_theory.proofs.Primes.{prime_65521}
-use Rattle.cert_text.specs.Contents.{Certificate}
 use Rattle.cert_reader.specs.Limits.{certificate_limit}
 use Rattle.cert_verdict.specs.Verdicts.{IsAccepted, IsVerdict}
 use Rattle.cert_verdict.specs.declared.judging.NotAccepted.{NotAccepted}
 use Rattle.cert_verdict.specs.declared.judging.NotAccepted.TheVariants.{NoMemory, Refused as Unread, Rejected as BreaksRule}
 use Rattle.cert_verdict.proofs.OneVerdict.{one-verdict}
-use Rattle.mixed_model.specs.Layers.{Layers}
-use Rattle.mixed_model.specs.Models.{MixedModel}
-use Rattle.matrix_picture.specs.Orders.{Order}
 use Rattle.matrix_picture.specs.Texts.{picture_text}
 use Rattle.picture_cli.specs.Answer.{Answered, IsAnswer, IsDrawnFor, IsPictureOf, ReadsAll, Tells}
+use Rattle.picture_cli.specs.Drawings.{drawing_text}
 use Rattle.picture_cli.specs.Statuses.{status_of_verdict}
+use Rattle.picture_cli.specs.declared.drawing.Drawing.{Drawing}
 use Rattle.picture_cli.specs.declared.status.Status.{Status}
 use Rattle.picture_cli.specs.declared.status.Status.TheVariants.{BadCertificate, Done, Memory, ReadFault, Rejected, TooLong, WriteFault}
 
@@ -33,15 +29,14 @@ at_input : (left after : Option (List ℕ)) (input read : List ℕ) → left ≡
 at_input left after input read is took = let P : Option (List ℕ) → Type 0 = λ l. Took l after read in subst P is took
 
 -- the picture of what is drawn for an input
-pub picture-of : (input : List ℕ) (certificate : Certificate) (model : MixedModel) (layers : Layers) (order : Order) →
-    IsDrawnFor input certificate model layers order → IsPictureOf input (picture_text model layers certificate.ccf order)
-picture-of input certificate model layers order drawn = record {
-  certificate = certificate;
-  model = model;
+pub picture-of : (input : List ℕ) (drawing : Drawing ℕ) → IsDrawnFor input drawing → IsPictureOf input (drawing_text drawing)
+picture-of input drawing drawn = record {
+  certificate = drawing.certificate;
+  model = drawing.model;
   accepted = drawn.accepted;
-  layers = layers;
+  layers = drawing.layered;
   are = drawn.are;
-  text_is = ap (picture_text model layers certificate.ccf) drawn.placed;
+  text_is = ap (picture_text drawing.model drawing.layered drawing.certificate.ccf) drawn.placed;
 }
 
 -- the status of a verdict
@@ -56,9 +51,9 @@ IsLong input status = (status ≡ TooLong certificate_limit) × (certificate_lim
 abbrev IsJudged : List ℕ → Status → Type 0
 IsJudged input status =
     (length input ≤ certificate_limit) × ((verdict : Result (Unit {0}) NotAccepted) × (status ≡ status_of verdict)
-    × IsVerdict res_modulus input verdict × (verdict ≢ Err NoMemory))
+    × IsVerdict input verdict × (verdict ≢ Err NoMemory))
 
-accepted-of : (input text : List ℕ) → IsPictureOf input text → IsAccepted res_modulus input
+accepted-of : (input text : List ℕ) → IsPictureOf input text → IsAccepted input
 accepted-of input text is = record {
   certificate = is.certificate;
   is = is.accepted.is;
@@ -80,7 +75,7 @@ one-answer input a b (inl (is, long)) (inl (are, longer)) = is ∙ sym are
 one-answer input a b (inl (is, long)) (inr (short, other)) = absurd (omega (arith, long, short))
 one-answer input a b (inr (short, other)) (inl (are, long)) = absurd (omega (arith, long, short))
 one-answer input a b (inr (short, (verdict, is, said, some))) (inr (shorter, (other, are, others, another))) =
-    is ∙ ap status_of (one-verdict res_modulus prime_65521 (lit< tt) (lit< tt) input short verdict other said others some another) ∙ sym are
+    is ∙ ap status_of (one-verdict input short verdict other said others some another) ∙ sym are
 
 module _ (left after written written' : Option (List ℕ)) where
   -- where no fault came, no other answer than the one given is one

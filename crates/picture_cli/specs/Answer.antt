@@ -2,15 +2,15 @@
 use Rattle.std.specs.Prelude.{◌≡◌, ℕ, ◌+◌, ◌≤◌, ◌<◌, ◌⊎◌, List, [], length, Option, Some}
 use Rattle.port_io.specs.Bytes.{Appended, Ended, Took, TookAtMost, TookExactly}
 use Rattle.text_writer.specs.Giving.{AppendedPart}
-use Rattle.residue_field.specs.Modulus.{res_modulus}
 use Rattle.cert_text.specs.Contents.{Certificate}
 use Rattle.cert_reader.specs.Limits.{certificate_limit}
 use Rattle.cert_verdict.specs.Verdicts.{IsAcceptedAs, IsNoCertificate, IsRejectedBy}
 use Rattle.mixed_layering.specs.Layers.{AreLayersOf}
 use Rattle.mixed_model.specs.Layers.{Layers}
 use Rattle.mixed_model.specs.Models.{MixedModel}
-use Rattle.matrix_picture.specs.Orders.{Order, order_of}
+use Rattle.matrix_picture.specs.Orders.{order_of}
 use Rattle.matrix_picture.specs.Texts.{picture_text}
+use Rattle.picture_cli.specs.declared.drawing.Drawing.{Drawing}
 use Rattle.picture_cli.specs.declared.status.Status.{Status}
 use Rattle.picture_cli.specs.declared.status.Status.TheVariants.{BadCertificate, Done, Memory, ReadFault, Rejected, TooLong, WriteFault}
 
@@ -19,15 +19,15 @@ use Rattle.picture_cli.specs.declared.status.Status.TheVariants.{BadCertificate,
 pub record IsPictureOf (input text : List ℕ) : Type 0 where
   pub certificate : Certificate
   pub model : MixedModel
-  pub accepted : IsAcceptedAs res_modulus input certificate model
+  pub accepted : IsAcceptedAs input certificate model
   pub layers : Layers
   pub are : AreLayersOf model layers
   pub text_is : text ≡ picture_text model layers certificate.ccf (order_of certificate.ccf)
 
 -- the status tells why the input is not accepted
 abbrev pub IsFault : List ℕ → Status → Type 0
-IsFault input (BadCertificate line) = IsNoCertificate res_modulus input line
-IsFault input (Rejected rule) = IsRejectedBy res_modulus input rule
+IsFault input (BadCertificate line) = IsNoCertificate input line
+IsFault input (Rejected rule) = IsRejectedBy input rule
 IsFault input _ = ⊥
 
 -- the input is not too long, and the status tells why it is not accepted; there is no text
@@ -108,12 +108,12 @@ abbrev pub IsWhyUndrawn : List ℕ → Status → Type 0
 IsWhyUndrawn input Memory = Unit {0}
 IsWhyUndrawn input status = IsFault input status
 
--- a certificate and a model for the input, the layered matrix of the model, and the order of the form
-pub record IsDrawnFor (input : List ℕ) (certificate : Certificate) (model : MixedModel) (layers : Layers)
-    (order : Order) : Type 0 where
-  pub accepted : IsAcceptedAs res_modulus input certificate model
-  pub are : AreLayersOf model layers
-  pub placed : order ≡ order_of certificate.ccf
+-- the input is the text of the certificate, with the model that its echo gives, the layered matrix of the model, and
+-- the order of the form
+pub record IsDrawnFor (input : List ℕ) (drawing : Drawing ℕ) : Type 0 where
+  pub accepted : IsAcceptedAs input drawing.certificate drawing.model
+  pub are : AreLayersOf drawing.model drawing.layered
+  pub placed : drawing.layout ≡ order_of drawing.certificate.ccf
 
 -- the picture was written whole and flushed, or the sink failed
 abbrev pub IsDelivered : Status → Type 0 → Type 0 → Type 0

@@ -2,3 +2,4 @@ pub mod Notes
 pub mod Numbers
 pub mod Statuses
 pub mod Answer
+pub mod Drawings

@@ -4,38 +4,47 @@ ghost use Rattle.std.specs.Prelude.{◌≡◌, ◌≢◌, ◌≤◌, IfErr, IfOk
 ghost use Rattle.port_io.specs.Causes.{Rose};
 ghost use Rattle.text_writer.specs.Giving.{IsWritten};
 ghost use Rattle.cert_reader.specs.Limits.{certificate_limit};
-ghost use Rattle.mixed_layering.specs.Layers.{AreLayersOf};
-ghost use Rattle.matrix_picture.specs.Orders.{order_of};
-ghost use Rattle.matrix_picture.specs.Texts.{picture_text};
+ghost use Rattle.cert_verdict.specs.Accepted.{accepted_in};
+ghost use Rattle.text_writer.specs.Texts.{Puts};
 ghost use Rattle.picture_cli.specs.declared.status.Status.{Status};
 ghost use Rattle.picture_cli.specs.Answer.{IsDrawnFor, IsUnread, IsWhyUndrawn, ReadsWhole};
+ghost use Rattle.picture_cli.specs.Drawings.{IsPlaced, drawing_in, drawing_text};
 
 use crate::status::Status;
 use cert_reader::CERTIFICATE_LIMIT;
-use cert_text::{Ccf, Certificate};
-use cert_verdict::{Accepted, accept};
+use cert_text::Certificate;
+use cert_verdict::{Accepted, AnyAccepted, accept};
 use matrix_picture::{Layout, put_picture};
 use mixed_layering::layer;
 use mixed_model::{Layered, Mixed};
 use out_of_memory::NoMemory;
 use port_io::{Sink, Source, WriteFault, read_all};
-use residue_field::Res;
+use residue_field::{Field, Res, Res31};
 use std::alloc::Global;
 use text_writer::TextWriter;
 
 /// What is drawn: an accepted certificate, its model, the layered matrix of the model, and the layout of the form.
 #[derive(Drop)]
-pub struct Drawing {
-    pub certificate: Certificate<Res>,
-    pub model: Mixed<Res>,
-    pub layered: Layered<Res>,
+pub struct Drawing<F: Field> {
+    pub certificate: Certificate<F>,
+    pub model: Mixed<F>,
+    pub layered: Layered<F>,
     pub layout: Layout,
 }
 
+/// What is drawn, over one of the two fields.
+#[derive(Drop)]
+pub enum AnyDrawing {
+    /// With values modulo 65,521.
+    Small(Drawing<Res>),
+    /// With values modulo 2,147,483,647.
+    Large(Drawing<Res31>),
+}
+
 /// What is drawn of the input that the source gives, or how the run ends without it.
-pub fn read_drawing<S: Source>(alloc: Global, source: &mut S) -> Result<Drawing, Status>
-    ensures right { IfOk result (λ drawing. ReadsWhole (S.left source.old) (S.left source.new) (λ input.
-        IsDrawnFor input drawing.certificate drawing.model drawing.layered drawing.layout)) }
+pub fn read_drawing<S: Source>(alloc: Global, source: &mut S) -> Result<AnyDrawing, Status>
+    ensures right { IfOk result (λ any. ReadsWhole (S.left source.old) (S.left source.new) (λ input.
+        IsDrawnFor input (drawing_in any))) }
     ensures unread { IfErr result (λ status. IsUnread status (S.left source.old) (S.left source.new)) }
     ensures fault { result ≡ Err Status.ReadFault → Rose (S.faults source.old) (S.faults source.new) }
     ensures told { result ≢ Err Status.ReadFault → S.faults source.new ≡ S.faults source.old }
@@ -48,14 +57,13 @@ pub fn read_drawing<S: Source>(alloc: Global, source: &mut S) -> Result<Drawing,
 }
 
 // What is drawn of a text, or why it is not.
-fn draw(alloc: Global, text: Vec<u8>) -> Result<Drawing, Status>
+fn draw(alloc: Global, text: Vec<u8>) -> Result<AnyDrawing, Status>
     requires { length text.items ≤ certificate_limit }
-    ensures right { IfOk result (λ drawing.
-        IsDrawnFor text.items drawing.certificate drawing.model drawing.layered drawing.layout) }
+    ensures right { IfOk result (λ any. IsDrawnFor text.items (drawing_in any)) }
     ensures why { IfErr result (IsWhyUndrawn text.items) }
 {
-    match accept::<Res>(alloc, text) {
-        Ok(accepted) => match place(alloc, accepted) {
+    match accept(alloc, text) {
+        Ok(accepted) => match place_any(alloc, accepted) {
             Ok(drawing) => Ok(drawing),
             Err(_) => Err(Status::Memory),
         },
@@ -63,12 +71,19 @@ fn draw(alloc: Global, text: Vec<u8>) -> Result<Drawing, Status>
     }
 }
 
+// What is drawn of an accepted certificate, of whichever field.
+fn place_any(alloc: Global, any: AnyAccepted) -> Result<AnyDrawing, NoMemory>
+    ensures { IfOk result (λ drawing. IsPlaced (accepted_in any) (drawing_in drawing)) }
+{
+    match any {
+        AnyAccepted::Small(accepted) => Ok(AnyDrawing::Small(place(alloc, accepted)?)),
+        AnyAccepted::Large(accepted) => Ok(AnyDrawing::Large(place(alloc, accepted)?)),
+    }
+}
+
 // What is drawn of an accepted certificate.
-fn place(alloc: Global, accepted: Accepted<Res>) -> Result<Drawing, NoMemory>
-    ensures certificate { IfOk result (λ drawing. drawing.certificate ≡ accepted.certificate) }
-    ensures model { IfOk result (λ drawing. drawing.model ≡ accepted.model) }
-    ensures layers { IfOk result (λ drawing. AreLayersOf accepted.model drawing.layered) }
-    ensures layout { IfOk result (λ drawing. drawing.layout ≡ order_of accepted.certificate.ccf) }
+fn place<F: Field>(alloc: Global, accepted: Accepted<F>) -> Result<Drawing<F>, NoMemory>
+    ensures { IfOk result (IsPlaced accepted) }
 {
     let layered = layer(alloc, &accepted.model)?;
     let layout = Layout::of(alloc, &accepted.certificate.ccf)?;
@@ -82,16 +97,33 @@ fn place(alloc: Global, accepted: Accepted<Res>) -> Result<Drawing, NoMemory>
 
 /// Appends the whole picture of a certificate's form to the sink, in pieces of some KiB, and takes no memory. It does not
 /// flush.
-pub fn write_drawing<K: Sink>(
-    out: &mut K,
-    model: &Mixed<Res>,
-    layered: &Layered<Res>,
-    ccf: &Ccf<Res>,
-    layout: &Layout,
-) -> Result<(), WriteFault>
-    ensures { IsWritten K.Sink out.old out.new (picture_text model.now layered.now ccf.now layout.now) result }
+pub fn write_drawing<K: Sink>(out: &mut K, any: &AnyDrawing) -> Result<(), WriteFault>
+    ensures { IsWritten K.Sink out.old out.new (drawing_text (drawing_in any.now)) result }
 {
     let mut writer = TextWriter::new(out);
-    put_picture(&mut writer, model, layered, ccf, layout);
+    put_any(&mut writer, any);
     writer.finish()
+}
+
+// Puts the picture, over whichever field.
+fn put_any<K: Sink>(out: &mut TextWriter<'_, K>, any: &AnyDrawing)
+    ensures { Puts K.Sink out.old out.new (drawing_text (drawing_in any.now)) }
+{
+    match any {
+        AnyDrawing::Small(drawing) => put_drawing(out, drawing),
+        AnyDrawing::Large(drawing) => put_drawing(out, drawing),
+    }
+}
+
+// Puts the picture.
+fn put_drawing<F: Field, K: Sink>(out: &mut TextWriter<'_, K>, drawing: &Drawing<F>)
+    ensures { Puts K.Sink out.old out.new (drawing_text drawing.now) }
+{
+    put_picture(
+        out,
+        &drawing.model,
+        &drawing.layered,
+        &drawing.certificate.ccf,
+        &drawing.layout,
+    );
 }

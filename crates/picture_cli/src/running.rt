@@ -4,12 +4,12 @@ ghost use Rattle.std.specs.Prelude.{◌≡◌, ◌≢◌, ◌≤◌, IsTrue};
 ghost use Rattle.port_io.specs.Bytes.{Appended, Ended};
 ghost use Rattle.port_io.specs.Causes.{Rose, one_more};
 ghost use Rattle.text_writer.specs.Giving.{AppendedPart};
-ghost use Rattle.matrix_picture.specs.Texts.{picture_text};
 ghost use Rattle.picture_cli.specs.declared.status.Status.{Status};
 ghost use Rattle.picture_cli.specs.Answer.{Answered, CutShort, IsDelivered, OnlyAnswer, ReadsAll, Tells, WritesNothing};
+ghost use Rattle.picture_cli.specs.Drawings.{drawing_in, drawing_text};
 ghost use Rattle.picture_cli.specs.Notes.{Noted, note_of};
 
-use crate::drawing::{Drawing, read_drawing, write_drawing};
+use crate::drawing::{AnyDrawing, read_drawing, write_drawing};
 use crate::status::Status;
 use crate::telling::tell;
 use port_io::{Sink, Source};
@@ -72,24 +72,16 @@ fn work<S: Source, K: Sink>(alloc: Global, source: &mut S, out: &mut K) -> Statu
 }
 
 // Writes the whole picture, and flushes it.
-fn deliver<K: Sink>(out: &mut K, drawing: &Drawing) -> Status
+fn deliver<K: Sink>(out: &mut K, drawing: &AnyDrawing) -> Status
     ensures ends { IsDelivered result
-        (Appended (K.written out.old) (K.written out.new) (picture_text drawing.now.model drawing.now.layered
-        drawing.now.certificate.ccf drawing.now.layout) × IsTrue (K.flushed out.new))
+        (Appended (K.written out.old) (K.written out.new) (drawing_text (drawing_in drawing.now))
+        × IsTrue (K.flushed out.new))
         (Rose (K.faults out.old) (K.faults out.new)
-        × AppendedPart (K.written out.old) (K.written out.new) (picture_text drawing.now.model drawing.now.layered
-        drawing.now.certificate.ccf drawing.now.layout)) }
+        × AppendedPart (K.written out.old) (K.written out.new) (drawing_text (drawing_in drawing.now))) }
     ensures one_flush { result ≡ Status.Done → K.flushes out.new ≡ one_more (K.flushes out.old) }
     ensures told { result ≢ Status.WriteFault → K.faults out.new ≡ K.faults out.old }
 {
-    let written = write_drawing(
-        out,
-        &drawing.model,
-        &drawing.layered,
-        &drawing.certificate.ccf,
-        &drawing.layout,
-    );
-    match written {
+    match write_drawing(out, drawing) {
         Err(_) => Status::WriteFault,
         Ok(()) => match out.flush() {
             Ok(()) => Status::Done,

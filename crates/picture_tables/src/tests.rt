@@ -1,6 +1,6 @@
 //! Pictures that were written by hand from the definition, those of docs/pictures/, and runs that draw nothing.
 
-use crate::inputs::{CONSTANT, EMPTY, MIXED, NO_END, WRONG_RANK};
+use crate::inputs::{CONSTANT, EMPTY, LARGE, MIXED, NO_END, WRONG_RANK};
 use crate::pictures::PICTURES;
 use crate::running::{Failing, expect_none, expect_picture, expect_run};
 use std::test::Fail;
@@ -49,7 +49,12 @@ fn nothing_is_drawn_as_two_tails(rt: HostRuntime) -> Result<(), Fail> {
 
 #[test]
 fn pieces_stand_in_their_pictures(rt: HostRuntime) -> Result<(), Fail> {
-    for (certificate, pieces) in [(CONSTANT, CONSTANT_PIECES), (MIXED, MIXED_PIECES)] {
+    let tables = [
+        (CONSTANT, CONSTANT_PIECES),
+        (LARGE, CONSTANT_PIECES),
+        (MIXED, MIXED_PIECES),
+    ];
+    for (certificate, pieces) in tables {
         let out = expect_run(&rt, rt.alloc(), certificate.as_bytes(), &CALM, 0, b"")?;
         for piece in pieces {
             assert!(rt; holds(out.bytes(), piece.as_bytes()));

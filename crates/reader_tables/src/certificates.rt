@@ -1,9 +1,9 @@
 //! Certificates that read back, and texts that are refused in a line.
 
-use cert_reader::{CERTIFICATE_LIMIT, ReadCert, read};
+use cert_reader::{AnyCertificate, CERTIFICATE_LIMIT, ReadCert, read};
 use cert_text::{Certificate, write};
 use port_io::MemSink;
-use residue_field::Res;
+use residue_field::Field;
 use std::alloc::Global;
 use std::process::Abort;
 use std::test::Fail;
@@ -16,22 +16,57 @@ const ONE: &str =
 const NONE: &str =
     "mixed-certificate 1\nkind matrix\nlength 0\n\nshape 0 0 0 0 0\nrank 0\nbase\nmatch\nfirst |\nlast |\nend\n";
 
-// Reads a certificate, and writes it again.
-fn expect_round_trip(rt: &impl Abort, alloc: Global, text: &str) -> Result<(), Fail> {
-    assert!(rt; text.len() <= CERTIFICATE_LIMIT);
-    let certificate: Certificate<Res> = read(alloc, text.as_bytes())
-        .ok()
-        .ok_or("it is the text of a certificate")?;
+// The same in version 2.
+const SMALL: &str =
+    "mixed-certificate 2\nfield 65521\nkind matrix\nlength 9\neq a x=1\n\nshape 1 1 1 0 1\nrank 1\nbase 1=1\nmatch\nS 1: 1=1\nU 1: 1=1\nP 1: 1=1\nfirst |\nblock 1: 1 | q1 |\nlast |\nend\n";
+
+// The certificate of `eq a x=65521`, a number that is 0 in the smaller field.
+const LARGE: &str =
+    "mixed-certificate 2\nfield 2147483647\nkind matrix\nlength 13\neq a x=65521\n\nshape 1 1 1 0 1\nrank 1\nbase 1=1\nmatch\nS 1: 1=1675614749\nU 1: 1=65521\nP 1: 1=1\nfirst |\nblock 1: 1 | q1 |\nlast |\nend\n";
+
+// Writes a certificate that was read from this text.
+fn expect_written<F: Field>(
+    rt: &impl Abort,
+    alloc: Global,
+    certificate: &Certificate<F>,
+    text: &str,
+) -> Result<(), Fail> {
+    assert!(rt; certificate.echo.as_slice().len() <= 8_388_608);
     let mut sink = MemSink::new(alloc, 512, 512, &[])?;
-    assert!(rt; write(&certificate, &mut sink).is_ok());
+    assert!(rt; write(certificate, &mut sink).is_ok());
     assert_eq!(rt; sink.bytes(), text.as_bytes());
     Ok(())
 }
 
+// Reads a certificate, and writes it again: over the larger field, or over the smaller one.
+fn expect_round_trip(
+    rt: &impl Abort,
+    alloc: Global,
+    text: &str,
+    is_large: bool,
+) -> Result<(), Fail> {
+    assert!(rt; text.len() <= CERTIFICATE_LIMIT);
+    let certificate = read(alloc, text.as_bytes())
+        .ok()
+        .ok_or("it is the text of a certificate")?;
+    match certificate {
+        AnyCertificate::Small(certificate) => {
+            assert!(rt; !is_large);
+            expect_written(rt, alloc, &certificate, text)
+        }
+        AnyCertificate::Large(certificate) => {
+            assert!(rt; is_large);
+            expect_written(rt, alloc, &certificate, text)
+        }
+    }
+}
+
 #[test]
 fn certificates_read_back(rt: HostRuntime) -> Result<(), Fail> {
-    expect_round_trip(&rt, rt.alloc(), ONE)?;
-    expect_round_trip(&rt, rt.alloc(), NONE)
+    expect_round_trip(&rt, rt.alloc(), ONE, false)?;
+    expect_round_trip(&rt, rt.alloc(), NONE, false)?;
+    expect_round_trip(&rt, rt.alloc(), SMALL, false)?;
+    expect_round_trip(&rt, rt.alloc(), LARGE, true)
 }
 
 // The text with something else in a place, or the text up to that place.
@@ -53,7 +88,7 @@ fn expect_refusals(
     for &(place, new, line) in cases {
         let text = changed(alloc, text, place, new)?;
         assert!(rt; text.len() <= CERTIFICATE_LIMIT);
-        let certificate: Result<Certificate<Res>, ReadCert> = read(alloc, text.as_bytes());
+        let certificate = read(alloc, text.as_bytes());
         assert!(rt; matches!(certificate, Err(ReadCert::Refused { line: told }) if told == line));
     }
     Ok(())
@@ -97,4 +132,28 @@ fn the_first_line_that_no_certificate_has_is_told(rt: HostRuntime) -> Result<(),
         ("q1 |\n", Some("q1 | 1\n"), 13),
     ];
     expect_refusals(&rt, rt.alloc(), ONE, &of_one)
+}
+
+#[test]
+fn the_field_is_told_in_version_2_alone(rt: HostRuntime) -> Result<(), Fail> {
+    let of_large: [(&str, Option<&str>, u32); 9] = [
+        // no version, no field, and none of the two
+        ("certificate 2", Some("certificate 3"), 1),
+        ("field 2147483647\n", Some(""), 2),
+        ("field 2147483647", Some("field 7"), 2),
+        ("7\nkind", None, 2),
+        // version 1 does not tell its field, which is the smaller one
+        ("certificate 2", Some("certificate 1"), 2),
+        ("2\nfield 2147483647", Some("1"), 9),
+        // values of the field, each line one later than in version 1
+        ("field 2147483647", Some("field 65521"), 10),
+        ("U 1: 1=65521", Some("U 1: 1=2147483647"), 11),
+        ("end\n", Some("end\n\n"), 17),
+    ];
+    expect_refusals(&rt, rt.alloc(), LARGE, &of_large)?;
+    let of_small: [(&str, Option<&str>, u32); 2] = [
+        ("S 1: 1=1", Some("S 1: 1=65521"), 10),
+        ("field 65521", Some("field 065521"), 2),
+    ];
+    expect_refusals(&rt, rt.alloc(), SMALL, &of_small)
 }

@@ -785,7 +785,19 @@ pub const ROWS_9: [Row; 24] = [
         "check",
         b"mixed-certificate 2\nkind matrix\nlength 26\neq a x=1 y=1\neq b x=1 y=?\n\nshape 2 2 2 1 3\nrank 2\nbase 1=1 2=2\nmatch 1=3\nS 1: 2=1\nS 2: 1=1 2=65520\nU 1: 1=1 2=1\nU 2: 1=1\nP 1: 1=1 3=1\nP 2: 2=1 3=65520\nT 1: 2 3\nfirst |\nblock 1: 1 | q1 |\nblock 2: 2 3 | q2 t1 | 1\nlast |\nend\n",
         3,
+        "line 2: not a certificate line",
+    ),
+    (
+        "check",
+        b"mixed-certificate 3\nkind matrix\nlength 26\neq a x=1 y=1\neq b x=1 y=?\n\nshape 2 2 2 1 3\nrank 2\nbase 1=1 2=2\nmatch 1=3\nS 1: 2=1\nS 2: 1=1 2=65520\nU 1: 1=1 2=1\nU 2: 1=1\nP 1: 1=1 3=1\nP 2: 2=1 3=65520\nT 1: 2 3\nfirst |\nblock 1: 1 | q1 |\nblock 2: 2 3 | q2 t1 | 1\nlast |\nend\n",
+        3,
         "line 1: not a certificate line",
+    ),
+    (
+        "check",
+        b"mixed-certificate 2\nfield 7\nlength 26\neq a x=1 y=1\neq b x=1 y=?\n\nshape 2 2 2 1 3\nrank 2\nbase 1=1 2=2\nmatch 1=3\nS 1: 2=1\nS 2: 1=1 2=65520\nU 1: 1=1 2=1\nU 2: 1=1\nP 1: 1=1 3=1\nP 2: 2=1 3=65520\nT 1: 2 3\nfirst |\nblock 1: 1 | q1 |\nblock 2: 2 3 | q2 t1 | 1\nlast |\nend\n",
+        3,
+        "line 2: not a certificate line",
     ),
     (
         "check",
@@ -901,6 +913,10 @@ pub const ROWS_9: [Row; 24] = [
         7,
         "rejected by rule 8",
     ),
+];
+
+/// Rows, part 10 of 10.
+pub const ROWS_10: [Row; 5] = [
     (
         "check",
         b"mixed-certificate 1\nkind matrix\nlength 26\neq a x=1 y=1\neq b x=1 y=?\n\nshape 2 2 2 1 3\nrank 2\nbase 1=1 2=2\nmatch 1=3\nS 1: 2=1\nS 2: 1=1 2=65520\nU 1: 1=1 2=1\nU 2: 1=1\nP 1: 1=1 3=1\nP 2: 2=1 3=65520\nT 1: 2 3\nfirst |\nblock 1: 1 | q1 t1 |\nblock 2: 2 3 | q2 | 1\nlast |\nend\n",
@@ -913,10 +929,6 @@ pub const ROWS_9: [Row; 24] = [
         7,
         "rejected by rule 10",
     ),
-];
-
-/// Rows, part 10 of 10.
-pub const ROWS_10: [Row; 3] = [
     (
         "check",
         b"mixed-certificate 1\nkind matrix\nlength 26\neq a x=1 y=1\neq b x=1 y=?\n\nshape 2 2 2 1 3\nrank 2\nbase 1=1 2=2\nmatch 1=3\nS 1: 2=1\nS 2: 1=1 2=65520\nU 1: 1=1 2=1\nU 2: 1=1\nP 1: 1=1 3=1\nP 2: 2=1 3=65520\nT 1: 2 3\nfirst |\nblock 1: 1 2 3 | q1 q2 t1 |\nlast |\nend\n",
@@ -988,7 +1000,7 @@ pub const REPEATED: [(&str, &str, &str, &str, u32, u8, &str); 5] = [
 ];
 
 /// The words, the status, and the first line that is told.
-pub const WORDS: [(&str, u8, &str); 16] = [
+pub const WORDS: [(&str, u8, &str); 18] = [
     (
         "",
         2,
@@ -1013,8 +1025,10 @@ pub const WORDS: [(&str, u8, &str); 16] = [
     ("report list", 2, "mixed: unknown word"),
     ("report Netlist", 2, "mixed: unknown word"),
     ("report spice", 2, "mixed: unknown word"),
+    ("report matrix model.txt", 2, "mixed: unknown word"),
+    ("report matrix 65537", 2, "mixed: unknown word"),
     (
-        "report matrix model.txt",
+        "report matrix 65521 model.txt",
         2,
         "error: unexpected argument 'model.txt' found",
     ),

@@ -2,7 +2,7 @@
 use Rattle.std.proofs.Common.{◌≡◌, ◌⊎◌, ℕ, List, Option, inl, inr, sym, subst, ◌∙◌, refl}
 use Rattle.port_io.specs.Bytes.{Appended, TookAtMost}
 use Rattle.text_writer.specs.Giving.{AppendedPart}
-use Rattle.report_cli.specs.Answer.{Answered, CutShort, HasText, IsAnswerOf, IsDelivered, ReadsAll, TakesBy, Tells, WritesNothing}
+use Rattle.report_cli.specs.Answer.{Answered, CutShort, HasText, IsAnswerOver, IsDelivered, ReadsAll, TakesBy, Tells, WritesNothing}
 use Rattle.report_cli.specs.Formats.{limit_of}
 use Rattle.report_cli.specs.Outputs.{IsOutputFor, end_of, output_text}
 use Rattle.report_cli.specs.Reading.{ReadsWhole}
@@ -14,7 +14,7 @@ use Rattle.report_cli.specs.declared.status.Status.TheVariants.{BadCertificate, 
 use Rattle.report_cli.specs.declared.status.Status.TheVariants.{Refused, Rejected, TooLong, Usage, WriteFault}
 use Rattle.report_cli.proofs.Outputs.{has-text}
 
-module _ (command : Command) (left left' written written' : Option (List ℕ)) (output : Output) where
+module _ {T : Type 0} (number : T → ℕ) (p : ℕ) (command : Command) (left left' written written' : Option (List ℕ)) (output : Output T) where
   -- an output ends in one of two ways
   other-end : {A : Type 0} (status : Status) → (status ≡ Done → ⊥) → (status ≡ NotRegular → ⊥) → status ≡ end_of output → A
   other-end status not_done not_other is = elim (has-text output) [
@@ -23,19 +23,19 @@ module _ (command : Command) (left left' written written' : Option (List ℕ)) (
   ]
 
   pub answered-by : (flushed failed : Type 0) (status : Status) →
-      ReadsWhole (limit_of (format_of command)) left left' (λ input. IsOutputFor command input output) →
-      IsDelivered output status (Appended written written' (output_text output) × flushed) failed →
-      Tells status (Answered (IsAnswerOf command) left left' written written' status)
+      ReadsWhole (limit_of (format_of command)) left left' (λ input. IsOutputFor number p command input output) →
+      IsDelivered output status (Appended written written' (output_text number output) × flushed) failed →
+      Tells status (Answered (IsAnswerOver number p command) left left' written written' status)
   answered-by flushed failed Done whole (is, (appended, done)) = record {
     read = whole.input;
-    text = output_text output;
+    text = output_text number output;
     took = whole.took;
     appended = appended;
     answer = (whole.short, record { output = output; right = whole.holds; ends = is; text_is = refl });
   }
   answered-by flushed failed NotRegular whole (is, (appended, done)) = record {
     read = whole.input;
-    text = output_text output;
+    text = output_text number output;
     took = whole.took;
     appended = appended;
     answer = (whole.short, record { output = output; right = whole.holds; ends = is; text_is = refl });
@@ -64,24 +64,24 @@ module _ (command : Command) (left left' written written' : Option (List ℕ)) (
 
   -- what is written is an answer
   answer-at : (status : Status) → HasText status → status ≡ end_of output →
-      (whole : ReadsWhole (limit_of (format_of command)) left left' (λ input. IsOutputFor command input output)) →
-      IsAnswerOf command whole.input status (output_text output)
-  answer-at status (inl done) is whole = subst (λ s. IsAnswerOf command whole.input s (output_text output)) (sym done)
+      (whole : ReadsWhole (limit_of (format_of command)) left left' (λ input. IsOutputFor number p command input output)) →
+      IsAnswerOver number p command whole.input status (output_text number output)
+  answer-at status (inl done) is whole = subst (λ s. IsAnswerOver number p command whole.input s (output_text number output)) (sym done)
       (whole.short, record { output = output; right = whole.holds; ends = sym done ∙ is; text_is = refl })
-  answer-at status (inr other) is whole = subst (λ s. IsAnswerOf command whole.input s (output_text output)) (sym other)
+  answer-at status (inr other) is whole = subst (λ s. IsAnswerOver number p command whole.input s (output_text number output)) (sym other)
       (whole.short, record { output = output; right = whole.holds; ends = sym other ∙ is; text_is = refl })
 
   pub cut-by : (sent rose : Type 0) (status : Status) → status ≡ WriteFault →
-      ReadsWhole (limit_of (format_of command)) left left' (λ input. IsOutputFor command input output) →
-      IsDelivered output status sent (rose × AppendedPart written written' (output_text output)) →
-      rose × CutShort (IsAnswerOf command) left left' written written'
+      ReadsWhole (limit_of (format_of command)) left left' (λ input. IsOutputFor number p command input output) →
+      IsDelivered output status sent (rose × AppendedPart written written' (output_text number output)) →
+      rose × CutShort (IsAnswerOver number p command) left left' written written'
   cut-by sent rose status is whole ends =
-      let failed : rose × AppendedPart written written' (output_text output) =
-      subst (λ s. IsDelivered output s sent (rose × AppendedPart written written' (output_text output))) is ends in (
+      let failed : rose × AppendedPart written written' (output_text number output) =
+      subst (λ s. IsDelivered output s sent (rose × AppendedPart written written' (output_text number output))) is ends in (
         failed.0,
         record {
           read = whole.input;
-          text = output_text output;
+          text = output_text number output;
           took = whole.took;
           cut = failed.1;
           status = end_of output;

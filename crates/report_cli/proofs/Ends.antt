@@ -1,7 +1,5 @@
 -- A run on an input that is not too long ends in one way.
-use Rattle.std.proofs.Common.{◌≡◌, ◌≢◌, ℕ, ◌≤◌, List, length, Result, Ok, Err, inl, inr, ◌⊎◌, refl, ap, subst, sym, ◌∙◌, lit<}
-use Rattle.residue_field.specs.Modulus.{res_modulus}
-use Rattle.residue_theory.proofs.Primes.{prime_65521}
+use Rattle.std.proofs.Common.{◌≡◌, ◌≢◌, ℕ, ◌≤◌, List, length, Result, Ok, Err, inl, inr, ◌⊎◌, refl, ap, subst, sym, ◌∙◌}
 use Rattle.refusals.specs.declared.Refused.{Refused as Refusal}
 use Rattle.cert_text.specs.declared.kind.Kind.{Kind}
 use Rattle.cert_reader.specs.Limits.{certificate_limit}
@@ -11,7 +9,7 @@ use Rattle.cert_verdict.specs.declared.judging.NotAccepted.TheVariants.{NoMemory
 use Rattle.cert_verdict.proofs.OneVerdict.{one-verdict}
 use Rattle.input_kinds.proofs.ByKind.{given-unrefused, refused-alone}
 use Rattle.report_cli.specs.Formats.{IsEnd, IsFault, KeepsRules, limit_of}
-use Rattle.report_cli.specs.Kinds.{IsRefused}
+use Rattle.input_kinds.specs.Kinds.{IsRefused}
 use Rattle.report_cli.specs.Statuses.{status_of_verdict}
 use Rattle.command_line.specs.declared.command.Format.{Format}
 use Rattle.command_line.specs.declared.command.Format.TheVariants.{Certificate, Model}
@@ -20,30 +18,30 @@ use Rattle.report_cli.specs.declared.status.Status.TheVariants.{BadCertificate, 
 use Rattle.report_cli.specs.declared.status.Status.TheVariants.{Refused, Rejected, TooLong, Usage, WriteFault}
 
 -- a model is given, or refused
-abbrev ModelEnds : Kind → List ℕ → Status → Type 0
-ModelEnds kind input status =
-    ((status ≡ Done) × KeepsRules (Model kind) input) ⊎ ((refused : Refusal) × (status ≡ Refused refused) × IsRefused kind input refused)
+abbrev ModelEnds : ℕ → Kind → List ℕ → Status → Type 0
+ModelEnds p kind input status =
+    ((status ≡ Done) × KeepsRules p (Model kind) input) ⊎ ((refused : Refusal) × (status ≡ Refused refused) × IsRefused p kind input refused)
 
-model-ends : (kind : Kind) (input : List ℕ) (status : Status) → IsEnd (Model kind) input status → ModelEnds kind input status
-model-ends kind input Done ends = inl (refl, ends)
-model-ends kind input NotRegular ends = absurd ends
-model-ends kind input Usage ends = absurd ends
-model-ends kind input (Refused refused) ends = inr (refused, refl, ends)
-model-ends kind input (TooLong limit) ends = absurd ends
-model-ends kind input (BadCertificate line) ends = absurd ends
-model-ends kind input ReadFault ends = absurd ends
-model-ends kind input WriteFault ends = absurd ends
-model-ends kind input Memory ends = absurd ends
-model-ends kind input (Rejected rule) ends = absurd ends
+model-ends : (p : ℕ) (kind : Kind) (input : List ℕ) (status : Status) → IsEnd p (Model kind) input status → ModelEnds p kind input status
+model-ends p kind input Done ends = inl (refl, ends)
+model-ends p kind input NotRegular ends = absurd ends
+model-ends p kind input Usage ends = absurd ends
+model-ends p kind input (Refused refused) ends = inr (refused, refl, ends)
+model-ends p kind input (TooLong limit) ends = absurd ends
+model-ends p kind input (BadCertificate line) ends = absurd ends
+model-ends p kind input ReadFault ends = absurd ends
+model-ends p kind input WriteFault ends = absurd ends
+model-ends p kind input Memory ends = absurd ends
+model-ends p kind input (Rejected rule) ends = absurd ends
 
-one-model-end : (kind : Kind) (input : List ℕ) (a b : Status) → ModelEnds kind input a → ModelEnds kind input b → a ≡ b
-one-model-end kind input a b (inl (is, keeps)) (inl (are, kept)) = is ∙ sym are
-one-model-end kind input a b (inl (is, keeps)) (inr (refused, are, refusal)) =
-    given-unrefused res_modulus kind input refused keeps.0 keeps.1 refusal
-one-model-end kind input a b (inr (refused, is, refusal)) (inl (are, keeps)) =
-    given-unrefused res_modulus kind input refused keeps.0 keeps.1 refusal
-one-model-end kind input a b (inr (refused, is, refusal)) (inr (other, are, others)) =
-    is ∙ ap Refused (refused-alone res_modulus kind input refused other refusal others) ∙ sym are
+one-model-end : (p : ℕ) (kind : Kind) (input : List ℕ) (a b : Status) → ModelEnds p kind input a → ModelEnds p kind input b → a ≡ b
+one-model-end p kind input a b (inl (is, keeps)) (inl (are, kept)) = is ∙ sym are
+one-model-end p kind input a b (inl (is, keeps)) (inr (refused, are, refusal)) =
+    given-unrefused p kind input refused keeps.0 keeps.1 refusal
+one-model-end p kind input a b (inr (refused, is, refusal)) (inl (are, keeps)) =
+    given-unrefused p kind input refused keeps.0 keeps.1 refusal
+one-model-end p kind input a b (inr (refused, is, refusal)) (inr (other, are, others)) =
+    is ∙ ap Refused (refused-alone p kind input refused other refusal others) ∙ sym are
 
 -- the status of a verdict
 abbrev status_of : Result (Unit {0}) NotAccepted → Status
@@ -53,52 +51,52 @@ status_of (Err why) = status_of_verdict why
 -- a certificate is judged
 abbrev IsJudged : List ℕ → Status → Type 0
 IsJudged input status =
-    (verdict : Result (Unit {0}) NotAccepted) × (status ≡ status_of verdict) × IsVerdict res_modulus input verdict × (verdict ≢ Err NoMemory)
+    (verdict : Result (Unit {0}) NotAccepted) × (status ≡ status_of verdict) × IsVerdict input verdict × (verdict ≢ Err NoMemory)
 
-is-judged : (input : List ℕ) (status : Status) → IsEnd Certificate input status → IsJudged input status
-is-judged input Done ends = (Ok tt, refl, ends, λ e. absurd cc)
-is-judged input NotRegular ends = absurd ends
-is-judged input Usage ends = absurd ends
-is-judged input (Refused refused) ends = absurd ends
-is-judged input (TooLong limit) ends = absurd ends
-is-judged input (BadCertificate line) ends = (Err (Unread line), refl, ends, λ e. absurd cc)
-is-judged input ReadFault ends = absurd ends
-is-judged input WriteFault ends = absurd ends
-is-judged input Memory ends = absurd ends
-is-judged input (Rejected rule) ends = (Err (BreaksRule rule), refl, ends, λ e. absurd cc)
+is-judged : (p : ℕ) (input : List ℕ) (status : Status) → IsEnd p Certificate input status → IsJudged input status
+is-judged p input Done ends = (Ok tt, refl, ends, λ e. absurd cc)
+is-judged p input NotRegular ends = absurd ends
+is-judged p input Usage ends = absurd ends
+is-judged p input (Refused refused) ends = absurd ends
+is-judged p input (TooLong limit) ends = absurd ends
+is-judged p input (BadCertificate line) ends = (Err (Unread line), refl, ends, λ e. absurd cc)
+is-judged p input ReadFault ends = absurd ends
+is-judged p input WriteFault ends = absurd ends
+is-judged p input Memory ends = absurd ends
+is-judged p input (Rejected rule) ends = (Err (BreaksRule rule), refl, ends, λ e. absurd cc)
 
 one-judgement : (input : List ℕ) (a b : Status) → length input ≤ certificate_limit → IsJudged input a → IsJudged input b → a ≡ b
 one-judgement input a b short (verdict, is, said, some) (other, are, others, another) =
-    is ∙ ap status_of (one-verdict res_modulus prime_65521 (lit< tt) (lit< tt) input short verdict other said others some another) ∙ sym are
+    is ∙ ap status_of (one-verdict input short verdict other said others some another) ∙ sym are
 
-one-end : (format : Format) (input : List ℕ) (a b : Status) → length input ≤ limit_of format →
-    IsEnd format input a → IsEnd format input b → a ≡ b
-one-end (Model kind) input a b short one two =
-    one-model-end kind input a b (model-ends kind input a one) (model-ends kind input b two)
-one-end Certificate input a b short one two = one-judgement input a b short (is-judged input a one) (is-judged input b two)
+one-end : (p : ℕ) (format : Format) (input : List ℕ) (a b : Status) → length input ≤ limit_of format →
+    IsEnd p format input a → IsEnd p format input b → a ≡ b
+one-end p (Model kind) input a b short one two =
+    one-model-end p kind input a b (model-ends p kind input a one) (model-ends p kind input b two)
+one-end p Certificate input a b short one two = one-judgement input a b short (is-judged p input a one) (is-judged p input b two)
 
 -- a fault is one end
-faulty : (format : Format) (input : List ℕ) (status : Status) → IsFault format input status → IsEnd format input status
-faulty format input Done fault = absurd fault
-faulty format input NotRegular fault = absurd fault
-faulty format input Usage fault = absurd fault
-faulty format input (Refused refused) fault = fault
-faulty format input (TooLong limit) fault = absurd fault
-faulty format input (BadCertificate line) fault = fault
-faulty format input ReadFault fault = absurd fault
-faulty format input WriteFault fault = absurd fault
-faulty format input Memory fault = absurd fault
-faulty format input (Rejected rule) fault = fault
+faulty : (p : ℕ) (format : Format) (input : List ℕ) (status : Status) → IsFault p format input status → IsEnd p format input status
+faulty p format input Done fault = absurd fault
+faulty p format input NotRegular fault = absurd fault
+faulty p format input Usage fault = absurd fault
+faulty p format input (Refused refused) fault = fault
+faulty p format input (TooLong limit) fault = absurd fault
+faulty p format input (BadCertificate line) fault = fault
+faulty p format input ReadFault fault = absurd fault
+faulty p format input WriteFault fault = absurd fault
+faulty p format input Memory fault = absurd fault
+faulty p format input (Rejected rule) fault = fault
 
-pub one-fault : (format : Format) (input : List ℕ) (a b : Status) → length input ≤ limit_of format →
-    IsFault format input a → IsFault format input b → a ≡ b
-one-fault format input a b short one two = one-end format input a b short (faulty format input a one) (faulty format input b two)
+pub one-fault : (p : ℕ) (format : Format) (input : List ℕ) (a b : Status) → length input ≤ limit_of format →
+    IsFault p format input a → IsFault p format input b → a ≡ b
+one-fault p format input a b short one two = one-end p format input a b short (faulty p format input a one) (faulty p format input b two)
 
 -- an input that keeps each rule has no fault
-no-fault : {A : Type 0} (format : Format) (input : List ℕ) (status : Status) → Done ≡ status → IsFault format input status → A
-no-fault format input status is fault = let done : IsFault format input Done = subst (IsFault format input) (sym is) fault in absurd done
+no-fault : {A : Type 0} (p : ℕ) (format : Format) (input : List ℕ) (status : Status) → Done ≡ status → IsFault p format input status → A
+no-fault p format input status is fault = let done : IsFault p format input Done = subst (IsFault p format input) (sym is) fault in absurd done
 
-pub kept-unfaulty : {A : Type 0} (format : Format) (input : List ℕ) (status : Status) → length input ≤ limit_of format →
-    KeepsRules format input → IsFault format input status → A
-kept-unfaulty format input status short keeps fault =
-    no-fault format input status (one-end format input Done status short keeps (faulty format input status fault)) fault
+pub kept-unfaulty : {A : Type 0} (p : ℕ) (format : Format) (input : List ℕ) (status : Status) → length input ≤ limit_of format →
+    KeepsRules p format input → IsFault p format input status → A
+kept-unfaulty p format input status short keeps fault =
+    no-fault p format input status (one-end p format input Done status short keeps (faulty p format input status fault)) fault

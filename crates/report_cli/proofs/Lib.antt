@@ -1,5 +1,6 @@
 pub mod Noting
 pub mod ByKind
+pub mod FieldFacts
 pub mod Outputs
 pub mod ReportFacts
 pub mod Ends

@@ -1,6 +1,5 @@
 -- Reports of an input.
-use Rattle.std.proofs.Common.{◌≡◌, ◌&&◌, ◌⊎◌, ℕ, List, Bool, true, false, if◌then◌else◌, inl, inr, leb, refl, ap, subst, sym, ◌∙◌, arith}
-use Rattle.residue_field.specs.Modulus.{res_modulus}
+use Rattle.std.proofs.Common.{◌≡◌, ◌&&◌, ◌⊎◌, ℕ, List, Option, Bool, true, false, if◌then◌else◌, inl, inr, leb, refl, ap, subst, sym, ◌∙◌, arith}
 use Rattle.mixed_matrices.specs.Models.{MixedMatrix}
 use Rattle.mixed_matrices.specs.StructuralRanks.{IsStructuralRank}
 use Rattle.mixed_model.specs.Models.{MixedModel, mixed_matrix_of}
@@ -11,41 +10,44 @@ use Rattle.solve_plan.specs.declared.told.Report.{Report as Told}
 use Rattle.answer_texts.proofs.PlanFacts.{steps-in}
 use Rattle.command_line.specs.declared.command.Command.{Command}
 use Rattle.command_line.specs.declared.command.Command.TheVariants.{OfModel}
+use Rattle.command_line.specs.declared.command.FieldName.{FieldName}
 use Rattle.command_line.specs.declared.command.Task.TheVariants as Task
 use Rattle.report_cli.specs.declared.output.Output.{Output}
 use Rattle.report_cli.specs.declared.output.Output.TheVariants.{Accepted, Certificate, Layers, Made, Plan, Report}
 use Rattle.report_cli.specs.declared.status.Status.TheVariants.{Done, NotRegular}
 use Rattle.report_cli.specs.Answer.{HasText}
 use Rattle.report_cli.specs.Formats.{KeepsRules}
-use Rattle.report_cli.specs.Kinds.{Gives}
+use Rattle.input_kinds.specs.Kinds.{GivesModel}
 use Rattle.command_line.specs.Words.{format_of}
 use Rattle.report_cli.specs.Outputs.{IsOutputFor, IsWritable, end_of, end_of_rank}
 
 -- an output on an input can be written
-pub writable : (command : Command) (input : List ℕ) (output : Output) → IsOutputFor command input output → IsWritable output
-writable command input (Certificate certificate) (kind, is, right) = right.short
-writable command input (Layers model layers) (kind, is, gives, are, whole) = are
-writable command input (Report model told) (kind, is, gives, reports) = reports
-writable command input (Plan model layers plan) (kind, is, right) =
-    (right.are, steps-in model (is-model res_modulus kind input model right.gives) layers right.are right.whole right.ccf right.form right.right plan right.is)
-writable command input Accepted (is, accepted) = tt
-writable command input (Made size split ccf) right = tt
+pub writable : {T : Type 0} (number : T → ℕ) (p : ℕ) (command : Command) (input : List ℕ) (output : Output T) →
+    IsOutputFor number p command input output → IsWritable p output
+writable number p command input (Certificate certificate) (kind, field, is, right) = right.short
+writable number p command input (Layers model layers) (kind, field, is, gives, are, whole) = are
+writable number p command input (Report model told) (kind, field, is, gives, reports) = reports
+writable number p command input (Plan model layers plan) (kind, field, is, right) =
+    (right.are, steps-in number p model (is-model p kind input model right.gives) layers right.are right.whole right.ccf right.form right.right plan right.is)
+writable number p command input Accepted (is, accepted) = tt
+writable number p command input (Made size split ccf) right = tt
 
 -- an input that has an output keeps each rule
-pub keeps-rules : (command : Command) (input : List ℕ) (output : Output) → IsOutputFor command input output → KeepsRules (format_of command) input
-keeps-rules command input (Certificate certificate) (kind, is, right) =
-    subst (λ c. KeepsRules (format_of c) input) (sym is) (right.model, right.gives)
-keeps-rules command input (Layers model layers) (kind, is, gives, are, whole) =
-    subst (λ c. KeepsRules (format_of c) input) (sym is) (model, gives)
-keeps-rules command input (Report model told) (kind, is, gives, reports) =
-    subst (λ c. KeepsRules (format_of c) input) (sym is) (model, gives)
-keeps-rules command input (Plan model layers plan) (kind, is, right) =
-    subst (λ c. KeepsRules (format_of c) input) (sym is) (model, right.gives)
-keeps-rules command input Accepted (is, accepted) = subst (λ c. KeepsRules (format_of c) input) (sym is) accepted
-keeps-rules command input (Made size split ccf) right = absurd right
+pub keeps-rules : {T : Type 0} (number : T → ℕ) (p : ℕ) (command : Command) (input : List ℕ) (output : Output T) →
+    IsOutputFor number p command input output → KeepsRules p (format_of command) input
+keeps-rules number p command input (Certificate certificate) (kind, field, is, right) =
+    subst (λ c. KeepsRules p (format_of c) input) (sym is) (right.model, right.gives)
+keeps-rules number p command input (Layers model layers) (kind, field, is, gives, are, whole) =
+    subst (λ c. KeepsRules p (format_of c) input) (sym is) (model, gives)
+keeps-rules number p command input (Report model told) (kind, field, is, gives, reports) =
+    subst (λ c. KeepsRules p (format_of c) input) (sym is) (model, gives)
+keeps-rules number p command input (Plan model layers plan) (kind, field, is, right) =
+    subst (λ c. KeepsRules p (format_of c) input) (sym is) (model, right.gives)
+keeps-rules number p command input Accepted (is, accepted) = subst (λ c. KeepsRules p (format_of c) input) (sym is) accepted
+keeps-rules number p command input (Made size split ccf) right = absurd right
 
 -- how an output ends: only a report on what is not regular ends otherwise
-pub has-text : (output : Output) → HasText (end_of output)
+pub has-text : {T : Type 0} (output : Output T) → HasText (end_of output)
 has-text (Certificate certificate) = inl refl
 has-text (Layers model layers) = inl refl
 has-text (Report model told) = go (leb told.equations told.rank && leb told.unknowns told.rank)
@@ -58,47 +60,56 @@ has-text Accepted = inl refl
 has-text (Made size split ccf) = inl refl
 
 -- what a report is of: else it ends well
-abbrev IsReport : Command → List ℕ → Output → Type 0
-IsReport command input output =
-    (kind : Kind) × (model : MixedModel) × (told : Told) × (command ≡ OfModel Task.Report kind) × (output ≡ Report model told)
-    × Gives kind input model × IsReportOf res_modulus (mixed_matrix_of model) told
+abbrev IsReport : {T : Type 0} → ℕ → Command → List ℕ → Output T → Type 0
+IsReport p command input output =
+    (kind : Kind) × (field : Option FieldName) × (model : MixedModel) × (told : Told) × (command ≡ OfModel Task.Report kind field)
+    × (output ≡ Report model told) × GivesModel p kind input model × IsReportOf p (mixed_matrix_of model) told
 
-is-report : (command : Command) (input : List ℕ) (output : Output) → IsOutputFor command input output →
-    ((end_of output ≡ Done) × ((kind : Kind) → command ≡ OfModel Task.Report kind → ⊥)) ⊎ IsReport command input output
-is-report command input (Certificate certificate) (kind, is, right) = inl (refl, λ other are. let both = sym is ∙ are in absurd cc)
-is-report command input (Layers model layers) (kind, is, gives, are, whole) = inl (refl, λ other are. let both = sym is ∙ are in absurd cc)
-is-report command input (Report model told) (kind, is, gives, reports) = inr (kind, model, told, is, refl, gives, reports)
-is-report command input (Plan model layers plan) (kind, is, right) = inl (refl, λ other are. let both = sym is ∙ are in absurd cc)
-is-report command input Accepted (is, accepted) = inl (refl, λ other are. let both = sym is ∙ are in absurd cc)
-is-report command input (Made size split ccf) right = absurd right
+abbrev IsNoReport : {T : Type 0} → Command → Output T → Type 0
+IsNoReport command output =
+    (end_of output ≡ Done) × ((kind : Kind) (field : Option FieldName) → command ≡ OfModel Task.Report kind field → ⊥)
+
+is-report : {T : Type 0} (number : T → ℕ) (p : ℕ) (command : Command) (input : List ℕ) (output : Output T) →
+    IsOutputFor number p command input output → IsNoReport command output ⊎ IsReport p command input output
+is-report number p command input (Certificate certificate) (kind, field, is, right) =
+    inl (refl, λ other named are. let both = sym is ∙ are in absurd cc)
+is-report number p command input (Layers model layers) (kind, field, is, gives, are, whole) =
+    inl (refl, λ other named are. let both = sym is ∙ are in absurd cc)
+is-report number p command input (Report model told) (kind, field, is, gives, reports) =
+    inr (kind, field, model, told, is, refl, gives, reports)
+is-report number p command input (Plan model layers plan) (kind, field, is, right) =
+    inl (refl, λ other named are. let both = sym is ∙ are in absurd cc)
+is-report number p command input Accepted (is, accepted) = inl (refl, λ other named are. let both = sym is ∙ are in absurd cc)
+is-report number p command input (Made size split ccf) right = absurd right
 
 -- two reports on one model end alike
-same-kind : (kind other : Kind) → OfModel Task.Report kind ≡ OfModel Task.Report other → kind ≡ other
-same-kind kind other is = cc
+same-kind : (kind other : Kind) (field named : Option FieldName) → OfModel Task.Report kind field ≡ OfModel Task.Report other named → kind ≡ other
+same-kind kind other field named is = cc
 
 one-greatest : (p : ℕ) (M : MixedMatrix) (r s : ℕ) → IsStructuralRank p M r → IsStructuralRank p M s → r ≡ s
 one-greatest p M r s one two = omega (arith, two.greatest one.reached.0 r one.reached.1, one.greatest two.reached.0 s two.reached.1)
 
-one-rank : (M : MixedMatrix) (a b : Told) → IsReportOf res_modulus M a → IsReportOf res_modulus M b →
+one-rank : (p : ℕ) (M : MixedMatrix) (a b : Told) → IsReportOf p M a → IsReportOf p M b →
     end_of_rank a.equations a.unknowns a.rank ≡ end_of_rank b.equations b.unknowns b.rank
-one-rank M a b one two =
+one-rank p M a b one two =
     ap (λ n. end_of_rank n a.unknowns a.rank) (one.equations ∙ sym two.equations)
     ∙ ap (λ n. end_of_rank b.equations n a.rank) (one.unknowns ∙ sym two.unknowns)
-    ∙ ap (end_of_rank b.equations b.unknowns) (one-greatest res_modulus M a.rank b.rank one.rank two.rank)
+    ∙ ap (end_of_rank b.equations b.unknowns) (one-greatest p M a.rank b.rank one.rank two.rank)
 
 -- an input has one end
-pub one-status : (command : Command) (input : List ℕ) (a b : Output) → IsOutputFor command input a → IsOutputFor command input b → end_of a ≡ end_of b
-one-status command input a b right other = go (is-report command input a right) (is-report command input b other)
+pub one-status : {T U : Type 0} (number : T → ℕ) (numbered : U → ℕ) (p : ℕ) (command : Command) (input : List ℕ) (a : Output T) (b : Output U) →
+    IsOutputFor number p command input a → IsOutputFor numbered p command input b → end_of a ≡ end_of b
+one-status number numbered p command input a b right other =
+    go (is-report number p command input a right) (is-report numbered p command input b other)
   where
-    go : ((end_of a ≡ Done) × ((kind : Kind) → command ≡ OfModel Task.Report kind → ⊥)) ⊎ IsReport command input a →
-        ((end_of b ≡ Done) × ((kind : Kind) → command ≡ OfModel Task.Report kind → ⊥)) ⊎ IsReport command input b → end_of a ≡ end_of b
+    go : IsNoReport command a ⊎ IsReport p command input a → IsNoReport command b ⊎ IsReport p command input b → end_of a ≡ end_of b
     go (inl (is, none)) (inl (are, never)) = is ∙ sym are
-    go (inl (is, none)) (inr (kind, model, told, of, is_told, gives, reports)) = absurd (none kind of)
-    go (inr (kind, model, told, of, is_told, gives, reports)) (inl (are, never)) = absurd (never kind of)
-    go (inr (kind, model, told, of, is, gives, reports)) (inr (other_kind, other_model, other_told, others, are, given, reporting)) =
-        let kinds : other_kind ≡ kind = same-kind other_kind kind (sym others ∙ of) in
-        let also : Gives kind input other_model = subst (λ k. Gives k input other_model) kinds given in
-        let models : other_model ≡ model = gives-one res_modulus kind input other_model model also gives in
+    go (inl (is, none)) (inr (kind, field, model, told, of, is_told, gives, reports)) = absurd (none kind field of)
+    go (inr (kind, field, model, told, of, is_told, gives, reports)) (inl (are, never)) = absurd (never kind field of)
+    go (inr (kind, field, model, told, of, is, gives, reports)) (inr (other_kind, named, other_model, other_told, others, are, given, reporting)) =
+        let kinds : other_kind ≡ kind = same-kind other_kind kind named field (sym others ∙ of) in
+        let also : GivesModel p kind input other_model = subst (λ k. GivesModel p k input other_model) kinds given in
+        let models : other_model ≡ model = gives-one p kind input other_model model also gives in
         ap end_of is
-        ∙ one-rank (mixed_matrix_of model) told other_told reports (subst (λ m. IsReportOf res_modulus (mixed_matrix_of m) other_told) models reporting)
+        ∙ one-rank p (mixed_matrix_of model) told other_told reports (subst (λ m. IsReportOf p (mixed_matrix_of m) other_told) models reporting)
         ∙ sym (ap end_of are)

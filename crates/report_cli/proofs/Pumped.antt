@@ -48,14 +48,14 @@ took_kept (Some a) (Some b) (Some c) text took kept = took ∙ ap_rest text (sym
 
 module _ {S : Type 0} (K : Ghosts S) (first old new : S) (before after : Pumping) (Holds : List ℕ → Type 0) (has : HasPumped K first old before Holds) where
   -- why no piece came
-  pub unread_by_error : (kind : Kind) (result : Result ℕ ReadError) (why : ReadError) → result ≡ Err why →
+  pub unread_by_error : (p : ℕ) (kind : Kind) (result : Result ℕ ReadError) (why : ReadError) → result ≡ Err why →
       (result ≡ Err Longer → after.taken ≡ before.limit + 1) →
       (result ≡ Err Longer → TookExactly (after.taken - before.taken) (K.left old) (K.left new)) →
       (result ≡ Err Failed → Keeps (K.left old) (K.left new)) → (result ≡ Err Wanting → ⊥) →
-      IsUnread (Model kind) (status_of_error input_limit why) (K.left first) (K.left new)
-  unread_by_error kind result Failed is all more kept memory =
+      IsUnread p (Model kind) (status_of_error input_limit why) (K.left first) (K.left new)
+  unread_by_error p kind result Failed is all more kept memory =
       (has.text, has.room, took_kept (K.left first) (K.left old) (K.left new) has.text has.so_far (kept is))
-  unread_by_error kind result Longer is all more kept memory =
+  unread_by_error p kind result Longer is all more kept memory =
       let count : length has.text + (after.taken - before.taken) ≡ input_limit + 1 =
       omega (arith, has.limit, has.taken, has.room, all is) in (
         refl,
@@ -64,7 +64,7 @@ module _ {S : Type 0} (K : Ghosts S) (first old new : S) (before after : Pumping
             count
             (took_exactly (K.left first) (K.left old) (K.left new) has.text (after.taken - before.taken) has.so_far (more is)),
       )
-  unread_by_error kind result Wanting is all more kept memory = absurd (memory is)
+  unread_by_error p kind result Wanting is all more kept memory = absurd (memory is)
 
   module _ (took : Took (K.left old) (K.left new) after.piece)
       (counted : after.taken ≡ before.taken + length after.piece) (within : after.taken ≤ before.limit) where
@@ -72,8 +72,8 @@ module _ {S : Type 0} (K : Ghosts S) (first old new : S) (before after : Pumping
     few = omega (arith, has.limit, has.taken, counted, within)
 
     -- there is no memory for a piece
-    pub unread_for_memory : (kind : Kind) → IsUnread (Model kind) Memory (K.left first) (K.left new)
-    unread_for_memory kind =
+    pub unread_for_memory : (p : ℕ) (kind : Kind) → IsUnread p (Model kind) Memory (K.left first) (K.left new)
+    unread_for_memory p kind =
         took_at_most (K.left first) (K.left old) (K.left new) has.text after.piece input_limit has.so_far took few
 
     -- a piece more

@@ -2,8 +2,7 @@
 use Rattle.std.proofs.Common.{◌≤◌, ◌<◌, ℕ, List, length, get_or, arith}
 use Rattle.std.specs.List.{All}
 use Rattle.std.proofs.lemmas.List.{get_or_default}
-use Rattle.residue_field.specs.Modulus.{res_modulus}
-use Rattle.residue_theory.proofs.Primes.{prime_65521}
+use Rattle.residue_theory.specs.Residues.{IsPrime}
 use Rattle.form_arcs.proofs.FormLaws.{some-has}
 use Rattle.mixed_matrices.specs.Models.{MixedMatrix, value}
 use Rattle.mixed_pairs.proofs.GreatestRanks.{greatest-size}
@@ -18,7 +17,7 @@ members-within n A list are = λ k d kl. ((are.exact (get_or list k d)).0 (some-
 members-few : (n : ℕ) (A : ℕ → Type 0) (list : List ℕ) → AreMembersOf n A list → length list ≤ n
 members-few n A list are = rising-few n list are.rising (members-within n A list are)
 
-module _ (M : MixedMatrix) (told : Report) (reports : IsReportOf res_modulus M told) where
+module _ (p : ℕ) (M : MixedMatrix) (told : Report) (reports : IsReportOf p M told) where
   pub surplus-within : All (λ equation. equation < M.rows) told.surplus.items
   surplus-within = members-within M.rows _ told.surplus.items reports.surplus
 
@@ -31,11 +30,12 @@ module _ (M : MixedMatrix) (told : Report) (reports : IsReportOf res_modulus M t
   pub undetermined-few : length told.undetermined.items ≤ M.columns
   undetermined-few = members-few M.columns _ told.undetermined.items reports.undetermined
 
-  rank-low : (told.rank ≤ M.rows) × (told.rank ≤ M.columns)
-  rank-low = greatest-size res_modulus prime_65521 M.rows M.columns (value M) told.rank reports.rank
+  module _ (prime : IsPrime p) where
+    rank-low : (told.rank ≤ M.rows) × (told.rank ≤ M.columns)
+    rank-low = greatest-size p prime M.rows M.columns (value M) told.rank reports.rank
 
-  pub rank-many : told.rank ≤ told.equations
-  rank-many = omega (arith, rank-low.0, reports.equations)
+    pub rank-many : told.rank ≤ told.equations
+    rank-many = omega (arith, rank-low.0, reports.equations)
 
-  pub rank-few : told.rank ≤ told.unknowns
-  rank-few = omega (arith, rank-low.1, reports.unknowns)
+    pub rank-few : told.rank ≤ told.unknowns
+    rank-few = omega (arith, rank-low.1, reports.unknowns)

@@ -2,16 +2,17 @@
 use Rattle.std.proofs.Common.{◌≡◌, ◌≤◌, ◌⊎◌, ℕ, length, List, [], Option, Some, None, refl, sym, subst, append-nil, arith, inl, inr}
 use Rattle.port_io.specs.Bytes.{Appended, Took, TookAtMost}
 use Rattle.report_cli.specs.Answer.{Answered, CutShort, HasText, IsAnswer, IsAnswerOf, IsCommandAnswer, IsComplete, IsMakeAnswer, OnlyAnswer, TakesBy, Tells}
+use Rattle.report_cli.specs.Fields.{modulus_of}
 use Rattle.report_cli.specs.Formats.{KeepsRules, limit_of}
 use Rattle.report_cli.specs.Statuses.{status_of_words}
 use Rattle.command_line.specs.Words.{AsksFor, AsksForNothing, IsWhy, format_of}
 use Rattle.command_line.specs.declared.command.Command.{Command}
 use Rattle.command_line.specs.declared.command.WordsError.{WordsError}
-use Rattle.command_line.specs.declared.command.WordsError.TheVariants.{Told, UnknownKind, NoMemory}
+use Rattle.command_line.specs.declared.command.WordsError.TheVariants.{Told, UnknownWord, NoMemory}
 use Rattle.report_cli.specs.declared.status.Status.{Status}
 use Rattle.report_cli.specs.declared.status.Status.TheVariants.{BadCertificate, Done, Memory, NotRegular, ReadFault}
 use Rattle.report_cli.specs.declared.status.Status.TheVariants.{Refused, Rejected, TooLong, Usage, WriteFault}
-use Rattle.command_line.specs.declared.command.Request.TheVariants.{OfInput}
+use Rattle.command_line.specs.declared.command.Request.TheVariants.{Make, OfInput}
 use Rattle.command_line.proofs.Asking.{asks-one, not-both}
 
 -- what answers words that ask for a command is an answer of the command
@@ -23,7 +24,7 @@ asked words command input answer text asks (other, asks_other, given) =
 asked-done : (words : List (List ℕ)) (command : Command) (input text : List ℕ) → AsksFor words command →
     IsCommandAnswer words input Done text ⊎ IsMakeAnswer words text → IsAnswerOf command input Done text
 asked-done words command input text asks (inl given) = asked words command input Done text asks given
-asked-done words command input text asks (inr (n, makes, told)) = not-both words command n asks makes
+asked-done words command input text asks (inr (n, field, makes, told)) = not-both words command n field asks makes
 
 pub of_command : (words : List (List ℕ)) (command : Command) (input : List ℕ) (answer : Status) (text : List ℕ) →
     AsksFor words command → IsAnswer words input answer text → IsAnswerOf command input answer text
@@ -45,11 +46,11 @@ only_for words command left status asks only = λ input answer text is given. on
 
 pub complete_for : (words : List (List ℕ)) (command : Command) (left : Option (List ℕ)) (status : Status) → AsksFor words command →
     ((input : List ℕ) → left ≡ Some input → length input ≤ limit_of (format_of command) →
-    KeepsRules (format_of command) input → HasText status ⊎ (status ≡ Memory)) →
+    KeepsRules (modulus_of command) (format_of command) input → HasText status ⊎ (status ≡ Memory)) →
     IsComplete words left status
 complete_for words command left status asks done = λ input other is asks_other short keeps.
     let same : other ≡ command = asks-one words other command asks_other asks in
-    done input is (subst (λ c. length input ≤ limit_of (format_of c)) same short) (subst (λ c. KeepsRules (format_of c) input) same keeps)
+    done input is (subst (λ c. length input ≤ limit_of (format_of c)) same short) (subst (λ c. KeepsRules (modulus_of c) (format_of c) input) same keeps)
 
 -- a text that is written by the command is one by the words
 written-for : (words : List (List ℕ)) (command : Command) (input : List ℕ) (status : Status) (text : List ℕ) → AsksFor words command → HasText status →
@@ -81,7 +82,7 @@ pub took_nothing : (left : Option (List ℕ)) → Took left left []
 took_nothing None = tt
 took_nothing (Some bytes) = refl
 
-appended_nothing : (written : Option (List ℕ)) → Appended written written []
+pub appended_nothing : (written : Option (List ℕ)) → Appended written written []
 appended_nothing None = tt
 appended_nothing (Some bytes) = sym (append-nil bytes)
 
@@ -90,7 +91,7 @@ took_none most left = ([], omega arith, took_nothing left)
 
 pub untaken : (why : WordsError) (most : ℕ) (left : Option (List ℕ)) → TakesBy most (status_of_words why) left left
 untaken (Told text) most left = took_none most left
-untaken UnknownKind most left = took_none most left
+untaken UnknownWord most left = took_none most left
 untaken NoMemory most left = took_none most left
 
 usage_answered : (words : List (List ℕ)) (left written : Option (List ℕ)) → AsksForNothing words → Answered (IsAnswer words) left left written written Usage
@@ -105,5 +106,26 @@ usage_answered words left written never = record {
 pub unasked_answered : (words : List (List ℕ)) (why : WordsError) (left written : Option (List ℕ)) → IsWhy words why →
     Tells (status_of_words why) (Answered (IsAnswer words) left left written written (status_of_words why))
 unasked_answered words (Told text) left written is = usage_answered words left written (λ request asks. is asks.0)
-unasked_answered words UnknownKind left written is = usage_answered words left written is.1
+unasked_answered words UnknownWord left written is = usage_answered words left written is.1
 unasked_answered words NoMemory left written is = tt
+
+-- words that ask for nothing have that answer alone
+usage-only : (words : List (List ℕ)) (input : List ℕ) (answer : Status) (text : List ℕ) → AsksForNothing words → IsAnswer words input answer text →
+    Usage ≡ answer
+usage-only words input Done text never (inl (command, asks, given)) = absurd (never (OfInput command) asks)
+usage-only words input Done text never (inr (n, field, makes, told)) = absurd (never (Make n field) makes)
+usage-only words input NotRegular text never (command, asks, given) = absurd (never (OfInput command) asks)
+usage-only words input Usage text never given = refl
+usage-only words input (Refused refused) text never (command, asks, given) = absurd (never (OfInput command) asks)
+usage-only words input (TooLong limit) text never (command, asks, given) = absurd (never (OfInput command) asks)
+usage-only words input (BadCertificate line) text never (command, asks, given) = absurd (never (OfInput command) asks)
+usage-only words input ReadFault text never (command, asks, given) = absurd (never (OfInput command) asks)
+usage-only words input WriteFault text never (command, asks, given) = absurd (never (OfInput command) asks)
+usage-only words input Memory text never (command, asks, given) = absurd (never (OfInput command) asks)
+usage-only words input (Rejected rule) text never (command, asks, given) = absurd (never (OfInput command) asks)
+
+pub unasked-only : (words : List (List ℕ)) (why : WordsError) (left : Option (List ℕ)) → IsWhy words why →
+    OnlyAnswer words left (status_of_words why)
+unasked-only words (Told told) left is = λ input answer text there given. inl (usage-only words input answer text (λ request asks. is asks.0) given)
+unasked-only words UnknownWord left is = λ input answer text there given. inl (usage-only words input answer text is.1 given)
+unasked-only words NoMemory left is = λ input answer text there given. inr refl

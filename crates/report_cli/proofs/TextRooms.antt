@@ -1,6 +1,5 @@
 -- Each text that may be written for an input fits in the room that its length gives.
-use Rattle.std.proofs.Common.{◌≡◌, ℕ, ◌+◌, ◌≤◌, Bool, List, length, refl, ap, subst, sym, arith, lit≤}
-use Rattle.residue_field.specs.Modulus.{res_modulus}
+use Rattle.std.proofs.Common.{◌≡◌, ℕ, zero, suc, ◌+◌, ◌^◌, ◌<◌, ◌≤◌, Bool, List, length, refl, ap, subst, sym, arith, lit≤}
 use Rattle.residue_theory.specs.Sets.{everything}
 use Rattle.residue_theory.proofs.CountLaws.{size-everything}
 use Rattle.residue_theory.proofs.SumLaws.{size_on-within}
@@ -11,10 +10,13 @@ use Rattle.mixed_model.specs.Layers.{Layers, layered_matrix_of}
 use Rattle.mixed_layering.specs.Layers.{AreLayersOf, origins_of}
 use Rattle.cert_text.specs.declared.kind.Kind.{Kind}
 use Rattle.cert_text.specs.Contents.{Certificate, Contents}
-use Rattle.text_lengths.specs.Rooms.{IsShapeWithin}
+use Rattle.cert_text.specs.declared.version.Version.{Version}
+use Rattle.cert_text.specs.declared.version.Version.TheVariants.{One}
+use Rattle.text_lengths.specs.Rooms.{IsShapeWithin, certificate_room}
+use Rattle.report_cli.specs.Fields.{version_of}
 use Rattle.text_lengths.proofs.TextLengths.{certificate-short}
 use Rattle.limits.specs.Limits.{input_limit}
-use Rattle.report_cli.specs.Kinds.{Gives}
+use Rattle.input_kinds.specs.Kinds.{GivesModel}
 use Rattle.report_cli.specs.RightFor.{IsRightFor}
 use Rattle.report_cli.specs.Formats.{limit_of}
 use Rattle.report_cli.specs.MadeFor.{IsMadeFor}
@@ -27,7 +29,12 @@ use Rattle.solve_plan.specs.Reports.{IsReportOf}
 use Rattle.solve_plan.specs.declared.told.Report.{Report as Told}
 use Rattle.dense_q.specs.Tables.{height}
 use Rattle.solve_plan.specs.declared.steps.Plan.{Plan}
+use Rattle.answer_texts.specs.LayerTexts.{layer_text}
 use Rattle.answer_texts.specs.MadeTexts.{made_text}
+use Rattle.answer_texts.specs.PlanTexts.{plan_text}
+use Rattle.answer_texts.specs.ReportTexts.{report_text}
+use Rattle.cert_text.specs.Texts.{certificate_text}
+use Rattle.residue_theory.specs.Residues.{IsPrime}
 use Rattle.answer_texts.specs.Rooms.{made_room}
 use Rattle.answer_texts.proofs.MadeLengths.{right-made-text-short}
 use Rattle.answer_texts.proofs.PlanFacts.{steps-few, steps-in, steps-short}
@@ -55,11 +62,11 @@ pub record IsNarrow (kind : Kind) (n : ℕ) (L : LayeredMatrix) : Type 0 where
   pub columns : L.columns ≤ columns_within kind n
   pub rows : L.q_rows + L.t_rows ≤ columns_within kind n
 
-narrow : (kind : Kind) (text : List ℕ) (model : MixedModel) (L : LayeredMatrix) (O : Origins) → Gives kind text model →
+narrow : (p : ℕ) (kind : Kind) (text : List ℕ) (model : MixedModel) (L : LayeredMatrix) (O : Origins) → GivesModel p kind text model →
     IsLayeredMatrixOf (mixed_matrix_of model) L O → IsNarrow kind (length text) L
-narrow kind text model L O gives are =
-    let few = few-names kind text model gives in
-    let is : IsModel res_modulus model = is-model res_modulus kind text model gives in
+narrow p kind text model L O gives are =
+    let few = few-names p kind text model gives in
+    let is : IsModel p model = is-model p kind text model gives in
     let e : length model.equations ≤ 4096 = (is.equations).few in
     let u : length model.unknowns ≤ 4096 = (is.unknowns).few in
     let q : L.q_rows ≤ length model.equations = members-few _ _ _ _ are.q_rows in
@@ -76,92 +83,102 @@ narrow kind text model L O gives are =
 few_columns : (kind : Kind) (n : ℕ) → columns_within kind n ≤ 8192
 few_columns kind n = omega arith
 
-certificate-fits : (kind : Kind) (input : List ℕ) (c : Certificate) → IsRightFor kind input c →
-    length input ≤ input_limit → length (output_text (Certified c)) ≤ task_room Task.Analyse kind (length input)
-certificate-fits kind input c right short =
-    let low = narrow kind input right.model right.layered right.origins right.gives right.layers in
-    let shape = (right.right).shape in
-    let within : IsShapeWithin (columns_within kind (length input)) c.ccf.shape = record {
-      q_rows = omega (arith, shape.q_rows, low.q_rows);
-      t_rows = omega (arith, shape.t_rows, low.t_rows);
-      columns = omega (arith, shape.columns, low.columns);
-    } in
-    let echo : length c.echo ≡ length input = ap length right.echo in
-    omega (
-      arith,
-      certificate-short res_modulus (omega arith) (mixed_matrix_of right.model) right.layered right.origins c
-          (length input) (columns_within kind (length input))
-          (omega (arith, echo)) short (few_columns kind (length input)) right.form right.right within,
-    )
+-- a number of no digits is 0
+pub some_digits : (p most : ℕ) → 0 < p → p < 10 ^ most → 0 < most
+some_digits p zero some low = absurd (omega (arith, some, low))
+some_digits p (suc most) some low = omega arith
 
-layers-fit : (kind : Kind) (input : List ℕ) (model : MixedModel) (layers : Layers) → Gives kind input model → AreLayersOf model layers → AreWholeLayers layers →
-    length (output_text (Layering model layers)) ≤ task_room Task.Layer kind (length input)
-layers-fit kind input model layers gives are whole =
-    let low = narrow kind input model (layered_matrix_of layers) (origins_of layers are.split) gives are.layered in
-    omega (
-      arith,
-      layer-text-short model (is-model res_modulus kind input model gives) layers are whole
-          (columns_within kind (length input)) (few_columns kind (length input)) low.q_rows low.t_rows low.columns,
-    )
+module _ {T : Type 0} (number : T → ℕ) (p most : ℕ) (some : 0 < most) (below : p < 10 ^ most) where
+  low_p : p ≤ 10 ^ most
+  low_p = omega (arith, below)
 
-reports-fit : (kind : Kind) (input : List ℕ) (model : MixedModel) (told : Told) → Gives kind input model → IsReportOf res_modulus (mixed_matrix_of model) told →
-    length (output_text (Reporting model told)) ≤ task_room Task.Report kind (length input)
-reports-fit kind input model told gives reports =
-    let is : IsModel res_modulus model = is-model res_modulus kind input model gives in
-    let few = few-names kind input model gives in
-    let k : ℕ = places_within kind (length input) in
-    let e : length model.equations ≤ 4096 = (is.equations).few in
-    let u : length model.unknowns ≤ 4096 = (is.unknowns).few in
-    let low_e : length model.equations ≤ k = omega (arith, few.0, e) in
-    let low_u : length model.unknowns ≤ k = omega (arith, few.1, u) in
-    let M = mixed_matrix_of model in
-    let equations : told.equations ≤ k = omega (arith, reports.equations, low_e) in
-    let unknowns : told.unknowns ≤ k = omega (arith, reports.unknowns, low_u) in
-    report-text-short model is told k (omega arith) equations unknowns (omega (arith, rank-many M told reports, equations))
-    (omega (arith, surplus-few M told reports, low_e)) (omega (arith, undetermined-few M told reports, low_u))
+  certificate-fits : (version : Version) (kind : Kind) (input : List ℕ) (c : Certificate) → IsRightFor p version kind input c →
+      length input ≤ input_limit → length (certificate_text c) ≤ task_room most version Task.Analyse kind (length input)
+  certificate-fits version kind input c right short =
+      let low = narrow p kind input right.model right.layered right.origins right.gives right.layers in
+      let shape = (right.right).shape in
+      let within : IsShapeWithin (columns_within kind (length input)) c.ccf.shape = record {
+        q_rows = omega (arith, shape.q_rows, low.q_rows);
+        t_rows = omega (arith, shape.t_rows, low.t_rows);
+        columns = omega (arith, shape.columns, low.columns);
+      } in
+      let echo : length c.echo ≡ length input = ap length right.echo in
+      subst (λ v. length (certificate_text c) ≤ certificate_room v most (length input) (columns_within kind (length input))) right.version_is
+      (certificate-short p most some below (mixed_matrix_of right.model) right.layered right.origins c
+      (length input) (columns_within kind (length input)) right.modulus_is
+      (omega (arith, echo)) short (few_columns kind (length input)) right.form right.right within)
 
-plans-fit : (kind : Kind) (input : List ℕ) (model : MixedModel) (layers : Layers) (plan : Plan ℕ) → IsPlanFor kind input model layers plan →
-    length (output_text (Planning model layers plan)) ≤ task_room Task.Plan kind (length input)
-plans-fit kind input model layers plan right =
-    let low = narrow kind input model (layered_matrix_of layers) (origins_of layers (right.are).split) right.gives (right.are).layered in
-    let is : IsModel res_modulus model = is-model res_modulus kind input model right.gives in
-    let k : ℕ = columns_within kind (length input) in
-    let rows : height layers.q + length layers.t.rows ≤ k = low.rows in
-    plan-text-short (λ x. x) model is layers k (few_columns kind (length input)) (length model.equations) layers.q.width plan
-    (steps-few model is layers right.are right.whole right.ccf right.form right.right plan right.is k low.columns)
-    (steps-in model is layers right.are right.whole right.ccf right.form right.right plan right.is)
-    (steps-short model is layers right.are right.whole right.ccf right.form right.right plan right.is k rows low.columns)
+  layers-fit : (kind : Kind) (input : List ℕ) (model : MixedModel) (layers : Layers) → GivesModel p kind input model → AreLayersOf model layers →
+      AreWholeLayers layers → length (layer_text model layers) ≤ task_room most One Task.Layer kind (length input)
+  layers-fit kind input model layers gives are whole =
+      let low = narrow p kind input model (layered_matrix_of layers) (origins_of layers are.split) gives are.layered in
+      omega (
+        arith,
+        layer-text-short p most some low_p model (is-model p kind input model gives) layers are whole
+            (columns_within kind (length input)) (few_columns kind (length input)) low.q_rows low.t_rows low.columns,
+      )
 
-pub output_fits : (command : Command) (input : List ℕ) (output : Output) → IsOutputFor command input output →
-    length input ≤ limit_of (format_of command) → length (output_text output) ≤ text_room command (length input)
-output_fits command input (Certified c) (kind, is, right) short =
-    subst (λ f. length (output_text (Certified c)) ≤ text_room f (length input)) (sym is)
-    (certificate-fits kind input c right (subst (λ f. length input ≤ limit_of (format_of f)) is short))
-output_fits command input (Layering model layers) (kind, is, gives, are, whole) short =
-    subst (λ f. length (output_text (Layering model layers)) ≤ text_room f (length input)) (sym is)
-    (layers-fit kind input model layers gives are whole)
-output_fits command input (Reporting model told) (kind, is, gives, reports) short =
-    subst (λ f. length (output_text (Reporting model told)) ≤ text_room f (length input)) (sym is)
-    (reports-fit kind input model told gives reports)
-output_fits command input (Planning model layers plan) (kind, is, right) short =
-    subst (λ f. length (output_text (Planning model layers plan)) ≤ text_room f (length input)) (sym is)
-    (plans-fit kind input model layers plan right)
-output_fits command input Accepted (is, accepted) short =
-    subst (λ f. length (output_text Accepted) ≤ text_room f (length input)) (sym is) (lit≤ tt)
-output_fits command input (Made size split ccf) right short = absurd right
+  reports-fit : IsPrime p → (kind : Kind) (input : List ℕ) (model : MixedModel) (told : Told) → GivesModel p kind input model →
+      IsReportOf p (mixed_matrix_of model) told → length (report_text model told) ≤ task_room most One Task.Report kind (length input)
+  reports-fit prime kind input model told gives reports =
+      let is : IsModel p model = is-model p kind input model gives in
+      let few = few-names p kind input model gives in
+      let k : ℕ = places_within kind (length input) in
+      let e : length model.equations ≤ 4096 = (is.equations).few in
+      let u : length model.unknowns ≤ 4096 = (is.unknowns).few in
+      let low_e : length model.equations ≤ k = omega (arith, few.0, e) in
+      let low_u : length model.unknowns ≤ k = omega (arith, few.1, u) in
+      let M = mixed_matrix_of model in
+      let equations : told.equations ≤ k = omega (arith, reports.equations, low_e) in
+      let unknowns : told.unknowns ≤ k = omega (arith, reports.unknowns, low_u) in
+      report-text-short p model is told k (omega arith) equations unknowns (omega (arith, rank-many p M told reports prime, equations))
+      (omega (arith, surplus-few p M told reports, low_e)) (omega (arith, undetermined-few p M told reports, low_u))
+
+  plans-fit : (kind : Kind) (input : List ℕ) (model : MixedModel) (layers : Layers) (plan : Plan T) →
+      IsPlanFor number p kind input model layers plan →
+      length (plan_text number model layers plan) ≤ task_room most One Task.Plan kind (length input)
+  plans-fit kind input model layers plan right =
+      let low = narrow p kind input model (layered_matrix_of layers) (origins_of layers (right.are).split) right.gives (right.are).layered in
+      let is : IsModel p model = is-model p kind input model right.gives in
+      let k : ℕ = columns_within kind (length input) in
+      let rows : height layers.q + length layers.t.rows ≤ k = low.rows in
+      plan-text-short number p most some low_p model is layers k (few_columns kind (length input)) (length model.equations) layers.q.width plan
+      (steps-few number p model is layers right.are right.whole right.ccf right.form right.right plan right.is k low.columns)
+      (steps-in number p model is layers right.are right.whole right.ccf right.form right.right plan right.is)
+      (steps-short number p model is layers right.are right.whole right.ccf right.form right.right plan right.is k rows low.columns)
+
+  pub output_fits : IsPrime p → (command : Command) (input : List ℕ) (output : Output T) → IsOutputFor number p command input output →
+      length input ≤ limit_of (format_of command) → length (output_text number output) ≤ text_room most command (length input)
+  output_fits prime command input (Certified c) (kind, field, is, right) short =
+      subst (λ f. length (certificate_text c) ≤ text_room most f (length input)) (sym is)
+      (certificate-fits (version_of field) kind input c right (subst (λ f. length input ≤ limit_of (format_of f)) is short))
+  output_fits prime command input (Layering model layers) (kind, field, is, gives, are, whole) short =
+      subst (λ f. length (layer_text model layers) ≤ text_room most f (length input)) (sym is)
+      (layers-fit kind input model layers gives are whole)
+  output_fits prime command input (Reporting model told) (kind, field, is, gives, reports) short =
+      subst (λ f. length (report_text model told) ≤ text_room most f (length input)) (sym is)
+      (reports-fit prime kind input model told gives reports)
+  output_fits prime command input (Planning model layers plan) (kind, field, is, right) short =
+      subst (λ f. length (plan_text number model layers plan) ≤ text_room most f (length input)) (sym is)
+      (plans-fit kind input model layers plan right)
+  output_fits prime command input Accepted (is, accepted) short =
+      subst (λ f. length (output_text number Accepted) ≤ text_room most f (length input)) (sym is) (lit≤ tt)
+  output_fits prime command input (Made size split ccf) right short = absurd right
 
 -- what is told of a made model fits in its room
-pub made-fits : (n split : ℕ) (ccf : Contents) → IsMadeFor n split ccf → length (made_text n split ccf) ≤ made_room
-made-fits n split ccf right =
+pub made-fits : (p n split : ℕ) (ccf : Contents) → IsMadeFor p n split ccf → length (made_text n split ccf) ≤ made_room
+made-fits p n split ccf right =
     let e : length (right.model).equations ≤ 4096 = ((right.is).equations).few in
     let s : (right.origins).split ≤ length (right.model).equations = members-few _ _ _ _ (right.layers).auxiliary in
-    right-made-text-short n split (mixed_matrix_of right.model) right.layered right.origins ccf right.form right.right (right.size).most
+    right-made-text-short p n split (mixed_matrix_of right.model) right.layered right.origins ccf right.form right.right (right.size).most
     (omega (arith, right.split_is, s, e))
 
-pub made_fits : (n : ℕ) (output : Output) → IsMadeOutput n output → length (output_text output) ≤ made_room
-made_fits n (Made size split ccf) (same, right) = subst (λ s. length (made_text s split ccf) ≤ made_room) (sym same) (made-fits n split ccf right)
-made_fits n (Certified c) is = absurd is
-made_fits n (Layering model layers) is = absurd is
-made_fits n (Reporting model told) is = absurd is
-made_fits n (Planning model layers plan) is = absurd is
-made_fits n Accepted is = absurd is
+pub made_fits : {T : Type 0} (number : T → ℕ) (p n : ℕ) (output : Output T) → IsMadeOutput p n output →
+    length (output_text number output) ≤ made_room
+made_fits number p n (Made size split ccf) (same, right) =
+    subst (λ s. length (made_text s split ccf) ≤ made_room) (sym same) (made-fits p n split ccf right)
+made_fits number p n (Certified c) is = absurd is
+made_fits number p n (Layering model layers) is = absurd is
+made_fits number p n (Reporting model told) is = absurd is
+made_fits number p n (Planning model layers plan) is = absurd is
+made_fits number p n Accepted is = absurd is

@@ -4,46 +4,60 @@ use Rattle.port_io.specs.Bytes.{Took, TookAtMost, TookExactly, Appended}
 use Rattle.report_cli.specs.Formats.{IsFault, KeepsRules, limit_of}
 use Rattle.report_cli.specs.Outputs.{IsOutputFor, end_of, output_text}
 use Rattle.report_cli.specs.MadeFor.{IsMakeText}
-use Rattle.command_line.specs.Words.{AsksFor, AsksForNothing, AsksToMake, format_of}
+use Rattle.report_cli.specs.Fields.{modulus, modulus_of}
+use Rattle.command_line.specs.Words.{AsksFor, AsksForNothing, AsksToMake, format_of, over}
 use Rattle.text_writer.specs.Giving.{AppendedPart}
 use Rattle.command_line.specs.declared.command.Command.{Command}
+use Rattle.command_line.specs.declared.command.FieldName.{FieldName}
 use Rattle.command_line.specs.declared.command.Format.{Format}
 use Rattle.report_cli.specs.declared.output.Output.{Output}
 use Rattle.report_cli.specs.declared.status.Status.{Status}
 use Rattle.report_cli.specs.declared.status.Status.TheVariants.{BadCertificate, Done, Memory, NotRegular, ReadFault, Refused, Rejected, TooLong, Usage, WriteFault}
 
--- the text of an output for the input by this command, with which a run ends so
-pub record IsOutputText (command : Command) (input : List ℕ) (status : Status) (text : List ℕ) : Type 0 where
-  pub output : Output
-  pub right : IsOutputFor command input output
+-- over the residues modulo p, each seen by its number: the text of an output for the input by this command, with which
+-- a run ends so
+pub record IsOutputText {T : Type 0} (number : T → ℕ) (p : ℕ) (command : Command) (input : List ℕ) (status : Status)
+    (text : List ℕ) : Type 0 where
+  pub output : Output T
+  pub right : IsOutputFor number p command input output
   pub ends : status ≡ end_of output
-  pub text_is : text ≡ output_text output
+  pub text_is : text ≡ output_text number output
 
 -- the input is not too long, and the status tells the first rule that it breaks; there is no text
-abbrev pub IsRefusal : Format → List ℕ → Status → List ℕ → Type 0
-IsRefusal format input status text = (length input ≤ limit_of format) × IsFault format input status × (text ≡ [])
+abbrev pub IsRefusal : ℕ → Format → List ℕ → Status → List ℕ → Type 0
+IsRefusal p format input status text =
+    (length input ≤ limit_of format) × IsFault p format input status × (text ≡ [])
 
--- a run of this command on this whole input ends with this status and this text on `out`, when nothing fails
-abbrev pub IsAnswerOf : Command → List ℕ → Status → List ℕ → Type 0
-IsAnswerOf command input Done text =
-    (length input ≤ limit_of (format_of command)) × IsOutputText command input Done text
-IsAnswerOf command input NotRegular text =
-    (length input ≤ limit_of (format_of command)) × IsOutputText command input NotRegular text
-IsAnswerOf command input (TooLong limit) text =
+-- over the residues modulo p, each seen by its number: a run of this command on this whole input ends with this status
+-- and this text on `out`, when nothing fails
+abbrev pub IsAnswerOver : {T : Type 0} → (T → ℕ) → ℕ → Command → List ℕ → Status → List ℕ → Type 0
+IsAnswerOver number p command input Done text =
+    (length input ≤ limit_of (format_of command)) × IsOutputText number p command input Done text
+IsAnswerOver number p command input NotRegular text =
+    (length input ≤ limit_of (format_of command)) × IsOutputText number p command input NotRegular text
+IsAnswerOver number p command input (TooLong limit) text =
     (limit ≡ limit_of (format_of command)) × (limit_of (format_of command) < length input) × (text ≡ [])
-IsAnswerOf command input (Refused refused) text = IsRefusal (format_of command) input (Refused refused) text
-IsAnswerOf command input (BadCertificate line) text = IsRefusal (format_of command) input (BadCertificate line) text
-IsAnswerOf command input (Rejected rule) text = IsRefusal (format_of command) input (Rejected rule) text
-IsAnswerOf command input _ text = ⊥
+IsAnswerOver number p command input (Refused refused) text =
+    IsRefusal p (format_of command) input (Refused refused) text
+IsAnswerOver number p command input (BadCertificate line) text =
+    IsRefusal p (format_of command) input (BadCertificate line) text
+IsAnswerOver number p command input (Rejected rule) text =
+    IsRefusal p (format_of command) input (Rejected rule) text
+IsAnswerOver number p command input _ text = ⊥
+
+-- the same over the field that the command names: its values are numbers
+abbrev pub IsAnswerOf : Command → List ℕ → Status → List ℕ → Type 0
+IsAnswerOf command = IsAnswerOver {T = ℕ} (λ value. value) (modulus_of command) command
 
 -- the command on an input that the words ask for gives the answer
 abbrev pub IsCommandAnswer : List (List ℕ) → List ℕ → Status → List ℕ → Type 0
 IsCommandAnswer words input status text =
     (command : Command) × AsksFor words command × IsAnswerOf command input status text
 
--- the words ask for a made model, and the text tells of it
+-- the words ask for a made model over a field, and the text tells of it
 abbrev pub IsMakeAnswer : List (List ℕ) → List ℕ → Type 0
-IsMakeAnswer words text = (n : ℕ) × AsksToMake words n × IsMakeText n text
+IsMakeAnswer words text =
+    (n : ℕ) × (field : Option FieldName) × AsksToMake words n field × IsMakeText (modulus (over field)) n text
 
 -- a run with these words on this whole input ends with this status and this text on `out`, when nothing fails: words
 -- that ask for nothing are answered by `Usage`, and those that ask for a made model by `Done`, whatever the input is;
@@ -116,22 +130,23 @@ OnlyAnswer words left status =
 abbrev pub IsComplete : List (List ℕ) → Option (List ℕ) → Status → Type 0
 IsComplete words left status =
     (input : List ℕ) (command : Command) → left ≡ Some input → AsksFor words command →
-    length input ≤ limit_of (format_of command) → KeepsRules (format_of command) input →
+    length input ≤ limit_of (format_of command) → KeepsRules (modulus_of command) (format_of command) input →
     HasText status ⊎ (status ≡ Memory)
 
 -- where the words ask for a made model, its text is written, but for want of memory
 abbrev pub IsMakeComplete : List (List ℕ) → Status → Type 0
-IsMakeComplete words status = (n : ℕ) → AsksToMake words n → (status ≡ Done) ⊎ (status ≡ Memory)
+IsMakeComplete words status =
+    (n : ℕ) (field : Option FieldName) → AsksToMake words n field → (status ≡ Done) ⊎ (status ≡ Memory)
 
--- how a run ends that tells of the made model of size n, and what was written
-abbrev pub IsMakeEnd : ℕ → Status → Option (List ℕ) → Option (List ℕ) → Type 0 → Type 0
-IsMakeEnd n Done written written' rose = (text : List ℕ) × IsMakeText n text × Appended written written' text
-IsMakeEnd n WriteFault written written' rose =
-    rose × ((text : List ℕ) × IsMakeText n text × AppendedPart written written' text)
-IsMakeEnd n Memory written written' rose = written' ≡ written
-IsMakeEnd n _ written written' rose = ⊥
+-- how a run ends that tells of the made model of size n over the residues modulo p, and what was written
+abbrev pub IsMakeEnd : ℕ → ℕ → Status → Option (List ℕ) → Option (List ℕ) → Type 0 → Type 0
+IsMakeEnd p n Done written written' rose = (text : List ℕ) × IsMakeText p n text × Appended written written' text
+IsMakeEnd p n WriteFault written written' rose =
+    rose × ((text : List ℕ) × IsMakeText p n text × AppendedPart written written' text)
+IsMakeEnd p n Memory written written' rose = written' ≡ written
+IsMakeEnd p n _ written written' rose = ⊥
 
 -- the text of an output was written whole, and the run ends as it says; or the sink failed
-abbrev pub IsDelivered : Output → Status → Type 0 → Type 0 → Type 0
+abbrev pub IsDelivered : {T : Type 0} → Output T → Status → Type 0 → Type 0 → Type 0
 IsDelivered output WriteFault whole failed = failed
 IsDelivered output status whole failed = (status ≡ end_of output) × whole

@@ -1,5 +1,5 @@
 pub mod Numbers
-pub mod Kinds
+pub mod Fields
 pub mod Formats
 pub mod MadeFor
 pub mod Notes

@@ -7,7 +7,7 @@ use Rattle.text_writer.specs.Giving.{AppendedPart}
 use Rattle.text_writer.specs.Numbers.{spaced}
 use Rattle.command_line.specs.Words.{AreTaken}
 use Rattle.command_line.specs.declared.command.WordsError.{WordsError}
-use Rattle.command_line.specs.declared.command.WordsError.TheVariants.{Told, UnknownKind, NoMemory}
+use Rattle.command_line.specs.declared.command.WordsError.TheVariants.{Told, UnknownWord, NoMemory}
 use Rattle.report_cli.specs.declared.status.Status.{Status}
 use Rattle.report_cli.specs.declared.status.Status.TheVariants.{BadCertificate, Done, Memory, NotRegular, ReadFault, Refused, Rejected, TooLong, Usage, WriteFault}
 
@@ -49,7 +49,7 @@ note_of status = line_of status
 -- what is noted of words that ask for no command: what clap tells, or the line for a status
 abbrev pub note_of_words : WordsError → List ℕ
 note_of_words (Told text) = string_bytes text
-note_of_words UnknownKind = line_of Usage
+note_of_words UnknownWord = line_of Usage
 note_of_words NoMemory = line_of Memory
 
 -- what may be noted of a status of a run with these words: of `Usage`, the line where clap's definition takes the

@@ -18,20 +18,21 @@ pub record ReadsWhole (most : ℕ) (left left' : Option (List ℕ)) (Holds : Lis
   pub holds : Holds input
 
 -- the whole input was taken, and the status tells the first rule that it breaks
-abbrev pub IsReadFaulty : Format → Status → Option (List ℕ) → Option (List ℕ) → Type 0
-IsReadFaulty format status left left' = ReadsWhole (limit_of format) left left' (λ input. IsFault format input status)
+abbrev pub IsReadFaulty : ℕ → Format → Status → Option (List ℕ) → Option (List ℕ) → Type 0
+IsReadFaulty p format status left left' =
+    ReadsWhole (limit_of format) left left' (λ input. IsFault p format input status)
 
 -- why an input gives no output: it breaks a rule, or what is too long was taken up to one byte past the limit, or the
 -- source failed, or memory ran out
-abbrev pub IsUnread : Format → Status → Option (List ℕ) → Option (List ℕ) → Type 0
-IsUnread format (Refused refused) left left' = IsReadFaulty format (Refused refused) left left'
-IsUnread format (BadCertificate line) left left' = IsReadFaulty format (BadCertificate line) left left'
-IsUnread format (Rejected rule) left left' = IsReadFaulty format (Rejected rule) left left'
-IsUnread format (TooLong limit) left left' =
+abbrev pub IsUnread : ℕ → Format → Status → Option (List ℕ) → Option (List ℕ) → Type 0
+IsUnread p format (Refused refused) left left' = IsReadFaulty p format (Refused refused) left left'
+IsUnread p format (BadCertificate line) left left' = IsReadFaulty p format (BadCertificate line) left left'
+IsUnread p format (Rejected rule) left left' = IsReadFaulty p format (Rejected rule) left left'
+IsUnread p format (TooLong limit) left left' =
     (limit ≡ limit_of format) × TookExactly (limit_of format + 1) left left'
-IsUnread format ReadFault left left' = TookAtMost (limit_of format) left left'
-IsUnread format Memory left left' = TookAtMost (limit_of format) left left'
-IsUnread format _ left left' = ⊥
+IsUnread p format ReadFault left left' = TookAtMost (limit_of format) left left'
+IsUnread p format Memory left left' = TookAtMost (limit_of format) left left'
+IsUnread p format _ left left' = ⊥
 
 -- each failed read is told, and the source is asked for no more than an input may have and one byte
 pub record TellsOfSource {S T : Type 0} (K : Ghosts S) (most : ℕ) (old new : S) (result : Result T Status) :

@@ -1,6 +1,5 @@
 -- What makes a certificate right for an input.
 use Rattle.std.specs.Prelude.{◌≡◌, ℕ, ◌≤◌, List, length}
-use Rattle.residue_field.specs.Modulus.{res_modulus}
 use Rattle.mixed_matrices.specs.LayeredMatrices.{LayeredMatrix}
 use Rattle.mixed_matrices.specs.Layerings.{Origins, IsLayeredMatrixOf}
 use Rattle.mixed_model.specs.Models.{MixedModel, mixed_matrix_of}
@@ -8,19 +7,24 @@ use Rattle.cert_text.specs.Ranges.{IsCcf}
 use Rattle.cert_text.specs.Right.{IsRightCcf}
 use Rattle.cert_text.specs.Contents.{Certificate}
 use Rattle.cert_text.specs.declared.kind.Kind.{Kind}
+use Rattle.cert_text.specs.declared.version.Version.{Version}
 use Rattle.limits.specs.Limits.{input_limit}
-use Rattle.report_cli.specs.Kinds.{Gives}
+use Rattle.input_kinds.specs.Kinds.{GivesModel}
 
--- the input, of this kind, keeps each rule and gives a model, and the certificate has the kind, repeats the input,
--- keeps the ranges and orders of its lines, and has a right canonical form of the model's layered matrix
-pub record IsRightFor (kind : Kind) (input : List ℕ) (certificate : Certificate) : Type 0 where
+-- over the residues modulo p: the input, of this kind, keeps each rule and gives a model, and the certificate has the
+-- version and the kind, states p, repeats the input, keeps the ranges and orders of its lines, and has a right
+-- canonical form of the model's layered matrix
+pub record IsRightFor (p : ℕ) (version : Version) (kind : Kind) (input : List ℕ) (certificate : Certificate) :
+    Type 0 where
   pub model : MixedModel
-  pub gives : Gives kind input model
+  pub gives : GivesModel p kind input model
+  pub version_is : certificate.version ≡ version
+  pub modulus_is : certificate.modulus ≡ p
   pub kind_is : certificate.kind ≡ kind
   pub echo : certificate.echo ≡ input
   pub short : length certificate.echo ≤ input_limit
-  pub form : IsCcf res_modulus certificate.ccf
+  pub form : IsCcf p certificate.ccf
   pub layered : LayeredMatrix
   pub origins : Origins
   pub layers : IsLayeredMatrixOf (mixed_matrix_of model) layered origins
-  pub right : IsRightCcf res_modulus (mixed_matrix_of model) layered origins certificate.ccf
+  pub right : IsRightCcf p (mixed_matrix_of model) layered origins certificate.ccf

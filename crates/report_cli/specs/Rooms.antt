@@ -5,7 +5,9 @@ use Rattle.cert_text.specs.declared.kind.Kind.{Kind}
 use Rattle.cert_text.specs.declared.kind.Kind.TheVariants.{Flowsheet, Matrix, Netlist}
 use Rattle.answer_texts.specs.Rooms.{layer_room, made_room, plan_room, report_room}
 use Rattle.text_lengths.specs.Rooms.{certificate_room}
-use Rattle.command_line.specs.Words.{Asks}
+use Rattle.command_line.specs.Words.{Asks, field_of, over}
+use Rattle.cert_text.specs.declared.version.Version.{Version}
+use Rattle.report_cli.specs.Fields.{digits, version_of}
 use Rattle.command_line.specs.declared.command.Command.{Command}
 use Rattle.command_line.specs.declared.command.Command.TheVariants.{Check, OfModel}
 use Rattle.command_line.specs.declared.command.Request.{Request}
@@ -28,22 +30,23 @@ columns_within kind n = min (2 * names_within kind n) column_limit
 abbrev pub places_within : Kind → ℕ → ℕ
 places_within kind n = min (names_within kind n) equation_limit
 
--- room for what is written of the model of an input of this kind and of n bytes
-abbrev pub task_room : Task → Kind → ℕ → ℕ
-task_room Analyse kind n = certificate_room n (columns_within kind n)
-task_room Layer kind n = layer_room (columns_within kind n)
-task_room Report kind n = report_room (places_within kind n)
-task_room Plan kind n = plan_room (columns_within kind n)
+-- room for what is written of the model of an input of this kind and of n bytes, over a field whose modulus has at most
+-- so many digits; a certificate has this version
+abbrev pub task_room : ℕ → Version → Task → Kind → ℕ → ℕ
+task_room most version Analyse kind n = certificate_room version most n (columns_within kind n)
+task_room most version Layer kind n = layer_room most (columns_within kind n)
+task_room most version Report kind n = report_room (places_within kind n)
+task_room most version Plan kind n = plan_room most (columns_within kind n)
 
--- room for each text that may be written for an input of n bytes by this command
-abbrev pub text_room : Command → ℕ → ℕ
-text_room (OfModel task kind) n = task_room task kind n
-text_room Check n = 9
+-- room for each text that may be written for an input of n bytes by this command, over such a field
+abbrev pub text_room : ℕ → Command → ℕ → ℕ
+text_room most (OfModel task kind field) n = task_room most (version_of field) task kind n
+text_room most Check n = 9
 
 -- room for each text that may be written by this request for an input of n bytes
 abbrev pub request_room : Request → ℕ → ℕ
-request_room (OfInput command) n = text_room command n
-request_room (Make size) n = made_room
+request_room (OfInput command) n = text_room (digits (over (field_of command))) command n
+request_room (Make size field) n = made_room
 
 -- there is room for each text that may be written for it, by what the words ask for
 abbrev pub HasTextRoom : (ℕ → Type 0) → List (List ℕ) → ℕ → Type 0

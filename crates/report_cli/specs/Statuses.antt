@@ -8,7 +8,7 @@ use Rattle.refusals.specs.declared.ReadModel.{ReadModel}
 use Rattle.refusals.specs.declared.ReadModel.TheVariants.{Refused as Broken, NoMemory}
 use Rattle.report_cli.specs.declared.status.Status.{Status}
 use Rattle.command_line.specs.declared.command.WordsError.{WordsError}
-use Rattle.command_line.specs.declared.command.WordsError.TheVariants.{Told, UnknownKind, NoMemory as Lacking}
+use Rattle.command_line.specs.declared.command.WordsError.TheVariants.{Told, UnknownWord, NoMemory as Lacking}
 use Rattle.report_cli.specs.declared.status.Status.TheVariants.{BadCertificate, Memory, ReadFault, Refused, Rejected, TooLong, Usage}
 
 -- of an input that was not read, and may have so many bytes
@@ -31,5 +31,5 @@ status_of_verdict Unjudged = Memory
 -- of words that ask for no command
 abbrev pub status_of_words : WordsError → Status
 status_of_words (Told text) = Usage
-status_of_words UnknownKind = Usage
+status_of_words UnknownWord = Usage
 status_of_words Lacking = Memory

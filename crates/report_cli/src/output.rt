@@ -1,13 +1,12 @@
 //! What a command writes of an input.
 
-ghost use Rattle.std.specs.Prelude.{◌≡◌, ◌≤◌, ℕ, List, codes, length, IfErr, IfOk};
+ghost use Rattle.std.specs.Prelude.{◌≡◌, ◌<◌, ◌≤◌, ℕ, List, Option, codes, length, IfErr, IfOk};
 ghost use Rattle.cert_text.specs.Ranges.{IsCcf};
 ghost use Rattle.cert_text.specs.declared.kind.Kind.{Kind};
 ghost use Rattle.mixed_layering.specs.Layers.{AreLayersOf};
 ghost use Rattle.answer_texts.specs.LayerTexts.{layer_text};
-ghost use Rattle.residue_field.specs.Modulus.{res_modulus};
 ghost use Rattle.limits.specs.Limits.{input_limit};
-ghost use Rattle.report_cli.specs.Kinds.{Gives, IsWhyUnread};
+ghost use Rattle.input_kinds.specs.Kinds.{GivesModel, IsWhyUnread};
 ghost use Rattle.report_cli.specs.Reading.{IsUnread, ReadsWhole, TellsOfSource};
 ghost use Rattle.report_cli.specs.Outputs.{IsMadeOutput, IsOutputFor, IsWritable, end_of, end_of_rank, output_text};
 ghost use Rattle.std.specs.List.{All};
@@ -20,6 +19,7 @@ ghost use Rattle.mixed_model.specs.Models.{mixed_matrix_of};
 ghost use Rattle.solve_plan.specs.Reports.{IsReportOf};
 ghost use Rattle.answer_texts.specs.WholeLayers.{AreWholeLayers};
 ghost use Rattle.cert_reader.specs.Limits.{certificate_limit};
+ghost use Rattle.report_cli.specs.Fields.{version_of};
 ghost use Rattle.report_cli.specs.Formats.{limit_of};
 ghost use Rattle.command_line.specs.Words.{format_of};
 ghost use Rattle.text_writer.specs.Giving.{IsWritten};
@@ -29,9 +29,9 @@ use crate::status::Status;
 use answer_texts::{put_layers, put_made, put_plan, put_report};
 use ccf_builder::build;
 use cert_reader::CERTIFICATE_LIMIT;
-use cert_text::{Ccf, Certificate, Items, Kind};
+use cert_text::{Ccf, Certificate, Items, Kind, Version};
 use cert_verdict::judge;
-use command_line::{Command, Format, Task};
+use command_line::{Command, FieldName, Format, Task};
 use flowsheet_reader::FlowsheetReader;
 use limits::INPUT_LIMIT;
 use made_models::made_model;
@@ -42,104 +42,106 @@ use netlist_reader::NetlistReader;
 use out_of_memory::NoMemory;
 use port_io::{Sink, Source, WriteFault};
 use refusals::ReadModel;
-use residue_field::Res;
+use residue_field::Field;
 use solve_plan::{Plan, Report, plan, report};
 use std::alloc::Global;
 use text_writer::TextWriter;
 
 /// What a command writes of an input.
 #[derive(Drop)]
-pub enum Output {
+pub enum Output<F: Field> {
     /// The certificate of the input.
-    Certificate(Certificate<Res>),
+    Certificate(Certificate<F>),
     /// The model that the input gives, and the layered matrix of the model.
-    Layers(Mixed<Res>, Layered<Res>),
+    Layers(Mixed<F>, Layered<F>),
     /// The model that the input gives, and the report on it.
-    Report(Mixed<Res>, Report),
+    Report(Mixed<F>, Report),
     /// The model that the input gives, the layered matrix of the model, and a plan to solve it.
-    Plan(Mixed<Res>, Layered<Res>, Plan<Res>),
+    Plan(Mixed<F>, Layered<F>, Plan<F>),
     /// That the certificate in the input is right for the input that it repeats.
     Accepted,
     /// The size of a made model, how many of its equations are split, and its canonical form.
-    Made(usize, usize, Ccf<Res>),
+    Made(usize, usize, Ccf<F>),
 }
 
-impl Output {
+impl<F: Field> Output<F> {
     /// What the command writes of the input that the source gives, or how the run ends without it.
     pub fn read<S: Source>(
         alloc: Global,
         command: Command,
         source: &mut S,
-    ) -> Result<Output, Status>
+    ) -> Result<Output<F>, Status>
         ensures right { IfOk result (λ output. ReadsWhole (limit_of (format_of command)) (S.left source.old)
-            (S.left source.new) (λ input. IsOutputFor command input output)) }
+            (S.left source.new) (λ input. IsOutputFor F.number F.modulus command input output)) }
         ensures unread { IfErr result (λ status.
-            IsUnread (format_of command) status (S.left source.old) (S.left source.new)) }
+            IsUnread F.modulus (format_of command) status (S.left source.old) (S.left source.new)) }
         ensures source { TellsOfSource S.Source (limit_of (format_of command)) source.old source.new result }
     {
         match command {
-            Command::OfModel(task, Kind::Matrix) => {
-                Output::of_model::<S, MatrixReader<Res>>(alloc, task, source)
+            Command::OfModel(task, Kind::Matrix, named) => {
+                Output::of_model::<S, MatrixReader<F>>(alloc, task, named, source)
             }
-            Command::OfModel(task, Kind::Netlist) => {
-                Output::of_model::<S, NetlistReader<Res>>(alloc, task, source)
+            Command::OfModel(task, Kind::Netlist, named) => {
+                Output::of_model::<S, NetlistReader<F>>(alloc, task, named, source)
             }
-            Command::OfModel(task, Kind::Flowsheet) => {
-                Output::of_model::<S, FlowsheetReader>(alloc, task, source)
+            Command::OfModel(task, Kind::Flowsheet, named) => {
+                Output::of_model::<S, FlowsheetReader>(alloc, task, named, source)
             }
             Command::Check => Output::verdict(alloc, source),
         }
     }
 
-    // What is written of a model, by a reader of inputs of its kind.
-    fn of_model<S: Source, R: ModelReader>(
+    // What is written of a model over the field of this name, by a reader of inputs of its kind.
+    fn of_model<S: Source, R: ModelReader<F>>(
         alloc: Global,
         task: Task,
+        named: Option<FieldName>,
         source: &mut S,
-    ) -> Result<Output, Status>
+    ) -> Result<Output<F>, Status>
         ensures right { IfOk result (λ output. ReadsWhole input_limit (S.left source.old) (S.left source.new)
-            (λ input. IsOutputFor (Command.OfModel task R.KIND) input output)) }
+            (λ input. IsOutputFor F.number F.modulus (Command.OfModel task R.KIND named) input output)) }
         ensures unread { IfErr result (λ status.
-            IsUnread (Format.Model R.KIND) status (S.left source.old) (S.left source.new)) }
+            IsUnread F.modulus (Format.Model R.KIND) status (S.left source.old) (S.left source.new)) }
         ensures source { TellsOfSource S.Source input_limit source.old source.new result }
     {
         match task {
             Task::Layer => {
-                let model = read_model::<S, R>(alloc, source)?;
+                let model = read_model::<F, S, R>(alloc, source)?;
                 Ok(Output::layers(alloc, model)?)
             }
             Task::Report => {
-                let model = read_model::<S, R>(alloc, source)?;
+                let model = read_model::<F, S, R>(alloc, source)?;
                 Ok(Output::report(alloc, model)?)
             }
             Task::Plan => {
-                let model = read_model::<S, R>(alloc, source)?;
+                let model = read_model::<F, S, R>(alloc, source)?;
                 Ok(Output::plan(alloc, model)?)
             }
             Task::Analyse => {
                 let text = read_text(alloc, source, INPUT_LIMIT as u64)?;
-                Ok(Output::certificate::<R>(alloc, text)?)
+                Ok(Output::certificate::<R>(alloc, named, text)?)
             }
         }
     }
 
     // That the certificate in the input is accepted.
-    fn verdict<S: Source>(alloc: Global, source: &mut S) -> Result<Output, Status>
+    fn verdict<S: Source>(alloc: Global, source: &mut S) -> Result<Output<F>, Status>
         ensures right { IfOk result (λ output. ReadsWhole certificate_limit (S.left source.old) (S.left source.new)
-            (λ input. IsOutputFor Command.Check input output)) }
+            (λ input. IsOutputFor F.number F.modulus Command.Check input output)) }
         ensures unread { IfErr result (λ status.
-            IsUnread Format.Certificate status (S.left source.old) (S.left source.new)) }
+            IsUnread F.modulus Format.Certificate status (S.left source.old) (S.left source.new)) }
         ensures source { TellsOfSource S.Source certificate_limit source.old source.new result }
     {
         let text = read_text(alloc, source, CERTIFICATE_LIMIT as u64)?;
-        judge::<Res>(alloc, text)?;
+        judge(alloc, text)?;
         Ok(Output::Accepted)
     }
 
     // The layered matrix of a model.
-    fn layers(alloc: Global, model: Mixed<Res>) -> Result<Output, NoMemory>
-        ensures { IfOk result (λ output. (kind : Kind) (input : List ℕ) → Gives kind input model →
-            IsOutputFor (Command.OfModel Task.Layer kind) input output) }
+    fn layers(alloc: Global, model: Mixed<F>) -> Result<Output<F>, NoMemory>
+        ensures { IfOk result (λ output. (kind : Kind) (named : Option FieldName) (input : List ℕ) →
+            GivesModel F.modulus kind input model →
+            IsOutputFor F.number F.modulus (Command.OfModel Task.Layer kind named) input output) }
     {
         let layered = layer(alloc, &model)?;
         is_whole(&layered);
@@ -147,9 +149,10 @@ impl Output {
     }
 
     // The report on a model.
-    fn report(alloc: Global, model: Mixed<Res>) -> Result<Output, NoMemory>
-        ensures { IfOk result (λ output. (kind : Kind) (input : List ℕ) → Gives kind input model →
-            IsOutputFor (Command.OfModel Task.Report kind) input output) }
+    fn report(alloc: Global, model: Mixed<F>) -> Result<Output<F>, NoMemory>
+        ensures { IfOk result (λ output. (kind : Kind) (named : Option FieldName) (input : List ℕ) →
+            GivesModel F.modulus kind input model →
+            IsOutputFor F.number F.modulus (Command.OfModel Task.Report kind named) input output) }
     {
         let layered = layer(alloc, &model)?;
         // it tells what the type of a model keeps
@@ -160,9 +163,10 @@ impl Output {
     }
 
     // A plan to solve a model.
-    fn plan(alloc: Global, model: Mixed<Res>) -> Result<Output, NoMemory>
-        ensures { IfOk result (λ output. (kind : Kind) (input : List ℕ) → Gives kind input model →
-            IsOutputFor (Command.OfModel Task.Plan kind) input output) }
+    fn plan(alloc: Global, model: Mixed<F>) -> Result<Output<F>, NoMemory>
+        ensures { IfOk result (λ output. (kind : Kind) (named : Option FieldName) (input : List ℕ) →
+            GivesModel F.modulus kind input model →
+            IsOutputFor F.number F.modulus (Command.OfModel Task.Plan kind named) input output) }
     {
         let layered = layer(alloc, &model)?;
         is_whole(&layered);
@@ -174,13 +178,18 @@ impl Output {
         Ok(Output::Plan(model, layered, plan))
     }
 
-    // The certificate of a text of at most 8,388,608 bytes, or why the text is refused.
-    fn certificate<R: ModelReader>(alloc: Global, text: Vec<u8>) -> Result<Output, ReadModel>
+    // The certificate of a text of at most 8,388,608 bytes, where this field is named, or why the text is refused.
+    fn certificate<R: ModelReader<F>>(
+        alloc: Global,
+        named: Option<FieldName>,
+        text: Vec<u8>,
+    ) -> Result<Output<F>, ReadModel>
         requires { length text.items ≤ input_limit }
-        ensures right { IfOk result (IsOutputFor (Command.OfModel Task.Analyse R.KIND) text.items) }
-        ensures refused { IfErr result (IsWhyUnread R.KIND text.items) }
+        ensures right { IfOk result
+            (IsOutputFor F.number F.modulus (Command.OfModel Task.Analyse R.KIND named) text.items) }
+        ensures refused { IfErr result (IsWhyUnread F.modulus R.KIND text.items) }
     {
-        let model = read_whole::<R>(alloc, &text)?;
+        let model = read_whole::<F, R>(alloc, &text)?;
         let Ok(layered) = layer(alloc, &model) else {
             return Err(ReadModel::NoMemory);
         };
@@ -189,6 +198,7 @@ impl Output {
         };
         is_in_form(&ccf);
         Ok(Output::Certificate(Certificate {
+            version: version_of(named),
             kind: R::KIND,
             echo: Items::from_vec(text),
             ccf,
@@ -196,11 +206,12 @@ impl Output {
     }
 
     /// What is told of the made model of this size.
-    pub fn made(alloc: Global, size: usize) -> Result<Output, NoMemory>
-        requires { IsSize size }
-        ensures { IfOk result (IsMadeOutput size) }
+    pub fn made(alloc: Global, size: usize) -> Result<Output<F>, NoMemory>
+        requires size { IsSize size }
+        requires constants { 65520 < F.modulus }
+        ensures { IfOk result (IsMadeOutput F.modulus size) }
     {
-        let model = made_model::<Res>(alloc, size)?;
+        let model = made_model::<F>(alloc, size)?;
         let layered = layer(alloc, &model)?;
         let ccf = build(alloc, &layered)?;
         is_in_form(&ccf);
@@ -211,8 +222,8 @@ impl Output {
     /// Appends the whole text to the sink, in pieces of some KiB, and takes no memory. It does not flush. Where the
     /// sink fails, a first part of the text was appended, and `written` counts its bytes.
     pub fn write<K: Sink>(&self, out: &mut K) -> Result<(), WriteFault>
-        requires { IsWritable self.now }
-        ensures { IsWritten K.Sink out.old out.new (output_text self.now) result }
+        requires { IsWritable F.modulus self.now }
+        ensures { IsWritten K.Sink out.old out.new (output_text F.number self.now) result }
     {
         match self {
             Output::Certificate(certificate) => cert_text::write(certificate, out),
@@ -246,25 +257,35 @@ fn status_of(told: &Report) -> Status
     }
 }
 
+// The version of the certificate that is written where this field is named.
+fn version_of(named: Option<FieldName>) -> Version
+    ensures { result ≡ version_of named }
+{
+    match named {
+        Some(_) => Version::Two,
+        None => Version::One,
+    }
+}
+
 // Tells a proof what the type of a layered matrix keeps.
-fn is_whole(layered: &Layered<Res>)
+fn is_whole<F: Field>(layered: &Layered<F>)
     ensures { AreWholeLayers layered.now }
 {
     let _ = (layered.split(), layered.q.rows(), layered.t.rows());
 }
 
 // Tells a proof what the type of a printed form keeps.
-fn is_in_form(ccf: &Ccf<Res>)
-    ensures { IsCcf res_modulus ccf.now }
+fn is_in_form<F: Field>(ccf: &Ccf<F>)
+    ensures { IsCcf F.modulus ccf.now }
 {
     let _ = ccf.rank();
 }
 
 // Appends the text of the layered matrix of a model to the sink.
-fn write_layers<K: Sink>(
+fn write_layers<F: Field, K: Sink>(
     out: &mut K,
-    model: &Mixed<Res>,
-    layered: &Layered<Res>,
+    model: &Mixed<F>,
+    layered: &Layered<F>,
 ) -> Result<(), WriteFault>
     requires { AreLayersOf model.now layered.now }
     ensures { IsWritten K.Sink out.old out.new (layer_text model.now layered.now) result }
@@ -275,8 +296,12 @@ fn write_layers<K: Sink>(
 }
 
 // Appends the text of the report on a model to the sink.
-fn write_report<K: Sink>(out: &mut K, model: &Mixed<Res>, told: &Report) -> Result<(), WriteFault>
-    requires { IsReportOf res_modulus (mixed_matrix_of model.now) told.now }
+fn write_report<F: Field, K: Sink>(
+    out: &mut K,
+    model: &Mixed<F>,
+    told: &Report,
+) -> Result<(), WriteFault>
+    requires { IsReportOf F.modulus (mixed_matrix_of model.now) told.now }
     ensures { IsWritten K.Sink out.old out.new (report_text model.now told.now) result }
 {
     let mut writer = TextWriter::new(out);
@@ -285,15 +310,15 @@ fn write_report<K: Sink>(out: &mut K, model: &Mixed<Res>, told: &Report) -> Resu
 }
 
 // Appends the text of a plan to the sink.
-fn write_plan<K: Sink>(
+fn write_plan<F: Field, K: Sink>(
     out: &mut K,
-    model: &Mixed<Res>,
-    layered: &Layered<Res>,
-    plan: &Plan<Res>,
+    model: &Mixed<F>,
+    layered: &Layered<F>,
+    plan: &Plan<F>,
 ) -> Result<(), WriteFault>
     requires layers { AreLayersOf model.now layered.now }
     requires steps { All (IsStepIn (length model.now.equations) layered.now.q.width) plan.now.steps }
-    ensures { IsWritten K.Sink out.old out.new (plan_text (λ x. x) model.now layered.now plan.now) result }
+    ensures { IsWritten K.Sink out.old out.new (plan_text F.number model.now layered.now plan.now) result }
 {
     let mut writer = TextWriter::new(out);
     put_plan(&mut writer, model, layered, plan);
@@ -301,11 +326,11 @@ fn write_plan<K: Sink>(
 }
 
 // Appends the text about a made model to the sink.
-fn write_made<K: Sink>(
+fn write_made<F: Field, K: Sink>(
     out: &mut K,
     size: usize,
     split: usize,
-    ccf: &Ccf<Res>,
+    ccf: &Ccf<F>,
 ) -> Result<(), WriteFault>
     ensures { IsWritten K.Sink out.old out.new (made_text size split ccf.now) result }
 {

@@ -4,7 +4,7 @@ ghost use Rattle.std.specs.Prelude.{◌≡◌, ◌≤◌, ◌++◌, ℕ, List, [
 ghost use Rattle.cert_text.specs.declared.kind.Kind.{Kind};
 ghost use Rattle.limits.specs.Limits.{input_limit};
 ghost use Rattle.port_io.specs.Pumping.{nothing_pumped};
-ghost use Rattle.report_cli.specs.Kinds.{Gives, IsWhyUnread};
+ghost use Rattle.input_kinds.specs.Kinds.{GivesModel, IsWhyUnread};
 ghost use Rattle.cert_reader.specs.Limits.{certificate_limit};
 ghost use Rattle.report_cli.specs.Formats.{limit_of};
 ghost use Rattle.report_cli.specs.Reading.{IsUnread, ReadsWhole, TellsOfSource};
@@ -21,11 +21,11 @@ use netlist_reader::NetlistReader;
 use out_of_memory::NoMemory;
 use port_io::{Pump, Source, read_all};
 use refusals::ReadModel;
-use residue_field::Res;
+use residue_field::Field;
 use std::alloc::Global;
 
 /// A reader of inputs of one kind, of at most 8,388,608 bytes, that come in pieces.
-pub trait ModelReader: Drop {
+pub trait ModelReader<F: Field>: Drop {
     /// The kind of the inputs.
     ghost KIND: { Kind };
 
@@ -45,60 +45,60 @@ pub trait ModelReader: Drop {
             is_fed fed (text ++ piece.now)) };
 
     /// The model of the text, or why it has none.
-    fn model(self) -> Result<Mixed<Res>, ReadModel>
-        ensures model { IfOk result (λ model. (text : List ℕ) → is_fed self text → Gives KIND text model) }
-        ensures refused { IfErr result (λ why. (text : List ℕ) → is_fed self text → IsWhyUnread KIND text why) };
+    fn model(self) -> Result<Mixed<F>, ReadModel>
+        ensures model { IfOk result (λ model. (text : List ℕ) → is_fed self text →
+            GivesModel F.modulus KIND text model) }
+        ensures refused { IfErr result (λ why. (text : List ℕ) → is_fed self text →
+            IsWhyUnread F.modulus KIND text why) };
 }
 
-impl ModelReader for MatrixReader<Res> {
+impl<F: Field> ModelReader<F> for MatrixReader<F> {
     ghost use Rattle.cert_text.specs.declared.kind.Kind.TheVariants.{Matrix};
     ghost use Rattle.matrix_reader.specs.Feeding.{IsFed};
-    ghost use Rattle.residue_field.specs.Modulus.{res_modulus};
 
     ghost KIND = { Matrix };
 
-    ghost is_fed = { IsFed res_modulus };
+    ghost is_fed = { IsFed F.modulus };
 
     const KIND: Kind = Kind::Matrix;
 
-    fn start(alloc: Global) -> Result<MatrixReader<Res>, NoMemory> {
+    fn start(alloc: Global) -> Result<MatrixReader<F>, NoMemory> {
         MatrixReader::new(alloc)
     }
 
-    fn take(self, piece: &[u8]) -> Result<MatrixReader<Res>, NoMemory> {
+    fn take(self, piece: &[u8]) -> Result<MatrixReader<F>, NoMemory> {
         self.feed(piece)
     }
 
-    fn model(self) -> Result<Mixed<Res>, ReadModel> {
+    fn model(self) -> Result<Mixed<F>, ReadModel> {
         self.finish()
     }
 }
 
-impl ModelReader for NetlistReader<Res> {
+impl<F: Field> ModelReader<F> for NetlistReader<F> {
     ghost use Rattle.cert_text.specs.declared.kind.Kind.TheVariants.{Netlist};
     ghost use Rattle.netlist_reader.specs.Feeding.{IsFed};
-    ghost use Rattle.residue_field.specs.Modulus.{res_modulus};
 
     ghost KIND = { Netlist };
 
-    ghost is_fed = { IsFed res_modulus };
+    ghost is_fed = { IsFed F.modulus };
 
     const KIND: Kind = Kind::Netlist;
 
-    fn start(alloc: Global) -> Result<NetlistReader<Res>, NoMemory> {
+    fn start(alloc: Global) -> Result<NetlistReader<F>, NoMemory> {
         NetlistReader::new(alloc)
     }
 
-    fn take(self, piece: &[u8]) -> Result<NetlistReader<Res>, NoMemory> {
+    fn take(self, piece: &[u8]) -> Result<NetlistReader<F>, NoMemory> {
         self.feed(piece)
     }
 
-    fn model(self) -> Result<Mixed<Res>, ReadModel> {
+    fn model(self) -> Result<Mixed<F>, ReadModel> {
         self.finish()
     }
 }
 
-impl ModelReader for FlowsheetReader {
+impl<F: Field> ModelReader<F> for FlowsheetReader {
     ghost use Rattle.cert_text.specs.declared.kind.Kind.TheVariants.{Flowsheet};
     ghost use Rattle.flowsheet_reader.specs.Feeding.{IsFed};
 
@@ -116,7 +116,7 @@ impl ModelReader for FlowsheetReader {
         self.feed(piece)
     }
 
-    fn model(self) -> Result<Mixed<Res>, ReadModel> {
+    fn model(self) -> Result<Mixed<F>, ReadModel> {
         self.finish()
     }
 }
@@ -126,8 +126,8 @@ pub fn read_text<S: Source>(alloc: Global, source: &mut S, limit: u64) -> Result
     requires { limit ≤ certificate_limit }
     ensures read { IfOk result (λ text.
         ReadsWhole limit (S.left source.old) (S.left source.new) (λ input. input ≡ text.items)) }
-    ensures unread { (format : Format) → limit_of format ≡ limit → IfErr result (λ status.
-        IsUnread format status (S.left source.old) (S.left source.new)) }
+    ensures unread { (p : ℕ) (format : Format) → limit_of format ≡ limit → IfErr result (λ status.
+        IsUnread p format status (S.left source.old) (S.left source.new)) }
     ensures source { TellsOfSource S.Source limit source.old source.new result }
 {
     match read_all(alloc, source, limit) {
@@ -137,10 +137,13 @@ pub fn read_text<S: Source>(alloc: Global, source: &mut S, limit: u64) -> Result
 }
 
 /// The model that a text gives.
-pub fn read_whole<R: ModelReader>(alloc: Global, text: &[u8]) -> Result<Mixed<Res>, ReadModel>
+pub fn read_whole<F: Field, R: ModelReader<F>>(
+    alloc: Global,
+    text: &[u8],
+) -> Result<Mixed<F>, ReadModel>
     requires { length text.now ≤ input_limit }
-    ensures model { IfOk result (λ model. Gives R.KIND text.now model) }
-    ensures refused { IfErr result (λ why. IsWhyUnread R.KIND text.now why) }
+    ensures model { IfOk result (λ model. GivesModel F.modulus R.KIND text.now model) }
+    ensures refused { IfErr result (λ why. IsWhyUnread F.modulus R.KIND text.now why) }
 {
     let Ok(reader) = R::start(alloc) else {
         return Err(ReadModel::NoMemory);
@@ -152,23 +155,24 @@ pub fn read_whole<R: ModelReader>(alloc: Global, text: &[u8]) -> Result<Mixed<Re
 }
 
 /// The model that an input gives, whose text is not kept.
-pub fn read_model<S: Source, R: ModelReader>(
+pub fn read_model<F: Field, S: Source, R: ModelReader<F>>(
     alloc: Global,
     source: &mut S,
-) -> Result<Mixed<Res>, Status>
-    ensures read { IfOk result (λ model.
-        ReadsWhole input_limit (S.left source.old) (S.left source.new) (λ input. Gives R.KIND input model)) }
-    ensures unread { IfErr result (λ status. IsUnread (Model R.KIND) status (S.left source.old) (S.left source.new)) }
+) -> Result<Mixed<F>, Status>
+    ensures read { IfOk result (λ model. ReadsWhole input_limit (S.left source.old) (S.left source.new)
+        (λ input. GivesModel F.modulus R.KIND input model)) }
+    ensures unread { IfErr result (λ status.
+        IsUnread F.modulus (Model R.KIND) status (S.left source.old) (S.left source.new)) }
     ensures source { TellsOfSource S.Source input_limit source.old source.new result }
 {
     let pump = Pump::new(alloc, INPUT_LIMIT as u64)?;
     let reader = R::start(alloc)?;
-    let reader = feed_all(source, pump, reader)?;
+    let reader = feed_all::<F, S, R>(source, pump, reader)?;
     Ok(reader.model()?)
 }
 
 // Feeds all pieces to a reader.
-fn feed_all<S: Source, R: ModelReader>(
+fn feed_all<F: Field, S: Source, R: ModelReader<F>>(
     source: &mut S,
     mut pump: Pump,
     mut reader: R,
@@ -177,7 +181,8 @@ fn feed_all<S: Source, R: ModelReader>(
     requires reader { R.is_fed reader [] }
     ensures read { IfOk result (λ fed.
         ReadsWhole input_limit (S.left source.old) (S.left source.new) (λ input. R.is_fed fed input)) }
-    ensures unread { IfErr result (λ status. IsUnread (Model R.KIND) status (S.left source.old) (S.left source.new)) }
+    ensures unread { IfErr result (λ status.
+        IsUnread F.modulus (Model R.KIND) status (S.left source.old) (S.left source.new)) }
     ensures source { TellsOfSource S.Source input_limit source.old source.new result }
 {
     while pump.next(source)? > 0 {

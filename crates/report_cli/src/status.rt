@@ -59,7 +59,7 @@ impl Status {
         ensures { result ≡ status_of_words why.now }
     {
         match why {
-            WordsError::Told(_) | WordsError::UnknownKind => Status::Usage,
+            WordsError::Told(_) | WordsError::UnknownWord => Status::Usage,
             WordsError::NoMemory => Status::Memory,
         }
     }

@@ -30,7 +30,7 @@ pub fn tell_words<N: Sink>(notes: &mut N, why: &WordsError)
         WordsError::Told(text) => {
             let _ = write_text(notes, text);
         }
-        WordsError::UnknownKind => tell(notes, Status::Usage),
+        WordsError::UnknownWord => tell(notes, Status::Usage),
         WordsError::NoMemory => tell(notes, Status::Memory),
     }
 }

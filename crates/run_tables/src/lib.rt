@@ -3,6 +3,8 @@
 #![tactic(auto)]
 
 #[cfg(test)]
+mod fields;
+#[cfg(test)]
 mod makes;
 #[cfg(test)]
 mod plans;

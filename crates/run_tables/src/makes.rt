@@ -48,13 +48,15 @@ fn small_makes(rt: HostRuntime) -> Result<(), Fail> {
 
 #[test]
 fn sizes_that_are_none(rt: HostRuntime) -> Result<(), Fail> {
-    let cases: [(&[&str], &[u8]); 6] = [
+    let cases: [(&[&str], &[u8]); 5] = [
         (&["mixed", "make", "0"], b"invalid value '0' for '<N>'"),
         (&["mixed", "make", "401"], b"invalid value '401' for '<N>'"),
         (&["mixed", "make", "x"], b"invalid value 'x' for '<N>'"),
         (&["mixed", "make"], b"<N>"),
-        (&["mixed", "make", "2", "matrix"], b"'matrix'"),
-        (&["mixed", "make", "--help"], b"Usage: mixed make <N>\n"),
+        (
+            &["mixed", "make", "--help"],
+            b"Usage: mixed make <N> [FIELD]\n",
+        ),
     ];
     for (words, told) in cases {
         expect_told(&rt, rt.alloc(), words, told)?;

@@ -1,5 +1,6 @@
 -- The lengths of a certificate's lines, where rows and columns number at most k, and k is at most 8,192.
-use Rattle.std.proofs.Common.{◌≡◌, ℕ, ◌+◌, ◌*◌, ◌<◌, ◌≤◌, List, [], ◌∷◌, ◌++◌, length, map, get_or, codes, sym, subst, arith, suc-mul}
+use Rattle.std.proofs.Common.{◌≡◌, ℕ, ◌+◌, ◌*◌, ◌^◌, ◌<◌, ◌≤◌, List, [], ◌∷◌, ◌++◌, length, map, get_or, codes, sym, subst, arith}
+use Rattle.std.proofs.Common.{mul_comm, mul-le-mul_right, suc-mul}
 use Rattle.std.specs.List.{All}
 use Rattle.std.proofs.lemmas.List.{length-append, length-map, get_or-map}
 use Rattle.std.proofs.lemmas.List.Elements.{All-head, All-tail}
@@ -37,13 +38,6 @@ module _ (k : ℕ) (few : k ≤ 8192) where
     letters-short letter rows (λ i d il. let b : get_or rows i d < n = are.below i d il in omega (arith, b, less, few)),
   )
 
-  pub entries-within : (p : ℕ) → p ≤ 100000 → (n : ℕ) (entries : List (ℕ × ℕ)) → n ≤ k → AreEntries p n entries → length (entries_text entries) ≤ 12 * k
-  entries-within p short n entries less are =
-      let keys : List ℕ = map (λ (entry : ℕ × ℕ). entry.0) entries in
-      let long : length keys ≡ length entries = length-map entries (λ (entry : ℕ × ℕ). entry.0) in
-      let count : length keys ≤ n = rising-few n keys are.rising (keys-below n entries (λ i d il. (are.within i d il).0)) in
-      omega (arith, less, long, count, entries-short p short entries (λ i d il. let b = are.within i d il in (omega (arith, b.0, less, few), b.2)))
-
   pub pairs-within : (m n : ℕ) (pairs : List (ℕ × ℕ)) → m ≤ k → n ≤ k → ArePairs m n pairs → length (pairs_text pairs) ≤ 12 * k
   pairs-within m n pairs less low are =
       let keys : List ℕ = map (λ (pair : ℕ × ℕ). pair.0) pairs in
@@ -52,29 +46,37 @@ module _ (k : ℕ) (few : k ≤ 8192) where
       omega (arith, less, long, count, pairs-short pairs (λ i d il. let b = are.within i d il in (omega (arith, b.0, less, few), omega (arith, b.1, low, few))))
 
   -- the lines of a matrix of at most as many rows, with a word of one letter
-  pub matrix-short : (p : ℕ) → p ≤ 100000 → (letter number n : ℕ) (rows : List (List (ℕ × ℕ))) → n ≤ k →
-      number + length rows ≤ 8193 → All (AreEntries p n) rows →
-      length (matrix_text (letter ∷ []) number rows) ≤ length rows * (9 + 12 * k)
-  matrix-short p short letter number n [] less small are = omega arith
-  matrix-short p short letter number n (row ∷ rows) less small are =
-      let here : AreEntries p n row = All-head (AreEntries p n) row rows are in
-      let rest = matrix-short p short letter (number + 1) n rows less (omega (arith, small)) (All-tail (AreEntries p n) row rows are) in
-      let head = marked-short 32 number (omega (arith, small)) in
-      let line : length (entries_line (letter ∷ []) number row) ≤ 9 + 12 * k = omega (
-        arith,
-        head,
-        entries-within p short n row less here,
-        length-append (head_text (letter ∷ []) number) (entries_text row),
-        length-append (head_text (letter ∷ []) number ++ entries_text row) (codes "\n"),
-        length-append (spaced number) (codes ":"),
-      ) in
-      rw (suc-mul (length rows) (9 + 12 * k)) (omega (
-        arith,
-        line,
-        rest,
-        length-append (entries_line (letter ∷ []) number row)
-            (matrix_text (letter ∷ []) (number + 1) rows),
-      ))
+  module _ (p digits : ℕ) (short : p ≤ 10 ^ digits) where
+    entries-within : (n : ℕ) (entries : List (ℕ × ℕ)) → n ≤ k → AreEntries p n entries → length (entries_text entries) ≤ (7 + digits) * k
+    entries-within n entries less are =
+        let keys : List ℕ = map (λ (entry : ℕ × ℕ). entry.0) entries in
+        let long : length keys ≡ length entries = length-map entries (λ (entry : ℕ × ℕ). entry.0) in
+        let count : length keys ≤ n = rising-few n keys are.rising (keys-below n entries (λ i d il. (are.within i d il).0)) in
+        let text = entries-short p digits short entries (λ i d il. let b = are.within i d il in (omega (arith, b.0, less, few), b.1, b.2)) in
+        omega (arith, text, mul-le-mul_right (7 + digits) (let at : length entries ≤ k = omega (arith, less, long, count) in at), mul_comm k (7 + digits))
+
+    pub matrix-short : (letter number n : ℕ) (rows : List (List (ℕ × ℕ))) → n ≤ k → number + length rows ≤ 8193 → All (AreEntries p n) rows →
+        length (matrix_text (letter ∷ []) number rows) ≤ length rows * (9 + (7 + digits) * k)
+    matrix-short letter number n [] less small are = omega arith
+    matrix-short letter number n (row ∷ rows) less small are =
+        let here : AreEntries p n row = All-head (AreEntries p n) row rows are in
+        let rest = matrix-short letter (number + 1) n rows less (omega (arith, small)) (All-tail (AreEntries p n) row rows are) in
+        let head = marked-short 32 number (omega (arith, small)) in
+        let line : length (entries_line (letter ∷ []) number row) ≤ 9 + (7 + digits) * k = omega (
+          arith,
+          head,
+          entries-within n row less here,
+          length-append (head_text (letter ∷ []) number) (entries_text row),
+          length-append (head_text (letter ∷ []) number ++ entries_text row) (codes "\n"),
+          length-append (spaced number) (codes ":"),
+        ) in
+        rw (suc-mul (length rows) (9 + (7 + digits) * k)) (omega (
+          arith,
+          line,
+          rest,
+          length-append (entries_line (letter ∷ []) number row)
+              (matrix_text (letter ∷ []) (number + 1) rows),
+        ))
 
   pub pattern-short : (letter number n : ℕ) (rows : List (List ℕ)) → n ≤ k → number + length rows ≤ 8193 → All (AreRising n) rows →
       length (pattern_text (letter ∷ []) number rows) ≤ length rows * (9 + 6 * k)

@@ -1,5 +1,5 @@
 -- The length of a right certificate's text.
-use Rattle.std.proofs.Common.{◌≡◌, ℕ, ◌+◌, ◌-◌, ◌*◌, ◌≤◌, List, ◌++◌, length, codes, refl, ap, ◌∙◌, subst, arith}
+use Rattle.std.proofs.Common.{◌≡◌, ℕ, ◌+◌, ◌-◌, ◌*◌, ◌^◌, ◌<◌, ◌≤◌, List, ◌++◌, length, codes, refl, ap, ◌∙◌, subst, arith}
 use Rattle.std.proofs.Common.{mul-add, mul_comm, mul_left_comm, mul-le-mul_right}
 use Rattle.std.specs.List.{All}
 use Rattle.std.proofs.lemmas.Fmt.{length-decimal-le}
@@ -16,11 +16,13 @@ use Rattle.cert_text.specs.Ranges.{IsCcf, IsPart, AreRising}
 use Rattle.cert_text.specs.Right.{IsRightCcf}
 use Rattle.cert_text.specs.Texts.{spaced, pairs_text, matrix_text, pattern_text, tail_line, blocks_text, kind_text}
 use Rattle.cert_text.specs.Texts.{echo_text, shape_text, pair_text, matrices_text, parts_text, contents_text}
-use Rattle.cert_text.specs.Texts.{certificate_text}
+use Rattle.cert_text.specs.Texts.{certificate_text, version_text}
 use Rattle.cert_text.specs.declared.kind.Kind.{Kind}
 use Rattle.cert_text.specs.declared.kind.Kind.TheVariants.{Flowsheet, Matrix, Netlist}
-use Rattle.text_lengths.specs.Rooms.{IsShapeWithin, contents_room, certificate_room}
-use Rattle.text_lengths.proofs.Lengths.{marked-short}
+use Rattle.cert_text.specs.declared.version.Version.{Version}
+use Rattle.cert_text.specs.declared.version.Version.TheVariants.{One, Two}
+use Rattle.text_lengths.specs.Rooms.{IsShapeWithin, certificate_room, contents_room, head_room}
+use Rattle.text_lengths.proofs.Lengths.{decimal-short, marked-short}
 use Rattle.text_lengths.proofs.LineLengths.{pairs-within, matrix-short, pattern-short, tail-short, blocks-short}
 
 -- canonical parts have no more blocks than columns
@@ -40,7 +42,7 @@ expand k a b = mul-add k a (b * k) ∙ ap (λ x. x + k * (b * k)) (mul_comm k a)
 pub at_most : (m k a b : ℕ) → m ≤ k → m * (a + b * k) ≤ a * k + b * (k * k)
 at_most m k a b less = subst (λ n. m * (a + b * k) ≤ n) (expand k a b) (mul-le-mul_right (a + b * k) less)
 
-module _ (p : ℕ) (short : p ≤ 100000) (k : ℕ) (few : k ≤ 8192) (c : Contents) (is : IsCcf p c) (low : IsShapeWithin k c.shape) where
+module _ (p digits : ℕ) (short : p ≤ 10 ^ digits) (k : ℕ) (few : k ≤ 8192) (c : Contents) (is : IsCcf p c) (low : IsShapeWithin k c.shape) where
   shape-short : length (shape_text c.shape) ≤ 36
   shape-short =
       let e = marked-short 32 c.shape.equations (omega (arith, (is.shape).equations)) in
@@ -91,17 +93,17 @@ module _ (p : ℕ) (short : p ≤ 100000) (k : ℕ) (few : k ≤ 8192) (c : Cont
         length-append five (codes "\n"),
       )
 
-  matrices-short : length (matrices_text c.s c.u c.p c.t) ≤ 36 * k + 42 * (k * k)
+  matrices-short : length (matrices_text c.s c.u c.p c.t) ≤ 36 * k + (27 + 3 * digits) * (k * k)
   matrices-short =
       let q_few : c.shape.q_rows ≤ 4096 = (is.shape).q_rows in
       let t_few : c.shape.t_rows ≤ 4096 = (is.shape).t_rows in
-      let s = matrix-short k few p short 83 1 c.shape.q_rows c.s low.q_rows (omega (arith, (is.s).count, q_few)) (is.s).entries in
-      let u = matrix-short k few p short 85 1 c.shape.q_rows c.u low.q_rows (omega (arith, (is.u).count, q_few)) (is.u).entries in
-      let product = matrix-short k few p short 80 1 c.shape.columns c.p low.columns (omega (arith, (is.p).count, q_few)) (is.p).entries in
+      let s = matrix-short k few p digits short 83 1 c.shape.q_rows c.s low.q_rows (omega (arith, (is.s).count, q_few)) (is.s).entries in
+      let u = matrix-short k few p digits short 85 1 c.shape.q_rows c.u low.q_rows (omega (arith, (is.u).count, q_few)) (is.u).entries in
+      let product = matrix-short k few p digits short 80 1 c.shape.columns c.p low.columns (omega (arith, (is.p).count, q_few)) (is.p).entries in
       let t = pattern-short k few 84 1 c.shape.columns c.t low.columns (omega (arith, (is.t).count, t_few)) (is.t).columns in
-      let sk = at_most (length c.s) k 9 12 (omega (arith, (is.s).count, low.q_rows)) in
-      let uk = at_most (length c.u) k 9 12 (omega (arith, (is.u).count, low.q_rows)) in
-      let pk = at_most (length c.p) k 9 12 (omega (arith, (is.p).count, low.q_rows)) in
+      let sk = at_most (length c.s) k 9 (7 + digits) (omega (arith, (is.s).count, low.q_rows)) in
+      let uk = at_most (length c.u) k 9 (7 + digits) (omega (arith, (is.u).count, low.q_rows)) in
+      let pk = at_most (length c.p) k 9 (7 + digits) (omega (arith, (is.p).count, low.q_rows)) in
       let tk = at_most (length c.t) k 9 6 (omega (arith, (is.t).count, low.t_rows)) in
       let one : List ℕ = matrix_text (codes "S") 1 c.s in
       let two : List ℕ = one ++ matrix_text (codes "U") 1 c.u in
@@ -141,7 +143,7 @@ module _ (p : ℕ) (short : p ≤ 100000) (k : ℕ) (few : k ≤ 8192) (c : Cont
             (one ++ blocks_text 1 c.blocks) (tail_line (codes "last") c.last),
       )
 
-  contents-short : length c.blocks ≤ k → length (contents_text c) ≤ contents_room k
+  contents-short : length c.blocks ≤ k → length (contents_text c) ≤ contents_room digits k
   contents-short less =
       let one : List ℕ = shape_text c.shape in
       let two : List ℕ = one ++ pair_text c.rank c.base c.mates in
@@ -164,19 +166,32 @@ kind-short Matrix = omega arith
 kind-short Netlist = omega arith
 kind-short Flowsheet = omega arith
 
-echo-short : (kind : Kind) (echo : List ℕ) → length echo ≤ 8388608 → length (echo_text kind echo) ≤ length echo + 51
-echo-short kind echo few =
+version-short : (version : Version) (p digits : ℕ) → 0 < digits → p < 10 ^ digits → length (version_text version p) + 31 ≤ head_room version digits
+version-short One p digits some below = omega arith
+version-short Two p digits some below = omega (
+  arith,
+  decimal-short digits p some below,
+  length-append (codes "mixed-certificate 2\nfield") (spaced p),
+  length-append (codes "mixed-certificate 2\nfield" ++ spaced p) (codes "\n"),
+)
+
+echo-short : (version : Version) (p digits : ℕ) → 0 < digits → p < 10 ^ digits → (kind : Kind) (echo : List ℕ) → length echo ≤ 8388608 →
+    length (echo_text version p kind echo) ≤ length echo + head_room version digits
+echo-short version p digits some below kind echo few =
     let number : length (spaced (length echo)) ≤ 8 = omega (arith, length-decimal-le 7 (length echo) (omega arith) (omega (arith, few)) (omega (arith, few))) in
-    let one : List ℕ = codes "mixed-certificate 1\nkind " ++ kind_text kind in
+    let zero : List ℕ = version_text version p ++ codes "kind " in
+    let one : List ℕ = zero ++ kind_text kind in
     let two : List ℕ = one ++ codes "\nlength" in
     let three : List ℕ = two ++ spaced (length echo) in
     let four : List ℕ = three ++ codes "\n" in
     let five : List ℕ = four ++ echo in
     omega (
       arith,
+      version-short version p digits some below,
       kind-short kind,
       number,
-      length-append (codes "mixed-certificate 1\nkind ") (kind_text kind),
+      length-append (version_text version p) (codes "kind "),
+      length-append zero (kind_text kind),
       length-append one (codes "\nlength"),
       length-append two (spaced (length echo)),
       length-append three (codes "\n"),
@@ -184,16 +199,17 @@ echo-short kind echo few =
       length-append five (codes "\n"),
     )
 
-pub certificate-short : (p : ℕ) → p ≤ 100000 → (M : MixedMatrix) (L : LayeredMatrix) (O : Origins) (c : Certificate) (n k : ℕ) →
-    length c.echo ≤ n → n ≤ 8388608 → k ≤ 8192 → IsCcf p c.ccf → IsRightCcf p M L O c.ccf → IsShapeWithin k c.ccf.shape →
-    length (certificate_text c) ≤ certificate_room n k
-certificate-short p short M L O c n k within limit few is right low =
+pub certificate-short : (p digits : ℕ) → 0 < digits → p < 10 ^ digits → (M : MixedMatrix) (L : LayeredMatrix) (O : Origins) (c : Certificate) (n k : ℕ) →
+    c.modulus ≡ p → length c.echo ≤ n → n ≤ 8388608 → k ≤ 8192 → IsCcf p c.ccf → IsRightCcf p M L O c.ccf → IsShapeWithin k c.ccf.shape →
+    length (certificate_text c) ≤ certificate_room c.version digits n k
+certificate-short p digits some below M L O c n k over within limit few is right low =
     let columns : L.columns ≤ k = omega (arith, low.columns, (right.shape).columns) in
     let blocks = blocks-few p L _ (right.canonical_listing).parts in
+    let stated : c.modulus < 10 ^ digits = omega (arith, over, below) in
     omega (
       arith,
       within,
-      echo-short c.kind c.echo (omega (arith, within, limit)),
-      contents-short p short k few c.ccf is low (omega (arith, blocks, columns)),
-      length-append (echo_text c.kind c.echo) (contents_text c.ccf),
+      echo-short c.version c.modulus digits some stated c.kind c.echo (omega (arith, within, limit)),
+      contents-short p digits (omega (arith, below)) k few c.ccf is low (omega (arith, blocks, columns)),
+      length-append (echo_text c.version c.modulus c.kind c.echo) (contents_text c.ccf),
     )

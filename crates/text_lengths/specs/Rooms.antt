@@ -1,5 +1,5 @@
 -- How many bytes a certificate's text has at most.
-use Rattle.std.specs.Prelude.{ℕ, ◌+◌, ◌*◌, ◌≤◌, length}
+use Rattle.std.specs.Prelude.{◌≡◌, ℕ, ◌+◌, ◌*◌, ◌^◌, ◌<◌, ◌≤◌, length}
 use Rattle.limits.specs.Limits.{column_limit, input_limit}
 use Rattle.mixed_matrices.specs.LayeredMatrices.{LayeredMatrix}
 use Rattle.mixed_matrices.specs.Layerings.{Origins}
@@ -9,6 +9,8 @@ use Rattle.cert_text.specs.Ranges.{IsCcf}
 use Rattle.cert_text.specs.Right.{IsRightCcf}
 use Rattle.cert_text.specs.Texts.{certificate_text}
 use Rattle.cert_text.specs.declared.shape.Shape.{Shape}
+use Rattle.cert_text.specs.declared.version.Version.{Version}
+use Rattle.cert_text.specs.declared.version.Version.TheVariants.{One, Two}
 
 -- no number of a shape is greater than k
 pub record IsShapeWithin (k : ℕ) (shape : Shape) : Type 0 where
@@ -16,19 +18,26 @@ pub record IsShapeWithin (k : ℕ) (shape : Shape) : Type 0 where
   pub t_rows : shape.t_rows ≤ k
   pub columns : shape.columns ≤ k
 
--- room for the lines from the shape on, where rows and columns number at most k: an item takes at most 12 bytes, a line
--- has at most 4 k items, and there are at most 5 k lines of rows and blocks
-abbrev pub contents_room : ℕ → ℕ
-contents_room k = 78 + 117 * k + 68 * (k * k)
+-- room for the lines from the shape on, where rows and columns number at most k: an item of a value takes at most 7
+-- bytes and its digits, of which there are at most so many, and any other at most 12; a line has at most 4 k items, and
+-- there are at most 5 k lines of rows and blocks, 3 k of them with values
+abbrev pub contents_room : ℕ → ℕ → ℕ
+contents_room digits k = 78 + 117 * k + (53 + 3 * digits) * (k * k)
+
+-- room for the lines before the shape, but for the echo: version 2 has one for the modulus
+abbrev pub head_room : Version → ℕ → ℕ
+head_room One digits = 51
+head_room Two digits = 58 + digits
 
 -- room for a certificate's text, where the input has at most n bytes
-abbrev pub certificate_room : ℕ → ℕ → ℕ
-certificate_room n k = n + 51 + contents_room k
+abbrev pub certificate_room : Version → ℕ → ℕ → ℕ → ℕ
+certificate_room version digits n k = n + head_room version digits + contents_room digits k
 
--- The modulus is such that the numbers below it have at most five digits.
+-- The modulus has at most so many digits, and at least one.
 abbrev pub CertificateTextsAreShort : Type 0
 CertificateTextsAreShort =
-    (p : ℕ) → p ≤ 100000 → (M : MixedMatrix) (L : LayeredMatrix) (O : Origins) (c : Certificate) (n k : ℕ) →
-    length c.echo ≤ n → n ≤ input_limit → k ≤ column_limit → IsCcf p c.ccf → IsRightCcf p M L O c.ccf →
+    (p digits : ℕ) → 0 < digits → p < 10 ^ digits →
+    (M : MixedMatrix) (L : LayeredMatrix) (O : Origins) (c : Certificate) (n k : ℕ) →
+    c.modulus ≡ p → length c.echo ≤ n → n ≤ input_limit → k ≤ column_limit → IsCcf p c.ccf → IsRightCcf p M L O c.ccf →
     IsShapeWithin k c.ccf.shape →
-    length (certificate_text c) ≤ certificate_room n k
+    length (certificate_text c) ≤ certificate_room c.version digits n k

@@ -3,8 +3,8 @@
 ghost use Rattle.text_lengths.specs.Counts.{NetlistsHaveFewNames, TextsHaveFewNames};
 ghost use Rattle.text_lengths.specs.Rooms.{CertificateTextsAreShort};
 
-/// The text of a right certificate over a field of modulus at most 100,000, whose rows and columns number at most k,
-/// and whose input has at most n bytes, has at most `certificate_room n k` bytes.
+/// The text of a right certificate over a field of modulus below `10 ^ digits`, whose rows and columns number at most
+/// k, and whose input has at most n bytes, has at most `certificate_room version digits n k` bytes.
 pub fn certificate_texts_are_short()
     ensures { CertificateTextsAreShort }
 {}

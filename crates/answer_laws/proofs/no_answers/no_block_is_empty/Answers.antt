@@ -1,12 +1,13 @@
-use Rattle.std.proofs.Common.{◌≡◌, get_or, ap, arith}
+use Rattle.std.proofs.Common.{◌≡◌, None, get_or, ap, arith}
 use Rattle.cert_text.specs.declared.kind.Kind.TheVariants.{Flowsheet, Matrix, Netlist}
 use Rattle.answer_laws.proofs.EmptyInput.{empty-answer}
 use Rattle.answer_laws.proofs.no_answers.no_block_is_empty.Goals as goal
 
 pub returns : goal.returns
 returns c = elim [
-  | Matrix ↦ λ words asks answer. let other : 98 ≡ 108 = ap (λ t. get_or t 84 0) (empty-answer words Matrix _ asks answer) in absurd (omega (arith, other))
-  | Netlist ↦ λ words asks answer. let other : 98 ≡ 108 = ap (λ t. get_or t 85 0) (empty-answer words Netlist _ asks answer) in absurd (omega (arith, other))
+  | Matrix ↦ λ words asks answer. let other : 98 ≡ 108 = ap (λ t. get_or t 84 0) (empty-answer words Matrix None _ asks answer) in absurd (omega (arith, other))
+  | Netlist ↦ λ words asks answer. let other : 98 ≡ 108 = ap (λ t. get_or t 85 0) (empty-answer words Netlist None _ asks answer) in absurd
+      (omega (arith, other))
   | Flowsheet ↦ λ words asks answer. let other : 98 ≡ 108 = ap (λ t. get_or t 87 0)
-      (empty-answer words Flowsheet _ asks answer) in absurd (omega (arith, other))
+      (empty-answer words Flowsheet None _ asks answer) in absurd (omega (arith, other))
 ]

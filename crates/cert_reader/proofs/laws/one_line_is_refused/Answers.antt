@@ -3,4 +3,4 @@ use Rattle.cert_reader.proofs.Lines.{one_refused}
 use Rattle.cert_reader.proofs.laws.one_line_is_refused.Goals as goal
 
 pub returns : goal.returns
-returns c = λ p text j k one two. one_refused (IsCertificate p) certificate_lines text j k one.0 two.0 one.1 two.1 one.2 two.2
+returns c = λ text j k one two. one_refused IsCertificate certificate_lines text j k one.0 two.0 one.1 two.1 one.2 two.2

@@ -1,18 +1,20 @@
 use Rattle.std.proofs.Common.{arith}
-use Rattle.std.specs.Prelude.{codes}
-use Rattle.limits.specs.Limits.{input_limit}
-use Rattle.cert_reader.proofs.Spells.{Spells-text}
-use Rattle.cert_reader.proofs.LineKinds.{Spells-kind, Spells-echo}
-use Rattle.cert_reader.proofs.Short.{spells_short, count_short}
+use Rattle.cert_reader.specs.Certificates.{modulus_of}
+use Rattle.cert_reader.proofs.Short.{fields_short}
 use Rattle.cert_reader.proofs.reading.certificate_at.Goals as goal
 
-pub contents_at-requires-clause-short : goal.contents_at-requires-clause-short
-contents_at-requires-clause-short g c = omega (
+pub body_at-requires-clause-short : goal.body_at-requires-clause-short
+body_at-requires-clause-short c = omega (
   arith,
   c.requires,
-  spells_short (Spells-text (codes "mixed-certificate 1\n")) 1 c.args.bytes.now (tt, c.in_ok-from_kind.from_kind.now) c.in_ok-from_kind.ensures,
-  spells_short Spells-kind 2 c.in_ok-from_kind.from_kind.now (c.in_ok-kind.kind, c.in_ok-kind.from_length.now) c.in_ok-kind.ensures,
-  count_short (codes "length ") input_limit 3 c.in_ok-kind.from_length.now
-      (c.in_ok-size.size, c.in_ok-size.from_echo.now) (omega arith) c.in_ok-size.ensures.number,
-  spells_short (Spells-echo c.in_ok-size.size) 4 c.in_ok-size.from_echo.now (c.in_ok-echo.echo.now, c.in_ok-echo.from_shape.now) c.in_ok-echo.ensures,
+  fields_short 1 2 c.args.bytes.now (c.in_ok-version.version, c.in_ok-version.from_field.now)
+      (modulus_of c.in_ok-field.field, c.in_ok-field.from_kind.now) c.in_ok-version.ensures c.in_ok-field.ensures,
+)
+
+pub body_at-requires-in-Large-clause-short : goal.body_at-requires-in-Large-clause-short
+body_at-requires-in-Large-clause-short c = omega (
+  arith,
+  c.requires,
+  fields_short 1 2 c.args.bytes.now (c.in_ok-version.version, c.in_ok-version.from_field.now)
+      (modulus_of c.in_ok-field.field, c.in_ok-field.from_kind.now) c.in_ok-version.ensures c.in_ok-field.ensures,
 )

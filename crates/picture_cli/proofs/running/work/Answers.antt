@@ -1,12 +1,13 @@
 use Rattle.picture_cli.proofs.Ends.{answered-by, cut-by, delivered-all, delivered-read, delivered-something, delivered-whole, unread-answered, unread-ended, unread-uncut, unread-undone}
+use Rattle.picture_cli.specs.Drawings.{drawing_in}
 use Rattle.picture_cli.proofs.running.work.Goals as goal
 
 -- a picture
 pub returns-in-Ok-clause-answered : goal.returns-in-Ok-clause-answered
 returns-in-Ok-clause-answered g c =
-    let d = c.in-Ok.drawing in
+    let d = drawing_in c.in-Ok.drawing in
     answered-by (g.S.Source.left c.args.source.now) (g.S.Source.left c.read_drawing.new.source) (g.K.Sink.written c.args.out.now)
-    (g.K.Sink.written c.deliver.new.out) d.certificate d.model d.layered d.layout c.in-Ok.ensures.right _ _ c.deliver.result
+    (g.K.Sink.written c.deliver.new.out) d c.in-Ok.ensures.right _ _ c.deliver.result
     c.deliver.ensures.ends
 
 pub returns-in-Ok-clause-ended : goal.returns-in-Ok-clause-ended
@@ -20,9 +21,9 @@ returns-in-Ok-clause-read_fault g c = λ is. delivered-read _ _ c.deliver.result
 
 pub returns-in-Ok-clause-write_fault : goal.returns-in-Ok-clause-write_fault
 returns-in-Ok-clause-write_fault g c = λ failed.
-    let d = c.in-Ok.drawing in
+    let d = drawing_in c.in-Ok.drawing in
     cut-by (g.S.Source.left c.args.source.now) (g.S.Source.left c.read_drawing.new.source) (g.K.Sink.written c.args.out.now)
-    (g.K.Sink.written c.deliver.new.out) d.certificate d.model d.layered d.layout c.in-Ok.ensures.right _ _ c.deliver.result failed
+    (g.K.Sink.written c.deliver.new.out) d c.in-Ok.ensures.right _ _ c.deliver.result failed
     c.deliver.ensures.ends
 
 pub returns-in-Ok-clause-nothing_written : goal.returns-in-Ok-clause-nothing_written

@@ -6,13 +6,14 @@ use Rattle.report_cli.proofs.output.write_report.Goals as goal
 
 pub put_report-requires : goal.put_report-requires
 put_report-requires g c =
+    let p = g.F.Field.modulus in
     let M = mixed_matrix_of c.args.model.now in
     let told = c.args.told.now in
     record {
-      surplus = surplus-within M told c.requires;
-      undetermined = undetermined-within M told c.requires;
-      many = rank-many M told c.requires;
-      few = rank-few M told c.requires;
+      surplus = surplus-within p M told c.requires;
+      undetermined = undetermined-within p M told c.requires;
+      many = rank-many p M told c.requires g.met.F.Field.prime;
+      few = rank-few p M told c.requires g.met.F.Field.prime;
     }
 
 pub returns : goal.returns

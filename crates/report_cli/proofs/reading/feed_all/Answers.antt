@@ -13,27 +13,27 @@ returns-in_err-next-clause-unread g c =
     let next = c.next.ensures in
     let why = c.in_err-next.field-0.0 in
     with_status
-    (λ status. IsUnread (Model g.R.ModelReader.KIND) status (g.S.Source.left c.args.source.now) (g.S.Source.left c.next.new.source))
+    (λ status. IsUnread g.F.Field.modulus (Model g.R.ModelReader.KIND) status (g.S.Source.left c.args.source.now) (g.S.Source.left c.next.new.source))
     c.from_residual.result
     (status_of_error input_limit why)
     c.from_residual.ensures.0
     c.from_residual.ensures.1
     (unread_by_error g.S.Source c.args.source.now c.loop-reader.source c.next.new.source c.loop-reader.pump c.next.new.self
-    (g.R.ModelReader.is_fed c.loop-reader.reader) c.loop-reader.invariant g.R.ModelReader.KIND c.next.result why
+    (g.R.ModelReader.is_fed c.loop-reader.reader) c.loop-reader.invariant g.F.Field.modulus g.R.ModelReader.KIND c.next.result why
     c.in_err-next.was next.too_long.0 next.too_many next.untaken next.memory)
 
 pub returns-in_err-reader-clause-unread : goal.returns-in_err-reader-clause-unread
 returns-in_err-reader-clause-unread g c =
     let next = c.in_ok-next.ensures in
     with_status
-    (λ status. IsUnread (Model g.R.ModelReader.KIND) status (g.S.Source.left c.args.source.now) (g.S.Source.left c.next.new.source))
+    (λ status. IsUnread g.F.Field.modulus (Model g.R.ModelReader.KIND) status (g.S.Source.left c.args.source.now) (g.S.Source.left c.next.new.source))
     c.from_residual-in_err-reader.result
     Memory
     c.from_residual-in_err-reader.ensures.0
     c.from_residual-in_err-reader.ensures.1
     (unread_for_memory g.S.Source c.args.source.now c.loop-reader.source c.next.new.source c.loop-reader.pump c.next.new.self
     (g.R.ModelReader.is_fed c.loop-reader.reader) c.loop-reader.invariant next.taken
-    (next.counted ∙ ap (λ count. c.loop-reader.pump.taken + count) (sym next.piece)) next.within g.R.ModelReader.KIND)
+    (next.counted ∙ ap (λ count. c.loop-reader.pump.taken + count) (sym next.piece)) next.within g.F.Field.modulus g.R.ModelReader.KIND)
 
 pub loop-reader-preserved : goal.loop-reader-preserved
 loop-reader-preserved g c =

@@ -12,12 +12,12 @@ returns-in_err-model-clause-unread g c =
     let why = c.in_err-model.field-0.0 in
     let whole = c.in_ok-reader-2.ensures.read in
     with_status
-    (λ status. IsUnread (Model g.R.ModelReader.KIND) status left left')
+    (λ status. IsUnread g.F.Field.modulus (Model g.R.ModelReader.KIND) status left left')
     c.from_residual-in_err-model.result
     (status_of_refusal why)
     c.from_residual-in_err-model.ensures.0
     c.from_residual-in_err-model.ensures.1
-    (unread_by_refusal g.R.ModelReader.KIND left left' (g.R.ModelReader.is_fed c.in_ok-reader-2.reader) whole why
+    (unread_by_refusal g.F.Field.modulus g.R.ModelReader.KIND left left' (g.R.ModelReader.is_fed c.in_ok-reader-2.reader) whole why
     (c.in_err-model.ensures.refused whole.input whole.holds))
 
 pub returns-clause-source : goal.returns-clause-source

@@ -4,10 +4,12 @@ use Rattle.port_io.specs.Asking.{AsksWithin}
 use Rattle.command_line.specs.Words.{Asks, format_of}
 use Rattle.command_line.specs.declared.command.Request.TheVariants.{Make, OfInput}
 use Rattle.command_line.proofs.Asking.{not-both}
-use Rattle.report_cli.specs.Answer.{Answered, IsAnswer, TakesBy, Tells}
+use Rattle.port_io.specs.Causes.{Rose}
+use Rattle.report_cli.specs.Answer.{Answered, IsAnswer, IsMakeEnd, OnlyAnswer, TakesBy, Tells}
+use Rattle.report_cli.specs.Fields.{modulus}
 use Rattle.report_cli.specs.Formats.{limit_of}
 use Rattle.report_cli.proofs.Making.{make-answered, make-cut, make-only}
-use Rattle.report_cli.proofs.RunWords.{complete_for, cut-for, of_each_asked, only_for, unasked_answered, untaken}
+use Rattle.report_cli.proofs.RunWords.{complete_for, cut-for, of_each_asked, only_for, unasked-only, unasked_answered, untaken}
 use Rattle.report_cli.proofs.Runs.{told_where_kept, only}
 use Rattle.report_cli.proofs.running.run.Goals as goal
 
@@ -33,9 +35,9 @@ returns-in-Ok-OfInput-clause-complete g c = λ quiet calm.
     short keeps)
 
 pub returns-in-Ok-OfInput-clause-complete_make : goal.returns-in-Ok-OfInput-clause-complete_make
-returns-in-Ok-OfInput-clause-complete_make g c = λ calm n makes.
+returns-in-Ok-OfInput-clause-complete_make g c = λ calm n field makes.
     let asked = subst (Asks (map string_bytes c.args.words.now)) c.in-Ok-OfInput.field-0-is c.in-Ok-OfInput.ensures in
-    not-both (map string_bytes c.args.words.now) c.in-Ok-OfInput.command n asked makes
+    not-both (map string_bytes c.args.words.now) c.in-Ok-OfInput.command n field asked makes
 
 pub returns-in-Ok-OfInput-clause-write_fault : goal.returns-in-Ok-OfInput-clause-write_fault
 returns-in-Ok-OfInput-clause-write_fault g c = λ failed.
@@ -72,43 +74,55 @@ returns-in-Ok-OfInput-clause-calm_out g c = λ input is room.
     c.work-status.ensures.calm_out input is (room (OfInput c.in-Ok-OfInput.command) asked)
 
 pub returns-in-Ok-OfInput-clause-calm_make : goal.returns-in-Ok-OfInput-clause-calm_make
-returns-in-Ok-OfInput-clause-calm_make g c = λ n makes takes.
+returns-in-Ok-OfInput-clause-calm_make g c = λ n field makes takes.
     let asked = subst (Asks (map string_bytes c.args.words.now)) c.in-Ok-OfInput.field-0-is c.in-Ok-OfInput.ensures in
-    not-both (map string_bytes c.args.words.now) c.in-Ok-OfInput.command n asked makes
+    not-both (map string_bytes c.args.words.now) c.in-Ok-OfInput.command n field asked makes
 
 -- a made model
 pub returns-in-Ok-Make-clause-answered : goal.returns-in-Ok-Make-clause-answered
 returns-in-Ok-Make-clause-answered g c =
     let asked = subst (Asks (map string_bytes c.args.words.now)) c.in-Ok-Make.field-0-is c.in-Ok-Make.ensures in
-    make-answered (map string_bytes c.args.words.now) c.in-Ok-Make.size asked (g.S.Source.left c.args.source.now)
-    (g.K.Sink.written c.args.out.now) (g.K.Sink.written c.make-status.new.out) _ c.make-status.result c.make-status.ensures.ends
+    let size = c.in-Ok-Make.size in
+    let ends = subst (λ field. IsMakeEnd (modulus field) size c.make-status.result (g.K.Sink.written c.args.out.now)
+    (g.K.Sink.written c.make-status.new.out) (Rose (g.K.Sink.faults c.args.out.now) (g.K.Sink.faults c.make-status.new.out)))
+    c.over.ensures c.make-status.ensures.ends in
+    make-answered (map string_bytes c.args.words.now) size c.in-Ok-Make.named asked (g.S.Source.left c.args.source.now)
+    (g.K.Sink.written c.args.out.now) (g.K.Sink.written c.make-status.new.out) _ c.make-status.result ends
 
 pub returns-in-Ok-Make-clause-ended : goal.returns-in-Ok-Make-clause-ended
 returns-in-Ok-Make-clause-ended g c = λ command asks.
     let asked = subst (Asks (map string_bytes c.args.words.now)) c.in-Ok-Make.field-0-is c.in-Ok-Make.ensures in
-    not-both (map string_bytes c.args.words.now) command c.in-Ok-Make.size asks asked
+    not-both (map string_bytes c.args.words.now) command c.in-Ok-Make.size c.in-Ok-Make.named asks asked
 
 pub returns-in-Ok-Make-clause-only_answer : goal.returns-in-Ok-Make-clause-only_answer
 returns-in-Ok-Make-clause-only_answer g c = λ quiet calm.
     let asked = subst (Asks (map string_bytes c.args.words.now)) c.in-Ok-Make.field-0-is c.in-Ok-Make.ensures in
-    make-only (map string_bytes c.args.words.now) c.in-Ok-Make.size asked (g.S.Source.left c.args.source.now)
-    (g.K.Sink.written c.args.out.now) (g.K.Sink.written c.make-status.new.out) _ c.make-status.result c.make-status.ensures.ends calm
+    let size = c.in-Ok-Make.size in
+    let ends = subst (λ field. IsMakeEnd (modulus field) size c.make-status.result (g.K.Sink.written c.args.out.now)
+    (g.K.Sink.written c.make-status.new.out) (Rose (g.K.Sink.faults c.args.out.now) (g.K.Sink.faults c.make-status.new.out)))
+    c.over.ensures c.make-status.ensures.ends in
+    make-only (map string_bytes c.args.words.now) size c.in-Ok-Make.named asked (g.S.Source.left c.args.source.now)
+    (g.K.Sink.written c.args.out.now) (g.K.Sink.written c.make-status.new.out) _ c.make-status.result ends calm
 
 pub returns-in-Ok-Make-clause-write_fault : goal.returns-in-Ok-Make-clause-write_fault
 returns-in-Ok-Make-clause-write_fault g c = λ failed.
     let asked = subst (Asks (map string_bytes c.args.words.now)) c.in-Ok-Make.field-0-is c.in-Ok-Make.ensures in
-    make-cut (map string_bytes c.args.words.now) c.in-Ok-Make.size asked (g.S.Source.left c.args.source.now)
-    (g.K.Sink.written c.args.out.now) (g.K.Sink.written c.make-status.new.out) _ c.make-status.result c.make-status.ensures.ends failed
+    let size = c.in-Ok-Make.size in
+    let ends = subst (λ field. IsMakeEnd (modulus field) size c.make-status.result (g.K.Sink.written c.args.out.now)
+    (g.K.Sink.written c.make-status.new.out) (Rose (g.K.Sink.faults c.args.out.now) (g.K.Sink.faults c.make-status.new.out)))
+    c.over.ensures c.make-status.ensures.ends in
+    make-cut (map string_bytes c.args.words.now) size c.in-Ok-Make.named asked (g.S.Source.left c.args.source.now)
+    (g.K.Sink.written c.args.out.now) (g.K.Sink.written c.make-status.new.out) _ c.make-status.result ends failed
 
 pub returns-in-Ok-Make-clause-taken : goal.returns-in-Ok-Make-clause-taken
 returns-in-Ok-Make-clause-taken g c = λ command asks.
     let asked = subst (Asks (map string_bytes c.args.words.now)) c.in-Ok-Make.field-0-is c.in-Ok-Make.ensures in
-    not-both (map string_bytes c.args.words.now) command c.in-Ok-Make.size asks asked
+    not-both (map string_bytes c.args.words.now) command c.in-Ok-Make.size c.in-Ok-Make.named asks asked
 
 pub returns-in-Ok-Make-clause-calm_out : goal.returns-in-Ok-Make-clause-calm_out
 returns-in-Ok-Make-clause-calm_out g c = λ input is room.
     let asked = subst (Asks (map string_bytes c.args.words.now)) c.in-Ok-Make.field-0-is c.in-Ok-Make.ensures in
-    c.make-status.ensures.calm_out (room (Make c.in-Ok-Make.size) asked)
+    c.make-status.ensures.calm_out (room (Make c.in-Ok-Make.size c.in-Ok-Make.named) asked)
 
 -- words that ask for nothing
 pub returns-in-Err-clause-taken : goal.returns-in-Err-clause-taken
@@ -124,3 +138,9 @@ returns-in-Err-clause-answered g c =
     let written = g.K.Sink.written c.args.out.now in
     subst (λ status. Tells status (Answered (IsAnswer words) left left written written status)) (sym c.of_words.ensures)
     (unasked_answered words c.in-Err.why left written c.in-Err.ensures)
+
+pub returns-in-Err-clause-only_answer : goal.returns-in-Err-clause-only_answer
+returns-in-Err-clause-only_answer g c = λ quiet calm.
+    let words = map string_bytes c.args.words.now in
+    let left = g.S.Source.left c.args.source.now in
+    subst (OnlyAnswer words left) (sym c.of_words.ensures) (unasked-only words c.in-Err.why left c.in-Err.ensures)

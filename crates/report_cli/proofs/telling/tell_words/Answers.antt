@@ -11,12 +11,12 @@ returns-in-Told-clause-noted g c =
     (sym c.in-Told.is)
     (noted c.write_text.result c.write_text.ensures)
 
-pub returns-in-UnknownKind-clause-noted : goal.returns-in-UnknownKind-clause-noted
-returns-in-UnknownKind-clause-noted g c =
+pub returns-in-UnknownWord-clause-noted : goal.returns-in-UnknownWord-clause-noted
+returns-in-UnknownWord-clause-noted g c =
     subst
     (λ why. Noted (g.N.Sink.written c.args.notes.now) (g.N.Sink.written c.tell.new.notes)
     (g.N.Sink.faults c.args.notes.now) (g.N.Sink.faults c.tell.new.notes) (note_of_words why))
-    (sym c.in-UnknownKind.is)
+    (sym c.in-UnknownWord.is)
     c.tell.ensures.noted
 
 pub returns-in-NoMemory-clause-noted : goal.returns-in-NoMemory-clause-noted

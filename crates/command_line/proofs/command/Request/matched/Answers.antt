@@ -15,8 +15,9 @@ returns-in-make c =
     let named : subcommand_rows_of c.args.matches.now ≡ Some (codes "make", rows) =
     subst (λ n. subcommand_rows_of c.args.matches.now ≡ Some (n, rows)) c.in-make.is met in
     let there = c.get_str.ensures ∙ first_value-rows (found_of c.in_ok-name.values.now) _ in
+    let over = c.get_str-field.ensures ∙ first_value-rows (found_of c.in_ok-name.values.now) _ in
     subst (λ met. MatchOption c.make.result (NamesNone met) (Names met)) (sym named)
-    (make_names (text_at c.get_str.result) rows c.make.result there c.make.ensures)
+    (make_names (text_at c.get_str.result) (text_at c.get_str-field.result) rows c.make.result there over c.make.ensures)
 
 pub returns-in_default : goal.returns-in_default
 returns-in_default c =
@@ -24,5 +25,7 @@ returns-in_default c =
     let rows = rows_of (found_of c.in_ok-name.values.now) in
     let met : subcommand_rows_of c.args.matches.now ≡ Some (name, rows) = met_by _ _ _ name rows c.in_ok-name.ensures.name c.in_ok-name.ensures.rows in
     let there = c.get_str-in_default.ensures ∙ first_value-rows (found_of c.in_ok-name.values.now) _ in
+    let over = c.get_str-field.ensures ∙ first_value-rows (found_of c.in_ok-name.values.now) _ in
     subst (λ met. MatchOption c.on_input.result (NamesNone met) (Names met)) (sym met)
-    (input_names name (text_at c.get_str-in_default.result) rows c.on_input.result c.in_default.not-make there c.on_input.ensures)
+    (input_names name (text_at c.get_str-in_default.result) (text_at c.get_str-field.result) rows c.on_input.result c.in_default.not-make there over
+    c.on_input.ensures)

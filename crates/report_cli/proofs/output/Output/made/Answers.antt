@@ -5,13 +5,13 @@ use Rattle.report_cli.proofs.Certified.{right-ccf}
 use Rattle.report_cli.proofs.output.Output.made.Goals as goal
 
 pub returns : goal.returns
-returns c =
+returns g c =
     let made = c.in_ok-model.ensures in
     let promise = c.in_ok-ccf.ensures in
     let are = c.in_ok-layered.ensures in (
       refl,
       record {
-        size = c.requires;
+        size = c.requires.size;
         model = c.in_ok-model.model;
         made = made.made;
         is = made.model;
@@ -20,7 +20,7 @@ returns c =
         layers = are.layered;
         split_is = c.split-split.ensures.count ∙ are.count;
         form = c.is_in_form.ensures;
-        right = right-ccf c.in_ok-model.model c.in_ok-layered.layered c.in_ok-ccf.ccf made.model are
+        right = right-ccf g.F.Field.modulus c.in_ok-model.model c.in_ok-layered.layered c.in_ok-ccf.ccf made.model are
             promise.shape promise.transform promise.pair_and_rank promise.block_triangular_form promise.ideals promise.canonical_listing;
       },
     )
