@@ -2,6 +2,9 @@
 //! covers the other: `bench_lattice SHAPE PLACES`. It serves to measure what the lattice takes.
 #![tactic(auto)]
 
+ghost use Rattle.std.specs.Prelude.{◌<◌};
+ghost use Rattle.minimiser_lattice.specs.Views.{parts_in};
+
 mod shape;
 
 use minimiser_lattice::Lattice;
@@ -30,9 +33,20 @@ fn measure(alloc: Global, shape: &Shape) -> io::Result<(usize, usize)> {
     lattice.fill(shape, &none, &none);
     let mut covers: usize = 0;
     for high in 0..lattice.blocks() {
-        for low in 0..high {
-            covers = covers.saturating_add(usize::from(lattice.covers(low, high)));
-        }
+        covers = covers.saturating_add(covered_by(&lattice, high));
     }
     Ok((lattice.blocks(), covers))
+}
+
+// How many blocks a block covers.
+fn covered_by(lattice: &Lattice, high: usize) -> usize
+    requires { high < (parts_in lattice.now).blocks }
+{
+    let mut count: usize = 0;
+    let mut from = 0;
+    while let Some(low) = lattice.next_cover(high, from) {
+        count = count.saturating_add(1);
+        from = low + 1;
+    }
+    count
 }

@@ -91,3 +91,17 @@ module _ (P : ℕ → Type 0) where
       | inr other ↦ lists.exact x (omega (arith, low, other))
     ];
   }
+
+  -- numbers up to m, of which P is not true
+  pub lists-past : (n m : ℕ) (list : List ℕ) → ListsBelow P n list → n ≤ m → ((x : ℕ) → n ≤ x → x < m → P x → ⊥) →
+      ListsBelow P m list
+  lists-past n m list lists more none = record {
+    rising = rising-wider n m list more lists.rising;
+    exact = λ x low. elim (lt_cases x n) [
+      | inl before ↦ lists.exact x before
+      | inr after ↦ (
+        λ h. absurd (omega (arith, after, has-below n list x lists.rising.below h)),
+        λ is_so. absurd (none x after low is_so),
+      )
+    ];
+  }

@@ -20,10 +20,10 @@ fn lower_blocks(alloc: Global, lattice: &Lattice, k: usize) -> Result<Items<usiz
     ensures { IfOk result (ListsLower (parts_in lattice.now) k) }
 {
     let mut lower = Vec::new(alloc);
-    for j in 0..k {
-        if lattice.covers(j, k) {
-            lower.push(j)?;
-        }
+    let mut from = 0;
+    while let Some(j) = lattice.next_cover(k, from) {
+        lower.push(j)?;
+        from = j + 1;
     }
     Ok(Items::from_vec(lower))
 }

@@ -27,7 +27,8 @@ const MIXED: &str =
 
 /// A right certificate of version 2, over the larger field.
 const LARGE: &str =
-    "mixed-certificate 2\nfield 2147483647\nkind matrix\nlength 13\neq a x=65521\n\nshape 1 1 1 0 1\nrank 1\nbase 1=1\nmatch\nS 1: 1=1675614749\nU 1: 1=65521\nP 1: 1=1\nfirst |\nblock 1: 1 | q1 |\nlast |\nend\n";
+    "mixed-certificate 2\nfield 2147483647\nkind matrix\nlength 13\neq a x=65521\n\nshape 1 1 1 0 1\nrank 1\n\
+     base 1=1\nmatch\nS 1: 1=1675614749\nU 1: 1=65521\nP 1: 1=1\nfirst |\nblock 1: 1 | q1 |\nlast |\nend\n";
 
 // The text with other lines in the place of some.
 fn altered(alloc: Global, text: &str, lines: &[(&str, &str)]) -> Result<String, Fail> {

@@ -20,12 +20,13 @@ use crate::steps::Steps;
 use std::alloc::{AllocError, Global};
 use std::sync::ledger::Ledger;
 
-// A scan, the marks of what the searches of the last sweep reached in vain, and the start with which the next sweep
-// begins: it goes round, so that those from which nothing was found last come last.
+// A scan, the marks of what the searches of the last sweep reached in vain, and whether there is any; and the start with
+// which the next sweep begins: it goes round, so that those from which nothing was found last come last.
 #[derive(Drop)]
 pub struct Sweep {
     pub scan: Scan,
     pub left: Vec<bool>,
+    pub any_left: bool,
     pub next: usize,
 }
 
@@ -40,6 +41,7 @@ impl Sweep {
         Ok(Sweep {
             scan: Scan::open(alloc, n)?,
             left: vec![in alloc; false; n]?,
+            any_left: false,
             next: 0,
         })
     }
@@ -52,7 +54,10 @@ impl Sweep {
         ensures next { self.new.next ≡ self.old.next }
         ensures stored { IsStored self.new }
     {
-        self.left.fill(false);
+        if self.any_left {
+            self.left.fill(false);
+            self.any_left = false;
+        }
         self.scan.looks = 0;
     }
 
@@ -63,9 +68,10 @@ impl Sweep {
             members_of self.old.scan.reached.items (slice_index self.old.scan.order.items i) ≡ true }
         ensures left { (y : ℕ) → y < places self.old →
             left_by self.new y ≡ either (left_by self.old) (members_of self.old.scan.reached.items) y }
-        ensures kept { self.new ≡ record self.old { left = self.new.left } }
+        ensures kept { self.new ≡ record self.old { left = self.new.left; any_left = true } }
         ensures stored { IsStored self.new }
     {
+        self.any_left = true;
         for at in 0..self.scan.filled {
             let place = self.scan.order[at];
             self.left[place] = true;
@@ -115,6 +121,7 @@ impl Sweep {
         ensures all_looks { self.new.scan.all_looks ≡ counted_on self.old.scan.all_looks self.new.scan.looks }
         ensures few { self.new.scan.looks ≤ places self.old }
         ensures left { self.new.left ≡ self.old.left }
+        ensures any_left { self.new.any_left ≡ self.old.any_left }
         ensures next { self.new.next ≡ self.old.next }
         ensures stored { IsStored self.new }
         ensures places { places self.new ≡ places self.old }

@@ -10,7 +10,7 @@ use Rattle.mixed_augmentation.specs.Moves.{TakesRow, TakesMate}
 use Rattle.mixed_matrices.specs.LayeredMatrices.{LayeredMatrix}
 use Rattle.independent_matching.specs.declared.marks.Marks.{Marks}
 use Rattle.independent_matching.specs.declared.row.Row.{Row}
-use Rattle.independent_matching.specs.Marks.{AreTouched, IsChangedAt, IsEndMark, IsQMark, IsTMark, row_at}
+use Rattle.independent_matching.specs.Marks.{AreTouched, IsChangedAt, IsEndMark, IsQMark, IsTMark, IsTouched, row_at}
 use Rattle.independent_matching.specs.Sides.{AreRowsLeft, IsFreeQRow, in_q, layers_of, number, tableau_of}
 
 -- ---- a column takes a row
@@ -76,11 +76,11 @@ module _ (p : ℕ) (S S' : State) (M M' : Matching) (v : ℕ) (below : v < S.col
           other : i ≢ row
           other q = E.bare v (subst (λ n. v < n) (sym same_columns) below) K.taken.member (K.taken.at_row ∙ sym q)
 
-    pub untouched-mark : (by_q : List (Option ℕ)) (touched : List Bool) → AreTouched p S touched row → (x : ℕ) →
-        x < S.columns → members_of touched x ≡ false → IsQMark p S by_q x → IsQMark p S' by_q x
-    untouched-mark by_q touched A x l none mark = elim (zero_cases (S.p row x % p)) [
+    pub untouched-mark : (by_q : List (Option ℕ)) (m : Marks) → AreTouched p S m row → (x : ℕ) →
+        x < S.columns → (IsTouched m x → ⊥) → IsQMark p S by_q x → IsQMark p S' by_q x
+    untouched-mark by_q m A x l none mark = elim (zero_cases (S.p row x % p)) [
       | inl zero ↦ kept-mark by_q x (still-free x l zero) (was-free x l zero) mark
-      | inr entry ↦ absurd (differ none (A x l entry))
+      | inr entry ↦ absurd (none (A x l entry))
     ]
 
 -- ---- the marks for T after a walk

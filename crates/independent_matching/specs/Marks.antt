@@ -1,5 +1,5 @@
 -- Marks of the free columns and of the ends, and what makes a column an end.
-use Rattle.std.specs.Prelude.{ℕ, ◌*◌, ◌<◌, ◌≤◌, ◌≡◌, ◌≢◌, ◌%◌, ◌||◌, Bool, true, false, List, Option, Some, None, is_some, length, slice_index_or}
+use Rattle.std.specs.Prelude.{ℕ, ◌*◌, ◌<◌, ◌≤◌, ◌≡◌, ◌≢◌, ◌%◌, ◌||◌, Bool, true, false, List, Option, Some, None, is_some, length, slice_index, slice_index_or}
 use Rattle.bipartite_matching.specs.Matchings.{Matching}
 use Rattle.row_transform.specs.Tableaus.{State}
 use Rattle.exchange_graph.specs.Marks.{members_of}
@@ -12,6 +12,13 @@ use Rattle.independent_matching.specs.Sides.{IsFreeQRow, IsFreeTRow, layers_of, 
 abbrev pub row_at : List (Option ℕ) → ℕ → Option ℕ
 row_at rows x = slice_index_or rows x None
 
+abbrev pub touched_at : Marks → ℕ → ℕ
+touched_at m i = slice_index m.touched.items i
+
+-- column x is noted as one that a pivot may change
+abbrev pub IsTouched : Marks → ℕ → Type 0
+IsTouched m x = (i : ℕ) × (i < m.count) × (touched_at m i ≡ x)
+
 -- each list has an item for each of the columns, and no column before the first is free and an end
 pub record IsKept (columns : ℕ) (m : Marks) : Type 0 where
   pub free_count : length m.free.items ≡ columns
@@ -19,6 +26,8 @@ pub record IsKept (columns : ℕ) (m : Marks) : Type 0 where
   pub t_count : length m.by_t.items ≡ columns
   pub q_count : length m.by_q.items ≡ columns
   pub touched_count : length m.touched.items ≡ columns
+  pub touched_below : (i : ℕ) → i < m.count → touched_at m i < columns
+  pub few_touched : m.count ≤ columns
   pub passed : (x : ℕ) → x < m.first → members_of m.free.items x ≡ true → members_of m.ends.items x ≡ true → ⊥
 
 -- x is marked where it touches a T row that no column has
@@ -55,8 +64,8 @@ pub record IsChangedAt (m now : Marks) (x : ℕ) : Type 0 where
   pub by_q : (y : ℕ) → y ≢ x → row_at now.by_q.items y ≡ row_at m.by_q.items y
 
 -- each column in which P has an entry in the row is touched
-abbrev pub AreTouched : ℕ → State → List Bool → ℕ → Type 0
-AreTouched p S touched row = (x : ℕ) → x < S.columns → S.p row x % p ≢ 0 → members_of touched x ≡ true
+abbrev pub AreTouched : ℕ → State → Marks → ℕ → Type 0
+AreTouched p S m row = (x : ℕ) → x < S.columns → S.p row x % p ≢ 0 → IsTouched m x
 
 -- the base and the matched columns are a pair of that size, the marks are right, and there were few pivots and looks
 pub record IsReady (p : ℕ) (S : State) (M : Matching) (places : ℕ) (m : Marks) (size pivots looks : ℕ) : Type 0 where

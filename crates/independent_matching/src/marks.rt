@@ -1,11 +1,11 @@
 //! What makes a column free or an end, kept up to date from walk to walk.
 
-ghost use Rattle.std.specs.Prelude.{◌≡◌, ◌≢◌, ℕ, ◌<◌, Bool, true, false, Some, IfOk, IfSome, is_some, length};
+ghost use Rattle.std.specs.Prelude.{◌≡◌, ◌≢◌, ℕ, ◌+◌, ◌<◌, Bool, true, false, Some, IfOk, IfSome, is_some, length};
 ghost use Rattle.sparse_t.specs.Incidences.{row_count, touches};
 ghost use Rattle.exchange_graph.specs.Marks.{members_of};
 ghost use Rattle.mixed_augmentation.specs.Moves.{IsFreeRow};
 ghost use Rattle.mixed_matrices.specs.Arcs.{is_end, is_free};
-ghost use Rattle.independent_matching.specs.Marks.{AreMarks, AreMarksOfQ, AreTouched, IsChangedAt, IsEndMark, IsKept, IsQMark, IsTMark};
+ghost use Rattle.independent_matching.specs.Marks.{AreMarks, AreMarksOfQ, AreTouched, IsChangedAt, IsEndMark, IsKept, IsQMark, IsTMark, IsTouched, touched_at};
 ghost use Rattle.independent_matching.specs.Sides.{in_q, layers_of, number, tableau_of};
 
 use crate::pair::Pair;
@@ -16,15 +16,16 @@ use row_transform::{Tableau, Which};
 use std::alloc::Global;
 
 // Marks of the free columns and of the ends, and what makes a column an end: whether a T row does that no column has,
-// and the Q row that does, if there is one. `touched` are the columns that a pivot may change. No column before `first`
-// is free and an end.
+// and the Q row that does, if there is one. The first `count` items of `touched` are the columns that a pivot may change.
+// No column before `first` is free and an end.
 #[derive(Drop)]
 pub struct Marks {
     pub free: Vec<bool>,
     pub ends: Vec<bool>,
     pub by_t: Vec<bool>,
     pub by_q: Vec<Option<usize>>,
-    pub touched: Vec<bool>,
+    pub touched: Vec<usize>,
+    pub count: usize,
     pub first: usize,
 }
 
@@ -39,7 +40,8 @@ impl Marks {
             ends: vec![in alloc; false; columns]?,
             by_t: vec![in alloc; false; columns]?,
             by_q: vec![in alloc; None; columns]?,
-            touched: vec![in alloc; false; columns]?,
+            touched: vec![in alloc; 0; columns]?,
+            count: 0,
             first: 0,
         })
     }
@@ -69,7 +71,7 @@ impl Marks {
         ensures sized { IsKept (length self.old.free.items) self.new }
     {
         self.ends[x] = end;
-        if end && x < self.first {
+        if end && x < self.first && self.free[x] {
             self.first = x;
         }
     }
@@ -99,6 +101,7 @@ impl Marks {
         ensures end { IsEndMark self.new x }
         ensures by_t { self.new.by_t ≡ self.old.by_t }
         ensures touched { self.new.touched ≡ self.old.touched }
+        ensures count { self.new.count ≡ self.old.count }
         ensures others { IsChangedAt self.old self.new x }
         ensures sized { IsKept (T.state pair.now.tableau).columns self.new }
     {
@@ -148,30 +151,32 @@ impl Marks {
         None
     }
 
-    // Notes no column as touched.
-    fn untouch(&mut self)
-        ensures count { length self.new.touched.items ≡ length self.old.touched.items }
-        ensures rest { self.new ≡ record self.old { touched = self.new.touched } }
+    // Notes one column more as touched.
+    fn note(&mut self, x: usize)
+        requires count { self.old.count < length self.old.touched.items }
+        ensures here { touched_at self.new self.old.count ≡ x }
+        ensures others { (i : ℕ) → i ≢ self.old.count → touched_at self.new i ≡ touched_at self.old i }
+        ensures length { length self.new.touched.items ≡ length self.old.touched.items }
+        ensures rest { self.new ≡ record self.old { touched = self.new.touched; count = self.old.count + 1 } }
     {
-        for mark in self.touched.iter_mut() {
-            *mark = false;
-        }
+        self.touched[self.count] = x;
+        self.count += 1;
     }
 
     /// Before a pivot at a Q row: notes the columns in which P has an entry there, since it changes no other ones.
     pub fn touch<F: Field, T: Tableau<F>>(&mut self, pair: &Pair<F, T>, row: usize)
         requires row { row < (T.state pair.now.tableau).rows }
         requires sized { IsKept (T.state pair.now.tableau).columns self.old }
-        ensures touched { AreTouched F.modulus (T.state pair.now.tableau) self.new.touched.items row }
+        ensures touched { AreTouched F.modulus (T.state pair.now.tableau) self.new row }
         ensures sized { IsKept (T.state pair.now.tableau).columns self.new }
-        ensures rest { self.new ≡ record self.old { touched = self.new.touched } }
+        ensures rest { self.new ≡ record self.old { touched = self.new.touched; count = self.new.count } }
     {
         // there are at most 8,192 columns, so that the sum below fits
         let _columns = pair.tableau.columns();
-        self.untouch();
+        self.count = 0;
         let mut from = 0;
         while let Some(entry) = pair.tableau.next_in_row(Which::P, row, from) {
-            self.touched[entry.0] = true;
+            self.note(entry.0);
             from = entry.0 + 1;
         }
     }
@@ -179,18 +184,16 @@ impl Marks {
     /// After the pivot: looks anew at the columns that it touched. Rows from `row` on are looked at first.
     pub fn settle<F: Field, T: Tableau<F>>(&mut self, pair: &Pair<F, T>, row: usize)
         requires sized { IsKept (T.state pair.now.tableau).columns self.old }
-        requires others { (x : ℕ) → x < (T.state pair.now.tableau).columns →
-            members_of self.old.touched.items x ≡ false →
+        requires others { (x : ℕ) → x < (T.state pair.now.tableau).columns → (IsTouched self.old x → ⊥) →
             IsQMark F.modulus (T.state pair.now.tableau) self.old.by_q.items x }
         requires ends { (x : ℕ) → x < (T.state pair.now.tableau).columns → IsEndMark self.old x }
         ensures marks { AreMarksOfQ F.modulus (T.state pair.now.tableau) self.new }
         ensures by_t { self.new.by_t ≡ self.old.by_t }
         ensures free { self.new.free ≡ self.old.free }
     {
-        for x in 0..self.touched.len() {
-            if self.touched[x] {
-                self.find_q_row(pair, x, row);
-            }
+        for at in 0..self.count {
+            let x = self.touched[at];
+            self.find_q_row(pair, x, row);
         }
     }
 

@@ -13,7 +13,8 @@ use Rattle.closed_sets.proofs.SetLaws.{test_cases, not-true, not-make}
 use Rattle.closed_sets.proofs.WalkLaws.{from-reaches, reaches-to}
 use Rattle.closed_sets.proofs.BlockOrder.{parts-keep}
 use Rattle.minimiser_lattice.specs.Paths.{IsQuotient}
-use Rattle.minimiser_lattice.specs.Listings.{HasPlaces, IsBetween, IsMarked, of_neither, table_of}
+use Rattle.minimiser_lattice.specs.Listings.{HasPlaces, IsMarked, of_neither, table_of}
+use Rattle.minimiser_lattice.specs.Covers.{AreCovers}
 use Rattle.minimiser_lattice.specs.Parts.{Parts, IsLattice}
 use Rattle.minimiser_lattice.specs.Views.{parts_from}
 use Rattle.minimiser_lattice.proofs.ListingLaws.{leads-same, leads-strict, leads-cases, leads-both}
@@ -75,8 +76,8 @@ module _ (arc : ℕ → ℕ → Bool) (n : ℕ) (starts ends : ℕ → Bool) (nu
   }
 
   module _ (rank listed : ℕ → ℕ) (b : ℕ) (S : IsListing arc n starts ends (λ x. rank (number x)) b)
-      (H : HasPlaces count (of_neither first last) rank listed b) (between : ℕ → ℕ → Bool)
-      (B : IsBetween n count strict between) where
+      (H : HasPlaces count (of_neither first last) rank listed b) (table : ℕ → ℕ → Bool)
+      (C : AreCovers n strict listed b table) where
     abbrev lower : ℕ → ℕ → Bool
     lower k l = strict (listed l) (listed k)
 
@@ -111,7 +112,7 @@ module _ (arc : ℕ → ℕ → Bool) (n : ℕ) (starts ends : ℕ → Bool) (nu
     }
 
     abbrev covers : ℕ → ℕ → Bool
-    covers l k = (nat_lt k b && nat_lt l b) && (strict (listed l) (listed k) && not (between (listed l) (listed k)))
+    covers l k = (nat_lt k b && nat_lt l b) && table l k
 
     lt_test : (k m : ℕ) → k < m → nat_lt k m ≡ true
     lt_test k m l = grind (arith, nat_tests)
@@ -119,17 +120,12 @@ module _ (arc : ℕ → ℕ → Bool) (n : ℕ) (starts ends : ℕ → Bool) (nu
     test_lt : (k m : ℕ) → nat_lt k m ≡ true → k < m
     test_lt k m h = grind (arith, nat_tests)
 
-    cover_both : (l k : ℕ) → covers l k ≡ true → (strict (listed l) (listed k) ≡ true) × (between (listed l) (listed k) ≡ false)
-    cover_both l k h =
-        let e = both-second (nat_lt k b && nat_lt l b) (strict (listed l) (listed k) && not (between (listed l) (listed k))) h in (
-          both-first (strict (listed l) (listed k)) (not (between (listed l) (listed k))) e,
-          not-true (between (listed l) (listed k))
-              (both-second (strict (listed l) (listed k)) (not (between (listed l) (listed k))) e),
-        )
+    set : (l k : ℕ) → covers l k ≡ true → table l k ≡ true
+    set l k h = both-second (nat_lt k b && nat_lt l b) (table l k) h
 
     pub covers-within : (k l : ℕ) → covers l k ≡ true → (k < b) × (l < b)
     covers-within k l h =
-        let e = both-first (nat_lt k b && nat_lt l b) (strict (listed l) (listed k) && not (between (listed l) (listed k))) h in
+        let e = both-first (nat_lt k b && nat_lt l b) (table l k) h in
         (test_lt k b (both-first (nat_lt k b) (nat_lt l b) e), test_lt l b (both-second (nat_lt k b) (nat_lt l b) e))
 
     -- a component between two of the middle is of the middle, so a block stands between
@@ -155,22 +151,18 @@ module _ (arc : ℕ → ℕ → Bool) (n : ℕ) (starts ends : ℕ → Bool) (nu
 
     pub blocks-cover : IsCover lower b covers
     blocks-cover = record {
-      is_below = λ k l kb lb h. (cover_both l k h).0;
-      none_between = λ k m l kb mb lb h km ml. differ (cover_both l k h).1
-          ((B (listed l) (H.below l lb)).made (listed m) (listed k) (omega arith)
-          (Q.numbering.falls (listed l) (listed m) (H.below l lb) (listed_small m mb) ml) (listed_small k kb) ml
-          km);
-      all = λ k l kb lb h none. both_true (nat_lt k b && nat_lt l b)
-          (strict (listed l) (listed k) && not (between (listed l) (listed k)))
+      is_below = λ k l kb lb h. (C l lb).leads k kb (set l k h);
+      none_between = λ k m l kb mb lb h km ml. (C l lb).none k kb (set l k h) (listed m) (listed_small m mb) ml km;
+      all = λ k l kb lb h none. both_true (nat_lt k b && nat_lt l b) (table l k)
           (both_true (nat_lt k b) (nat_lt l b) (lt_test k b kb) (lt_test l b lb))
-          (both_true (strict (listed l) (listed k)) (not (between (listed l) (listed k))) h
-          (not-make (between (listed l) (listed k)) (not_true (between (listed l) (listed k)) (λ e.
-          let d = (B (listed l) (H.below l lb)).some (listed k) (listed_small k kb) e in
-          let j = block_between k l d.0 kb lb (omega (arith, d.2, listed_small l lb)) (omega (arith, d.2, H.below l lb)) d.3 d.4 in
-          none j.0 j.1 (subst (λ v. strict v (listed k) ≡ true) (sym j.2) d.4) (subst (λ v. strict (listed l) v ≡ true) (sym j.2) d.3)))));
+          ((C l lb).all k kb h (λ m mn s t.
+          let less = Q.numbering.falls (listed l) m (H.below l lb) mn s in
+          let j = block_between k l m kb lb mn (omega (arith, less, H.below l lb)) s t in
+          none j.0 j.1 (subst (λ v. strict v (listed k) ≡ true) (sym j.2) t)
+          (subst (λ v. strict (listed l) v ≡ true) (sym j.2) s)));
     }
 
-    pub lattice-is : IsLattice arc n starts ends (parts_from n number first last rank listed b strict between)
+    pub lattice-is : IsLattice arc n starts ends (parts_from n number first last rank listed b strict table)
     lattice-is = record {
       parts = record { first = first-set; last = last-set; listing = S };
       order = blocks-below;
@@ -187,8 +179,5 @@ lattice-keeps arc n starts ends v clear L =
     (λ x l. (L.parts.last x l).0) (λ x l. (L.parts.last x l).1) v.covers L.covers L.within
 
 -- how the code reads a cover
-pub cover_read : (k l b : ℕ) → k < b → l < b → (s t r : Bool) → s ≡ true → r ≡ t → not r ≡ ((nat_lt k b && nat_lt l b) && (s && not t))
-cover_read k l b kb lb s t r e q = grind (arith, nat_tests)
-
-pub cover_missed : (a s t r : Bool) → r ≡ false → r ≡ s → r ≡ (a && (s && t))
-cover_missed a s t r f q = grind arith
+pub cover_read : (k l b : ℕ) → k < b → l < b → (t r : Bool) → r ≡ t → r ≡ ((nat_lt k b && nat_lt l b) && t)
+cover_read k l b kb lb t r q = grind (arith, nat_tests)

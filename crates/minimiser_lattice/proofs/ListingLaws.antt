@@ -9,10 +9,10 @@ use Rattle.closed_sets.proofs.Listings.{Started, started-none}
 use Rattle.closed_sets.proofs.TableLaws.{started-same, table-next, table-done}
 use Rattle.minimiser_lattice.specs.Paths.{IsNumbering}
 use Rattle.minimiser_lattice.specs.Components.{leads_in}
-use Rattle.minimiser_lattice.specs.Listings.{AllWait, HasPlaces, HasStandings, IsBetweenFrom, IsReadyAt, IsWaiting, IsWatched, in_middle, is_listed, table_of}
-use Rattle.minimiser_lattice.specs.declared.listing.Standing.{Standing}
-use Rattle.minimiser_lattice.specs.declared.listing.Standing.TheVariants.{Tail, Waiting, Listed}
-use Rattle.bit_table.specs.Bits.{IsJoined}
+use Rattle.minimiser_lattice.specs.Standings.{IsReadyAt, IsWaiting, in_middle, is_listed}
+use Rattle.minimiser_lattice.specs.Listings.{AllWait, HasPlaces, HasStandings, table_of}
+use Rattle.minimiser_lattice.specs.declared.standing.Standing.{Standing}
+use Rattle.minimiser_lattice.specs.declared.standing.Standing.TheVariants.{Tail, Waiting, Listed}
 use Rattle.minimiser_lattice.proofs.PathLaws.{size_misses}
 
 pub leads-same : (strict : ℕ → ℕ → Bool) (k l : ℕ) → k ≡ l → leads_in strict k l ≡ true
@@ -117,7 +117,7 @@ module _ (n : ℕ) (number : ℕ → ℕ) (count : ℕ) (strict : ℕ → ℕ �
       still l h = ap is_listed (put_others l (apart l h)) ∙ h
 
       -- what waits now waited before
-      waited : (l : ℕ) → IsWaiting more l → IsWaiting standing l
+      pub waited : (l : ℕ) → IsWaiting more l → IsWaiting standing l
       waited l w = elim (nat_cases l (number r)) [
         | inl q ↦ absurd (differ (ap is_listed w) (ap is_listed (ap more q ∙ put)))
         | inr ne ↦ sym (put_others l ne) ∙ w
@@ -184,9 +184,6 @@ module _ (n : ℕ) (number : ℕ → ℕ) (count : ℕ) (strict : ℕ → ℕ �
         );
       }
 
-      pub watched-next : (watch : ℕ → ℕ) → IsWatched count strict standing watch → IsWatched count strict more watch
-      watched-next watch W k l kl less s w = W k l kl less s (waited l w)
-
     -- one block more
     pub list-next : (arc : ℕ → ℕ → Bool) (starts ends : ℕ → Bool) →
         Tells arc n starts ends (table_of strict number) (λ x. middle (number x)) →
@@ -242,50 +239,4 @@ places-first count middle rank listed blocks e = record {
   below = λ j l. absurd (omega arith);
   of_middle = λ j l. absurd (omega arith);
   ranks = λ j l. absurd (omega arith);
-}
-
--- the row of what stands between, from above
-module _ (n : ℕ) (number : ℕ → ℕ) (count : ℕ) (strict before : ℕ → ℕ → Bool) (l m : ℕ)
-    (N : IsNumbering n number count strict) (ll : l < count) (ml : m < l) (R : IsBetweenFrom n strict before l (m + 1))
-  where
-    small : m < n
-    small = omega (arith, N.fits)
-
-    pub between-none : strict l m ≡ false → IsBetweenFrom n strict before l m
-    between-none f = record {
-      some = λ y yl h. let e = R.some y yl h in (e.0, omega (arith, e.1), e.2, e.3, e.4);
-      made = λ k y le kl yl s t. elim (nat_cases k m) [
-        | inl q ↦ absurd (differ f (subst (λ v. strict l v ≡ true) q s))
-        | inr ne ↦ R.made k y (omega arith) kl yl s t
-      ];
-    }
-
-    pub between-held : before l m ≡ true → IsBetweenFrom n strict before l m
-    between-held h = record {
-      some = λ y yl e. let d = R.some y yl e in (d.0, omega (arith, d.1), d.2, d.3, d.4);
-      made = λ k y le kl yl s t. elim (nat_cases k m) [
-        | inl q ↦
-            let d = R.some m small h in
-            R.made d.0 y d.1 d.2 yl d.3 (N.lower d.0 m y (omega (arith, d.2)) small yl d.4 (subst (λ v. strict v y ≡ true) q t))
-        | inr ne ↦ R.made k y (omega arith) kl yl s t
-      ];
-    }
-
-    pub between-join : (now : ℕ → ℕ → Bool) → strict l m ≡ true → IsJoined before now (strict m) n l → IsBetweenFrom n strict now l m
-    between-join now h J = record {
-      some = λ y yl e. elim (either_cases (before l y) (strict m y) (sym (J.here y yl) ∙ e)) [
-        | inl o ↦ let d = R.some y yl o in (d.0, omega (arith, d.1), d.2, d.3, d.4)
-        | inr s ↦ (m, omega arith, ml, h, s)
-      ];
-      made = λ k y le kl yl s t. J.here y yl ∙ elim (nat_cases k m) [
-        | inl q ↦ either-second (before l y) (strict m y) (subst (λ v. strict v y ≡ true) q t)
-        | inr ne ↦ either-first (before l y) (strict m y) (R.made k y (omega arith) kl yl s t)
-      ];
-    }
-
-pub between-same : (n : ℕ) (strict before now : ℕ → ℕ → Bool) (l from : ℕ) → ((y : ℕ) → y < n → now l y ≡ before l y) →
-    IsBetweenFrom n strict before l from → IsBetweenFrom n strict now l from
-between-same n strict before now l from same R = record {
-  some = λ y yl h. R.some y yl (sym (same y yl) ∙ h);
-  made = λ m y le ml yl s t. same y yl ∙ R.made m y le ml yl s t;
 }

@@ -1,11 +1,11 @@
 -- Marks of the tails: what a start leads to, and what leads to an end.
-use Rattle.std.proofs.Common.{◌≡◌, ℕ, ◌+◌, ◌<◌, Bool, true, false, ◌||◌, ◌⊎◌, inl, inr, sym, subst, ◌∙◌, arith}
+use Rattle.std.proofs.Common.{◌≡◌, ℕ, ◌+◌, ◌<◌, Bool, true, false, ◌||◌, ◌⊎◌, inl, inr, ap, sym, subst, ◌∙◌, arith}
 use Rattle.residue_theory.proofs.SumLaws.{nat_cases}
 use Rattle.residue_theory.proofs.SetLaws.{differ, not_true, either_cases}
 use Rattle.minimiser_lattice.specs.Paths.{IsNumbering}
 use Rattle.minimiser_lattice.specs.Components.{leads_in}
 use Rattle.minimiser_lattice.specs.Listings.{IsFirstTail, IsLastTail, IsTail}
-use Rattle.minimiser_lattice.proofs.ListingLaws.{leads-cases, leads-strict}
+use Rattle.minimiser_lattice.proofs.ListingLaws.{leads-cases, leads-same, leads-strict}
 
 neither-first : (a b : Bool) → (a || b) ≡ false → a ≡ false
 neither-first a b h = grind arith
@@ -67,10 +67,31 @@ module _ (n : ℕ) (number : ℕ → ℕ) (count : ℕ) (strict : ℕ → ℕ �
       not_true (leads_in strict (number x) k) (λ h. differ (T.none k t.0 l f t.1 t.2)
       (leads-through (number t.0) (number x) k (N.below t.0 (omega (arith, t.1))) (N.below x xl) l t.3 h))) T
 
-  -- nothing that is not marked leads to an end whose component is marked
-  pub last-held : (ends last : ℕ → Bool) (x : ℕ) → x < n → last (number x) ≡ true →
-      IsLastTail x number count strict ends last → IsLastTail (x + 1) number count strict ends last
-  last-held ends last x xl m T = tail-held x ends (λ e k. leads_in strict k (number e)) count last (λ k l s f.
-      let t = T.some (number x) (N.below x xl) m in
-      not_true (leads_in strict k (number x)) (λ h. differ (T.none k t.0 l f t.1 t.2)
-      (leads-through k (number x) (number t.0) l (N.below x xl) (N.below t.0 (omega (arith, t.1))) h t.3))) T
+  module _ (ends : ℕ → Bool) where
+    -- an end that component k leads to
+    abbrev pub EndOf : ℕ → Type 0
+    EndOf k = (x : ℕ) × (x < n) × (ends x ≡ true) × (leads_in strict k (number x) ≡ true)
+
+    pub end-of-own : (k : ℕ) → (x : ℕ) × (x < n) × (ends x ≡ true) × (number x ≡ k) → EndOf k
+    end-of-own k (x, xl, e, q) = (x, xl, e, leads-same strict k (number x) (sym q))
+
+    pub end-through : (k l : ℕ) → k < count → l < k → strict k l ≡ true → EndOf l → EndOf k
+    end-through k l kc less s (x, xl, e, h) =
+        (x, xl, e, leads-through k l (number x) kc (omega (arith, less, kc)) (N.below x xl) (leads-strict strict k l s) h)
+
+    -- where what k leads to is not marked, k leads to no end, unless it is the component of one
+    pub end-none : (marks : ℕ → Bool) (k x : ℕ) → k < count → x < n → ends x ≡ true →
+        ((y : ℕ) → y < n → ends y ≡ true → marks (number y) ≡ true) →
+        ((l : ℕ) → l < k → strict k l ≡ true → marks l ≡ false) → leads_in strict k (number x) ≡ true → marks k ≡ true
+    end-none marks k x kc xl e own none h = elim (leads-cases strict k (number x) h) [
+      | inl q ↦ ap marks q ∙ own x xl e
+      | inr s ↦ absurd (differ (none (number x) (N.falls k (number x) kc (omega (arith, N.fits, N.below x xl)) s) s) (own x xl e))
+    ]
+
+    pub last-tail : (marks : ℕ → Bool) → ((k : ℕ) → k < count → marks k ≡ true → EndOf k) →
+        ((k x : ℕ) → k < count → x < n → ends x ≡ true → leads_in strict k (number x) ≡ true → marks k ≡ true) →
+        IsLastTail n number count strict ends marks
+    last-tail marks some made = record {
+      some = some;
+      none = λ k x kc f xl e. not_true (leads_in strict k (number x)) (λ h. differ f (made k x kc xl e h));
+    }

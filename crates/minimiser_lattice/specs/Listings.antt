@@ -1,22 +1,22 @@
 -- What the arrays of a listing mean.
-use Rattle.std.specs.Prelude.{ℕ, ◌<◌, ◌≤◌, ◌≡◌, Bool, true, false, cond, ◌&&◌, not, vec_len, slice_index, slice_index_or}
+use Rattle.std.specs.Prelude.{ℕ, ◌<◌, ◌≤◌, ◌≡◌, Bool, true, false, cond, ◌&&◌, not, vec_len, slice_index}
 use Rattle.residue_theory.specs.Sums.{size_on}
 use Rattle.exchange_graph.specs.Marks.{members_of}
 use Rattle.minimiser_lattice.specs.Components.{leads_in}
+use Rattle.minimiser_lattice.specs.Standings.{in_middle, is_listed, standing_in}
+use Rattle.minimiser_lattice.specs.Ready.{HasRoomFor}
 use Rattle.minimiser_lattice.specs.declared.listing.Listing.{Listing}
-use Rattle.minimiser_lattice.specs.declared.listing.Standing.{Standing}
-use Rattle.minimiser_lattice.specs.declared.listing.Standing.TheVariants.{Tail, Waiting, Listed}
+use Rattle.minimiser_lattice.specs.declared.standing.Standing.{Standing}
+use Rattle.minimiser_lattice.specs.declared.standing.Standing.TheVariants.{Tail, Waiting, Listed}
 
--- each array has an item for each of n components, and the table a row
+-- each array has an item for each of n components, and there is room to take them apart
 pub record IsOpened (l : Listing) (n : ℕ) : Type 0 where
   pub first : vec_len l.first ≡ n
   pub last : vec_len l.last ≡ n
   pub standing : vec_len l.standing ≡ n
-  pub watch : vec_len l.watch ≡ n
+  pub ready : HasRoomFor l.ready n
   pub rank : vec_len l.rank ≡ n
   pub listed : vec_len l.listed ≡ n
-  pub rows : l.between.rows ≡ n
-  pub size : l.between.size ≡ n
 
 -- of the components, those are marked to which a place of the set, of the places below n, is related
 pub record IsTail (n : ℕ) (set : ℕ → Bool) (relates : ℕ → ℕ → Bool) (count : ℕ) (marks : ℕ → Bool) : Type 0 where
@@ -44,38 +44,12 @@ of_neither first last k = not (first k) && not (last k)
 abbrev pub middle_of : Listing → ℕ → Bool
 middle_of l = of_neither (members_of l.first.items) (members_of l.last.items)
 
--- where component k stands
 abbrev pub standing_of : Listing → ℕ → Standing
-standing_of l k = slice_index_or l.standing.items k Tail
-
-abbrev pub in_middle : Standing → Bool
-in_middle Tail = false
-in_middle Waiting = true
-in_middle Listed = true
-
-abbrev pub is_listed : Standing → Bool
-is_listed Tail = false
-is_listed Waiting = false
-is_listed Listed = true
+standing_of l = standing_in l.standing.items
 
 -- all components of the middle wait
 abbrev pub AllWait : ℕ → (ℕ → Bool) → (ℕ → Standing) → Type 0
 AllWait count middle standing = (k : ℕ) → k < count → standing k ≡ cond (middle k) Waiting Tail
-
-abbrev pub IsWaiting : (ℕ → Standing) → ℕ → Type 0
-IsWaiting standing k = standing k ≡ Waiting
-
--- no place below `from` has a component that waits
-abbrev pub NoneWaits : (ℕ → Standing) → (ℕ → ℕ) → ℕ → Type 0
-NoneWaits standing number from = (j : ℕ) → j < from → IsWaiting standing (number j) → ⊥
-
--- component k waits, and nothing that it leads to waits
-abbrev pub IsReadyAt : (ℕ → ℕ → Bool) → (ℕ → Standing) → ℕ → Type 0
-IsReadyAt strict standing k = IsWaiting standing k × ((l : ℕ) → l < k → strict k l ≡ true → IsWaiting standing l → ⊥)
-
--- of each component: nothing below its watch that it leads to waits
-abbrev pub IsWatched : ℕ → (ℕ → ℕ → Bool) → (ℕ → Standing) → (ℕ → ℕ) → Type 0
-IsWatched n strict standing watch = (k l : ℕ) → k < n → l < watch k → strict k l ≡ true → IsWaiting standing l → ⊥
 
 -- each block has its component of the middle, and that one its block
 pub record HasPlaces (count : ℕ) (middle : ℕ → Bool) (rank listed : ℕ → ℕ) (blocks : ℕ) : Type 0 where
@@ -90,19 +64,10 @@ pub record HasStandings (count : ℕ) (middle : ℕ → Bool) (standing : ℕ �
   pub still_listed : (j : ℕ) → j < blocks → standing (listed j) ≡ Listed
   pub room : blocks ≤ size_on (λ k. is_listed (standing k)) count
 
--- in row l, of the components from `from` on: a bit is set for what one of them leads to that l leads to
-pub record IsBetweenFrom (n : ℕ) (strict between : ℕ → ℕ → Bool) (l from : ℕ) : Type 0 where
-  pub some : (y : ℕ) → y < n → between l y ≡ true → (m : ℕ) × (from ≤ m) × (m < l) × (strict l m ≡ true)
-      × (strict m y ≡ true)
-  pub made : (m y : ℕ) → from ≤ m → m < l → y < n → strict l m ≡ true → strict m y ≡ true → between l y ≡ true
-
--- between l y says that a third component stands between l and y
-abbrev pub IsBetween : ℕ → ℕ → (ℕ → ℕ → Bool) → (ℕ → ℕ → Bool) → Type 0
-IsBetween n count strict between = (l : ℕ) → l < count → IsBetweenFrom n strict between l 0
-
 -- what place is reached from what place
 abbrev pub table_of : (ℕ → ℕ → Bool) → (ℕ → ℕ) → ℕ → ℕ → Bool
 table_of strict number x y = leads_in strict (number x) (number y)
 
-abbrev pub watch_of : Listing → ℕ → ℕ
-watch_of l k = slice_index l.watch.items k
+-- the component of block j
+abbrev pub listed_of : Listing → ℕ → ℕ
+listed_of l j = slice_index l.listed.items j

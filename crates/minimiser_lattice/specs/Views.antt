@@ -1,29 +1,30 @@
 -- The parts that components and their listing tell.
-use Rattle.std.specs.Prelude.{ℕ, ◌<◌, ◌≤◌, Bool, List, ◌&&◌, not, nat_lt, slice_index}
+use Rattle.std.specs.Prelude.{ℕ, ◌<◌, ◌≤◌, Bool, List, ◌&&◌, nat_lt, slice_index}
 use Rattle.exchange_graph.specs.Marks.{members_of}
 use Rattle.bit_table.specs.Bits.{Bits, bit_in}
 use Rattle.minimiser_lattice.specs.Components.{IsStored, number_of, places}
 use Rattle.minimiser_lattice.specs.Listings.{IsOpened}
+use Rattle.minimiser_lattice.specs.Covers.{HasRoom}
 use Rattle.minimiser_lattice.specs.Parts.{Parts}
 use Rattle.minimiser_lattice.specs.declared.components.Components.{Components}
+use Rattle.minimiser_lattice.specs.declared.covers.Covers.{Covers}
 use Rattle.minimiser_lattice.specs.declared.listing.Listing.{Listing}
 
 abbrev pub parts_from : ℕ → (ℕ → ℕ) → (ℕ → Bool) → (ℕ → Bool) → (ℕ → ℕ) → (ℕ → ℕ) → ℕ → (ℕ → ℕ → Bool) →
     (ℕ → ℕ → Bool) → Parts
-parts_from n number first last rank listed blocks strict between = record {
+parts_from n number first last rank listed blocks strict covers = record {
   places = n;
   first = λ x. first (number x);
   last = λ x. last (number x);
   block = λ x. rank (number x);
   blocks = blocks;
   below = λ k l. strict (listed l) (listed k);
-  covers = λ l k. (nat_lt k blocks && nat_lt l blocks)
-      && (strict (listed l) (listed k) && not (between (listed l) (listed k)));
+  covers = λ l k. (nat_lt k blocks && nat_lt l blocks) && covers l k;
 }
 
 -- what a lattice keeps: how many places there are, the number of each place's component; of each component whether it
 -- is of the first part or the last, and its block; the component of each block and how many blocks there are; and two
--- tables of bits: which component leads to which, and between which a third one stands
+-- tables of bits: which component leads to which, and which block is right below which
 pub record Kept : Type 0 where
   pub places : ℕ
   pub number : List ℕ
@@ -33,10 +34,10 @@ pub record Kept : Type 0 where
   pub listed : List ℕ
   pub blocks : ℕ
   pub strict : Bits
-  pub between : Bits
+  pub covers : Bits
 
-abbrev pub kept_of : Components → Listing → Kept
-kept_of c l = record {
+abbrev pub kept_of : Components → Listing → Covers → Kept
+kept_of c l v = record {
   places = places c;
   number = c.number.items;
   first = l.first.items;
@@ -45,18 +46,19 @@ kept_of c l = record {
   listed = l.listed.items;
   blocks = l.blocks;
   strict = c.strict;
-  between = l.between;
+  covers = v.table;
 }
 
 -- the parts that these tell
 abbrev pub parts_in : Kept → Parts
 parts_in v = parts_from v.places (λ x. slice_index v.number x) (members_of v.first) (members_of v.last)
-    (λ k. slice_index v.rank k) (λ j. slice_index v.listed j) v.blocks (bit_in v.strict) (bit_in v.between)
+    (λ k. slice_index v.rank k) (λ j. slice_index v.listed j) v.blocks (bit_in v.strict) (bit_in v.covers)
 
 -- all that is read stands in the arrays
-pub record IsKept (c : Components) (l : Listing) : Type 0 where
+pub record IsKept (c : Components) (l : Listing) (v : Covers) : Type 0 where
   pub stored : IsStored c
   pub opened : IsOpened l (places c)
+  pub room : HasRoom v (places c)
   pub numbers : (x : ℕ) → x < places c → number_of c x < places c
   pub fits : l.blocks ≤ places c
   pub listed : (j : ℕ) → j < l.blocks → slice_index l.listed.items j < places c

@@ -3,7 +3,8 @@
 //! ideals of the order of the blocks (Birkhoff 1937). Where they are the minimisers of a submodular function, this is
 //! its decomposition (Murota 2000, chapter 2).
 
-ghost use Rattle.std.specs.Prelude.{◌≡◌, ℕ, ◌<◌, Bool, length, IfOk};
+ghost use Rattle.std.specs.Prelude.{◌≡◌, ℕ, ◌<◌, Bool, length, IfOk, IfSome, IfNone};
+ghost use Rattle.number_ranges.specs.Ranges.{HasNone, IsLeast};
 ghost use Rattle.exchange_graph.specs.Marks.{members_of};
 ghost use Rattle.closed_sets.specs.Closed.{NoEndReached};
 ghost use Rattle.closed_sets.specs.Rules.{KeepsRules};
@@ -11,6 +12,7 @@ ghost use Rattle.minimiser_lattice.specs.Parts.{IsLattice, part_in};
 ghost use Rattle.minimiser_lattice.specs.Views.{Kept, parts_in};
 
 use crate::components::Components;
+use crate::covers::Covers;
 use crate::listing::Listing;
 use exchange_graph::Arcs;
 use out_of_memory::NoMemory;
@@ -32,6 +34,7 @@ pub enum Part {
 pub struct Lattice {
     components: Components,
     listing: Listing,
+    covers: Covers,
 }
 
 impl Model for Lattice {
@@ -39,9 +42,9 @@ impl Model for Lattice {
 
     ghost Value = { Kept };
 
-    ghost view = { λ l. kept_of l.components l.listing };
+    ghost view = { λ l. kept_of l.components l.listing l.covers };
 
-    ghost invariant = { λ l. IsKept l.components l.listing };
+    ghost invariant = { λ l. IsKept l.components l.listing l.covers };
 }
 
 impl Lattice {
@@ -52,6 +55,7 @@ impl Lattice {
         Ok(Lattice {
             components: Components::open(alloc, n)?,
             listing: Listing::open(alloc, n)?,
+            covers: Covers::open(alloc, n)?,
         })
     }
 
@@ -77,7 +81,7 @@ impl Lattice {
         self.components.fill(arcs);
         self.listing.mark(&self.components, starts, ends);
         self.listing.list(&self.components);
-        self.listing.cover(&self.components);
+        self.covers.fill(&self.components, &self.listing);
     }
 
     /// Where a place stands.
@@ -118,7 +122,15 @@ impl Lattice {
         requires l { l < (parts_in self.now).blocks }
         ensures { result ≡ (parts_in self.now).covers l k }
     {
-        let (low, high) = (self.listing.listed[k], self.listing.listed[l]);
-        self.components.strict.get(high, low) && !self.listing.between.get(high, low)
+        self.covers.table.get(l, k)
+    }
+
+    /// The first block from `from` on that is below block l with none between.
+    pub fn next_cover(&self, l: usize, from: usize) -> Option<usize>
+        requires { l < (parts_in self.now).blocks }
+        ensures none { IfNone result (HasNone ((parts_in self.now).covers l) from l) }
+        ensures least { IfSome result (IsLeast ((parts_in self.now).covers l) from l) }
+    {
+        self.covers.table.next(l, from, l)
     }
 }

@@ -3,8 +3,11 @@
 #![tactic(auto)]
 
 mod components;
+mod covers;
 mod lattice;
 mod listing;
+mod ready;
+mod standing;
 mod tails;
 
 pub use lattice::{Lattice, Part};

@@ -1,46 +1,33 @@
 //! The listing of the components: a topological sort (Kahn 1962) that takes at each step the one with the least place
-//! of those that may come next, found by watches in place of counts; and the transitive reduction of their order, that
-//! is its covers (Aho, Garey and Ullman 1972).
+//! of those that may come next.
 
-ghost use Rattle.std.specs.Prelude.{◌≡◌, ◌≢◌, ◌↔◌, ℕ, ◌+◌, ◌<◌, ◌≤◌, Bool, true, false, length, vec_len, IsTrue, IfOk, IfSome, IfNone, slice_index};
+ghost use Rattle.std.specs.Prelude.{◌≡◌, ◌≢◌, ℕ, ◌+◌, ◌<◌, ◌≤◌, Bool, false, length, vec_len, IfOk, IfSome, IfNone, slice_index};
 ghost use Rattle.exchange_graph.specs.Marks.{members_of};
 ghost use Rattle.closed_sets.specs.Tables.{Tells};
 ghost use Rattle.closed_sets.specs.Blocks.{IsListing};
 ghost use Rattle.bit_table.specs.Bits.{bit_in};
 ghost use Rattle.minimiser_lattice.specs.Paths.{IsNumbering};
 ghost use Rattle.minimiser_lattice.specs.Components.{IsStored, number_of, places};
-ghost use Rattle.minimiser_lattice.specs.Listings.{AllWait, HasPlaces, HasStandings, IsBetween, IsBetweenFrom, IsMarked, IsOpened, IsReadyAt, IsWaiting, IsWatched, NoneWaits, middle_of, standing_of, table_of, watch_of};
-ghost use Rattle.minimiser_lattice.specs.declared.listing.Standing.TheVariants.{Listed};
+ghost use Rattle.minimiser_lattice.specs.Listings.{AllWait, HasPlaces, HasStandings, IsMarked, IsOpened, middle_of, standing_of, table_of};
+ghost use Rattle.minimiser_lattice.specs.declared.standing.Standing.TheVariants.{Listed};
 
 use crate::components::Components;
+use crate::ready::Ready;
+use crate::standing::Standing;
 use crate::tails::{mark_ends, mark_starts};
-use bit_table::BitTable;
 use out_of_memory::NoMemory;
 use std::alloc::Global;
 
-/// Where a component stands while the blocks are listed.
-#[derive(Clone, Copy, PartialEq, Eq)]
-pub enum Standing {
-    /// In a tail, so it is of no block.
-    Tail,
-    /// In the middle, and it waits to be listed.
-    Waiting,
-    /// In the middle, and it has its block.
-    Listed,
-}
-
 // The listing of components, each item of an array standing for a component or for a block. A component may be of both
-// tails, so each has its own marks. `watch` tells of a component below which number nothing holds it back: what is
-// listed stays so, and no number is looked at twice.
+// tails, so each has its own marks.
 #[derive(Drop)]
 pub struct Listing {
     pub first: Vec<bool>,
     pub last: Vec<bool>,
     pub standing: Vec<Standing>,
-    pub watch: Vec<usize>,
+    pub ready: Ready,
     pub rank: Vec<usize>,
     pub listed: Vec<usize>,
-    pub between: BitTable,
     pub blocks: usize,
 }
 
@@ -55,10 +42,9 @@ impl Listing {
             first: vec![in alloc; false; n]?,
             last: vec![in alloc; false; n]?,
             standing: vec![in alloc; Standing::Tail; n]?,
-            watch: vec![in alloc; 0; n]?,
+            ready: Ready::open(alloc, n)?,
             rank: vec![in alloc; 0; n]?,
             listed: vec![in alloc; 0; n]?,
-            between: BitTable::open(alloc, n, n)?,
             blocks: 0,
         })
     }
@@ -75,7 +61,6 @@ impl Listing {
             (bit_in components.now.strict) (members_of starts.now) (members_of ends.now)
             (members_of self.new.first.items) (members_of self.new.last.items) }
         ensures wait { AllWait components.now.count (middle_of self.new) (standing_of self.new) }
-        ensures watch { (k : ℕ) → k < components.now.count → slice_index self.new.watch.items k ≡ 0 }
         ensures blocks { self.new.blocks ≡ 0 }
         ensures opened { IsOpened self.new (places components.now) }
     {
@@ -85,13 +70,12 @@ impl Listing {
         self.let_others_wait(components);
     }
 
-    // Forgets the marks, the watches and the blocks.
+    // Forgets the marks and the blocks.
     fn clear(&mut self, components: &Components)
         requires opened { IsOpened self.old (places components.now) }
         requires count { components.now.count ≤ places components.now }
         ensures first { (k : ℕ) → k < components.now.count → members_of self.new.first.items k ≡ false }
         ensures last { (k : ℕ) → k < components.now.count → members_of self.new.last.items k ≡ false }
-        ensures watch { (k : ℕ) → k < components.now.count → slice_index self.new.watch.items k ≡ 0 }
         ensures blocks { self.new.blocks ≡ 0 }
         ensures opened { IsOpened self.new (places components.now) }
     {
@@ -99,7 +83,6 @@ impl Listing {
         for k in 0..components.count {
             self.first[k] = false;
             self.last[k] = false;
-            self.watch[k] = 0;
         }
     }
 
@@ -119,96 +102,6 @@ impl Listing {
                 Standing::Waiting
             };
         }
-    }
-
-    // Whether component k waits.
-    fn is_waiting(&self, k: usize) -> bool
-        requires { k < vec_len self.now.standing }
-        ensures { IsTrue result ↔ IsWaiting (standing_of self.now) k }
-    {
-        self.standing[k] == Standing::Waiting
-    }
-
-    // Whether component l waits and is led to from k.
-    fn holds_back(&self, components: &Components, k: usize, l: usize) -> bool
-        requires opened { IsOpened self.now (places components.now) }
-        requires stored { IsStored components.now }
-        requires k { k < places components.now }
-        requires l { l < places components.now }
-        ensures { IsTrue result ↔ (IsWaiting (standing_of self.now) l × (bit_in components.now.strict k l ≡ true)) }
-    {
-        self.is_waiting(l) && components.strict.get(k, l)
-    }
-
-    // Whether component k waits and leads to none that waits.
-    fn is_ready(&mut self, components: &Components, k: usize) -> bool
-        requires opened { IsOpened self.old (places components.now) }
-        requires stored { IsStored components.now }
-        requires k { k < components.now.count }
-        requires count { components.now.count ≤ places components.now }
-        requires watched { IsWatched components.now.count (bit_in components.now.strict) (standing_of self.old)
-            (watch_of self.old) }
-        ensures ready { result ≡ true → IsReadyAt (bit_in components.now.strict) (standing_of self.old) k }
-        ensures held { result ≡ false → IsReadyAt (bit_in components.now.strict) (standing_of self.old) k → ⊥ }
-        ensures watched { IsWatched components.now.count (bit_in components.now.strict) (standing_of self.old)
-            (watch_of self.new) }
-        ensures kept { self.new ≡ record self.old { watch = self.new.watch } }
-        ensures opened { IsOpened self.new (places components.now) }
-    {
-        if !self.is_waiting(k) {
-            return false;
-        }
-        let mut at = self.watch[k];
-        while at < k && !self.holds_back(components, k, at) {
-            at += 1;
-        }
-        self.watch[k] = at;
-        at >= k
-    }
-
-    // The first place from `from` on whose component waits; where there is none, how many places there are.
-    fn next_waiting(&self, components: &Components, from: usize) -> usize
-        requires opened { IsOpened self.now (places components.now) }
-        requires stored { IsStored components.now }
-        requires numbers { (x : ℕ) → x < places components.now → number_of components.now x < places components.now }
-        requires passed { NoneWaits (standing_of self.now) (number_of components.now) from }
-        ensures passed { NoneWaits (standing_of self.now) (number_of components.now) result }
-    {
-        let mut at = from;
-        while at < components.number.len() && !self.is_waiting(components.number[at]) {
-            at += 1;
-        }
-        at
-    }
-
-    // The least place whose component is ready, where none before `from` waits.
-    fn least_ready(&mut self, components: &Components, from: usize) -> Option<usize>
-        requires opened { IsOpened self.old (places components.now) }
-        requires stored { IsStored components.now }
-        requires numbers { (x : ℕ) → x < places components.now → number_of components.now x < components.now.count }
-        requires count { components.now.count ≤ places components.now }
-        requires passed { NoneWaits (standing_of self.old) (number_of components.now) from }
-        requires watched { IsWatched components.now.count (bit_in components.now.strict) (standing_of self.old)
-            (watch_of self.old) }
-        ensures below { IfSome result (λ x. x < places components.now) }
-        ensures ready { IfSome result (λ x. IsReadyAt (bit_in components.now.strict) (standing_of self.old)
-            (number_of components.now x)) }
-        ensures least { IfSome result (λ x. (j : ℕ) → j < x →
-            IsReadyAt (bit_in components.now.strict) (standing_of self.old) (number_of components.now j) → ⊥) }
-        ensures none { IfNone result ((j : ℕ) → j < places components.now →
-            IsReadyAt (bit_in components.now.strict) (standing_of self.old) (number_of components.now j) → ⊥) }
-        ensures watched { IsWatched components.now.count (bit_in components.now.strict) (standing_of self.old)
-            (watch_of self.new) }
-        ensures kept { self.new ≡ record self.old { watch = self.new.watch } }
-        ensures opened { IsOpened self.new (places components.now) }
-    {
-        for place in from..components.number.len() {
-            let k = components.number[place];
-            if self.is_ready(components, k) {
-                return Some(place);
-            }
-        }
-        None
     }
 
     // Lists component k as the next block.
@@ -245,7 +138,6 @@ impl Listing {
         requires numbering { IsNumbering (places components.now) (number_of components.now) components.now.count
             (bit_in components.now.strict) }
         requires wait { AllWait components.now.count (middle_of self.old) (standing_of self.old) }
-        requires watch { (k : ℕ) → k < components.now.count → slice_index self.old.watch.items k ≡ 0 }
         requires blocks { self.old.blocks ≡ 0 }
         ensures listing { (arc : ℕ → ℕ → Bool) (starts ends : ℕ → Bool) →
             Tells arc (places components.now) starts ends
@@ -260,59 +152,35 @@ impl Listing {
         ensures fits { self.new.blocks ≤ places components.now }
         ensures kept { self.new ≡ record self.old {
           standing = self.new.standing;
-          watch = self.new.watch;
+          ready = self.new.ready;
           rank = self.new.rank;
           listed = self.new.listed;
           blocks = self.new.blocks;
         } }
         ensures opened { IsOpened self.new (places components.now) }
     {
-        let mut from = 0;
-        while let Some(place) = self.least_ready(components, from) {
+        self.ready.begin(components, &self.standing);
+        while let Some(place) = self.ready.take(components, &self.standing) {
             let k = components.number[place];
             self.put(k);
-            from = self.next_waiting(components, from);
+            self.ready.release(components, &self.standing, k);
         }
     }
 
-    // Finds between which component and l a third one stands. From above: a row that a higher one holds is joined.
-    fn cover_row(&mut self, components: &Components, l: usize)
-        requires opened { IsOpened self.old (places components.now) }
-        requires stored { IsStored components.now }
-        requires numbering { IsNumbering (places components.now) (number_of components.now) components.now.count
-            (bit_in components.now.strict) }
-        requires l { l < components.now.count }
-        requires empty { (y : ℕ) → y < places components.now → bit_in self.old.between l y ≡ false }
-        ensures row { IsBetweenFrom (places components.now) (bit_in components.now.strict)
-            (bit_in self.new.between) l 0 }
-        ensures others { (k y : ℕ) → y < places components.now → k ≢ l →
-            bit_in self.new.between k y ≡ bit_in self.old.between k y }
-        ensures kept { self.new ≡ record self.old { between = self.new.between } }
-        ensures opened { IsOpened self.new (places components.now) }
+    /// The block of component k, if it has one.
+    pub fn block_of(&self, k: usize) -> Option<usize>
+        requires k { k < vec_len self.now.rank }
+        requires fits { self.now.blocks ≤ vec_len self.now.listed }
+        requires ranks { (j : ℕ) → j < self.now.blocks →
+            slice_index self.now.rank.items (slice_index self.now.listed.items j) ≡ j }
+        ensures some { IfSome result (λ j. (j < self.now.blocks) × (slice_index self.now.listed.items j ≡ k)) }
+        ensures none { IfNone result ((j : ℕ) → j < self.now.blocks → slice_index self.now.listed.items j ≢ k) }
     {
-        let mut m = l;
-        while m > 0 {
-            m -= 1;
-            if components.strict.get(l, m) && !self.between.get(l, m) {
-                self.between.join_other(l, &components.strict, m);
-            }
-        }
-    }
-
-    /// Finds between which components a third one stands.
-    pub fn cover(&mut self, components: &Components)
-        requires opened { IsOpened self.old (places components.now) }
-        requires stored { IsStored components.now }
-        requires numbering { IsNumbering (places components.now) (number_of components.now) components.now.count
-            (bit_in components.now.strict) }
-        ensures between { IsBetween (places components.now) components.now.count (bit_in components.now.strict)
-            (bit_in self.new.between) }
-        ensures kept { self.new ≡ record self.old { between = self.new.between } }
-        ensures opened { IsOpened self.new (places components.now) }
-    {
-        self.between.clear();
-        for l in 0..components.count {
-            self.cover_row(components, l);
+        let block = self.rank[k];
+        if block < self.blocks && self.listed[block] == k {
+            Some(block)
+        } else {
+            None
         }
     }
 }

@@ -1,7 +1,7 @@
 //! The components of the tails: what is reached from a start, and what reaches an end, read off the transitive closure
 //! of the components' order.
 
-ghost use Rattle.std.specs.Prelude.{◌≡◌, ℕ, ◌<◌, ◌≤◌, ◌||◌, length, false};
+ghost use Rattle.std.specs.Prelude.{◌≡◌, ◌≢◌, ◌⊎◌, ℕ, ◌<◌, ◌≤◌, ◌||◌, length, true, false};
 ghost use Rattle.exchange_graph.specs.Marks.{members_of};
 ghost use Rattle.bit_table.specs.Bits.{bit_in};
 ghost use Rattle.minimiser_lattice.specs.Paths.{IsNumbering};
@@ -20,27 +20,11 @@ fn mark_below(marks: &mut [bool], components: &Components, from: usize)
         ≡ (members_of marks.old k || leads_in (bit_in components.now.strict) from k) }
     ensures length { length marks.new ≡ length marks.old }
 {
-    for k in 0..components.count {
-        if components.leads(from, k) {
-            marks[k] = true;
-        }
-    }
-}
-
-// Marks component `to` and each one that leads to it.
-fn mark_above(marks: &mut [bool], components: &Components, to: usize)
-    requires stored { IsStored components.now }
-    requires marks { length marks.old ≡ places components.now }
-    requires to { to < places components.now }
-    requires count { components.now.count ≤ places components.now }
-    ensures marked { (k : ℕ) → k < components.now.count → members_of marks.new k
-        ≡ (members_of marks.old k || leads_in (bit_in components.now.strict) k to) }
-    ensures length { length marks.new ≡ length marks.old }
-{
-    for k in 0..components.count {
-        if components.leads(k, to) {
-            marks[k] = true;
-        }
+    marks[from] = true;
+    let mut at = 0;
+    while let Some(k) = components.strict.next(from, at, components.count) {
+        marks[k] = true;
+        at = k + 1;
     }
 }
 
@@ -64,7 +48,65 @@ pub fn mark_starts(marks: &mut [bool], components: &Components, starts: &[bool])
     }
 }
 
-/// Marks the components that lead to an end. What leads to a marked component is marked already.
+// Marks the components of the ends.
+fn mark_own(marks: &mut [bool], components: &Components, ends: &[bool])
+    requires stored { IsStored components.now }
+    requires marks { length marks.old ≡ places components.now }
+    requires ends { length ends.now ≡ places components.now }
+    requires numbers { (x : ℕ) → x < places components.now → number_of components.now x < places components.now }
+    ensures some { (k : ℕ) → members_of marks.old k ≡ false → members_of marks.new k ≡ true →
+        (x : ℕ) × (x < places components.now) × (members_of ends.now x ≡ true) × (number_of components.now x ≡ k) }
+    ensures made { (x : ℕ) → x < places components.now → members_of ends.now x ≡ true →
+        members_of marks.new (number_of components.now x) ≡ true }
+    ensures length { length marks.new ≡ length marks.old }
+{
+    for (place, is_end) in ends.iter().enumerate() {
+        if *is_end {
+            marks[components.number[place]] = true;
+        }
+    }
+}
+
+// Whether component k leads to a marked one.
+fn leads_to_marked(marks: &[bool], components: &Components, k: usize) -> bool
+    requires stored { IsStored components.now }
+    requires marks { length marks.now ≡ places components.now }
+    requires k { k < places components.now }
+    ensures some { result ≡ true → (l : ℕ) × (l < k) × (bit_in components.now.strict k l ≡ true)
+        × (members_of marks.now l ≡ true) }
+    ensures none { result ≡ false → (l : ℕ) → l < k → bit_in components.now.strict k l ≡ true →
+        members_of marks.now l ≡ false }
+{
+    let mut from = 0;
+    while let Some(l) = components.strict.next(k, from, k) {
+        if marks[l] {
+            return true;
+        }
+        from = l + 1;
+    }
+    false
+}
+
+// Marks component k, if it leads to a marked one.
+fn mark_above(marks: &mut [bool], components: &Components, k: usize)
+    requires stored { IsStored components.now }
+    requires marks { length marks.old ≡ places components.now }
+    requires k { k < places components.now }
+    ensures some { members_of marks.new k ≡ true → (members_of marks.old k ≡ true) ⊎ ((l : ℕ) × (l < k)
+        × (bit_in components.now.strict k l ≡ true) × (members_of marks.old l ≡ true)) }
+    ensures none { members_of marks.new k ≡ false → (l : ℕ) → l < k → bit_in components.now.strict k l ≡ true →
+        members_of marks.old l ≡ false }
+    ensures kept { (j : ℕ) → members_of marks.old j ≡ true → members_of marks.new j ≡ true }
+    ensures others { (j : ℕ) → j ≢ k → members_of marks.new j ≡ members_of marks.old j }
+    ensures length { length marks.new ≡ length marks.old }
+{
+    if leads_to_marked(marks, components, k) {
+        marks[k] = true;
+    }
+}
+
+/// Marks the components that lead to an end. One that leads to a marked one is marked after it, since its number is
+/// greater.
 pub fn mark_ends(marks: &mut [bool], components: &Components, ends: &[bool])
     requires stored { IsStored components.now }
     requires marks { length marks.old ≡ places components.now }
@@ -76,10 +118,8 @@ pub fn mark_ends(marks: &mut [bool], components: &Components, ends: &[bool])
         (bit_in components.now.strict) (members_of ends.now) (members_of marks.new) }
     ensures length { length marks.new ≡ length marks.old }
 {
-    for (place, is_end) in ends.iter().enumerate() {
-        let to = components.number[place];
-        if *is_end && !marks[to] {
-            mark_above(marks, components, to);
-        }
+    mark_own(marks, components, ends);
+    for k in 0..components.count {
+        mark_above(marks, components, k);
     }
 }

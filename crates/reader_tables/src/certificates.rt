@@ -18,11 +18,13 @@ const NONE: &str =
 
 // The same in version 2.
 const SMALL: &str =
-    "mixed-certificate 2\nfield 65521\nkind matrix\nlength 9\neq a x=1\n\nshape 1 1 1 0 1\nrank 1\nbase 1=1\nmatch\nS 1: 1=1\nU 1: 1=1\nP 1: 1=1\nfirst |\nblock 1: 1 | q1 |\nlast |\nend\n";
+    "mixed-certificate 2\nfield 65521\nkind matrix\nlength 9\neq a x=1\n\nshape 1 1 1 0 1\nrank 1\n\
+     base 1=1\nmatch\nS 1: 1=1\nU 1: 1=1\nP 1: 1=1\nfirst |\nblock 1: 1 | q1 |\nlast |\nend\n";
 
 // The certificate of `eq a x=65521`, a number that is 0 in the smaller field.
 const LARGE: &str =
-    "mixed-certificate 2\nfield 2147483647\nkind matrix\nlength 13\neq a x=65521\n\nshape 1 1 1 0 1\nrank 1\nbase 1=1\nmatch\nS 1: 1=1675614749\nU 1: 1=65521\nP 1: 1=1\nfirst |\nblock 1: 1 | q1 |\nlast |\nend\n";
+    "mixed-certificate 2\nfield 2147483647\nkind matrix\nlength 13\neq a x=65521\n\nshape 1 1 1 0 1\nrank 1\n\
+     base 1=1\nmatch\nS 1: 1=1675614749\nU 1: 1=65521\nP 1: 1=1\nfirst |\nblock 1: 1 | q1 |\nlast |\nend\n";
 
 // Writes a certificate that was read from this text.
 fn expect_written<F: Field>(

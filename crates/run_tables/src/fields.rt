@@ -80,9 +80,11 @@ fn a_rank_over_each_field(rt: HostRuntime) -> Result<(), Fail> {
 #[test]
 fn certificates_that_state_their_field(rt: HostRuntime) -> Result<(), Fail> {
     let large =
-        b"mixed-certificate 2\nfield 2147483647\nkind matrix\nlength 13\neq a x=65521\n\nshape 1 1 1 0 1\nrank 1\nbase 1=1\nmatch\nS 1: 1=1675614749\nU 1: 1=65521\nP 1: 1=1\nfirst |\nblock 1: 1 | q1 |\nlast |\nend\n";
+        b"mixed-certificate 2\nfield 2147483647\nkind matrix\nlength 13\neq a x=65521\n\nshape 1 1 1 0 1\nrank 1\n\
+          base 1=1\nmatch\nS 1: 1=1675614749\nU 1: 1=65521\nP 1: 1=1\nfirst |\nblock 1: 1 | q1 |\nlast |\nend\n";
     let small =
-        b"mixed-certificate 2\nfield 65521\nkind matrix\nlength 9\neq a x=1\n\nshape 1 1 1 0 1\nrank 1\nbase 1=1\nmatch\nS 1: 1=1\nU 1: 1=1\nP 1: 1=1\nfirst |\nblock 1: 1 | q1 |\nlast |\nend\n";
+        b"mixed-certificate 2\nfield 65521\nkind matrix\nlength 9\neq a x=1\n\nshape 1 1 1 0 1\nrank 1\n\
+          base 1=1\nmatch\nS 1: 1=1\nU 1: 1=1\nP 1: 1=1\nfirst |\nblock 1: 1 | q1 |\nlast |\nend\n";
     let circuit =
         b"mixed-certificate 2\nfield 2147483647\nkind netlist\nlength 0\n\nshape 0 0 0 0 0\nrank 0\nbase\nmatch\nfirst |\nlast |\nend\n";
     let cases = [

@@ -44,12 +44,12 @@ impl<'a, S: Shape> ByNumber<'a, S> {
     }
 
     /// How often an arc was asked for.
-    pub fn asks(&self) -> usize {
+    pub(crate) fn asks(&self) -> usize {
         self.asks.get()
     }
 
     /// How often no more arcs of a place were left.
-    pub fn looks(&self) -> usize {
+    pub(crate) fn looks(&self) -> usize {
         self.looks.get()
     }
 }

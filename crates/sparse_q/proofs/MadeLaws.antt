@@ -1,11 +1,12 @@
 -- Sparse matrices that are made row by row, and rows that are made column by column.
-use Rattle.std.proofs.Common.{◌≡◌, ℕ, ◌+◌, ◌<◌, ◌≤◌, ◌≢◌, inl, inr, cond, eqb, List, [], ◌∷◌, ◌++◌, map, take, length, slice_index, slice_index_or, slice_set, replicate, refl, sym, subst, ap, ◌∙◌, arith}
+use Rattle.std.proofs.Common.{◌≡◌, ℕ, ◌+◌, ◌<◌, ◌≤◌, ◌≢◌, inl, inr, Bool, true, false, cond, eqb, List, [], ◌∷◌, ◌++◌, map, take, length, slice_index, slice_index_or, slice_set, replicate, refl, sym, subst, ap, ◌∙◌, arith}
 use Rattle.std.specs.List.{All}
 use Rattle.std.proofs.Math.Path.{fun_ext}
 use Rattle.std.proofs.lemmas.Bool.Decides.{nat_tests}
 use Rattle.std.proofs.lemmas.List.{map-append, get_or_append_left, get_or_at, get_or-map, length-map, length_push, length-set, length-take-le, get_or_past, get_or-take, get_or-set_same, get_or-set_other, take_all, get_or-replicate, length-replicate}
 use Rattle.std.proofs.lemmas.List.Elements.{All-push}
 use Rattle.residue_theory.proofs.SumLaws.{nat_cases}
+use Rattle.residue_theory.proofs.SetLaws.{differ}
 use Rattle.dense_q.specs.Tables.{Table, IsMatrix, HasSameSize, height, row_at, entry, with_entry, zero_table, IsTableOf}
 use Rattle.sparse_q.specs.Rows.{Item, Row, IsRow, IsRising, item_or, number_at, EndsBefore, with_last}
 use Rattle.sparse_q.specs.Storage.{IsStored}
@@ -38,6 +39,17 @@ filled-next f xs n v so_far is = record {
 
     other : (j : ℕ) → n ≢ j → number_at xs j + cond (eqb n j) v 0 ≡ number_at xs j
     other j ne = grind (arith, nat_tests)
+
+-- where nothing is told there are no items
+pub filled-past : (f : ℕ → ℕ) (xs : List Item) (n m : ℕ) → IsFilledTo f xs n → n ≤ m →
+    ((j : ℕ) → n ≤ j → j < m → f j ≡ 0) → IsFilledTo f xs m
+filled-past f xs n m filled le none = record {
+  before = λ i l. omega (arith, filled.before i l);
+  numbers = λ j l. elim (lt_or_past j n) [
+    | inl before ↦ filled.numbers j before
+    | inr after ↦ number-before xs n j filled.before after ∙ sym (none j after l)
+  ];
+}
 
 pub filled-all : (f : ℕ → ℕ) (xs : List Item) (n : ℕ) → IsFilledTo f xs n → ((j : ℕ) → n ≤ j → f j ≡ 0) → (j : ℕ) →
     number_at xs j ≡ f j
@@ -104,6 +116,17 @@ made-stored w w' a rows n spare made few narrow wide spare_is = record {
   few = omega (arith, made.count);
   narrow = omega arith;
 }
+
+-- ---- a sparse matrix has none past its last row
+pub past-items : (m : SparseTable) (i j : ℕ) → row_count m ≤ i → number_in m i j ≡ 0
+past-items m i j le = ap (λ zs. number_at zs j) (get_or_past m.rows i [] le)
+
+-- a row that is not listed has no number in the column
+pub unlisted : (bit : Bool) (number : ℕ) → bit ≡ false → (number ≢ 0 → bit ≡ true) → number ≡ 0
+unlisted bit number f listed = elim (nat_cases number 0) [
+  | inl q ↦ q
+  | inr ne ↦ absurd (differ f (listed ne))
+]
 
 -- ---- a dense matrix has no entries outside
 pub past-row : (q : Table) (i j : ℕ) → height q ≤ i → entry q i j ≡ 0

@@ -1,12 +1,16 @@
 //! Rows of a sparse matrix, made of a dense one.
 
-ghost use Rattle.std.specs.Prelude.{◌≡◌, ℕ, ◌<◌, ◌≤◌, IfOk};
+ghost use Rattle.std.specs.Prelude.{◌≡◌, ◌≢◌, ℕ, ◌<◌, ◌≤◌, true, IfOk};
 ghost use Rattle.limits.specs.Limits.{column_limit};
 ghost use Rattle.linear_algebra.specs.Products.{identity};
 ghost use Rattle.dense_q.specs.Tables.{height, entry};
+ghost use Rattle.bit_table.specs.Bits.{bit_in};
 ghost use Rattle.sparse_q.specs.Rows.{number_at};
+ghost use Rattle.sparse_q.specs.Tables.{number_in, row_count};
 
+use crate::matrix::SparseMat;
 use crate::row::SparseRow;
+use bit_table::BitTable;
 use dense_q::Mat;
 use out_of_memory::NoMemory;
 use residue_field::Field;
@@ -29,19 +33,25 @@ pub(crate) fn row_of<F: Field>(
     Ok(row)
 }
 
-// Column j of a matrix.
+// Column j of a sparse matrix, all of whose rows with an entry in it are listed.
 pub(crate) fn column_of<F: Field>(
     alloc: Global,
-    q: &Mat<F>,
+    m: &SparseMat<F>,
+    listed: &BitTable,
     j: usize,
 ) -> Result<SparseRow<F>, NoMemory>
-    requires { j < q.now.width }
-    ensures width { IfOk result (λ column. column.width ≡ height q.now) }
-    ensures numbers { IfOk result (λ column. (i : ℕ) → number_at column.items i ≡ entry q.now i j) }
+    requires column { j < listed.now.rows }
+    requires rows { listed.now.size ≡ row_count m.now }
+    requires listed { (i : ℕ) → i < row_count m.now → number_in m.now i j ≢ 0 → bit_in listed.now j i ≡ true }
+    ensures width { IfOk result (λ column. column.width ≡ row_count m.now) }
+    ensures numbers { IfOk result (λ column. (i : ℕ) → number_at column.items i ≡ number_in m.now i j) }
 {
-    let mut column = SparseRow::empty(alloc, q.rows())?;
-    for i in 0..q.rows() {
-        column.push(i, q.get(i, j));
+    let rows = m.rows();
+    let mut column = SparseRow::empty(alloc, rows)?;
+    let mut from = 0;
+    while let Some(i) = listed.next(j, from, rows) {
+        column.push(i, m.get(i, j));
+        from = i + 1;
     }
     Ok(column)
 }

@@ -1,8 +1,9 @@
 //! Sparse matrices over a field.
 
-ghost use Rattle.std.specs.Prelude.{◌≡◌, ◌≢◌, ℕ, ◌+◌, ◌*◌, ◌%◌, ◌<◌, ◌≤◌, length, IfOk, IfNone, IfSome};
+ghost use Rattle.std.specs.Prelude.{◌≡◌, ◌≢◌, ℕ, ◌+◌, ◌*◌, ◌%◌, ◌<◌, ◌≤◌, true, length, IfOk, IfNone, IfSome};
 ghost use Rattle.limits.specs.Limits.{column_limit};
 ghost use Rattle.number_ranges.specs.Ranges.{HasNone, IsLeast};
+ghost use Rattle.bit_table.specs.Bits.{bit_in};
 ghost use Rattle.linear_algebra.specs.Products.{identity, transposed};
 ghost use Rattle.dense_q.specs.Tables.{height, entry, IsTableOf};
 ghost use Rattle.sparse_q.specs.Rows.{number_at};
@@ -10,6 +11,7 @@ ghost use Rattle.sparse_q.specs.Tables.{row_count, number_in, has_number_in, Has
 
 use crate::made::{column_of, row_of, unit_row};
 use crate::row::SparseRow;
+use bit_table::BitTable;
 use dense_q::Mat;
 use out_of_memory::NoMemory;
 use residue_field::Field;
@@ -57,18 +59,24 @@ impl<F: Field> SparseMat<F> {
         })
     }
 
-    /// A dense matrix with rows and columns in each other's place.
-    pub fn columns_of(alloc: Global, q: &Mat<F>) -> Result<SparseMat<F>, NoMemory>
-        ensures size { IfOk result (HasSize q.now.width (height q.now)) }
-        ensures numbers { IfOk result (λ m. number_in m ≡ transposed (entry q.now)) }
+    /// The matrix with rows and columns in each other's place: `listed` has a row of bits for each column, and in it a
+    /// bit set for each row where the column has an entry that is not zero.
+    pub fn turned(&self, alloc: Global, listed: &BitTable) -> Result<SparseMat<F>, NoMemory>
+        requires columns { listed.now.rows ≡ self.now.width }
+        requires rows { listed.now.size ≡ row_count self.now }
+        requires listed { (i j : ℕ) → i < row_count self.now → j < self.now.width → number_in self.now i j ≢ 0 →
+            bit_in listed.now j i ≡ true }
+        requires outside { (i j : ℕ) → self.now.width ≤ j → number_in self.now i j ≡ 0 }
+        ensures size { IfOk result (HasSize self.now.width (row_count self.now)) }
+        ensures numbers { IfOk result (λ m. number_in m ≡ transposed (number_in self.now)) }
     {
-        let mut rows = Vec::with_capacity(alloc, q.cols())?;
-        for j in 0..q.cols() {
-            rows.push(column_of(alloc, q, j)?)?;
+        let mut rows = Vec::with_capacity(alloc, self.cols())?;
+        for j in 0..self.cols() {
+            rows.push(column_of(alloc, self, listed, j)?)?;
         }
-        let spare = SparseRow::empty(alloc, q.rows())?;
+        let spare = SparseRow::empty(alloc, self.rows())?;
         Ok(SparseMat {
-            width: q.rows(),
+            width: self.rows(),
             rows,
             spare,
         })

@@ -7,10 +7,10 @@ use Rattle.residue_theory.proofs.SetLaws.{lt_cases}
 use Rattle.residue_theory.proofs.SumLaws.{nat_cases}
 use Rattle.residue_theory.proofs.ResidueLaws.{agree-add, vanishes-mul}
 use Rattle.linear_algebra.specs.RowOperations.{IsPivoted}
-use Rattle.bit_table.specs.Bits.{Bits, bit_in, IsBitSet, IsJoined, IsRowCleared}
+use Rattle.bit_table.specs.Bits.{Bits, bit_in, IsBitSet, IsJoined}
 use Rattle.sparse_q.specs.Tables.{SparseTable, row_count, number_in, has_number_in, HasSize, IsRowSet}
 use Rattle.row_transform.proofs.EntryLaws.{set-keeps, some_of, zero_of}
-use Rattle.sparse_tableau.specs.Entries.{AreListed, HasSizeOf, IsListed, IsFilled, has_number_at}
+use Rattle.sparse_tableau.specs.Entries.{IsSpread, AreListed, HasSizeOf, IsListed, IsFilled, has_number_at}
 use Rattle.row_table.specs.Reductions.{IsReduced}
 
 -- a column where a test fails has no number
@@ -133,20 +133,24 @@ module _ (m w : ℕ) (a : SparseTable) (b c : ℕ → ℕ → Bool) (r v k y : �
     column = so_far.column;
   }
 
-pub filled-done : (m w : ℕ) (a : SparseTable) (b c d e : ℕ → ℕ → Bool) (r v k : ℕ) → HasNone (has_number_in a r) k w →
-    IsFilledTo m (number_in a) b c r v k → IsRowCleared c d m v → IsBitSet d e m v r → IsFilled m w (number_in a) b e
-    r v
-filled-done m w a b c d e r v k none filled cleared bit = record {
-  here = bit.here;
-  kept = λ i j il jl ne h. moved i j il ne (filled.kept i j il h);
+pub spread-done : (m w : ℕ) (a : SparseTable) (b c : ℕ → ℕ → Bool) (r v k : ℕ) → HasNone (has_number_in a r) k w →
+    IsFilledTo m (number_in a) b c r v k → IsSpread m w (number_in a) b c r v
+spread-done m w a b c r v k none filled = record {
+  kept = filled.kept;
   joined = λ i j il jl ne some h. elim (lt_cases j k) [
-    | inl before ↦ moved i j il ne (filled.joined i j il before ne some h)
+    | inl before ↦ filled.joined i j il before ne some h
     | inr ge ↦ absurd (none-there a r k w j none ge jl some)
   ];
+  column = filled.column;
 }
-  where
-    moved : (i j : ℕ) → i < m → j ≢ v → c j i ≡ true → e j i ≡ true
-    moved i j il ne h = bit.others j i il ne ∙ cleared.others j i il ne ∙ h
+
+pub spread-closed : (m w : ℕ) (a : ℕ → ℕ → ℕ) (b c d : ℕ → ℕ → Bool) (r v : ℕ) → IsSpread m w a b c r v →
+    d v r ≡ true → ((i j : ℕ) → i < m → j ≢ v → d j i ≡ c j i) → IsFilled m w a b d r v
+spread-closed m w a b c d r v S here others = record {
+  here = here;
+  kept = λ i j il jl ne h. others i j il ne ∙ S.kept i j il h;
+  joined = λ i j il jl ne some h. others i j il ne ∙ S.joined i j il jl ne some h;
+}
 
 -- ---- after a pivot
 module _ (p : ℕ) (old now : SparseTable) (b c : Bits) (r v : ℕ) (rl : r < row_count old) (vl : v < old.width)

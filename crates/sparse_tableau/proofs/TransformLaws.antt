@@ -1,7 +1,8 @@
 -- A pivot of a sparse matrix row by row: what leads back from the rows so far.
-use Rattle.std.proofs.Common.{◌≡◌, ℕ, ◌+◌, ◌*◌, ◌%◌, ◌<◌, ◌≤◌, ◌≢◌, ◌⊎◌, inl, inr, sym, subst, ap, ◌∙◌, arith}
+use Rattle.std.proofs.Common.{◌≡◌, ℕ, ◌+◌, ◌*◌, ◌%◌, ◌<◌, ◌≤◌, ◌≢◌, ◌⊎◌, inl, inr, refl, sym, subst, ap, ◌∙◌, arith}
 use Rattle.std.proofs.Math.Nat.{zero-mod, mod-mod, mod-add-mod, mod-eq_of_lt}
 use Rattle.residue_theory.proofs.SumLaws.{nat_cases}
+use Rattle.residue_theory.proofs.SetLaws.{lt_cases}
 use Rattle.residue_theory.proofs.ResidueLaws.{agree-mul, agree-add, vanishes-mul}
 use Rattle.sparse_q.specs.Tables.{SparseTable, number_in, HasSize, IsRowSet}
 use Rattle.row_table.specs.Reductions.{IsReduced}
@@ -30,6 +31,25 @@ reduced-scaled p a b r k f above one scaled = record {
 }
 
 module _ (p : ℕ) (a b : ℕ → ℕ → ℕ) (r : ℕ) (k : ℕ → ℕ) (n : ℕ) (so_far : IsReducedTo p a b r k n) where
+  -- the rows from n on and before m are row r, or have nothing to take away
+  pub reduced-past : (m : ℕ) → n ≤ m → ((i : ℕ) → n ≤ i → i < m → (i ≡ r) ⊎ (k i % p ≡ 0)) → IsReducedTo p a b r k m
+  reduced-past m le why = record {
+    here = so_far.here;
+    done = λ i j l ne. elim (lt_cases i n) [
+      | inl before ↦ so_far.done i j before ne
+      | inr after ↦ elim (why i after l) [
+        | inl s ↦ absurd (ne s)
+        | inr z ↦ sym (
+            agree-add p (b i j) (b i j) (k i * b r j) 0 refl
+            (ap (λ x. x % p) (let e : k i * b r j ≡ b r j * k i = omega arith in e)
+            ∙ vanishes-mul p (b r j) (k i) z ∙ sym (zero-mod p))
+            ∙ ap (λ x. x % p) ((let e : b i j + 0 ≡ b i j = omega arith in e) ∙ so_far.rest i j after ne)
+            )
+      ]
+    ];
+    rest = λ i j l ne. so_far.rest i j (omega arith) ne;
+  }
+
   -- row n is row r, or has nothing to take away
   pub reduced-skip : (n ≡ r) ⊎ (k n ≡ 0) → IsReducedTo p a b r k (n + 1)
   reduced-skip why = record {

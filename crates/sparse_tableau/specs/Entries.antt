@@ -28,3 +28,10 @@ pub record IsFilled (m n : ℕ) (a : ℕ → ℕ → ℕ) (b c : ℕ → ℕ →
   pub here : c v r ≡ true
   pub kept : (i j : ℕ) → i < m → j < n → j ≢ v → b j i ≡ true → c j i ≡ true
   pub joined : (i j : ℕ) → i < m → j < n → j ≢ v → a r j ≢ 0 → b v i ≡ true → c j i ≡ true
+
+-- c is b with room for what is added to the rows of column v of a, with m rows and n columns, from row r: each other
+-- column that has an entry in row r has the rows of column v too
+pub record IsSpread (m n : ℕ) (a : ℕ → ℕ → ℕ) (b c : ℕ → ℕ → Bool) (r v : ℕ) : Type 0 where
+  pub kept : (i j : ℕ) → i < m → b j i ≡ true → c j i ≡ true
+  pub joined : (i j : ℕ) → i < m → j < n → j ≢ v → a r j ≢ 0 → b v i ≡ true → c j i ≡ true
+  pub column : (i : ℕ) → i < m → c v i ≡ b v i

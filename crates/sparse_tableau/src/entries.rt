@@ -4,7 +4,7 @@ ghost use Rattle.std.specs.Prelude.{◌≡◌, ◌≢◌, ℕ, ◌<◌, ◌≤�
 ghost use Rattle.number_ranges.specs.Ranges.{HasNone, IsLeast};
 ghost use Rattle.bit_table.specs.Bits.{bit_in};
 ghost use Rattle.sparse_q.specs.Tables.{row_count, number_in};
-ghost use Rattle.sparse_tableau.specs.Entries.{AreListed, HasSizeOf, IsFilled, has_number_at};
+ghost use Rattle.sparse_tableau.specs.Entries.{AreListed, HasSizeOf, IsSpread, has_number_at};
 
 use bit_table::BitTable;
 use out_of_memory::NoMemory;
@@ -16,7 +16,7 @@ use std::alloc::Global;
 // where it had one until a pivot cancelled it.
 #[derive(Drop)]
 pub(crate) struct Entries {
-    bits: BitTable,
+    pub(crate) bits: BitTable,
 }
 
 impl Entries {
@@ -84,14 +84,14 @@ impl Entries {
         None
     }
 
-    // Lists what a pivot of P at a row and a column is about to make of the entries: it adds multiples of the row to
-    // all rows with an entry in the column, and takes these entries away.
-    pub(crate) fn pivot<F: Field>(&mut self, p: &SparseMat<F>, row: usize, col: usize)
+    // Lists what a pivot of P at a row and a column is about to make of the entries of other columns: it adds multiples
+    // of the row to all rows with an entry in the column.
+    pub(crate) fn spread<F: Field>(&mut self, p: &SparseMat<F>, row: usize, col: usize)
         requires row { row < row_count p.now }
         requires col { col < p.now.width }
         requires size { HasSizeOf p.now self.old.bits }
         ensures size { HasSizeOf p.now self.new.bits }
-        ensures filled { IsFilled (row_count p.now) p.now.width (number_in p.now) (bit_in self.old.bits)
+        ensures spread { IsSpread (row_count p.now) p.now.width (number_in p.now) (bit_in self.old.bits)
             (bit_in self.new.bits) row col }
     {
         let _columns = p.cols();
@@ -102,6 +102,18 @@ impl Entries {
             }
             from = other + 1;
         }
+    }
+
+    // Lists this row alone for a column.
+    pub(crate) fn close(&mut self, row: usize, col: usize)
+        requires row { row < self.old.bits.size }
+        requires col { col < self.old.bits.rows }
+        ensures here { bit_in self.new.bits col row ≡ true }
+        ensures others { (i j : ℕ) → i < self.old.bits.size → j ≢ col →
+            bit_in self.new.bits j i ≡ bit_in self.old.bits j i }
+        ensures rows { self.new.bits.rows ≡ self.old.bits.rows }
+        ensures size { self.new.bits.size ≡ self.old.bits.size }
+    {
         self.bits.clear_row(col);
         self.bits.set(col, row);
     }

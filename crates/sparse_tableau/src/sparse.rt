@@ -63,7 +63,7 @@ impl<F: Field> Tableau<F> for SparseTableau<F> {
         let u_entries = Entries::of(alloc, &v)?;
         Ok(SparseTableau {
             alloc,
-            columns: SparseMat::columns_of(alloc, q)?,
+            columns: p.turned(alloc, &entries.bits)?,
             transform: Transform { p, s },
             v,
             u_entries,
@@ -120,8 +120,9 @@ impl<F: Field> Tableau<F> for SparseTableau<F> {
     }
 
     fn pivot(&mut self, row: usize, col: usize) {
-        self.entries.pivot(&self.transform.p, row, col);
-        self.transform.pivot(row, col);
+        self.entries.spread(&self.transform.p, row, col);
+        self.transform.pivot(&self.entries, row, col);
+        self.entries.close(row, col);
         self.v.copy_row(row, &self.columns, col);
         self.u_entries.list_row(&self.v, row);
         self.base.take(row, col);

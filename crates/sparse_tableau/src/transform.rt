@@ -1,9 +1,12 @@
 //! Row operations on a sparse matrix, with their own matrix.
 
-ghost use Rattle.std.specs.Prelude.{◌≡◌, ◌≢◌, ℕ, ◌+◌, ◌*◌, ◌%◌, ◌<◌};
+ghost use Rattle.std.specs.Prelude.{◌≡◌, ◌≢◌, ℕ, ◌+◌, ◌*◌, ◌%◌, ◌<◌, true};
 ghost use Rattle.sparse_q.specs.Tables.{row_count, number_in, HasSize, IsRowSet};
+ghost use Rattle.bit_table.specs.Bits.{bit_in};
 ghost use Rattle.row_table.specs.Reductions.{IsReduced};
+ghost use Rattle.sparse_tableau.specs.Entries.{HasSizeOf};
 
+use crate::entries::Entries;
 use residue_field::Field;
 use sparse_q::SparseMat;
 
@@ -43,10 +46,14 @@ impl<F: Field> Transform<F> {
         self.s.add_row(target, source, factor);
     }
 
-    // Makes a column of P the unit column of a row, by row operations.
-    pub(crate) fn pivot(&mut self, row: usize, col: usize)
+    // Makes a column of P the unit column of a row, by row operations. All rows with an entry in the column are listed.
+    pub(crate) fn pivot(&mut self, entries: &Entries, row: usize, col: usize)
         requires row { row < row_count self.old.p }
+        requires col { col < self.old.p.width }
         requires same { row_count self.old.s ≡ row_count self.old.p }
+        requires size { HasSizeOf self.old.p entries.now.bits }
+        requires listed { (i : ℕ) → i < row_count self.old.p → number_in self.old.p i col % F.modulus ≢ 0 →
+            bit_in entries.now.bits col i ≡ true }
         requires entry { number_in self.old.p row col ≢ 0 }
         ensures p_size { HasSize (row_count self.old.p) self.old.p.width self.new.p }
         ensures s_size { HasSize (row_count self.old.s) self.old.s.width self.new.s }
@@ -58,11 +65,14 @@ impl<F: Field> Transform<F> {
         let entry = self.p.get(row, col);
         let inverse = entry.inv().unwrap();
         self.scale(row, inverse);
-        for i in 0..self.p.rows() {
+        let rows = self.p.rows();
+        let mut from = 0;
+        while let Some(i) = entries.next(col, from, rows) {
             let entry = self.p.get(i, col);
             if i != row && !entry.is_zero() {
                 self.add(i, row, entry.neg());
             }
+            from = i + 1;
         }
     }
 }

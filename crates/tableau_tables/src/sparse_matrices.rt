@@ -27,14 +27,6 @@ fn keeps_the_entries(rt: HostRuntime) -> Result<(), Fail> {
     assert_eq!(rt; found, (Some(1), None, None));
     assert_eq!(rt; m.get(1, 0).value(), 4);
     assert_dense(&rt, rt.alloc(), &m, &[&[0, 2, 0], &[4, 0, 0]], "rows")?;
-    let columns = SparseMat::columns_of(rt.alloc(), &q)?;
-    assert_dense(
-        &rt,
-        rt.alloc(),
-        &columns,
-        &[&[0, 4], &[2, 0], &[0, 0]],
-        "columns",
-    )?;
     let unit = SparseMat::<Res>::identity(rt.alloc(), 2)?;
     assert_dense(&rt, rt.alloc(), &unit, &[&[1, 0], &[0, 1]], "identity")
 }

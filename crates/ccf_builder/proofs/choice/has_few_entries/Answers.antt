@@ -1,4 +1,4 @@
-use Rattle.std.proofs.Common.{◌≡◌, ◌+◌, ◌≤◌, suc, true, false, refl, arith}
+use Rattle.std.proofs.Common.{◌≡◌, ◌+◌, suc, refl, arith}
 use Rattle.residue_theory.specs.Sums.{size_on}
 use Rattle.residue_theory.proofs.SetLaws.{differ}
 use Rattle.dense_q.specs.Tables.{entry, height}

@@ -1,10 +1,14 @@
-use Rattle.std.proofs.Common.{◌≡◌}
-use Rattle.dense_q.specs.Tables.{height, entry}
+use Rattle.std.proofs.Common.{◌≡◌, ◌≤◌, ◌-◌}
+use Rattle.sparse_q.specs.Tables.{row_count, number_in}
 use Rattle.sparse_q.proofs.MadeLaws.{IsFilledTo}
 use Rattle.sparse_q.proofs.made.column_of.Given as goal
 
 abbrev pub invariant-loop-i : goal.invariant-loop-i
 invariant-loop-i g l = record {
-  width : l.column.width ≡ height l.q;
-  filled : IsFilledTo (λ i. entry l.q i l.j) l.column.items l.i;
+  within : l.from ≤ row_count l.m;
+  width : l.column.width ≡ row_count l.m;
+  filled : IsFilledTo (λ i. number_in l.m i l.j) l.column.items l.from;
 }
+
+abbrev pub decreases-loop-i : goal.decreases-loop-i
+decreases-loop-i g l = row_count l.m - l.from

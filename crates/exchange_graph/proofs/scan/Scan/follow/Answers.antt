@@ -68,7 +68,8 @@ returns-then-ends-place-clause-found g c = λ starts h.
     found-shortest (g.A.Arcs.leads c.args.arcs.now) (places c.args.self.now) starts
     (members_of c.args.ends.now) (state_of c.loop-head.self) c.loop-head.head c.loop-head.self.filled
     c.index-place.result.now c.index-depth.result.now (walk_of c.trace.new.self)
-    S (c.loop-head.invariant.starts starts h) c.loop-head.invariant.none c.loop-head-test.true q d c.if-ends-place.true c.trace.ensures.last c.trace.ensures.back
+    S (c.loop-head.invariant.starts starts h) c.loop-head.invariant.none c.loop-head-test.true q d c.if-ends-place.true
+    c.trace.ensures.last c.trace.ensures.back
 
 pub returns-then-ends-place-clause-looked : goal.returns-then-ends-place-clause-looked
 returns-then-ends-place-clause-looked g c = λ starts h.

@@ -16,5 +16,5 @@ settle-requires-clause-others g c =
     let here : x < S.columns = subst (λ n. x < n) (ap (λ (L : LayeredMatrix). L.columns) c.take.ensures.layers) l in
     untouched-mark g.F.Field.modulus S S' M M' c.args.x c.requires.x c.take.ensures.layers c.args.row
     (c.requires.can.of_q refl).2 (c.take.ensures.takes.of_q refl)
-    marks.by_q.items marks.touched.items c.touch.ensures.touched x here none
+    marks.by_q.items marks c.touch.ensures.touched x here none
     (subst (λ b. IsQMark g.F.Field.modulus S b.items x) (sym (ap (λ (m : Marks). m.by_q) c.touch.ensures.rest)) (c.requires.marks.by_q x here))

@@ -17,7 +17,7 @@ returns-clause-lattice g c =
     let ends = members_of c.args.ends.now in
     let m = c.mark.new.self in
     let l = c.list.new.self in
-    let r = c.cover.new.self in
+    let r = c.fill-2.new.self in
     let Q : IsQuotient arc (places cs) (number_of cs) cs.count (bit_in cs.strict) =
     subst (λ (n : ℕ). IsQuotient arc n (number_of cs) cs.count (bit_in cs.strict)) (sym c.fill.ensures.places)
     c.fill.ensures.quotient in
@@ -27,16 +27,16 @@ returns-clause-lattice g c =
     lattice-is arc (places cs) starts ends (number_of cs) cs.count (bit_in cs.strict) Q
     (members_of m.first.items) (members_of m.last.items) c.mark.ensures.marked
     (λ k. get_or l.rank.items k 0) (λ j. get_or l.listed.items j 0) l.blocks
-    (c.list.ensures.listing arc starts ends D) c.list.ensures.has (bit_in r.between)
-    c.cover.ensures.between in
+    (c.list.ensures.listing arc starts ends D) c.list.ensures.has (bit_in r.table)
+    c.fill-2.ensures.covers in
     subst (λ (n : ℕ). IsLattice arc n starts ends
-    (parts_from (places cs) (number_of cs) (members_of r.first.items) (members_of r.last.items)
-    (λ k. get_or r.rank.items k 0) (λ j. get_or r.listed.items j 0) r.blocks (bit_in cs.strict) (bit_in r.between)))
+    (parts_from (places cs) (number_of cs) (members_of l.first.items) (members_of l.last.items)
+    (λ k. get_or l.rank.items k 0) (λ j. get_or l.listed.items j 0) l.blocks (bit_in cs.strict) (bit_in r.table)))
     (c.fill.ensures.places ∙ ap (λ (v : Kept). v.places) c.self.view_is)
     (subst (λ (v : Listing). IsLattice arc (places cs) starts ends
     (parts_from (places cs) (number_of cs) (members_of v.first.items) (members_of v.last.items)
-    (λ k. get_or v.rank.items k 0) (λ j. get_or v.listed.items j 0) v.blocks (bit_in cs.strict) (bit_in v.between)))
-    (sym (c.cover.ensures.kept ∙ ap (λ (v : Listing). record v { between = r.between }) c.list.ensures.kept)) is)
+    (λ k. get_or v.rank.items k 0) (λ j. get_or v.listed.items j 0) v.blocks (bit_in cs.strict) (bit_in r.table)))
+    (sym c.list.ensures.kept) is)
 
 pub returns-clause-rules : goal.returns-clause-rules
 returns-clause-rules g c =

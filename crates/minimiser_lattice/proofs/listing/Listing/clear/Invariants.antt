@@ -1,4 +1,4 @@
-use Rattle.std.proofs.Common.{◌≡◌, ℕ, ◌<◌, false, slice_index}
+use Rattle.std.proofs.Common.{◌≡◌, ℕ, ◌<◌, false}
 use Rattle.exchange_graph.specs.Marks.{members_of}
 use Rattle.minimiser_lattice.specs.Components.{places}
 use Rattle.minimiser_lattice.specs.Listings.{IsOpened}
@@ -10,5 +10,4 @@ invariant-loop-k l = record {
   blocks : l.self.blocks ≡ 0;
   first : (k : ℕ) → k < l.k → members_of l.self.first.items k ≡ false;
   last : (k : ℕ) → k < l.k → members_of l.self.last.items k ≡ false;
-  watch : (k : ℕ) → k < l.k → slice_index l.self.watch.items k ≡ 0;
 }

@@ -1,49 +1,64 @@
-use Rattle.std.proofs.Common.{◌≡◌, ◌≢◌, ◌+◌, ℕ, get_or, refl, ap, sym, subst, ◌∙◌, arith}
-use Rattle.closed_sets.specs.Blocks.{IsListing}
+use Rattle.std.proofs.Common.{◌≡◌, ◌≢◌, ◌+◌, ◌<◌, ℕ, Bool, true, get_or, refl, ap, sym, subst, ◌∙◌, arith}
+use Rattle.closed_sets.specs.Tables.{Tells}
 use Rattle.closed_sets.proofs.Listings.{Started}
 use Rattle.closed_sets.proofs.SetLaws.{size_on-bound}
 use Rattle.bit_table.specs.Bits.{bit_in}
-use Rattle.minimiser_lattice.specs.Components.{number_of, places}
-use Rattle.minimiser_lattice.specs.Listings.{HasPlaces, HasStandings, IsOpened, IsWatched, is_listed, middle_of, standing_of, watch_of}
-use Rattle.minimiser_lattice.specs.declared.listing.Listing.{Listing}
-use Rattle.minimiser_lattice.specs.declared.listing.Standing.TheVariants.{Listed}
 use Rattle.bit_table.proofs.BitLaws.{item_is}
-use Rattle.minimiser_lattice.proofs.ListingLaws.{list-first, list-next, list-done, places-first, places-next, standings-first, standings-next, standings-fit, watched-next}
+use Rattle.minimiser_lattice.specs.Components.{number_of, places}
+use Rattle.minimiser_lattice.specs.Standings.{IsReadyAt, IsWaiting, is_listed, standing_in}
+use Rattle.minimiser_lattice.specs.Ready.{AreApartIn}
+use Rattle.minimiser_lattice.specs.Listings.{HasPlaces, HasStandings, IsOpened, middle_of, standing_of, table_of}
+use Rattle.minimiser_lattice.specs.declared.components.Components.{Components}
+use Rattle.minimiser_lattice.specs.declared.listing.Listing.{Listing}
+use Rattle.minimiser_lattice.specs.declared.ready.Ready.{Ready}
+use Rattle.minimiser_lattice.specs.declared.standing.Standing.TheVariants.{Listed}
+use Rattle.minimiser_lattice.proofs.ListingLaws.{list-first, list-next, list-done, places-first, places-next, standings-first, standings-next, standings-fit}
 use Rattle.minimiser_lattice.proofs.listing.Listing.list.Goals as goal
+
+-- what holds at each turn
+abbrev Holds : Components → Listing → Listing → Type 0
+Holds cs old v = record {
+  opened : IsOpened v (places cs);
+  kept : v ≡ record old {
+    standing = v.standing;
+    ready = v.ready;
+    rank = v.rank;
+    listed = v.listed;
+    blocks = v.blocks;
+  };
+  apart : AreApartIn cs (standing_of v) (λ _. ⊥) v.ready;
+  standings : HasStandings cs.count (middle_of old) (standing_of v) (λ j. get_or v.listed.items j 0) v.blocks;
+  has : HasPlaces cs.count (middle_of old) (λ k. get_or v.rank.items k 0) (λ j. get_or v.listed.items j 0) v.blocks;
+  started : (arc : ℕ → ℕ → Bool) (starts ends : ℕ → Bool) →
+      Tells arc (places cs) starts ends (table_of (bit_in cs.strict) (number_of cs)) (λ x. middle_of old (number_of cs x)) →
+      Started arc (places cs) starts ends v.blocks (λ x. is_listed (standing_of v (number_of cs x)))
+      (λ x. get_or v.rank.items (number_of cs x) 0);
+}
 
 pub loop-place-init : goal.loop-place-init
 loop-place-init c =
     let cs = c.args.components.now in
-    let s = c.args.self.now in
+    let old = c.args.self.now in
+    let O = c.requires.opened in
     record {
-      opened = c.requires.opened;
+      opened = record {
+        first = O.first;
+        last = O.last;
+        standing = O.standing;
+        ready = c.begin.ensures.room;
+        rank = O.rank;
+        listed = O.listed;
+      };
       kept = refl;
-      watched = λ k l kl less. absurd (omega (arith, c.requires.watch k kl));
-      passed = λ j less w. absurd (omega arith);
+      apart = subst (λ v. AreApartIn cs (standing_in v) (λ _. ⊥) c.begin.new.self) c.deref.ensures.value c.begin.ensures;
       standings = standings-first (places cs) (number_of cs) cs.count (bit_in cs.strict) c.requires.numbering
-          (middle_of s) (standing_of s) c.requires.wait (λ j. get_or s.listed.items j 0) s.blocks c.requires.blocks;
-      has = places-first cs.count (middle_of s) (λ k. get_or s.rank.items k 0) (λ j. get_or s.listed.items j 0)
-          s.blocks c.requires.blocks;
+          (middle_of old) (standing_of old) c.requires.wait (λ j. get_or old.listed.items j 0) old.blocks c.requires.blocks;
+      has = places-first cs.count (middle_of old) (λ k. get_or old.rank.items k 0) (λ j. get_or old.listed.items j 0)
+          old.blocks c.requires.blocks;
       started = λ arc starts ends D. list-first (places cs) (number_of cs) cs.count (bit_in cs.strict)
-          c.requires.numbering (middle_of s) (standing_of s) c.requires.wait arc starts ends
-          (λ k. get_or s.rank.items k 0) s.blocks c.requires.blocks;
+          c.requires.numbering (middle_of old) (standing_of old) c.requires.wait arc starts ends
+          (λ k. get_or old.rank.items k 0) old.blocks c.requires.blocks;
     }
-
-pub put-requires-clause-standing : goal.put-requires-clause-standing
-put-requires-clause-standing c =
-    let cs = c.args.components.now in
-    let N = c.requires.numbering in
-    let is = item_is cs.number.items c.in-Some.place c.index-k.result.now
-    (omega (arith, c.requires.stored.number, c.in-Some.ensures.below)) c.index-k.ensures in
-    omega (arith, c.least_ready.ensures.opened.standing, is, N.fits, N.below c.in-Some.place c.in-Some.ensures.below)
-
-pub put-requires-clause-rank : goal.put-requires-clause-rank
-put-requires-clause-rank c =
-    let cs = c.args.components.now in
-    let N = c.requires.numbering in
-    let is = item_is cs.number.items c.in-Some.place c.index-k.result.now
-    (omega (arith, c.requires.stored.number, c.in-Some.ensures.below)) c.index-k.ensures in
-    omega (arith, c.least_ready.ensures.opened.rank, is, N.fits, N.below c.in-Some.place c.in-Some.ensures.below)
 
 pub put-requires-clause-listed : goal.put-requires-clause-listed
 put-requires-clause-listed c =
@@ -51,15 +66,34 @@ put-requires-clause-listed c =
     let N = c.requires.numbering in
     let I = c.loop-place.invariant in
     let s = c.loop-place.self in
+    let place = c.in-Some.place in
     omega (
       arith,
-      c.least_ready.ensures.opened.listed,
-      ap (λ (v : Listing). v.blocks) c.least_ready.ensures.kept,
+      I.opened.listed,
       N.fits,
       standings-fit (places cs) (number_of cs) cs.count (bit_in cs.strict) N (middle_of c.args.self.now)
-          (standing_of s) (λ j. get_or s.listed.items j 0) s.blocks (number_of cs c.in-Some.place) I.standings
-          (N.below c.in-Some.place c.in-Some.ensures.below) c.in-Some.ensures.ready.0,
+          (standing_of s) (λ j. get_or s.listed.items j 0) s.blocks (number_of cs place) I.standings
+          (N.below place c.in-Some.ensures.below)
+          (subst (λ v. IsWaiting (standing_in v) (number_of cs place)) c.deref-in-loop-place.ensures.value c.in-Some.ensures.ready.0),
     )
+
+pub release-requires-clause-apart : goal.release-requires-clause-apart
+release-requires-clause-apart c =
+    let cs = c.args.components.now in
+    let u = c.take.new.self in
+    let t = c.put.new.self in
+    let P = c.put.ensures in
+    let k = c.index-k.result.now in
+    let place = c.in-Some.place in
+    let is : number_of cs place ≡ k = item_is cs.number.items place k
+    (omega (arith, c.requires.stored.number, c.in-Some.ensures.below)) c.index-k.ensures in
+    let apart = c.in-Some.ensures.apart (standing_of t) (ap (standing_of t) is ∙ P.standing)
+    (λ l ne. P.standing_others l (λ q. ne (q ∙ sym is))
+    ∙ ap (λ v. standing_in v l) (sym c.deref-in-loop-place.ensures.value)) in
+    subst (λ v. AreApartIn cs (standing_in v) (λ j. bit_in t.ready.waits k j ≡ true) t.ready) (sym c.deref-in-Some.ensures.value)
+    (subst (λ (r : Ready). AreApartIn cs (standing_of t) (λ j. bit_in r.waits k j ≡ true) r)
+    (sym (ap (λ (v : Listing). v.ready) P.kept))
+    (subst (λ v. AreApartIn cs (standing_of t) (λ j. bit_in u.waits v j ≡ true) u) is apart))
 
 pub loop-place-smaller : goal.loop-place-smaller
 loop-place-smaller c =
@@ -67,13 +101,14 @@ loop-place-smaller c =
     let N = c.requires.numbering in
     let I = c.loop-place.invariant in
     let s = c.loop-place.self in
+    let place = c.in-Some.place in
     omega (
       arith,
-      ap (λ (v : Listing). v.blocks) c.least_ready.ensures.kept,
       ap (λ (v : Listing). v.blocks) c.put.ensures.kept,
       standings-fit (places cs) (number_of cs) cs.count (bit_in cs.strict) N (middle_of c.args.self.now)
-          (standing_of s) (λ j. get_or s.listed.items j 0) s.blocks (number_of cs c.in-Some.place) I.standings
-          (N.below c.in-Some.place c.in-Some.ensures.below) c.in-Some.ensures.ready.0,
+          (standing_of s) (λ j. get_or s.listed.items j 0) s.blocks (number_of cs place) I.standings
+          (N.below place c.in-Some.ensures.below)
+          (subst (λ v. IsWaiting (standing_in v) (number_of cs place)) c.deref-in-loop-place.ensures.value c.in-Some.ensures.ready.0),
     )
 
 pub loop-place-preserved : goal.loop-place-preserved
@@ -83,79 +118,51 @@ loop-place-preserved c =
     let I = c.loop-place.invariant in
     let old = c.args.self.now in
     let s = c.loop-place.self in
-    let u = c.least_ready.new.self in
     let t = c.put.new.self in
+    let z = c.release.new.self in
     let P = c.put.ensures in
+    let D = c.deref-in-loop-place.ensures in
     let k = c.index-k.result.now in
     let place = c.in-Some.place in
-    let is : number_of cs place ≡ k = item_is cs.number.items place k (omega (arith, c.requires.stored.number, c.in-Some.ensures.below)) c.index-k.ensures in
-    let O = c.least_ready.ensures.opened in
-    let ready = c.in-Some.ensures.ready in
-    let blocks : u.blocks ≡ s.blocks = ap (λ (v : Listing). v.blocks) c.least_ready.ensures.kept in
-    let more_blocks : t.blocks ≡ s.blocks + 1 = ap (λ (v : Listing). v.blocks) P.kept ∙ ap (λ v. v + 1) blocks in
+    let small = c.in-Some.ensures.below in
+    let is : number_of cs place ≡ k = item_is cs.number.items place k
+    (omega (arith, c.requires.stored.number, small)) c.index-k.ensures in
+    let ready = subst (λ v. IsReadyAt (bit_in cs.strict) (standing_in v) (number_of cs place)) D.value c.in-Some.ensures.ready in
+    let least = subst (λ v. (j : ℕ) → j < place → IsReadyAt (bit_in cs.strict) (standing_in v) (number_of cs j) → ⊥) D.value c.in-Some.ensures.least in
+    let more_blocks : t.blocks ≡ s.blocks + 1 = ap (λ (v : Listing). v.blocks) P.kept in
     let put : standing_of t (number_of cs place) ≡ Listed = ap (standing_of t) is ∙ P.standing in
     let put_others : (l : ℕ) → l ≢ number_of cs place → standing_of t l ≡ standing_of s l =
-    λ l ne. P.standing_others l (λ q. ne (q ∙ sym is))
-    ∙ ap (λ (v : Listing). standing_of v l) c.least_ready.ensures.kept in
-    let here : get_or t.rank.items (number_of cs place) 0 ≡ s.blocks = ap (λ v. get_or t.rank.items v 0) is ∙ (P.rank ∙ blocks) in
+    λ l ne. P.standing_others l (λ q. ne (q ∙ sym is)) in
+    let here : get_or t.rank.items (number_of cs place) 0 ≡ s.blocks = ap (λ v. get_or t.rank.items v 0) is ∙ P.rank in
     let others : (l : ℕ) → l ≢ number_of cs place → get_or t.rank.items l 0 ≡ get_or s.rank.items l 0 =
-    λ l ne. P.rank_others l (λ q. ne (q ∙ sym is)) ∙ ap (λ (v : Listing). get_or v.rank.items l 0) c.least_ready.ensures.kept in
-    let new : get_or t.listed.items s.blocks 0 ≡ number_of cs place = ap (λ v. get_or t.listed.items v 0) (sym blocks) ∙ (P.listed ∙ sym is) in
+    λ l ne. P.rank_others l (λ q. ne (q ∙ sym is)) in
+    let new : get_or t.listed.items s.blocks 0 ≡ number_of cs place = P.listed ∙ sym is in
     let same : (j : ℕ) → j ≢ s.blocks → get_or t.listed.items j 0 ≡ get_or s.listed.items j 0 =
-    λ j ne. P.listed_others j (λ q. ne (q ∙ blocks)) ∙ ap (λ (v : Listing). get_or v.listed.items j 0) c.least_ready.ensures.kept in
-    let still = watched-next (places cs) (number_of cs) cs.count (bit_in cs.strict) N (middle_of old)
-    (standing_of s) (standing_of t) (λ l. get_or s.rank.items l 0)
-    (λ l. get_or t.rank.items l 0) place s.blocks
-    c.in-Some.ensures.below ready.0 put put_others here others (watch_of u) c.least_ready.ensures.watched in
+    λ j ne. P.listed_others j ne in
+    let first : t.first ≡ old.first = ap (λ (v : Listing). v.first) P.kept ∙ ap (λ (v : Listing). v.first) I.kept in
+    let last : t.last ≡ old.last = ap (λ (v : Listing). v.last) P.kept ∙ ap (λ (v : Listing). v.last) I.kept in
     record {
-      opened = subst (λ (v : Listing). IsOpened v (places cs)) (sym P.kept)
-          (record {
-            first = O.first;
-            last = O.last;
-            standing = P.lengths.0 ∙ O.standing;
-            watch = O.watch;
-            rank = P.lengths.1 ∙ O.rank;
-            listed = P.lengths.2 ∙ O.listed;
-            rows = O.rows;
-            size = O.size;
-          });
-      kept = P.kept
-          ∙ (ap (λ (v : Listing). record v {
-            standing = t.standing;
-            rank = t.rank;
-            listed = t.listed;
-            blocks = u.blocks + 1;
-          }) c.least_ready.ensures.kept
-          ∙ (ap (λ (v : Listing). record v {
-            standing = t.standing;
-            watch = u.watch;
-            rank = t.rank;
-            listed = t.listed;
-            blocks = u.blocks + 1;
-          }) I.kept
-          ∙ (ap (λ w. record old {
-            standing = t.standing;
-            watch = w;
-            rank = t.rank;
-            listed = t.listed;
-            blocks = u.blocks + 1;
-          }) (sym (ap (λ (v : Listing). v.watch) P.kept))
-          ∙ ap (λ w. record old { standing = t.standing; watch = t.watch; rank = t.rank; listed = t.listed; blocks = w })
-          (sym (ap (λ (v : Listing). v.blocks) P.kept)))));
-      watched = subst (λ (v : Listing). IsWatched cs.count (bit_in cs.strict) (standing_of t) (watch_of v))
-          (sym P.kept) still;
-      passed = c.next_waiting-from.ensures.passed;
+      opened = record {
+        first = ap (λ (v : Listing). v.first.len) P.kept ∙ I.opened.first;
+        last = ap (λ (v : Listing). v.last.len) P.kept ∙ I.opened.last;
+        standing = P.lengths.0 ∙ I.opened.standing;
+        ready = c.release.ensures.room;
+        rank = P.lengths.1 ∙ I.opened.rank;
+        listed = P.lengths.2 ∙ I.opened.listed;
+      };
+      kept = ap (λ f. record t { first = f; ready = z }) first ∙ ap (λ l. record t { first = old.first; last = l; ready = z }) last;
+      apart = subst (λ v. AreApartIn cs (standing_in v) (λ _. ⊥) z) c.deref-in-Some.ensures.value c.release.ensures;
       standings = subst (λ v. HasStandings cs.count (middle_of old) (standing_of t) (λ j. get_or t.listed.items j 0) v)
           (sym more_blocks)
           (standings-next (places cs) (number_of cs) cs.count (bit_in cs.strict) N (middle_of old)
           (standing_of s) (standing_of t) (λ l. get_or s.rank.items l 0) (λ l. get_or t.rank.items l 0) place s.blocks
-          c.in-Some.ensures.below ready.0 put put_others here others (λ j. get_or s.listed.items j 0)
+          small ready.0 put put_others here others (λ j. get_or s.listed.items j 0)
           (λ j. get_or t.listed.items j 0) I.standings new same);
       has = subst (λ v. HasPlaces cs.count (middle_of old) (λ l. get_or t.rank.items l 0)
           (λ j. get_or t.listed.items j 0) v) (sym more_blocks)
           (places-next (places cs) (number_of cs) cs.count (bit_in cs.strict) N (middle_of old)
           (standing_of s) (standing_of t) (λ l. get_or s.rank.items l 0) (λ l. get_or t.rank.items l 0) place s.blocks
-          c.in-Some.ensures.below ready.0 put put_others here others (λ j. get_or s.listed.items j 0)
+          small ready.0 put put_others here others (λ j. get_or s.listed.items j 0)
           (λ j. get_or t.listed.items j 0) I.standings I.has new same);
       started = λ arc starts ends D. subst
           (λ v. Started arc (places cs) starts ends v
@@ -163,8 +170,7 @@ loop-place-preserved c =
           (sym more_blocks)
           (list-next (places cs) (number_of cs) cs.count (bit_in cs.strict) N (middle_of old)
           (standing_of s) arc starts ends D I.standings.middles (standing_of t) (λ l. get_or s.rank.items l 0)
-          (λ l. get_or t.rank.items l 0) place s.blocks
-          c.in-Some.ensures.below ready c.in-Some.ensures.least put put_others here others
+          (λ l. get_or t.rank.items l 0) place s.blocks small ready least put put_others here others
           (I.started arc starts ends D));
     }
 
@@ -173,17 +179,16 @@ returns-clause-listing c =
     let cs = c.args.components.now in
     let I = c.loop-place.invariant in
     let s = c.loop-place.self in
-    λ arc starts ends D. subst
-    (λ (v : Listing). IsListing arc (places cs) starts ends
-    (λ x. get_or v.rank.items (number_of cs x) 0) v.blocks) (sym c.least_ready.ensures.kept)
-    (list-done (places cs) (number_of cs) cs.count (bit_in cs.strict) c.requires.numbering
+    λ arc starts ends D. list-done (places cs) (number_of cs) cs.count (bit_in cs.strict) c.requires.numbering
     (middle_of c.args.self.now) (standing_of s) arc starts ends D (λ l. get_or s.rank.items l 0) s.blocks
-    I.standings.middles c.in_default.ensures.none (I.started arc starts ends D))
+    I.standings.middles
+    (subst (λ v. (j : ℕ) → j < places cs → IsReadyAt (bit_in cs.strict) (standing_in v) (number_of cs j) → ⊥)
+    c.deref-in-loop-place.ensures.value c.in_default.ensures.none)
+    (I.started arc starts ends D)
 
 pub returns-clause-fits : goal.returns-clause-fits
 returns-clause-fits c = omega (
   arith,
-  ap (λ (v : Listing). v.blocks) c.least_ready.ensures.kept,
   c.loop-place.invariant.standings.room,
   size_on-bound (λ k. is_listed (standing_of c.loop-place.self k)) c.args.components.now.count,
   c.requires.numbering.fits,

@@ -3,7 +3,9 @@ use Rattle.closed_sets.specs.Tables.{Tells}
 use Rattle.closed_sets.proofs.Listings.{Started}
 use Rattle.bit_table.specs.Bits.{bit_in}
 use Rattle.minimiser_lattice.specs.Components.{number_of, places}
-use Rattle.minimiser_lattice.specs.Listings.{HasPlaces, HasStandings, IsOpened, IsWatched, NoneWaits, is_listed, middle_of, standing_of, table_of, watch_of}
+use Rattle.minimiser_lattice.specs.Standings.{is_listed}
+use Rattle.minimiser_lattice.specs.Ready.{AreApartIn}
+use Rattle.minimiser_lattice.specs.Listings.{HasPlaces, HasStandings, IsOpened, middle_of, standing_of, table_of}
 use Rattle.minimiser_lattice.proofs.listing.Listing.list.Given as goal
 
 abbrev pub invariant-loop-place : goal.invariant-loop-place
@@ -11,13 +13,12 @@ invariant-loop-place l = record {
   opened : IsOpened l.self (places l.components);
   kept : l.self ≡ record l.fn.self {
     standing = l.self.standing;
-    watch = l.self.watch;
+    ready = l.self.ready;
     rank = l.self.rank;
     listed = l.self.listed;
     blocks = l.self.blocks;
   };
-  watched : IsWatched l.components.count (bit_in l.components.strict) (standing_of l.self) (watch_of l.self);
-  passed : NoneWaits (standing_of l.self) (number_of l.components) l.from;
+  apart : AreApartIn l.components (standing_of l.self) (λ _. ⊥) l.self.ready;
   standings : HasStandings l.components.count (middle_of l.fn.self) (standing_of l.self)
       (λ j. slice_index l.self.listed.items j) l.self.blocks;
   has : HasPlaces l.components.count (middle_of l.fn.self) (λ k. slice_index l.self.rank.items k)

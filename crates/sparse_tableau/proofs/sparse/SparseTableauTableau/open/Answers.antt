@@ -1,5 +1,7 @@
-use Rattle.std.proofs.Common.{sym, subst}
-use Rattle.sparse_q.specs.Tables.{SparseTable}
+use Rattle.std.proofs.Common.{◌≡◌, ◌∙◌, ap, sym, subst, arith}
+use Rattle.linear_algebra.specs.Products.{transposed}
+use Rattle.sparse_q.specs.Tables.{HasSize, SparseTable, number_in}
+use Rattle.sparse_q.proofs.MadeLaws.{past-column}
 use Rattle.row_transform.specs.Tableaus.{IsOpened}
 use Rattle.dense_q.specs.Tables.{height, entry}
 use Rattle.sparse_tableau.specs.Entries.{AreListed, IsListed}
@@ -12,17 +14,23 @@ pub invariant_of-result-2 : goal.invariant_of-result-2
 invariant_of-result-2 g c =
     let m = g.F.Field.modulus in
     let p = c.in_ok-p.p in
+    let q = c.args.q.now in
+    let turned_numbers : number_in c.in_ok-turned.field-0 ≡ transposed (entry q) =
+    c.in_ok-turned.ensures.numbers ∙ ap transposed c.in_ok-p.ensures.numbers in
+    let turned_size : HasSize q.width (height q) c.in_ok-turned.field-0 = record {
+      rows_are = c.in_ok-turned.ensures.size.rows_are ∙ c.in_ok-p.ensures.size.width_is;
+      width_is = c.in_ok-turned.ensures.size.width_is ∙ c.in_ok-p.ensures.size.rows_are;
+    } in
     subst (λ (v : SparseTable). IsSparse m (record {
-      q = c.in_ok-columns_of.field-0;
+      q = c.in_ok-turned.field-0;
       p = p;
       s = c.in_ok-s.s;
       v = v;
       base = c.in_ok-empty.field-0;
     }) × IsListed m p c.in_ok-entries.entries.bits × AreListed v c.in_ok-u_entries.u_entries.bits) (sym c.v.view_is) (
-      opened-sparse m c.rows-rows.result c.cols-columns.result c.args.q.now c.in_ok-columns_of.field-0 p c.in_ok-s.s
+      opened-sparse m c.rows-rows.result c.cols-columns.result c.args.q.now c.in_ok-turned.field-0 p c.in_ok-s.s
           c.in_ok-v.v c.in_ok-empty.field-0 c.rows-rows.ensures.rows c.cols-columns.ensures.cols
-          c.in_ok-p.ensures.size c.in_ok-p.ensures.numbers c.in_ok-columns_of.ensures.size
-          c.in_ok-columns_of.ensures.numbers c.in_ok-s.ensures.size c.in_ok-s.ensures.numbers c.in_ok-v.ensures.size
+          c.in_ok-p.ensures.size c.in_ok-p.ensures.numbers turned_size turned_numbers c.in_ok-s.ensures.size c.in_ok-s.ensures.numbers c.in_ok-v.ensures.size
           c.in_ok-v.ensures.numbers c.in_ok-empty.ensures,
       listed-entries m p c.in_ok-entries.entries.bits c.in_ok-entries.ensures,
       c.in_ok-u_entries.ensures,
@@ -32,14 +40,27 @@ pub returns : goal.returns
 returns g c =
     let m = g.F.Field.modulus in
     let of = c.args.q.now in
+    let q = c.args.q.now in
+    let turned_numbers : number_in c.in_ok-turned.field-0 ≡ transposed (entry q) =
+    c.in_ok-turned.ensures.numbers ∙ ap transposed c.in_ok-p.ensures.numbers in
+    let turned_size : HasSize q.width (height q) c.in_ok-turned.field-0 = record {
+      rows_are = c.in_ok-turned.ensures.size.rows_are ∙ c.in_ok-p.ensures.size.width_is;
+      width_is = c.in_ok-turned.ensures.size.width_is ∙ c.in_ok-p.ensures.size.rows_are;
+    } in
     subst (λ (v : SparseTable). IsOpened m (height of) of.width (entry of) (state_of (record {
-      q = c.in_ok-columns_of.field-0;
+      q = c.in_ok-turned.field-0;
       p = c.in_ok-p.p;
       s = c.in_ok-s.s;
       v = v;
       base = c.in_ok-empty.field-0;
     }))) (sym c.v.view_is)
-    (opened-state m c.rows-rows.result c.cols-columns.result of c.in_ok-columns_of.field-0 c.in_ok-p.p c.in_ok-s.s
+    (opened-state m c.rows-rows.result c.cols-columns.result of c.in_ok-turned.field-0 c.in_ok-p.p c.in_ok-s.s
     c.in_ok-v.v c.in_ok-empty.field-0 c.rows-rows.ensures.rows c.cols-columns.ensures.cols c.in_ok-p.ensures.size
-    c.in_ok-p.ensures.numbers c.in_ok-columns_of.ensures.size c.in_ok-columns_of.ensures.numbers c.in_ok-s.ensures.size
+    c.in_ok-p.ensures.numbers turned_size turned_numbers c.in_ok-s.ensures.size
     c.in_ok-s.ensures.numbers c.in_ok-v.ensures.size c.in_ok-v.ensures.numbers c.in_ok-empty.ensures)
+
+pub turned-requires-clause-outside : goal.turned-requires-clause-outside
+turned-requires-clause-outside g c =
+    let q = c.args.q.now in
+    λ i j le. ap (λ f. f i j) c.in_ok-p.ensures.numbers
+    ∙ past-column q i j c.cols-columns.ensures.matrix (omega (arith, le, c.in_ok-p.ensures.size.width_is))

@@ -1,7 +1,9 @@
-use Rattle.std.proofs.Common.{◌≢◌, ◌%◌, ◌<◌, sym, subst}
+use Rattle.std.proofs.Common.{◌≢◌, ◌%◌, ◌<◌, ◌∙◌, sym, subst, arith}
 use Rattle.sparse_q.specs.Tables.{row_count, number_in}
+use Rattle.bit_table.specs.Bits.{bit_in}
+use Rattle.sparse_tableau.specs.Entries.{HasSizeOf}
 use Rattle.sparse_tableau.specs.Sparse.{Sparse}
-use Rattle.sparse_tableau.proofs.EntryLaws.{pivot-listed, row_set-listed}
+use Rattle.sparse_tableau.proofs.EntryLaws.{pivot-listed, row_set-listed, spread-closed}
 use Rattle.sparse_tableau.proofs.SparseLaws.{pivot-pivoted, pivoted-sparse, pivoted-state}
 use Rattle.sparse_tableau.proofs.sparse.SparseTableauTableau.pivot.Goals as goal
 
@@ -15,23 +17,32 @@ invariant_of-self g c =
     (sym c.self.view_is) c.requires.col in
     let some : number_in inside.transform.p c.args.row c.args.col % modulus ≢ 0 =
     subst (λ (t : Sparse). number_in t.p c.args.row c.args.col % modulus ≢ 0) (sym c.self.view_is)
-    c.requires.entry in (
+    c.requires.entry in
+    let p = inside.transform.p in
+    let spread = c.spread.ensures.size in
+    let closed_size : HasSizeOf p c.close.new.self.bits = record {
+      columns_are = c.close.ensures.rows ∙ spread.columns_are;
+      rows_are = c.close.ensures.size ∙ spread.rows_are;
+    } in
+    let filled = spread-closed (row_count p) p.width (number_in p) (bit_in inside.entries.bits)
+    (bit_in c.spread.new.self.bits) (bit_in c.close.new.self.bits) c.args.row c.args.col c.spread.ensures.spread
+    c.close.ensures.here (λ i j il ne. c.close.ensures.others i j (omega (arith, il, spread.rows_are)) ne) in (
       pivoted-sparse modulus g.met.F.Field.prime inside.columns inside.transform.p inside.transform.s inside.v
-          c.pivot-2.new.self.p
-          c.pivot-2.new.self.s c.copy_row.new.self inside.base c.take.new.self c.args.row c.args.col
+          c.pivot.new.self.p
+          c.pivot.new.self.s c.copy_row.new.self inside.base c.take.new.self c.args.row c.args.col
           c.self.invariant.0 rl cl some
-          c.pivot-2.ensures.p_size c.pivot-2.ensures.s_size c.pivot-2.ensures.p_reduced c.pivot-2.ensures.s_reduced
+          c.pivot.ensures.p_size c.pivot.ensures.s_size c.pivot.ensures.p_reduced c.pivot.ensures.s_reduced
           c.copy_row.ensures c.take.ensures.taken c.take.ensures.rows c.take.ensures.columns,
-      pivot-listed modulus inside.transform.p c.pivot-2.new.self.p inside.entries.bits c.pivot.new.self.bits
+      pivot-listed modulus inside.transform.p c.pivot.new.self.p inside.entries.bits c.close.new.self.bits
           c.args.row c.args.col rl cl
-          c.self.invariant.1 c.pivot.ensures.filled
+          c.self.invariant.1 filled
           (pivot-pivoted modulus g.met.F.Field.prime inside.columns inside.transform.p inside.transform.s inside.v
-          c.pivot-2.new.self.p
-          c.pivot-2.new.self.s c.copy_row.new.self inside.base c.take.new.self c.args.row c.args.col
+          c.pivot.new.self.p
+          c.pivot.new.self.s c.copy_row.new.self inside.base c.take.new.self c.args.row c.args.col
           c.self.invariant.0 rl cl some
-          c.pivot-2.ensures.p_size c.pivot-2.ensures.s_size c.pivot-2.ensures.p_reduced c.pivot-2.ensures.s_reduced
+          c.pivot.ensures.p_size c.pivot.ensures.s_size c.pivot.ensures.p_reduced c.pivot.ensures.s_reduced
           c.copy_row.ensures c.take.ensures.taken)
-          c.pivot-2.ensures.p_reduced c.pivot.ensures.size c.pivot-2.ensures.p_size,
+          c.pivot.ensures.p_reduced closed_size c.pivot.ensures.p_size,
       row_set-listed inside.v c.copy_row.new.self inside.u_entries.bits c.list_row.new.self.bits c.args.row
           (number_in inside.columns c.args.col) c.self.invariant.2 c.copy_row.ensures c.list_row.ensures.size
           c.list_row.ensures.listed c.list_row.ensures.kept,
@@ -49,8 +60,8 @@ returns g c =
     subst (λ (t : Sparse). number_in t.p c.args.row c.args.col % modulus ≢ 0) (sym c.self.view_is) c.requires.entry in
     rw (← c.self.view_is)
     (pivoted-state modulus g.met.F.Field.prime inside.columns inside.transform.p inside.transform.s inside.v
-    c.pivot-2.new.self.p
-    c.pivot-2.new.self.s c.copy_row.new.self inside.base c.take.new.self c.args.row c.args.col c.self.invariant.0 rl
+    c.pivot.new.self.p
+    c.pivot.new.self.s c.copy_row.new.self inside.base c.take.new.self c.args.row c.args.col c.self.invariant.0 rl
     cl some
-    c.pivot-2.ensures.p_size c.pivot-2.ensures.s_size c.pivot-2.ensures.p_reduced c.pivot-2.ensures.s_reduced
+    c.pivot.ensures.p_size c.pivot.ensures.s_size c.pivot.ensures.p_reduced c.pivot.ensures.s_reduced
     c.copy_row.ensures c.take.ensures.taken)
