@@ -18,11 +18,12 @@ use Rattle.report_cli.specs.RightFor.{IsRightFor}
 use Rattle.report_cli.specs.Rooms.{request_room}
 use Rattle.answer_texts.specs.WholeLayers.{AreWholeLayers}
 use Rattle.input_kinds.specs.Kinds.{GivesModel}
-use Rattle.report_cli.specs.Fields.{digits, modulus, modulus_of, version_of}
+use Rattle.residue_field.specs.Modulus.{modulus_of}
+use Rattle.report_cli.specs.Fields.{digits, command_modulus, version_of}
 use Rattle.command_line.specs.Words.{Asks, AsksFor, field_of, format_of, over}
 use Rattle.command_line.specs.declared.command.Command.{Command}
 use Rattle.command_line.specs.declared.command.Command.TheVariants.{OfModel}
-use Rattle.command_line.specs.declared.command.FieldName.{FieldName}
+use Rattle.residue_field.specs.declared.field_name.FieldName.{FieldName}
 use Rattle.command_line.specs.declared.command.Request.{Request}
 use Rattle.command_line.specs.declared.command.Request.TheVariants.{Make, OfInput}
 use Rattle.command_line.specs.declared.command.Task.{Task}
@@ -42,10 +43,10 @@ use Rattle.answer_laws.proofs.OneLayerText.{one-layers}
 
 -- values are numbers in an answer
 abbrev IsNumbersText : Command → List ℕ → Status → List ℕ → Type 0
-IsNumbersText command = IsOutputText {T = ℕ} (λ value. value) (modulus_of command) command
+IsNumbersText command = IsOutputText {T = ℕ} (λ value. value) (command_modulus command) command
 
 abbrev IsRightOutput : Command → List ℕ → Output ℕ → Type 0
-IsRightOutput command = IsOutputFor {T = ℕ} (λ value. value) (modulus_of command) command
+IsRightOutput command = IsOutputFor {T = ℕ} (λ value. value) (command_modulus command) command
 
 abbrev text_of : Output ℕ → List ℕ
 text_of = output_text (λ value. value)
@@ -59,7 +60,7 @@ reported_by words command input text asks answer = (of_command words command inp
 pub record IsCertified (field : Option FieldName) (kind : Kind) (input text : List ℕ) : Type 0 where
   pub certificate : Certificate
   pub text_is : text ≡ certificate_text certificate
-  pub right : IsRightFor (modulus (over field)) (version_of field) kind input certificate
+  pub right : IsRightFor (modulus_of (over field)) (version_of field) kind input certificate
 
 -- one kind and one field have one command
 same-kind : (task : Task) (kind other : Kind) (field named : Option FieldName) → OfModel task kind field ≡ OfModel task other named → other ≡ kind
@@ -73,8 +74,8 @@ certified : (kind : Kind) (field : Option FieldName) (input text : List ℕ) (ou
 certified kind field input text (Certified certificate) (other, named, is, right) text_is = record {
   certificate = certificate;
   text_is = text_is;
-  right = subst (λ f. IsRightFor (modulus (over field)) (version_of f) kind input certificate) (same-field Analyse kind other field named is)
-      (subst (λ k. IsRightFor (modulus (over field)) (version_of named) k input certificate) (same-kind Analyse kind other field named is) right);
+  right = subst (λ f. IsRightFor (modulus_of (over field)) (version_of f) kind input certificate) (same-field Analyse kind other field named is)
+      (subst (λ k. IsRightFor (modulus_of (over field)) (version_of named) k input certificate) (same-kind Analyse kind other field named is) right);
 }
 certified kind field input text (Layering model layers) (other, named, is, gives, are, whole) text_is = absurd cc
 certified kind field input text (Reporting model told) (other, named, is, gives, reports) text_is = absurd cc
@@ -93,7 +94,7 @@ pub record IsLayered (field : Option FieldName) (kind : Kind) (input text : List
   pub model : MixedModel
   pub layers : Layers
   pub text_is : text ≡ layer_text model layers
-  pub gives : GivesModel (modulus (over field)) kind input model
+  pub gives : GivesModel (modulus_of (over field)) kind input model
   pub are : AreLayersOf model layers
   pub whole : AreWholeLayers layers
 
@@ -104,7 +105,7 @@ layering kind field input text (Layering model layers) (other, named, is, gives,
   model = model;
   layers = layers;
   text_is = text_is;
-  gives = subst (λ k. GivesModel (modulus (over field)) k input model) (same-kind Layer kind other field named is) gives;
+  gives = subst (λ k. GivesModel (modulus_of (over field)) k input model) (same-kind Layer kind other field named is) gives;
   are = are;
   whole = whole;
 }
@@ -123,7 +124,7 @@ pub agreeing : (words : List (List ℕ)) (kind : Kind) (field : Option FieldName
     AsksFor words (OfModel Analyse kind field) → IsAnswer words input Done text → IsAnswer words input Done other →
     AreAgreed field kind input text other
 agreeing words kind field input text other asks first second =
-    let p : ℕ = modulus (over field) in
+    let p : ℕ = modulus_of (over field) in
     let one = analysed words kind field input text asks first in
     let two = analysed words kind field input other asks second in
     let a = one.right in
@@ -155,7 +156,7 @@ pub one-answer : (words : List (List ℕ)) (kind : Kind) (field : Option FieldNa
 one-answer words kind field input text other asks first second =
     let one = layered words kind field input text asks first in
     let two = layered words kind field input other asks second in
-    let same : two.model ≡ one.model = gives-one (modulus (over field)) kind input two.model one.model two.gives one.gives in
+    let same : two.model ≡ one.model = gives-one (modulus_of (over field)) kind input two.model one.model two.gives one.gives in
     one.text_is ∙ one-layer-text one.model one.layers two.layers one.are one.whole (subst (λ m. AreLayersOf m two.layers) same two.are) two.whole
     ∙ sym (two.text_is ∙ ap (λ m. layer_text m two.layers) same)
 
@@ -176,7 +177,7 @@ fitting-of words command input status text asks has answer =
     let field : FieldName = over (field_of command) in
     let written = is-written command input status text has (of_command words command input status text asks answer) in
     subst (λ t. length t ≤ request_room (OfInput command) (length input)) (sym (written.1).text_is)
-    (output_fits (λ value. value) (modulus field) (digits field) (some-of field) (low-of field) (prime-of field)
+    (output_fits (λ value. value) (modulus_of field) (digits field) (some-of field) (low-of field) (prime-of field)
     command input (written.1).output (written.1).right written.0)
 
 pub fitting : (words : List (List ℕ)) (request : Request) (input : List ℕ) (status : Status) (text : List ℕ) → Asks words request → HasText status →

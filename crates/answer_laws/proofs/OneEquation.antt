@@ -5,7 +5,8 @@ use Rattle.std.proofs.Common.{⊎_elim}
 use Rattle.std.specs.Fmt.{digits}
 use Rattle.std.specs.List.{slice_get}
 use Rattle.std.proofs.lemmas.List.Elements.{All-head}
-use Rattle.residue_field.specs.Modulus.{res_modulus}
+use Rattle.residue_field.specs.Modulus.{modulus_of}
+use Rattle.residue_field.specs.declared.field_name.FieldName.TheVariants.{Small}
 use Rattle.residue_theory.specs.Sums.{size_on}
 use Rattle.residue_theory.proofs.SetLaws.{differ, both-second, not_true, some_below-found}
 use Rattle.mixed_matrices.specs.LayeredMatrices.{LayeredMatrix}
@@ -43,7 +44,7 @@ one-listed A n at m one member are = omega (arith, are.count, ap (size_on A) one
     counted : (b : Bool) → b ≡ true → 0 + cond {A = ℕ} b 1 0 ≡ 1
     counted b is = rw is (omega arith)
 
-module _ (model : MixedModel) (gives : GivesModel res_modulus one_equation model) where
+module _ (model : MixedModel) (gives : GivesModel (modulus_of Small) one_equation model) where
   one-row : length model.equations ≡ 1
   one-row = ap length (gives.given).equations_are
 
@@ -99,7 +100,7 @@ small-base m n (pair ∷ next ∷ pairs) one two are =
     let within = are.within 1 next (omega arith) in
     absurd (omega (arith, rises, within.0, one))
 
-module _ (c : Certificate) (right : IsRightFor res_modulus One Matrix one_equation c) where
+module _ (c : Certificate) (right : IsRightFor (modulus_of Small) One Matrix one_equation c) where
   shape-is : c.ccf.shape ≡ record { equations = 1; unknowns = 1; q_rows = 1; t_rows = 0; columns = 1 }
   shape-is =
       let shape = (right.right).shape in
@@ -121,11 +122,11 @@ module _ (c : Certificate) (right : IsRightFor res_modulus One Matrix one_equati
   )
 
   text-is : (base : List (ℕ × ℕ)) → c.ccf.base ≡ base →
-      certificate_text c ≡ text_with One res_modulus Matrix one_equation (record { equations = 1; unknowns = 1; q_rows = 1; t_rows = 0; columns = 1 })
+      certificate_text c ≡ text_with One (modulus_of Small) Matrix one_equation (record { equations = 1; unknowns = 1; q_rows = 1; t_rows = 0; columns = 1 })
       (length base) base []
       (matrices_text c.ccf.s c.ccf.u c.ccf.p c.ccf.t) (parts_text c.ccf.first c.ccf.blocks c.ccf.last)
   text-is base is =
-      text-with c One res_modulus Matrix one_equation _ (length base) base [] right.version_is right.modulus_is right.kind_is right.echo
+      text-with c One (modulus_of Small) Matrix one_equation _ (length base) base [] right.version_is right.modulus_is right.kind_is right.echo
       shape-is (rank-is base is) is mates-are
 
   -- the digit of the rank, or that of the base column, is another one
@@ -159,7 +160,7 @@ first-row : (names : List (List ℕ)) (origins : List ℕ) (rows : List (List �
 first-row names origins [] more one = absurd (omega (arith, one))
 first-row names origins (row ∷ rows) more one = refl
 
-never-made-up : (model : MixedModel) (layers : Layers) → GivesModel res_modulus one_equation model → AreLayersOf model layers → AreWholeLayers layers →
+never-made-up : (model : MixedModel) (layers : Layers) → GivesModel (modulus_of Small) one_equation model → AreLayersOf model layers → AreWholeLayers layers →
     layer_text model layers ≡ codes "columns 1\nc1 x\nc2 x\nq1 a 1=1\n" → ⊥
 unfolding digits
 never-made-up model layers gives are whole same =

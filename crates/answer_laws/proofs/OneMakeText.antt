@@ -15,8 +15,8 @@ use Rattle.answer_texts.specs.MadeTexts.{made_text, system_line, tail_sizes}
 use Rattle.answer_texts.specs.ReportTexts.{count_line}
 use Rattle.answer_texts.specs.Rooms.{made_room}
 use Rattle.command_line.specs.Words.{AsksToMake, over}
-use Rattle.command_line.specs.declared.command.FieldName.{FieldName}
-use Rattle.report_cli.specs.Fields.{modulus}
+use Rattle.residue_field.specs.declared.field_name.FieldName.{FieldName}
+use Rattle.residue_field.specs.Modulus.{modulus_of}
 use Rattle.report_cli.proofs.FieldFacts.{odd-of, prime-of}
 use Rattle.command_line.proofs.Asking.{makes-one, not-both}
 use Rattle.report_cli.specs.Answer.{HasText, IsAnswer, IsCommandAnswer, IsMakeAnswer}
@@ -97,16 +97,16 @@ made-text-one p prime odd n one two first second =
 
 -- an answer to words that ask for a made model tells of it
 told-of : (words : List (List ℕ)) (n : ℕ) (field : Option FieldName) (input text : List ℕ) → AsksToMake words n field →
-    IsCommandAnswer words input Done text ⊎ IsMakeAnswer words text → IsMakeText (modulus (over field)) n text
+    IsCommandAnswer words input Done text ⊎ IsMakeAnswer words text → IsMakeText (modulus_of (over field)) n text
 told-of words n field input text makes (inl (command, asks, given)) = not-both words command n field asks makes
 told-of words n field input text makes (inr (m, named, made, told)) =
     let same = makes-one words m n named field made makes in
-    subst (λ f. IsMakeText (modulus (over f)) n text) same.1 (subst (λ k. IsMakeText (modulus (over named)) k text) same.0 told)
+    subst (λ f. IsMakeText (modulus_of (over f)) n text) same.1 (subst (λ k. IsMakeText (modulus_of (over named)) k text) same.0 told)
 
 pub one-make-text : (words : List (List ℕ)) (n : ℕ) (field : Option FieldName) (input another text other : List ℕ) → AsksToMake words n field →
     IsAnswer words input Done text → IsAnswer words another Done other → text ≡ other
 one-make-text words n field input another text other makes first second =
-    made-text-one (modulus (over field)) (prime-of (over field)) (odd-of (over field)) n text other
+    made-text-one (modulus_of (over field)) (prime-of (over field)) (odd-of (over field)) n text other
     (told-of words n field input text makes first) (told-of words n field another other makes second)
 
 fits : (p n : ℕ) (text : List ℕ) → IsMakeText p n text → length text ≤ made_room
@@ -115,7 +115,7 @@ fits p n text told = subst (λ t. length t ≤ made_room) (sym told.text_is) (ma
 pub fitting_make : (words : List (List ℕ)) (n : ℕ) (field : Option FieldName) (input : List ℕ) (status : Status) (text : List ℕ) →
     AsksToMake words n field → HasText status → IsAnswer words input status text → length text ≤ made_room
 fitting_make words n field input status text makes (inl done) answer =
-    fits (modulus (over field)) n text (told-of words n field input text makes (subst (λ s. IsAnswer words input s text) done answer))
+    fits (modulus_of (over field)) n text (told-of words n field input text makes (subst (λ s. IsAnswer words input s text) done answer))
 fitting_make words n field input status text makes (inr other) answer =
     let given : IsCommandAnswer words input NotRegular text = subst (λ s. IsAnswer words input s text) other answer in
     not-both words given.0 n field given.1 makes

@@ -5,10 +5,11 @@ use Rattle.cert_text.specs.Contents.{Certificate}
 use Rattle.cert_text.specs.declared.kind.Kind.{Kind}
 use Rattle.certificate_laws.specs.Agreement.{Agree}
 use Rattle.report_cli.specs.Answer.{IsAnswer}
-use Rattle.report_cli.specs.Fields.{modulus, version_of}
+use Rattle.residue_field.specs.Modulus.{modulus_of}
+use Rattle.report_cli.specs.Fields.{version_of}
 use Rattle.report_cli.specs.RightFor.{IsRightFor}
 use Rattle.command_line.specs.Words.{Asks, AsksFor, AsksToMake, over}
-use Rattle.command_line.specs.declared.command.FieldName.{FieldName}
+use Rattle.residue_field.specs.declared.field_name.FieldName.{FieldName}
 use Rattle.command_line.specs.declared.command.Request.{Request}
 use Rattle.command_line.specs.declared.command.Command.TheVariants.{OfModel}
 use Rattle.command_line.specs.declared.command.Task.TheVariants.{Analyse, Layer}
@@ -21,8 +22,8 @@ pub record AreAgreed (field : Option FieldName) (kind : Kind) (input text other 
   pub second : Certificate
   pub first_text : text ≡ certificate_text first
   pub second_text : other ≡ certificate_text second
-  pub first_right : IsRightFor (modulus (over field)) (version_of field) kind input first
-  pub second_right : IsRightFor (modulus (over field)) (version_of field) kind input second
+  pub first_right : IsRightFor (modulus_of (over field)) (version_of field) kind input first
+  pub second_right : IsRightFor (modulus_of (over field)) (version_of field) kind input second
   pub agree : Agree first.ccf second.ccf
 
 abbrev pub AnswersOfAnalyseAgree : Type 0

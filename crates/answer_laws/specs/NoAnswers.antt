@@ -7,8 +7,8 @@ use Rattle.report_cli.specs.Answer.{IsAnswer}
 use Rattle.command_line.specs.Words.{AsksFor}
 use Rattle.command_line.specs.declared.command.Command.{Command}
 use Rattle.command_line.specs.declared.command.Command.TheVariants.{OfModel}
-use Rattle.command_line.specs.declared.command.FieldName.{FieldName}
-use Rattle.command_line.specs.declared.command.FieldName.TheVariants.{Large, Small}
+use Rattle.residue_field.specs.declared.field_name.FieldName.{FieldName}
+use Rattle.residue_field.specs.declared.field_name.FieldName.TheVariants.{Large, Small}
 use Rattle.command_line.specs.declared.command.Task.TheVariants.{Analyse, Layer}
 use Rattle.report_cli.specs.declared.status.Status.TheVariants.{Done}
 

@@ -8,7 +8,8 @@ use Rattle.std.specs.List.Sorted.{IsStrictlyIncreasing}
 use Rattle.std.proofs.lemmas.List.{take-append-drop, take_at, drop_at, length-take, map-id}
 use Rattle.std.proofs.lemmas.Bool.Decides.{nat_tests}
 use Rattle.limits.specs.Limits.{column_limit, equation_limit}
-use Rattle.cert_text.specs.Moduli.{res_modulus, large_modulus}
+use Rattle.residue_field.specs.Modulus.{modulus_of}
+use Rattle.residue_field.specs.declared.field_name.FieldName.TheVariants.{Large, Small}
 use Rattle.cert_text.specs.Texts.{spaced, item, lettered, pairs_text, entries_text, numbers_text, letters_text}
 use Rattle.cert_text.specs.Texts.{head_text, entries_line, columns_line, part_text, tail_line, block_line, kind_text}
 use Rattle.cert_text.specs.Texts.{shape_text}
@@ -138,9 +139,9 @@ Spells-version = Spells-same version_at (Spells-either version_line One Two (λ 
     either One = inl refl
     either Two = inr refl
 
-pub Spells-field_line : Spells Any (λ modulus. (modulus ≡ res_modulus) ⊎ (modulus ≡ large_modulus)) field_line field_line_at
+pub Spells-field_line : Spells Any (λ modulus. (modulus ≡ modulus_of Small) ⊎ (modulus ≡ modulus_of Large)) field_line field_line_at
 unfolding field_line_at digits
-Spells-field_line = Spells-either field_line res_modulus large_modulus (λ rest. refl)
+Spells-field_line = Spells-either field_line (modulus_of Small) (modulus_of Large) (λ rest. refl)
 
 pub Spells-kind : Spells Any (λ kind. Unit {0}) (λ kind. codes "kind " ++ (kind_text kind ++ codes "\n")) kind_at
 unfolding kind_at

@@ -7,7 +7,8 @@ use Rattle.std.specs.List.{concat}
 use Rattle.std.proofs.lemmas.List.Elements.{All-from_recursion, recursion_from_All}
 use Rattle.limits.specs.Limits.{column_limit, input_limit}
 use Rattle.cert_text.specs.Contents.{Certificate, Contents}
-use Rattle.cert_text.specs.Moduli.{res_modulus, large_modulus}
+use Rattle.residue_field.specs.Modulus.{modulus_of}
+use Rattle.residue_field.specs.declared.field_name.FieldName.TheVariants.{Large, Small}
 use Rattle.cert_text.specs.Texts.{tail_line, entries_line, columns_line, kind_text, shape_text, pairs_text}
 use Rattle.cert_text.specs.Ranges.{IsShape, AreRising, ArePairs, AreEntries, IsMatrix, IsPattern, IsPart, IsBlock, IsCcf}
 use Rattle.cert_text.specs.declared.kind.Kind.{Kind}
@@ -321,15 +322,15 @@ whole-body version modulus small =
 -- ---- the version and the field
 
 abbrev pub IsFieldOf : Version → ℕ → Type 0
-IsFieldOf One modulus = modulus ≡ res_modulus
-IsFieldOf Two modulus = (modulus ≡ res_modulus) ⊎ (modulus ≡ large_modulus)
+IsFieldOf One modulus = modulus ≡ modulus_of Small
+IsFieldOf Two modulus = (modulus ≡ modulus_of Small) ⊎ (modulus ≡ modulus_of Large)
 
 field_small : (version : Version) (modulus : ℕ) → IsFieldOf version modulus → modulus < 2 ^ 32
 field_small One modulus is = omega (arith, is)
 field_small Two modulus (inl is) = omega (arith, is)
 field_small Two modulus (inr is) = omega (arith, is)
 
-field_some : (version : Version) → IsFieldOf version res_modulus
+field_some : (version : Version) → IsFieldOf version (modulus_of Small)
 field_some One = refl
 field_some Two = inl refl
 
@@ -348,8 +349,8 @@ split Two modulus others = refl
 
 pub Reads-field : (version : Version) → Reads Any Any (IsFieldOf version) (field_lines version) (field_at version)
 unfolding field_at
-Reads-field One = Reads-nothing res_modulus
-Reads-field Two = Reads-line field_line_at res_modulus (inl refl) Spells-field_line
+Reads-field One = Reads-nothing (modulus_of Small)
+Reads-field Two = Reads-line field_line_at (modulus_of Small) (inl refl) Spells-field_line
 
 -- a certificate of this version
 record IsOf (version : Version) (c : Certificate) : Type 0 where
@@ -364,18 +365,18 @@ of-body : (version : Version) (modulus : ℕ) (c : Certificate) → IsFieldOf ve
 of-body version modulus c field is = record {
   version_is = is.version_is;
   is = record {
-    field = subst (λ m. (m ≡ res_modulus) ⊎ (m ≡ large_modulus)) (sym is.modulus_is) (one_of version field);
+    field = subst (λ m. (m ≡ modulus_of Small) ⊎ (m ≡ modulus_of Large)) (sym is.modulus_is) (one_of version field);
     version = λ one. is.modulus_is ∙ small version field (sym is.version_is ∙ one);
     echo = is.echo;
     ccf = subst (λ m. IsCcf m c.ccf) (sym is.modulus_is) is.ccf;
   };
 }
   where
-    one_of : (version : Version) → IsFieldOf version modulus → (modulus ≡ res_modulus) ⊎ (modulus ≡ large_modulus)
+    one_of : (version : Version) → IsFieldOf version modulus → (modulus ≡ modulus_of Small) ⊎ (modulus ≡ modulus_of Large)
     one_of One field = inl field
     one_of Two field = field
 
-    small : (version : Version) → IsFieldOf version modulus → version ≡ One → modulus ≡ res_modulus
+    small : (version : Version) → IsFieldOf version modulus → version ≡ One → modulus ≡ modulus_of Small
     small One field one = field
     small Two field one = (let f : ⊥ = cc in absurd f)
 
@@ -402,8 +403,8 @@ whole-fielded version = record {
       })
       (λ modulus rest field short. shorter (concat (field_lines version modulus)) rest short);
   some =
-      let c = (whole res_modulus (field_some version)).some in
-      (c.0, of-body version res_modulus c.0 (field_some version) c.1);
+      let c = (whole (modulus_of Small) (field_some version)).some in
+      (c.0, of-body version (modulus_of Small) c.0 (field_some version) c.1);
 }
   where
     whole : (modulus : ℕ) → IsFieldOf version modulus → Whole (IsBody version modulus) body_lines (body_at version modulus)

@@ -2,7 +2,8 @@
 use Rattle.std.specs.Prelude.{ℕ, ◌≡◌, ◌⊎◌, ◌+◌, ◌≤◌, List, [], ◌∷◌, ◌++◌, length, codes}
 use Rattle.limits.specs.Limits.{input_limit}
 use Rattle.cert_text.specs.Contents.{Certificate, Contents}
-use Rattle.cert_text.specs.Moduli.{res_modulus, large_modulus}
+use Rattle.residue_field.specs.Modulus.{modulus_of}
+use Rattle.residue_field.specs.declared.field_name.FieldName.TheVariants.{Large, Small}
 use Rattle.cert_text.specs.Ranges.{IsCcf}
 use Rattle.cert_text.specs.Texts.{spaced, kind_text, shape_text, pairs_text, entries_line, columns_line, tail_line, block_line}
 use Rattle.cert_text.specs.declared.version.Version.{Version}
@@ -13,8 +14,8 @@ use Rattle.cert_reader.specs.Lines.{HasJust}
 
 -- what is a certificate: over one of the two fields, in version 1 over the smaller one, with values of its field
 pub record IsCertificate (c : Certificate) : Type 0 where
-  pub field : (c.modulus ≡ res_modulus) ⊎ (c.modulus ≡ large_modulus)
-  pub version : c.version ≡ One → c.modulus ≡ res_modulus
+  pub field : (c.modulus ≡ modulus_of Small) ⊎ (c.modulus ≡ modulus_of Large)
+  pub version : c.version ≡ One → c.modulus ≡ modulus_of Small
   pub echo : length c.echo ≤ input_limit
   pub ccf : IsCcf c.modulus c.ccf
 

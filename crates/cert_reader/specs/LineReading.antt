@@ -1,7 +1,8 @@
 -- Reading the lines of a certificate, each with the line feed that ends it.
 use Rattle.std.specs.Prelude.{ℕ, ◌+◌, List, length, take, drop, codes, Result, Ok, Err, nat_lt, nat_le, nat_eq, if◌then◌else◌}
 use Rattle.limits.specs.Limits.{column_limit, equation_limit}
-use Rattle.cert_text.specs.Moduli.{res_modulus, large_modulus}
+use Rattle.residue_field.specs.Modulus.{modulus_of}
+use Rattle.residue_field.specs.declared.field_name.FieldName.TheVariants.{Large, Small}
 use Rattle.cert_text.specs.Texts.{head_text}
 use Rattle.cert_text.specs.declared.kind.Kind.{Kind}
 use Rattle.cert_text.specs.declared.kind.Kind.TheVariants.{Matrix, Netlist, Flowsheet}
@@ -25,11 +26,11 @@ version_at line bytes = either_at (codes "mixed-certificate 1\n") One (codes "mi
 -- the line of the field, by its modulus
 unfoldable pub field_line_at : ℕ → List ℕ → Result (ℕ × List ℕ) ℕ
 field_line_at line bytes =
-    either_at (codes "field 65521\n") res_modulus (codes "field 2147483647\n") large_modulus line bytes
+    either_at (codes "field 65521\n") (modulus_of Small) (codes "field 2147483647\n") (modulus_of Large) line bytes
 
 -- the field, which version 1 does not tell
 unfoldable pub field_at : Version → ℕ → List ℕ → Result (ℕ × List ℕ) ℕ
-field_at One line bytes = Ok (res_modulus, bytes)
+field_at One line bytes = Ok (modulus_of Small, bytes)
 field_at Two line bytes = field_line_at line bytes
 
 unfoldable pub kind_at : ℕ → List ℕ → Result (Kind × List ℕ) ℕ

@@ -1,23 +1,15 @@
 //! The lines of the version and of the field.
 
-ghost use Rattle.std.specs.Prelude.{◌≡◌, ◌+◌};
+ghost use Rattle.std.specs.Prelude.{◌≡◌};
 ghost use Rattle.cert_reader.specs.CertReading.{field_count};
 ghost use Rattle.cert_reader.specs.Fronts.{Gives};
 ghost use Rattle.cert_reader.specs.LineReading.{version_at, field_at, field_line_at};
-ghost use Rattle.cert_reader.specs.Certificates.{modulus_of};
+ghost use Rattle.residue_field.specs.Modulus.{modulus_of};
 
 use crate::fault::ReadCert;
 use crate::fronts::{behind, text_at};
 use cert_text::Version;
-
-/// Which of the two fields a certificate is over.
-#[derive(Clone, Copy)]
-pub enum FieldName {
-    /// The residues modulo 65,521.
-    Small,
-    /// The residues modulo 2,147,483,647.
-    Large,
-}
+use residue_field::FieldName;
 
 /// The line of the version.
 #[tactic(auto, unfolding(crate::specs::LineReading::version_at))]

@@ -14,12 +14,12 @@ ghost use Rattle.cert_reader.specs.Certificates.{certificate_in};
 
 use crate::any_certificate::AnyCertificate;
 use crate::fault::ReadCert;
-use crate::field_lines::{FieldName, field_at, field_count, version_at};
+use crate::field_lines::{field_at, field_count, version_at};
 use crate::linewise::{count_at, echo_at, kind_at, pairs_line_at, shape_at, tail_at};
 use crate::tables::{blocks_at, matrix_at, pattern_at};
 use cert_text::{Ccf, CcfBlock, CcfPart, Certificate, Items, Shape, Version};
 use limits::{COLUMN_LIMIT, INPUT_LIMIT};
-use residue_field::Field;
+use residue_field::{Field, FieldName};
 use std::alloc::Global;
 
 /// How many bytes the text of a certificate has at most that is read.

@@ -1,4 +1,3 @@
-pub mod Moduli
 pub mod Contents
 pub mod Ranges
 pub mod Texts

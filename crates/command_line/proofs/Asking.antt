@@ -7,8 +7,8 @@ use Rattle.cert_text.specs.Texts.{kind_text}
 use Rattle.cert_text.specs.declared.kind.Kind.{Kind}
 use Rattle.cert_text.specs.declared.kind.Kind.TheVariants.{Flowsheet, Matrix, Netlist}
 use Rattle.command_line.specs.Words.{Asks, AsksFor, AsksToMake, IsSizeWord, Names, field_of, field_word, format_of, name_of, task_text, word_of}
-use Rattle.command_line.specs.declared.command.FieldName.{FieldName}
-use Rattle.command_line.specs.declared.command.FieldName.TheVariants.{Large, Small}
+use Rattle.residue_field.specs.declared.field_name.FieldName.{FieldName}
+use Rattle.residue_field.specs.declared.field_name.FieldName.TheVariants.{Large, Small}
 use Rattle.command_line.specs.declared.command.Command.{Command}
 use Rattle.command_line.specs.declared.command.Command.TheVariants.{Check, OfModel}
 use Rattle.command_line.specs.declared.command.Request.{Request}

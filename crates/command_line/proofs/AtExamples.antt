@@ -8,8 +8,8 @@ use Rattle.cert_text.specs.declared.kind.Kind.TheVariants.{Flowsheet, Matrix, Ne
 use Rattle.command_line.specs.CommandLine.{command_line}
 use Rattle.command_line.specs.Words.{AsksFor, AsksForNothing, AsksToMake, field_of, field_word}
 use Rattle.command_line.specs.declared.command.Command.TheVariants.{Check, OfModel}
-use Rattle.command_line.specs.declared.command.FieldName.{FieldName}
-use Rattle.command_line.specs.declared.command.FieldName.TheVariants.{Large, Small}
+use Rattle.residue_field.specs.declared.field_name.FieldName.{FieldName}
+use Rattle.residue_field.specs.declared.field_name.FieldName.TheVariants.{Large, Small}
 use Rattle.command_line.specs.declared.command.Request.TheVariants.{Make, OfInput}
 use Rattle.command_line.specs.declared.command.Task.TheVariants.{Analyse, Layer, Plan, Report}
 

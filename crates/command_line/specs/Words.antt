@@ -15,8 +15,8 @@ use Rattle.command_line.specs.declared.command.Format.{Format}
 use Rattle.command_line.specs.declared.command.Format.TheVariants.{Certificate, Model}
 use Rattle.command_line.specs.declared.command.Task.{Task}
 use Rattle.command_line.specs.declared.command.Task.TheVariants.{Analyse, Layer, Plan, Report}
-use Rattle.command_line.specs.declared.command.FieldName.{FieldName}
-use Rattle.command_line.specs.declared.command.FieldName.TheVariants.{Large, Small}
+use Rattle.residue_field.specs.declared.field_name.FieldName.{FieldName}
+use Rattle.residue_field.specs.declared.field_name.FieldName.TheVariants.{Large, Small}
 use Rattle.command_line.specs.declared.command.Request.{Request}
 use Rattle.command_line.specs.declared.command.Request.TheVariants.{Make, OfInput}
 use Rattle.command_line.specs.declared.command.WordsError.{WordsError}

@@ -11,6 +11,7 @@ use cert_text::Kind;
 use clap::error::ErrorKind;
 use clap::{ArgMatches, Error};
 use made_models::SIZE_LIMIT;
+use residue_field::FieldName;
 use std::alloc::{AllocError, Global};
 
 /// What to write of a model.
@@ -24,27 +25,6 @@ pub enum Task {
     Report,
     /// In which steps it can be solved.
     Plan,
-}
-
-/// A field that the words may name: that of the residues modulo a prime.
-#[derive(Clone, Copy, Debug, PartialEq, Eq)]
-pub enum FieldName {
-    /// Modulo 65,521.
-    Small,
-    /// Modulo 2,147,483,647.
-    Large,
-}
-
-impl FieldName {
-    /// The field that is meant: the smaller one where none is named.
-    pub fn over(named: Option<FieldName>) -> FieldName
-        ensures { result ≡ over named }
-    {
-        match named {
-            Some(field) => field,
-            None => FieldName::Small,
-        }
-    }
 }
 
 /// What to do with an input.
@@ -151,7 +131,7 @@ impl Command {
         ensures { result ≡ over (field_of self) }
     {
         match self {
-            Command::OfModel(_, _, named) => FieldName::over(named),
+            Command::OfModel(_, _, named) => over(named),
             Command::Check => FieldName::Small,
         }
     }
@@ -180,6 +160,16 @@ impl Command {
             ("check", None) => Some(Command::Check),
             _ => None,
         }
+    }
+}
+
+/// The field that is meant: the smaller one where none is named.
+pub fn over(named: Option<FieldName>) -> FieldName
+    ensures { result ≡ over named }
+{
+    match named {
+        Some(field) => field,
+        None => FieldName::Small,
     }
 }
 

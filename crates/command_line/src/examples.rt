@@ -4,7 +4,7 @@ ghost use Rattle.std.specs.Prelude.{[], ◌∷◌, None, Some, codes};
 ghost use Rattle.cert_text.specs.declared.kind.Kind.TheVariants.{Flowsheet, Matrix, Netlist};
 ghost use Rattle.command_line.specs.Words.{AsksFor, AsksForNothing, AsksToMake};
 ghost use Rattle.command_line.specs.declared.command.Command.TheVariants.{Check, OfModel};
-ghost use Rattle.command_line.specs.declared.command.FieldName.TheVariants.{Large, Small};
+ghost use Rattle.residue_field.specs.declared.field_name.FieldName.TheVariants.{Large, Small};
 ghost use Rattle.command_line.specs.declared.command.Task.TheVariants.{Analyse, Layer, Plan, Report};
 
 /// What words ask for at worked examples.

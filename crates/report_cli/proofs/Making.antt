@@ -10,8 +10,8 @@ use Rattle.clap.specs.Simple.{subcommand_of}
 use Rattle.clap.specs.Walk.{Row, Text}
 use Rattle.command_line.specs.CommandLine.{command_line}
 use Rattle.command_line.specs.Words.{AsksToMake, IsSizeWord, Names, over}
-use Rattle.command_line.specs.declared.command.FieldName.{FieldName}
-use Rattle.report_cli.specs.Fields.{modulus}
+use Rattle.residue_field.specs.declared.field_name.FieldName.{FieldName}
+use Rattle.residue_field.specs.Modulus.{modulus_of}
 use Rattle.made_models.specs.MadeModels.{IsSize}
 use Rattle.command_line.specs.declared.command.Request.TheVariants.{Make}
 use Rattle.report_cli.specs.declared.output.Output.{Output}
@@ -130,7 +130,7 @@ ways p n (Rejected rule) written written' rose ends = absurd ends
 module _ (words : List (List ℕ)) (n : ℕ) (field : Option FieldName) (makes : AsksToMake words n field)
     (left written written' : Option (List ℕ)) (rose : Type 0) where
   abbrev p : ℕ
-  p = modulus (over field)
+  p = modulus_of (over field)
 
   -- the end at a status that is told
   at : (status other : Status) → IsMakeEnd p n status written written' rose → status ≡ other → IsMakeEnd p n other written written' rose

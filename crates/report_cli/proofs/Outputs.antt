@@ -10,7 +10,7 @@ use Rattle.solve_plan.specs.declared.told.Report.{Report as Told}
 use Rattle.answer_texts.proofs.PlanFacts.{steps-in}
 use Rattle.command_line.specs.declared.command.Command.{Command}
 use Rattle.command_line.specs.declared.command.Command.TheVariants.{OfModel}
-use Rattle.command_line.specs.declared.command.FieldName.{FieldName}
+use Rattle.residue_field.specs.declared.field_name.FieldName.{FieldName}
 use Rattle.command_line.specs.declared.command.Task.TheVariants as Task
 use Rattle.report_cli.specs.declared.output.Output.{Output}
 use Rattle.report_cli.specs.declared.output.Output.TheVariants.{Accepted, Certificate, Layers, Made, Plan, Report}

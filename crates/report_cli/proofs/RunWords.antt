@@ -2,7 +2,7 @@
 use Rattle.std.proofs.Common.{◌≡◌, ◌≤◌, ◌⊎◌, ℕ, length, List, [], Option, Some, None, refl, sym, subst, append-nil, arith, inl, inr}
 use Rattle.port_io.specs.Bytes.{Appended, Took, TookAtMost}
 use Rattle.report_cli.specs.Answer.{Answered, CutShort, HasText, IsAnswer, IsAnswerOf, IsCommandAnswer, IsComplete, IsMakeAnswer, OnlyAnswer, TakesBy, Tells}
-use Rattle.report_cli.specs.Fields.{modulus_of}
+use Rattle.report_cli.specs.Fields.{command_modulus}
 use Rattle.report_cli.specs.Formats.{KeepsRules, limit_of}
 use Rattle.report_cli.specs.Statuses.{status_of_words}
 use Rattle.command_line.specs.Words.{AsksFor, AsksForNothing, IsWhy, format_of}
@@ -46,11 +46,11 @@ only_for words command left status asks only = λ input answer text is given. on
 
 pub complete_for : (words : List (List ℕ)) (command : Command) (left : Option (List ℕ)) (status : Status) → AsksFor words command →
     ((input : List ℕ) → left ≡ Some input → length input ≤ limit_of (format_of command) →
-    KeepsRules (modulus_of command) (format_of command) input → HasText status ⊎ (status ≡ Memory)) →
+    KeepsRules (command_modulus command) (format_of command) input → HasText status ⊎ (status ≡ Memory)) →
     IsComplete words left status
 complete_for words command left status asks done = λ input other is asks_other short keeps.
     let same : other ≡ command = asks-one words other command asks_other asks in
-    done input is (subst (λ c. length input ≤ limit_of (format_of c)) same short) (subst (λ c. KeepsRules (modulus_of c) (format_of c) input) same keeps)
+    done input is (subst (λ c. length input ≤ limit_of (format_of c)) same short) (subst (λ c. KeepsRules (command_modulus c) (format_of c) input) same keeps)
 
 -- a text that is written by the command is one by the words
 written-for : (words : List (List ℕ)) (command : Command) (input : List ℕ) (status : Status) (text : List ℕ) → AsksFor words command → HasText status →

@@ -5,7 +5,7 @@ use Rattle.port_io.specs.Bytes.{Took, Ended}
 use Rattle.report_cli.specs.declared.status.Status.{Status}
 use Rattle.report_cli.specs.declared.status.Status.TheVariants.{BadCertificate, Done, Memory, NotRegular, ReadFault}
 use Rattle.report_cli.specs.declared.status.Status.TheVariants.{Refused, Rejected, TooLong, Usage, WriteFault}
-use Rattle.report_cli.specs.Fields.{modulus_of}
+use Rattle.report_cli.specs.Fields.{command_modulus}
 use Rattle.report_cli.specs.Formats.{IsFault, KeepsRules, limit_of}
 use Rattle.command_line.specs.Words.{format_of}
 use Rattle.report_cli.specs.Answer.{Answered, HasText, IsAnswerOf, ReadsAll, Tells}
@@ -37,11 +37,11 @@ IsLong command input status = (status ≡ TooLong (limit_of (format_of command))
 
 abbrev IsFaulty : Command → List ℕ → Status → Type 0
 IsFaulty command input status =
-    (length input ≤ limit_of (format_of command)) × IsFault (modulus_of command) (format_of command) input status
+    (length input ≤ limit_of (format_of command)) × IsFault (command_modulus command) (format_of command) input status
 
 -- values are numbers here
 abbrev IsRightOutput : Command → List ℕ → Output ℕ → Type 0
-IsRightOutput command input output = IsOutputFor (λ value. value) (modulus_of command) command input output
+IsRightOutput command input output = IsOutputFor (λ value. value) (command_modulus command) command input output
 
 abbrev IsTold : Command → List ℕ → Status → Type 0
 IsTold command input status =
@@ -72,13 +72,13 @@ one-answer command input a b (inl (is, long)) (inr (inl (short, fault))) = not-l
 one-answer command input a b (inl (is, long)) (inr (inr (short, told))) = not-long command input long short
 one-answer command input a b (inr (inl (short, fault))) (inl (are, long)) = not-long command input long short
 one-answer command input a b (inr (inr (short, told))) (inl (are, long)) = not-long command input long short
-one-answer command input a b (inr (inl (short, one))) (inr (inl (shorter, two))) = one-fault (modulus_of command) (format_of command) input a b short one two
+one-answer command input a b (inr (inl (short, one))) (inr (inl (shorter, two))) = one-fault (command_modulus command) (format_of command) input a b short one two
 one-answer command input a b (inr (inl (short, fault))) (inr (inr (shorter, (output, right, is)))) =
-    kept-unfaulty (modulus_of command) (format_of command) input a short (keeps-rules (λ value. value) (modulus_of command) command input output right) fault
+    kept-unfaulty (command_modulus command) (format_of command) input a short (keeps-rules (λ value. value) (command_modulus command) command input output right) fault
 one-answer command input a b (inr (inr (short, (output, right, is)))) (inr (inl (shorter, fault))) =
-    kept-unfaulty (modulus_of command) (format_of command) input b short (keeps-rules (λ value. value) (modulus_of command) command input output right) fault
+    kept-unfaulty (command_modulus command) (format_of command) input b short (keeps-rules (λ value. value) (command_modulus command) command input output right) fault
 one-answer command input a b (inr (inr (short, (output, right, is)))) (inr (inr (shorter, (other, another, are)))) =
-    is ∙ one-status (λ value. value) (λ value. value) (modulus_of command) command input output other right another ∙ sym are
+    is ∙ one-status (λ value. value) (λ value. value) (command_modulus command) command input output other right another ∙ sym are
 
 -- where no fault came, what is told of the input that was read is told of the whole input
 module _ (command : Command) (left after written written' : Option (List ℕ)) (input : List ℕ) (is : left ≡ Some input) where
@@ -112,13 +112,13 @@ module _ (command : Command) (left after written written' : Option (List ℕ)) (
     ]
 
     -- of an input that keeps each rule the text is written
-    kept-told : length input ≤ limit_of (format_of command) → KeepsRules (modulus_of command) (format_of command) input → Ends command input status →
+    kept-told : length input ≤ limit_of (format_of command) → KeepsRules (command_modulus command) (format_of command) input → Ends command input status →
         HasText status
     kept-told short keeps (inl (is, long)) = not-long command input long short
-    kept-told short keeps (inr (inl (shorter, fault))) = kept-unfaulty (modulus_of command) (format_of command) input status short keeps fault
+    kept-told short keeps (inr (inl (shorter, fault))) = kept-unfaulty (command_modulus command) (format_of command) input status short keeps fault
     kept-told short keeps (inr (inr (shorter, (output, right, is)))) = subst HasText (sym is) (has-text output)
 
-    pub told_where_kept : length input ≤ limit_of (format_of command) → KeepsRules (modulus_of command) (format_of command) input →
+    pub told_where_kept : length input ≤ limit_of (format_of command) → KeepsRules (command_modulus command) (format_of command) input →
         HasText status ⊎ (status ≡ Memory)
     told_where_kept short keeps = elim (told status tells ended no_read no_write) [
       | inl own ↦ inl (kept-told short keeps own)

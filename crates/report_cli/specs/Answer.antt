@@ -4,11 +4,12 @@ use Rattle.port_io.specs.Bytes.{Took, TookAtMost, TookExactly, Appended}
 use Rattle.report_cli.specs.Formats.{IsFault, KeepsRules, limit_of}
 use Rattle.report_cli.specs.Outputs.{IsOutputFor, end_of, output_text}
 use Rattle.report_cli.specs.MadeFor.{IsMakeText}
-use Rattle.report_cli.specs.Fields.{modulus, modulus_of}
+use Rattle.residue_field.specs.Modulus.{modulus_of}
+use Rattle.report_cli.specs.Fields.{command_modulus}
 use Rattle.command_line.specs.Words.{AsksFor, AsksForNothing, AsksToMake, format_of, over}
 use Rattle.text_writer.specs.Giving.{AppendedPart}
 use Rattle.command_line.specs.declared.command.Command.{Command}
-use Rattle.command_line.specs.declared.command.FieldName.{FieldName}
+use Rattle.residue_field.specs.declared.field_name.FieldName.{FieldName}
 use Rattle.command_line.specs.declared.command.Format.{Format}
 use Rattle.report_cli.specs.declared.output.Output.{Output}
 use Rattle.report_cli.specs.declared.status.Status.{Status}
@@ -47,7 +48,7 @@ IsAnswerOver number p command input _ text = ⊥
 
 -- the same over the field that the command names: its values are numbers
 abbrev pub IsAnswerOf : Command → List ℕ → Status → List ℕ → Type 0
-IsAnswerOf command = IsAnswerOver {T = ℕ} (λ value. value) (modulus_of command) command
+IsAnswerOf command = IsAnswerOver {T = ℕ} (λ value. value) (command_modulus command) command
 
 -- the command on an input that the words ask for gives the answer
 abbrev pub IsCommandAnswer : List (List ℕ) → List ℕ → Status → List ℕ → Type 0
@@ -57,7 +58,7 @@ IsCommandAnswer words input status text =
 -- the words ask for a made model over a field, and the text tells of it
 abbrev pub IsMakeAnswer : List (List ℕ) → List ℕ → Type 0
 IsMakeAnswer words text =
-    (n : ℕ) × (field : Option FieldName) × AsksToMake words n field × IsMakeText (modulus (over field)) n text
+    (n : ℕ) × (field : Option FieldName) × AsksToMake words n field × IsMakeText (modulus_of (over field)) n text
 
 -- a run with these words on this whole input ends with this status and this text on `out`, when nothing fails: words
 -- that ask for nothing are answered by `Usage`, and those that ask for a made model by `Done`, whatever the input is;
@@ -130,7 +131,7 @@ OnlyAnswer words left status =
 abbrev pub IsComplete : List (List ℕ) → Option (List ℕ) → Status → Type 0
 IsComplete words left status =
     (input : List ℕ) (command : Command) → left ≡ Some input → AsksFor words command →
-    length input ≤ limit_of (format_of command) → KeepsRules (modulus_of command) (format_of command) input →
+    length input ≤ limit_of (format_of command) → KeepsRules (command_modulus command) (format_of command) input →
     HasText status ⊎ (status ≡ Memory)
 
 -- where the words ask for a made model, its text is written, but for want of memory

@@ -1,18 +1,12 @@
 -- The field that the words name.
 use Rattle.std.specs.Prelude.{ℕ, Option, None, Some}
-use Rattle.residue_field.specs.Modulus.{res_modulus}
-use Rattle.cert_text.specs.Moduli.{large_modulus}
+use Rattle.residue_field.specs.Modulus.{modulus_of}
 use Rattle.cert_text.specs.declared.version.Version.{Version}
 use Rattle.cert_text.specs.declared.version.Version.TheVariants.{One, Two}
 use Rattle.command_line.specs.Words.{field_of, over}
 use Rattle.command_line.specs.declared.command.Command.{Command}
-use Rattle.command_line.specs.declared.command.FieldName.{FieldName}
-use Rattle.command_line.specs.declared.command.FieldName.TheVariants.{Large, Small}
-
--- the prime that a field is the residues modulo of
-abbrev pub modulus : FieldName → ℕ
-modulus Small = res_modulus
-modulus Large = large_modulus
+use Rattle.residue_field.specs.declared.field_name.FieldName.{FieldName}
+use Rattle.residue_field.specs.declared.field_name.FieldName.TheVariants.{Large, Small}
 
 -- how many digits the numbers below it have at most
 abbrev pub digits : FieldName → ℕ
@@ -25,5 +19,5 @@ version_of None = One
 version_of (Some field) = Two
 
 -- the prime of the field that a command is over
-abbrev pub modulus_of : Command → ℕ
-modulus_of command = modulus (over (field_of command))
+abbrev pub command_modulus : Command → ℕ
+command_modulus command = modulus_of (over (field_of command))

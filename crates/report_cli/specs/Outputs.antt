@@ -21,7 +21,7 @@ use Rattle.report_cli.specs.RightFor.{IsRightFor}
 use Rattle.answer_texts.specs.WholeLayers.{AreWholeLayers}
 use Rattle.command_line.specs.declared.command.Command.{Command}
 use Rattle.command_line.specs.declared.command.Command.TheVariants.{Check, OfModel}
-use Rattle.command_line.specs.declared.command.FieldName.{FieldName}
+use Rattle.residue_field.specs.declared.field_name.FieldName.{FieldName}
 use Rattle.command_line.specs.declared.command.Task.TheVariants as Task
 use Rattle.command_line.specs.declared.command.Task.TheVariants.{Analyse, Layer}
 use Rattle.report_cli.specs.declared.status.Status.{Status}

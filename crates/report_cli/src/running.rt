@@ -6,7 +6,8 @@ ghost use Rattle.port_io.specs.Causes.{Rose, one_more};
 ghost use Rattle.port_io.specs.Asking.{AsksWithin};
 ghost use Rattle.port_io.specs.Bytes.{Appended, Ended};
 ghost use Rattle.report_cli.specs.Answer.{Answered, CutShort, HasText, IsAnswer, IsAnswerOf, IsAnswerOver, IsComplete, IsMakeComplete, IsMakeEnd, OnlyAnswer, ReadsAll, TakesBy, Tells, WritesNothing, IsDelivered};
-ghost use Rattle.report_cli.specs.Fields.{digits, modulus};
+ghost use Rattle.residue_field.specs.Modulus.{modulus_of};
+ghost use Rattle.report_cli.specs.Fields.{digits};
 ghost use Rattle.report_cli.specs.Formats.{limit_of};
 ghost use Rattle.report_cli.specs.Outputs.{IsWritable, output_text};
 ghost use Rattle.answer_texts.specs.Rooms.{made_room};
@@ -19,9 +20,9 @@ ghost use Rattle.text_writer.specs.Giving.{AppendedPart};
 use crate::output::Output;
 use crate::status::Status;
 use crate::telling::{tell, tell_words};
-use command_line::{Command, FieldName, Request};
+use command_line::{Command, Request, over};
 use port_io::{Sink, Source};
-use residue_field::{Field, Res, Res31};
+use residue_field::{Field, FieldName, Res, Res31};
 use std::alloc::Global;
 
 /// Runs the command that the words ask for: reads the source to its end, but for `make`, which reads nothing, writes the
@@ -167,7 +168,7 @@ fn work_over<F: Field, S: Source, K: Sink>(
 // Writes what is told of the made model of this size over this field.
 fn make<K: Sink>(alloc: Global, size: usize, field: FieldName, out: &mut K) -> Status
     requires { IsSize size }
-    ensures ends { IsMakeEnd (modulus field) size result (K.written out.old) (K.written out.new)
+    ensures ends { IsMakeEnd (modulus_of field) size result (K.written out.old) (K.written out.new)
         (Rose (K.faults out.old) (K.faults out.new)) }
     ensures finished { HasText result → IsTrue (K.flushed out.new) }
     ensures one_flush { HasText result → K.flushes out.new ≡ one_more (K.flushes out.old) }

@@ -1,3 +1,4 @@
 pub mod FieldLaws
 pub mod FractionLaws
+pub mod LaneLaws
 pub mod RowLaws

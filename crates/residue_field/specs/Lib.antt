@@ -1,4 +1,5 @@
 pub mod Fields
 pub mod Fractions
+pub mod Lanes
 pub mod Modulus
 pub mod Rows

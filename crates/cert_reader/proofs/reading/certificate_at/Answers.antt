@@ -1,5 +1,5 @@
 use Rattle.std.proofs.Common.{arith}
-use Rattle.cert_reader.specs.Certificates.{modulus_of}
+use Rattle.residue_field.specs.Modulus.{modulus_of}
 use Rattle.cert_reader.proofs.Short.{fields_short}
 use Rattle.cert_reader.proofs.reading.certificate_at.Goals as goal
 

@@ -6,7 +6,7 @@ use Rattle.command_line.specs.declared.command.Request.TheVariants.{Make, OfInpu
 use Rattle.command_line.proofs.Asking.{not-both}
 use Rattle.port_io.specs.Causes.{Rose}
 use Rattle.report_cli.specs.Answer.{Answered, IsAnswer, IsMakeEnd, OnlyAnswer, TakesBy, Tells}
-use Rattle.report_cli.specs.Fields.{modulus}
+use Rattle.residue_field.specs.Modulus.{modulus_of}
 use Rattle.report_cli.specs.Formats.{limit_of}
 use Rattle.report_cli.proofs.Making.{make-answered, make-cut, make-only}
 use Rattle.report_cli.proofs.RunWords.{complete_for, cut-for, of_each_asked, only_for, unasked-only, unasked_answered, untaken}
@@ -83,7 +83,7 @@ pub returns-in-Ok-Make-clause-answered : goal.returns-in-Ok-Make-clause-answered
 returns-in-Ok-Make-clause-answered g c =
     let asked = subst (Asks (map string_bytes c.args.words.now)) c.in-Ok-Make.field-0-is c.in-Ok-Make.ensures in
     let size = c.in-Ok-Make.size in
-    let ends = subst (λ field. IsMakeEnd (modulus field) size c.make-status.result (g.K.Sink.written c.args.out.now)
+    let ends = subst (λ field. IsMakeEnd (modulus_of field) size c.make-status.result (g.K.Sink.written c.args.out.now)
     (g.K.Sink.written c.make-status.new.out) (Rose (g.K.Sink.faults c.args.out.now) (g.K.Sink.faults c.make-status.new.out)))
     c.over.ensures c.make-status.ensures.ends in
     make-answered (map string_bytes c.args.words.now) size c.in-Ok-Make.named asked (g.S.Source.left c.args.source.now)
@@ -98,7 +98,7 @@ pub returns-in-Ok-Make-clause-only_answer : goal.returns-in-Ok-Make-clause-only_
 returns-in-Ok-Make-clause-only_answer g c = λ quiet calm.
     let asked = subst (Asks (map string_bytes c.args.words.now)) c.in-Ok-Make.field-0-is c.in-Ok-Make.ensures in
     let size = c.in-Ok-Make.size in
-    let ends = subst (λ field. IsMakeEnd (modulus field) size c.make-status.result (g.K.Sink.written c.args.out.now)
+    let ends = subst (λ field. IsMakeEnd (modulus_of field) size c.make-status.result (g.K.Sink.written c.args.out.now)
     (g.K.Sink.written c.make-status.new.out) (Rose (g.K.Sink.faults c.args.out.now) (g.K.Sink.faults c.make-status.new.out)))
     c.over.ensures c.make-status.ensures.ends in
     make-only (map string_bytes c.args.words.now) size c.in-Ok-Make.named asked (g.S.Source.left c.args.source.now)
@@ -108,7 +108,7 @@ pub returns-in-Ok-Make-clause-write_fault : goal.returns-in-Ok-Make-clause-write
 returns-in-Ok-Make-clause-write_fault g c = λ failed.
     let asked = subst (Asks (map string_bytes c.args.words.now)) c.in-Ok-Make.field-0-is c.in-Ok-Make.ensures in
     let size = c.in-Ok-Make.size in
-    let ends = subst (λ field. IsMakeEnd (modulus field) size c.make-status.result (g.K.Sink.written c.args.out.now)
+    let ends = subst (λ field. IsMakeEnd (modulus_of field) size c.make-status.result (g.K.Sink.written c.args.out.now)
     (g.K.Sink.written c.make-status.new.out) (Rose (g.K.Sink.faults c.args.out.now) (g.K.Sink.faults c.make-status.new.out)))
     c.over.ensures c.make-status.ensures.ends in
     make-cut (map string_bytes c.args.words.now) size c.in-Ok-Make.named asked (g.S.Source.left c.args.source.now)
