@@ -32,7 +32,7 @@ eqb-behind u a b = by (eqb a b) refl
 
 module _ (p : ℕ) (model : MixedModel) (is : IsModel p model) (equation : ℕ) (at : equation < length model.equations) (split : List ℕ) where
   -- no constant stands past the unknowns
-  past_constant : (k : ℕ) → constant_at model equation (length model.unknowns + k) ≡ 0
+  pub past_constant : (k : ℕ) → constant_at model equation (length model.unknowns + k) ≡ 0
   past_constant k =
       ap (λ x. unwrap_or x 0) (beyond_unknowns (length model.unknowns) (row_of model equation)
       (length model.unknowns + k) (is.rows equation [] (omega (arith, is.one_row_each, at))).1 (omega arith)).0

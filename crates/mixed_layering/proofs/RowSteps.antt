@@ -29,6 +29,10 @@ module _ (p : ℕ) (row : List RowEntry) (seen : List RowEntry) (entry : RowEntr
   not_yet : (b : ℕ) → entry.column ≤ b → entry_in seen b ≡ None
   not_yet b at = entry_in-lower p 0 seen entry rest rises b at
 
+  -- no constant was seen from its column on
+  pub constant-not_yet : (b : ℕ) → entry.column ≤ b → unwrap_or (constant_in seen b) 0 ≡ 0
+  constant-not_yet b at = ap (λ x. unwrap_or (constant_at_place x) 0) (not_yet b at)
+
   pub constant-next : (c : ℕ) → entry.constant ≡ Some c → (b : ℕ) →
       unwrap_or (constant_in (seen ++ entry ∷ []) b) 0 ≡ cond (eqb entry.column b) c
       (unwrap_or (constant_in seen b) 0)

@@ -5,8 +5,8 @@ ghost use Rattle.dense_q.specs.Tables.{height};
 ghost use Rattle.mixed_model.specs.Layers.{Layers, AreLayers, split_of};
 
 use crate::origin::Origin;
-use dense_q::Mat;
 use residue_field::Field;
+use row_entries::EntryMat;
 use sparse_t::Pattern;
 use std::marker::Model;
 
@@ -15,7 +15,7 @@ use std::marker::Model;
 #[derive(Drop)]
 pub struct Layered<F: Field> {
     /// The constants, Q rows x columns.
-    pub q: Mat<F>,
+    pub q: EntryMat<F>,
     /// The places of the symbols, T rows x columns.
     pub t: Pattern,
     q_origins: Vec<usize>,
@@ -48,7 +48,7 @@ impl<F: Field> Model for Layered<F> {
 impl<F: Field> Layered<F> {
     /// The layered matrix of these parts: an equation for each Q row and for each T row, and an origin for each column.
     pub fn new(
-        q: Mat<F>,
+        q: EntryMat<F>,
         t: Pattern,
         q_origins: Vec<usize>,
         t_origins: Vec<usize>,

@@ -11,6 +11,7 @@ ghost use Rattle.row_table.specs.Places.{with_unit};
 use dense_q::Mat;
 use out_of_memory::NoMemory;
 use residue_field::Field;
+use row_entries::EntryMat;
 use std::alloc::Global;
 use std::marker::Model;
 
@@ -50,12 +51,12 @@ impl<F: Field> Model for PutOff<F> {
 
 impl<F: Field> PutOff<F> {
     /// The matrix, with nothing that waits.
-    pub fn open(alloc: Global, q: &Mat<F>) -> Result<PutOff<F>, NoMemory>
+    pub fn open(alloc: Global, q: &EntryMat<F>) -> Result<PutOff<F>, NoMemory>
         ensures stored { IfOk result (λ t. t.stored ≡ q.now) }
         ensures count { IfOk result (λ t. t.count ≡ 0) }
     {
         Ok(PutOff {
-            stored: q.copy()?,
+            stored: q.dense()?,
             factors: Mat::zeros(alloc, q.rows(), MOST)?,
             pending: Mat::zeros(alloc, MOST, q.cols())?,
             count: 0,

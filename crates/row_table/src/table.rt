@@ -14,6 +14,7 @@ use crate::put_off::{PutOff, put};
 use dense_q::Mat;
 use out_of_memory::NoMemory;
 use residue_field::Field;
+use row_entries::EntryMat;
 use std::alloc::Global;
 use std::marker::Model;
 
@@ -23,7 +24,7 @@ use std::marker::Model;
 /// columns are counted from 0. (Murota 2000, chapter 2.)
 #[derive(Drop)]
 pub struct RowTable<F: Field> {
-    q: Mat<F>,
+    q: EntryMat<F>,
     table: PutOff<F>,
     places: Placement,
     space: Vec<F>,
@@ -44,7 +45,7 @@ impl<F: Field> Model for RowTable<F> {
 
 impl<F: Field> RowTable<F> {
     /// Before any pivot.
-    pub fn open(alloc: Global, q: &Mat<F>) -> Result<RowTable<F>, NoMemory>
+    pub fn open(alloc: Global, q: &EntryMat<F>) -> Result<RowTable<F>, NoMemory>
         ensures q { IfOk result (λ t. t.q ≡ q.now) }
         ensures p { IfOk result (λ t. p_part F.modulus t ≡ entry q.now) }
         ensures s { IfOk result (λ t. (i j : ℕ) → i < height q.now → j < height q.now →

@@ -2,7 +2,7 @@
 use Rattle.std.proofs.Common.{◌≡◌, ℕ, ◌+◌, ◌%◌, ◌<◌, ◌≤◌, ◌≢◌, ◌||◌, ◌&&◌, Bool, true, false, eqb, not, ◌⊎◌, inl, inr, sym, subst, ap, ◌∙◌, arith}
 use Rattle.std.proofs.Math.Nat.{zero-mod}
 use Rattle.std.proofs.lemmas.Bool.Decides.{nat_tests}
-use Rattle.number_ranges.specs.Ranges.{HasNone}
+use Rattle.number_ranges.specs.Ranges.{HasNone, IsLeast}
 use Rattle.residue_theory.proofs.SetLaws.{lt_cases}
 use Rattle.residue_theory.proofs.SumLaws.{nat_cases}
 use Rattle.linear_algebra.specs.RowOperations.{IsPivoted}
@@ -31,6 +31,30 @@ pub listed-next : (p m n : ℕ) (a : ℕ → ℕ → ℕ) (b c : ℕ → ℕ →
 listed-next p m n a b c k so_far kl row kept i j il jl ne = elim (nat_cases i k) [
   | inl q ↦ subst (λ x. c j x ≡ true) (sym q) (row j jl (subst (λ x. a x j % p ≢ 0) q ne))
   | inr other ↦ kept i j (omega arith) (so_far i j (omega arith) jl ne)
+]
+
+-- the bits of the entries of row r in the columns before k are set, and then that of the next entry
+module _ (p w : ℕ) (a : ℕ → ℕ) (r k : ℕ) where
+  nothing : (j : ℕ) → not (eqb (a j) 0) ≡ false → a j % p ≢ 0 → ⊥
+  nothing j e ne = ne (ap (λ n. n % p) (none (a j) e) ∙ zero-mod p)
+    where
+      none : (n : ℕ) → not (eqb n 0) ≡ false → n ≡ 0
+      none n e = grind (arith, nat_tests)
+
+  pub listed-past : (b : ℕ → ℕ → Bool) → ((j : ℕ) → j < k → a j % p ≢ 0 → b j r ≡ true) →
+      HasNone (λ j. not (eqb (a j) 0)) k w → (j : ℕ) → j < w → a j % p ≢ 0 → b j r ≡ true
+  listed-past b so_far none j jl ne = elim (lt_cases j k) [
+    | inl before ↦ so_far j before ne
+    | inr behind ↦ absurd (nothing j (none j behind jl) ne)
+  ]
+
+pub listed-on : (p m w : ℕ) (a : ℕ → ℕ) (b c : ℕ → ℕ → Bool) (r k y : ℕ) →
+    ((j : ℕ) → j < k → a j % p ≢ 0 → b j r ≡ true) → IsLeast (λ j. not (eqb (a j) 0)) k w y → r < m →
+    IsBitSet b c m y r → (j : ℕ) → j < y + 1 → a j % p ≢ 0 → c j r ≡ true
+listed-on p m w a b c r k y so_far least rl set j jl ne = elim (nat_cases j y) [
+  | inl here ↦ subst (λ i. c i r ≡ true) (sym here) set.here
+  | inr other ↦ set-keeps b c m y r set j r rl
+      (listed-past p y a r k b so_far least.none_before j (omega arith) ne)
 ]
 
 -- ---- the loop of a pivot

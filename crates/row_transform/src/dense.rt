@@ -8,9 +8,9 @@ ghost use Rattle.row_transform.specs.Dense.{state_of};
 use crate::base::Base;
 use crate::entries::Entries;
 use crate::tableau::{Tableau, TableauParts, Which};
-use dense_q::Mat;
 use out_of_memory::NoMemory;
 use residue_field::Field;
+use row_entries::EntryMat;
 use row_table::RowTable;
 use std::alloc::Global;
 use std::marker::Model;
@@ -42,7 +42,7 @@ impl<F: Field> Model for DenseTableau<F> {
 impl<F: Field> Tableau<F> for DenseTableau<F> {
     ghost state = { state_of F.modulus };
 
-    fn open(alloc: Global, q: &Mat<F>) -> Result<Self, NoMemory> {
+    fn open(alloc: Global, q: &EntryMat<F>) -> Result<Self, NoMemory> {
         Ok(DenseTableau {
             table: RowTable::open(alloc, q)?,
             entries: Entries::of(alloc, q)?,

@@ -8,9 +8,9 @@ ghost use Rattle.bit_table.specs.Bits.{bit_in};
 ghost use Rattle.row_transform.specs.Entries.{HasSizeOf, IsListed, IsFilled};
 
 use bit_table::BitTable;
-use dense_q::Mat;
 use out_of_memory::NoMemory;
 use residue_field::Field;
+use row_entries::EntryMat;
 use row_table::RowTable;
 use std::alloc::Global;
 
@@ -23,7 +23,7 @@ pub(crate) struct Entries {
 
 impl Entries {
     // The entries of a matrix.
-    pub(crate) fn of<F: Field>(alloc: Global, q: &Mat<F>) -> Result<Entries, NoMemory>
+    pub(crate) fn of<F: Field>(alloc: Global, q: &EntryMat<F>) -> Result<Entries, NoMemory>
         ensures { IfOk result (λ e. IsListed F.modulus (height q.now) q.now.width (entry q.now) e.bits) }
     {
         let bits = BitTable::open(alloc, q.cols(), q.rows())?;
@@ -35,7 +35,7 @@ impl Entries {
     }
 
     // Lists the entries of a row.
-    fn list_row<F: Field>(&mut self, q: &Mat<F>, row: usize)
+    fn list_row<F: Field>(&mut self, q: &EntryMat<F>, row: usize)
         requires row { row < height q.now }
         requires size { HasSizeOf (height q.now) q.now.width self.old.bits }
         ensures size { HasSizeOf (height q.now) q.now.width self.new.bits }
@@ -44,10 +44,12 @@ impl Entries {
         ensures kept { (i j : ℕ) → i < height q.now → bit_in self.old.bits j i ≡ true →
             bit_in self.new.bits j i ≡ true }
     {
-        for col in 0..q.cols() {
-            if !q.get(row, col).is_zero() {
-                self.bits.set(col, row);
-            }
+        // there are at most 8,192 columns, so that the sum below fits
+        let _columns = q.cols();
+        let mut from = 0;
+        while let Some((col, _)) = q.next(row, from) {
+            self.bits.set(col, row);
+            from = col + 1;
         }
     }
 

@@ -10,6 +10,7 @@ ghost use Rattle.linear_algebra.specs.Columns.{IsCombination};
 use dense_q::Mat;
 use out_of_memory::NoMemory;
 use residue_field::Field;
+use row_entries::EntryMat;
 use std::alloc::Global;
 
 /// The matrices of a tableau: S and its inverse U, with a row and a column for each row of Q, and P = S * Q.
@@ -34,7 +35,7 @@ pub trait Tableau<F: Field>: Drop {
     ghost state: { Self → State };
 
     /// The tableau of a matrix before any row operation, with no base column.
-    fn open(alloc: Global, q: &Mat<F>) -> Result<Self, NoMemory>
+    fn open(alloc: Global, q: &EntryMat<F>) -> Result<Self, NoMemory>
         ensures { IfOk result (λ t. IsOpened F.modulus (height q.now) q.now.width (entry q.now) (state t)) };
 
     /// How many rows there are.

@@ -1,4 +1,4 @@
-//! Rows of a sparse matrix, made of a dense one.
+//! Rows of a sparse matrix, made of another matrix.
 
 ghost use Rattle.std.specs.Prelude.{◌≡◌, ◌≢◌, ℕ, ◌<◌, ◌≤◌, true, IfOk};
 ghost use Rattle.limits.specs.Limits.{column_limit};
@@ -11,15 +11,15 @@ ghost use Rattle.sparse_q.specs.Tables.{number_in, row_count};
 use crate::matrix::SparseMat;
 use crate::row::SparseRow;
 use bit_table::BitTable;
-use dense_q::Mat;
 use out_of_memory::NoMemory;
 use residue_field::Field;
+use row_entries::EntryMat;
 use std::alloc::Global;
 
 // Row i of a matrix.
 pub(crate) fn row_of<F: Field>(
     alloc: Global,
-    q: &Mat<F>,
+    q: &EntryMat<F>,
     i: usize,
 ) -> Result<SparseRow<F>, NoMemory>
     requires { i < height q.now }
@@ -27,8 +27,10 @@ pub(crate) fn row_of<F: Field>(
     ensures numbers { IfOk result (λ row. (j : ℕ) → number_at row.items j ≡ entry q.now i j) }
 {
     let mut row = SparseRow::empty(alloc, q.cols())?;
-    for j in 0..q.cols() {
-        row.push(j, q.get(i, j));
+    let mut from = 0;
+    while let Some(entry) = q.next(i, from) {
+        row.push(entry.0, entry.1);
+        from = entry.0 + 1;
     }
     Ok(row)
 }

@@ -15,6 +15,7 @@ use bit_table::BitTable;
 use dense_q::Mat;
 use out_of_memory::NoMemory;
 use residue_field::Field;
+use row_entries::EntryMat;
 use std::alloc::Global;
 use std::marker::Model;
 use std::mem;
@@ -42,8 +43,8 @@ impl<F: Field> Model for SparseMat<F> {
 }
 
 impl<F: Field> SparseMat<F> {
-    /// A dense matrix, by its entries that are not zero.
-    pub fn of(alloc: Global, q: &Mat<F>) -> Result<SparseMat<F>, NoMemory>
+    /// A matrix that is told by its entries, with room for all its places.
+    pub fn of(alloc: Global, q: &EntryMat<F>) -> Result<SparseMat<F>, NoMemory>
         ensures size { IfOk result (HasSize (height q.now) q.now.width) }
         ensures numbers { IfOk result (λ m. number_in m ≡ entry q.now) }
     {

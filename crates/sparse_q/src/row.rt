@@ -3,21 +3,15 @@
 ghost use Rattle.std.specs.Prelude.{◌≡◌, ◌≢◌, ℕ, ◌+◌, ◌*◌, ◌%◌, ◌<◌, ◌≤◌, ◌⊎◌, [], length, IfOk, IfNone, IfSome};
 ghost use Rattle.limits.specs.Limits.{column_limit};
 ghost use Rattle.dense_q.specs.Tables.{height, entry, HasSameSize};
-ghost use Rattle.sparse_q.specs.Rows.{IsRow, number_at, item_or, EndsBefore, with_last, IsSum, IsMultiple, IsMerged, IsPlaceFrom, has_number};
+ghost use Rattle.sparse_q.specs.Rows.{IsRow, number_at, item_or, EndsBefore, with_last, IsSum, IsMultiple, IsMerged, has_number};
 ghost use Rattle.number_ranges.specs.Ranges.{HasNone, IsLeast};
 
 use dense_q::Mat;
 use out_of_memory::NoMemory;
 use residue_field::Field;
+use row_entries::{Entry, first_from, value_at};
 use std::alloc::Global;
 use std::marker::Model;
-
-// A value that is not zero, and the column where it stands.
-#[derive(Clone, Copy)]
-pub(crate) struct Entry<F: Field> {
-    column: u32,
-    value: F,
-}
 
 // How many entries of two rows are done.
 #[derive(Clone, Copy)]
@@ -202,24 +196,11 @@ impl<F: Field> SparseRow<F> {
         }
     }
 
-    // The place of the first entry from a column on.
-    fn place_from(&self, column: usize) -> usize
-        ensures { IsPlaceFrom self.now.items column result }
-    {
-        self.entries
-            .partition_point(|entry| (entry.column as usize) < column)
-    }
-
     // The value at a column.
     pub(crate) fn at(&self, column: usize) -> F
         ensures { F.number result ≡ number_at self.now.items column }
     {
-        let place = self.place_from(column);
-        if place < self.len() && self.column(place) == column {
-            self.value(place)
-        } else {
-            F::zero()
-        }
+        value_at(&self.entries, column)
     }
 
     // The first column from `from` on where the row has an entry.
@@ -227,12 +208,8 @@ impl<F: Field> SparseRow<F> {
         ensures none { IfNone result (HasNone (has_number self.now.items) from self.now.width) }
         ensures least { IfSome result (IsLeast (has_number self.now.items) from self.now.width) }
     {
-        let place = self.place_from(from);
-        if place < self.len() {
-            Some(self.column(place))
-        } else {
-            None
-        }
+        let (column, _) = first_from(&self.entries, from)?;
+        Some(column)
     }
 
     // Puts the entries into row i of a matrix, where all are zero.

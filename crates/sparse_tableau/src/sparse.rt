@@ -5,9 +5,9 @@ ghost use Rattle.sparse_tableau.specs.Sparse.{state_of};
 
 use crate::entries::Entries;
 use crate::transform::Transform;
-use dense_q::Mat;
 use out_of_memory::NoMemory;
 use residue_field::Field;
+use row_entries::EntryMat;
 use row_transform::{Base, Tableau, TableauParts, Which};
 use sparse_q::SparseMat;
 use std::alloc::Global;
@@ -53,7 +53,7 @@ impl<F: Field> Model for SparseTableau<F> {
 impl<F: Field> Tableau<F> for SparseTableau<F> {
     ghost state = { state_of };
 
-    fn open(alloc: Global, q: &Mat<F>) -> Result<Self, NoMemory> {
+    fn open(alloc: Global, q: &EntryMat<F>) -> Result<Self, NoMemory> {
         let rows = q.rows();
         let columns = q.cols();
         let p = SparseMat::of(alloc, q)?;

@@ -1,19 +1,13 @@
-use Rattle.std.proofs.Common.{◌∙◌, sym, arith}
-use Rattle.sparse_q.proofs.RowLaws.{at-here, at-absent}
+use Rattle.std.proofs.Common.{◌∙◌, ap, sym, subst}
+use Rattle.row_entries.specs.Rows.{items}
+use Rattle.sparse_q.specs.Rows.{Row, IsRising, number_at}
 use Rattle.sparse_q.proofs.row.SparseRow.at.Goals as goal
-use Rattle.sparse_q.proofs.row.SparseRow.at.Goals.{else-place-len-via-then-place-len+else-column, else-place-len-via-else-place-len}
 
-pub returns-then-column : goal.returns-then-column
-returns-then-column g c =
-    at-here c.args.self.now.width c.args.self.now.items c.args.column c.place_from-place.result _
-    c.len.ensures.row.rising (omega (arith, c.if-place-len.true, c.len.ensures.len))
-    (sym c.column.ensures.column ∙ c.if-column.true) c.value.ensures.value
+pub value_at-requires : goal.value_at-requires
+value_at-requires g c =
+    subst (λ es. IsRising (items g.F.Field.number es)) (sym c.deref.ensures.value) c.self.invariant.row.rising
 
-pub returns-else-place-len : goal.returns-else-place-len
-returns-else-place-len g c =
-    c.zero.ensures
-    ∙ sym (at-absent c.args.self.now.width c.args.self.now.items c.args.column c.place_from-place.result
-    c.len.ensures.row.rising c.place_from-place.ensures (λ l. elim c.else-place-len.branch [
-      | else-place-len-via-then-place-len+else-column w ↦ λ q. w.if-column.false (w.column.ensures.column ∙ q)
-      | else-place-len-via-else-place-len w ↦ absurd (omega (arith, w.if-place-len.false, c.len.ensures.len))
-    ]))
+pub returns : goal.returns
+returns g c =
+    c.value_at.ensures ∙ ap (λ es. number_at (items g.F.Field.number es) c.args.column) c.deref.ensures.value
+    ∙ ap (λ (r : Row). number_at r.items c.args.column) c.self.view_is

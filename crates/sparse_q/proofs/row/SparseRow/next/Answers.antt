@@ -1,14 +1,28 @@
-use Rattle.std.proofs.Common.{arith}
-use Rattle.sparse_q.proofs.RowLaws.{next-none, next-least}
+use Rattle.std.proofs.Common.{ap, sym, subst, IfNone}
+use Rattle.number_ranges.specs.Ranges.{HasNone, IsLeast}
+use Rattle.row_entries.specs.Rows.{items}
+use Rattle.sparse_q.specs.Rows.{Row, IsRising, IsRow, has_number}
 use Rattle.sparse_q.proofs.row.SparseRow.next.Goals as goal
 
-pub returns-then-place-len-clause-least : goal.returns-then-place-len-clause-least
-returns-then-place-len-clause-least g c =
-    next-least g.F.Field.modulus c.args.self.now.width c.args.self.now.items c.args.from c.place_from-place.result
-    c.len.ensures.row c.place_from-place.ensures _ (omega (arith, c.if-place-len.true, c.len.ensures.len))
-    c.column.ensures.column
+pub first_from-requires : goal.first_from-requires
+first_from-requires g c =
+    subst (λ es. IsRising (items g.F.Field.number es)) (sym c.deref.ensures.value) c.self.invariant.row.rising
 
-pub returns-else-place-len-clause-none : goal.returns-else-place-len-clause-none
-returns-else-place-len-clause-none g c =
-    next-none g.F.Field.modulus c.args.self.now.width c.args.self.now.items c.args.from c.place_from-place.result
-    c.len.ensures.row c.place_from-place.ensures (omega (arith, c.if-place-len.false, c.len.ensures.len))
+pub returns-in_err-column-clause-none : goal.returns-in_err-column-clause-none
+returns-in_err-column-clause-none g c =
+    subst (λ r. IfNone r (HasNone (has_number c.args.self.now.items) c.args.from c.args.self.now.width))
+    (sym c.from_residual.ensures)
+    (subst (λ (r : Row). HasNone (has_number r.items) c.args.from r.width) c.self.view_is
+    (subst (λ es. HasNone (has_number (items g.F.Field.number es)) c.args.from c.self.inside.width) c.deref.ensures.value
+    (c.in_err-column.ensures.none g.F.Field.modulus c.self.inside.width
+    (subst (λ es. IsRow g.F.Field.modulus c.self.inside.width (items g.F.Field.number es)) (sym c.deref.ensures.value)
+    c.self.invariant.row))))
+
+pub returns-clause-least : goal.returns-clause-least
+returns-clause-least g c =
+    subst (λ (r : Row). IsLeast (has_number r.items) c.args.from r.width c.in_ok-column.column) c.self.view_is
+    (subst (λ es. IsLeast (has_number (items g.F.Field.number es)) c.args.from c.self.inside.width c.in_ok-column.column)
+    c.deref.ensures.value
+    (c.in_ok-column.ensures.least g.F.Field.modulus c.self.inside.width
+    (subst (λ es. IsRow g.F.Field.modulus c.self.inside.width (items g.F.Field.number es)) (sym c.deref.ensures.value)
+    c.self.invariant.row)))
