@@ -3,7 +3,6 @@
 #![tactic(auto)]
 
 mod engine;
-mod improver;
 mod marks;
 mod mover;
 mod pair;

@@ -8,7 +8,7 @@ use Rattle.independent_matching.proofs.engine.Engine.end_columns.Goals as goal
 pub returns-clause-marks : goal.returns-clause-marks
 returns-clause-marks g c =
     let p = g.F.Field.modulus in
-    let e = c.self.inside.improver.mover in
+    let e = c.self.inside.mover in
     let S = g.T.Tableau.state e.pair.tableau in
     let M = e.pair.mates in
     let marks = c.self.invariant.marks in
