@@ -17,6 +17,7 @@ ghost use Rattle.independent_matching.specs.Turns.{turn_of};
 use crate::marks::Marks;
 use crate::mover::Mover;
 use crate::pair::Pair;
+use crate::resting::Resting;
 use bipartite_matching::Match;
 use exchange_graph::{Arcs, Search, Steps};
 use mixed_model::Layered;
@@ -35,6 +36,7 @@ use std::sync::ledger::{Blank, Ledger};
 #[derive(Drop)]
 pub struct Engine<F: Field, T: Tableau<F> = DenseTableau<F>> {
     mover: Mover<F, T>,
+    resting: Resting,
     search: Search,
     size: usize,
     looks: usize,
@@ -57,7 +59,7 @@ impl<F: Field, T: Tableau<F>> Model for Engine<F, T> {
     } };
 
     ghost invariant = { λ e. IsReady F.modulus (T.state e.mover.pair.tableau) e.mover.pair.mates
-        e.search.places e.mover.marks e.size e.mover.pivots e.looks };
+        e.search.places e.resting e.mover.marks e.size e.mover.pivots e.looks };
 }
 
 impl<F: Field, T: Tableau<F>> Engine<F, T> {
@@ -94,13 +96,14 @@ impl<F: Field, T: Tableau<F>> Engine<F, T> {
             tableau,
             field: PhantomData,
         };
-        let marks = Marks::open(alloc, &pair)?;
+        let (resting, marks) = Marks::open(alloc, &pair)?;
         Ok(Engine {
             mover: Mover {
                 pair,
                 marks,
                 pivots: 0,
             },
+            resting,
             search: Search::open(alloc, columns)?,
             size: 0,
             looks: 0,
@@ -130,7 +133,7 @@ impl<F: Field, T: Tableau<F>> Engine<F, T> {
         ensures same_searches { self.new.searches ≡ self.old.searches }
     {
         searches.tick();
-        match self.mover.marks.free_end() {
+        match self.mover.marks.free_end(&self.resting) {
             Some(x) => {
                 self.grow(x, steps);
                 true
@@ -151,8 +154,10 @@ impl<F: Field, T: Tableau<F>> Engine<F, T> {
         ensures searches { self.new.searches ≡ self.old.searches }
     {
         let row = self.mover.marks.free_row(&self.mover.pair, x).unwrap();
-        self.mover.give(x, row, steps);
-        self.mover.marks.close(&self.mover.pair, x, row);
+        self.mover.give(&self.resting, x, row, steps);
+        self.mover
+            .marks
+            .close(&mut self.resting, &self.mover.pair, x, row);
         self.size += 1;
     }
 
@@ -166,7 +171,7 @@ impl<F: Field, T: Tableau<F>> Engine<F, T> {
     {
         match self.search.shortest_in_turn(
             &self.mover.pair,
-            &self.mover.marks.free,
+            &self.resting.free,
             &self.mover.marks.ends,
             steps,
         ) {
@@ -174,10 +179,12 @@ impl<F: Field, T: Tableau<F>> Engine<F, T> {
             Some(last) => {
                 let x = self.search.step(last);
                 let end = self.mover.marks.free_row(&self.mover.pair, x).unwrap();
-                self.mover.augment(&self.search, last, end, steps);
+                self.mover
+                    .augment(&self.resting, &self.search, last, end, steps);
+                let first = self.search.step(0);
                 self.mover
                     .marks
-                    .close(&self.mover.pair, self.search.step(0), end);
+                    .close(&mut self.resting, &self.mover.pair, first, end);
                 self.size += 1;
                 self.looks += self.search.looks();
                 true
@@ -296,7 +303,7 @@ impl<F: Field, T: Tableau<F>> Engine<F, T> {
         requires { col < (T.state self.now.tableau).columns }
         ensures { result ≡ is_free (tableau_of (T.state self.now.tableau) self.now.matching) col }
     {
-        self.mover.marks.free[col]
+        self.resting.free[col]
     }
 
     /// Whether the column is an end: P has an entry in it at a Q row without base column, or it touches a T row that
@@ -315,7 +322,7 @@ impl<F: Field, T: Tableau<F>> Engine<F, T> {
         ensures marks { (col : ℕ) → col < (T.state self.now.tableau).columns →
             members_of result.now col ≡ is_free (tableau_of (T.state self.now.tableau) self.now.matching) col }
     {
-        &self.mover.marks.free
+        &self.resting.free
     }
 
     /// A mark for each column, set where it is an end.

@@ -6,6 +6,7 @@ mod engine;
 mod marks;
 mod mover;
 mod pair;
+mod resting;
 mod row;
 
 pub use engine::Engine;

@@ -12,13 +12,14 @@ ghost use Rattle.independent_matching.specs.Sides.{AreRowsLeft, CanTake, IsFreeT
 
 use crate::marks::Marks;
 use crate::pair::Pair;
+use crate::resting::Resting;
 use crate::row::Row;
 use exchange_graph::{Search, Steps};
 use residue_field::Field;
 use row_transform::Tableau;
 use std::sync::ledger::Ledger;
 
-// A pair, the marks of its free columns and its ends, and a count of the pivots.
+// A pair, the marks that its pivots change, and a count of them.
 #[derive(Drop)]
 pub struct Mover<F: Field, T: Tableau<F>> {
     pub pair: Pair<F, T>,
@@ -30,6 +31,7 @@ impl<F: Field, T: Tableau<F>> Mover<F, T> {
     /// Moves the columns of the walk that the search found, from its last one back, which takes the row `end`.
     pub fn augment<L: Ledger>(
         &mut self,
+        resting: &Resting,
         search: &Search,
         last: usize,
         end: Row,
@@ -40,7 +42,7 @@ impl<F: Field, T: Tableau<F>> Mover<F, T> {
         requires last { last < search.now.places }
         requires few { self.old.pivots ≤ size_of (T.state self.old.pair.tableau) self.old.pair.mates * size_of
             (T.state self.old.pair.tableau) self.old.pair.mates }
-        requires marks { AreMarksOfQ F.modulus (T.state self.old.pair.tableau) self.old.marks }
+        requires marks { AreMarksOfQ F.modulus (T.state self.old.pair.tableau) resting.now self.old.marks }
         requires pair { HasTableau F.modulus (layers_of (T.state self.old.pair.tableau) self.old.pair.mates)
             (tableau_of (T.state self.old.pair.tableau) self.old.pair.mates) }
         requires route { IsRoute F.modulus (layers_of (T.state self.old.pair.tableau) self.old.pair.mates)
@@ -59,9 +61,7 @@ impl<F: Field, T: Tableau<F>> Mover<F, T> {
         ensures pivots { steps.new + self.old.pivots ≡ steps.old + self.new.pivots }
         ensures few { self.new.pivots ≤ size_of (T.state self.new.pair.tableau) self.new.pair.mates * size_of
             (T.state self.new.pair.tableau) self.new.pair.mates }
-        ensures free { self.new.marks.free ≡ self.old.marks.free }
-        ensures by_t { self.new.marks.by_t ≡ self.old.marks.by_t }
-        ensures marks { AreMarksOfQ F.modulus (T.state self.new.pair.tableau) self.new.marks }
+        ensures marks { AreMarksOfQ F.modulus (T.state self.new.pair.tableau) resting.now self.new.marks }
         ensures rows { AreRowsLeft self.old.pair.mates self.new.pair.mates end }
         ensures taken { IsFreeTaken (T.state self.old.pair.tableau).columns
             (tableau_of (T.state self.old.pair.tableau) self.old.pair.mates)
@@ -76,17 +76,17 @@ impl<F: Field, T: Tableau<F>> Mover<F, T> {
             left -= 1;
             let x = search.step(left);
             next = self.pair.row_of(x);
-            self.take(row, x, steps);
+            self.take(resting, row, x, steps);
         }
     }
 
     /// Gives the free column x a row that it may take and that no column has.
-    pub fn give<L: Ledger>(&mut self, x: usize, row: Row, steps: &mut Steps<L>)
+    pub fn give<L: Ledger>(&mut self, resting: &Resting, x: usize, row: Row, steps: &mut Steps<L>)
         requires width { self.old.pair.mates.pattern.width ≡ (T.state self.old.pair.tableau).columns }
         requires few { self.old.pivots ≤ size_of (T.state self.old.pair.tableau) self.old.pair.mates * size_of
             (T.state self.old.pair.tableau) self.old.pair.mates }
         requires x { x < (T.state self.old.pair.tableau).columns }
-        requires marks { AreMarksOfQ F.modulus (T.state self.old.pair.tableau) self.old.marks }
+        requires marks { AreMarksOfQ F.modulus (T.state self.old.pair.tableau) resting.now self.old.marks }
         requires pair { HasTableau F.modulus (layers_of (T.state self.old.pair.tableau) self.old.pair.mates)
             (tableau_of (T.state self.old.pair.tableau) self.old.pair.mates) }
         requires free { is_free (tableau_of (T.state self.old.pair.tableau) self.old.pair.mates) x ≡ true }
@@ -103,9 +103,7 @@ impl<F: Field, T: Tableau<F>> Mover<F, T> {
         ensures few { self.new.pivots ≤ size_of (T.state self.new.pair.tableau) self.new.pair.mates * size_of
             (T.state self.new.pair.tableau) self.new.pair.mates }
         ensures steps { steps.new ≤ steps.old + 1 }
-        ensures free { self.new.marks.free ≡ self.old.marks.free }
-        ensures by_t { self.new.marks.by_t ≡ self.old.marks.by_t }
-        ensures marks { AreMarksOfQ F.modulus (T.state self.new.pair.tableau) self.new.marks }
+        ensures marks { AreMarksOfQ F.modulus (T.state self.new.pair.tableau) resting.now self.new.marks }
         ensures rows { AreRowsLeft self.old.pair.mates self.new.pair.mates row }
         ensures taken { IsFreeTaken (T.state self.old.pair.tableau).columns
             (tableau_of (T.state self.old.pair.tableau) self.old.pair.mates)
@@ -114,17 +112,17 @@ impl<F: Field, T: Tableau<F>> Mover<F, T> {
     {
         // there are at most 8,192 columns, so that the size fits
         let _columns = self.pair.tableau.columns();
-        self.take(row, x, steps);
+        self.take(resting, row, x, steps);
     }
 
     // Moves column x to the row, out of the T row that it has.
-    fn take<L: Ledger>(&mut self, row: Row, x: usize, steps: &mut Steps<L>)
+    fn take<L: Ledger>(&mut self, resting: &Resting, row: Row, x: usize, steps: &mut Steps<L>)
         requires width { self.old.pair.mates.pattern.width ≡ (T.state self.old.pair.tableau).columns }
         requires few { self.old.pivots ≤ 16384 * column_limit }
         requires x { x < (T.state self.old.pair.tableau).columns }
         requires can { CanTake F.modulus (layers_of (T.state self.old.pair.tableau) self.old.pair.mates)
             (tableau_of (T.state self.old.pair.tableau) self.old.pair.mates) row x }
-        requires marks { AreMarksOfQ F.modulus (T.state self.old.pair.tableau) self.old.marks }
+        requires marks { AreMarksOfQ F.modulus (T.state self.old.pair.tableau) resting.now self.old.marks }
         ensures takes { Takes F.modulus (layers_of (T.state self.old.pair.tableau) self.old.pair.mates)
             (tableau_of (T.state self.old.pair.tableau) self.old.pair.mates)
             (tableau_of (T.state self.new.pair.tableau) self.new.pair.mates) row x }
@@ -133,24 +131,22 @@ impl<F: Field, T: Tableau<F>> Mover<F, T> {
         ensures pattern { self.new.pair.mates.pattern ≡ self.old.pair.mates.pattern }
         ensures steps { steps.new ≡ steps.old + cond (in_q row) 1 0 }
         ensures pivots { self.new.pivots ≡ self.old.pivots + cond (in_q row) 1 0 }
-        ensures marks { AreMarksOfQ F.modulus (T.state self.new.pair.tableau) self.new.marks }
-        ensures free { self.new.marks.free ≡ self.old.marks.free }
-        ensures by_t { self.new.marks.by_t ≡ self.old.marks.by_t }
+        ensures marks { AreMarksOfQ F.modulus (T.state self.new.pair.tableau) resting.now self.new.marks }
     {
         match row {
-            Row::Q(row) => self.pivot(row, x, steps),
+            Row::Q(row) => self.pivot(resting, row, x, steps),
             Row::T(_) => self.pair.take(row, x, steps),
         }
     }
 
     // Moves column x to the Q row, and looks anew at the columns that the pivot touches.
-    fn pivot<L: Ledger>(&mut self, row: usize, x: usize, steps: &mut Steps<L>)
+    fn pivot<L: Ledger>(&mut self, resting: &Resting, row: usize, x: usize, steps: &mut Steps<L>)
         requires width { self.old.pair.mates.pattern.width ≡ (T.state self.old.pair.tableau).columns }
         requires few { self.old.pivots ≤ 16384 * column_limit }
         requires x { x < (T.state self.old.pair.tableau).columns }
         requires can { CanTake F.modulus (layers_of (T.state self.old.pair.tableau) self.old.pair.mates)
             (tableau_of (T.state self.old.pair.tableau) self.old.pair.mates) (Row.Q row) x }
-        requires marks { AreMarksOfQ F.modulus (T.state self.old.pair.tableau) self.old.marks }
+        requires marks { AreMarksOfQ F.modulus (T.state self.old.pair.tableau) resting.now self.old.marks }
         ensures takes { Takes F.modulus (layers_of (T.state self.old.pair.tableau) self.old.pair.mates)
             (tableau_of (T.state self.old.pair.tableau) self.old.pair.mates)
             (tableau_of (T.state self.new.pair.tableau) self.new.pair.mates) (Row.Q row) x }
@@ -159,13 +155,11 @@ impl<F: Field, T: Tableau<F>> Mover<F, T> {
         ensures pattern { self.new.pair.mates.pattern ≡ self.old.pair.mates.pattern }
         ensures steps { steps.new ≡ steps.old + 1 }
         ensures pivots { self.new.pivots ≡ self.old.pivots + 1 }
-        ensures marks { AreMarksOfQ F.modulus (T.state self.new.pair.tableau) self.new.marks }
-        ensures free { self.new.marks.free ≡ self.old.marks.free }
-        ensures by_t { self.new.marks.by_t ≡ self.old.marks.by_t }
+        ensures marks { AreMarksOfQ F.modulus (T.state self.new.pair.tableau) resting.now self.new.marks }
     {
         self.marks.touch(&self.pair, row);
         self.pair.take(Row::Q(row), x, steps);
-        self.marks.settle(&self.pair, row);
+        self.marks.settle(resting, &self.pair, row);
         self.pivots += 1;
     }
 }

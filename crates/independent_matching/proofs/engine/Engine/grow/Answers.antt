@@ -1,7 +1,6 @@
 use Rattle.std.proofs.Common.{◌≡◌, ◌<◌, ◌≤◌, ◌∙◌, true, ap, sym, subst, arith}
 use Rattle.mixed_matrices.specs.Arcs.{is_end}
 use Rattle.mixed_matrices.specs.LayeredMatrices.{LayeredMatrix}
-use Rattle.independent_matching.specs.Marks.{IsTMark}
 use Rattle.independent_matching.specs.Sides.{layers_of, tableau_of}
 use Rattle.independent_matching.proofs.MarkLaws.{left-mark}
 use Rattle.independent_matching.proofs.RunLaws.{size-bound}
@@ -18,9 +17,8 @@ close-requires-clause-by_t g c =
     let M = c.self.inside.mover.pair.mates in
     let S' = g.T.Tableau.state c.give.new.self.pair.tableau in
     let M' = c.give.new.self.pair.mates in
-    λ x l apart. subst (λ b. IsTMark M' b.items x) (sym c.give.ensures.by_t)
-    (left-mark S S' M M' c.give.ensures.layers c.unwrap-row.result c.give.ensures.rows c.self.inside.mover.marks.by_t.items x
-    (c.self.invariant.marks.by_t x (subst (λ n. x < n) (ap (λ (L : LayeredMatrix). L.columns) c.give.ensures.layers) l)) apart)
+    λ x l apart. left-mark S S' M M' c.give.ensures.layers c.unwrap-row.result c.give.ensures.rows c.self.inside.resting.by_t.items x
+    (c.self.invariant.marks.by_t x (subst (λ n. x < n) (ap (λ (L : LayeredMatrix). L.columns) c.give.ensures.layers) l)) apart
 
 pub overflow_add-self : goal.overflow_add-self
 overflow_add-self g c =

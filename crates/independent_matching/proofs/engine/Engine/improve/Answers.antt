@@ -9,5 +9,5 @@ grow-requires-clause-end g c =
     let x = c.in-Some.x in
     let marks = c.self.invariant.marks in
     let below : x < S.columns = subst (λ n. x < n) marks.of_q.sized.free_count c.in-Some.ensures.below in
-    sym (mark-end g.F.Field.modulus S e.pair.mates x c.self.invariant.width e.marks (marks.of_q.ends x below)
+    sym (mark-end g.F.Field.modulus S e.pair.mates x c.self.invariant.width c.self.inside.resting e.marks (marks.of_q.ends x below)
     (marks.by_t x below) (marks.of_q.by_q x below)) ∙ c.in-Some.ensures.end

@@ -10,7 +10,6 @@ use Rattle.mixed_matrices.specs.LayeredMatrices.{LayeredMatrix}
 use Rattle.mixed_matrices.specs.Tableaus.{HasTableau}
 use Rattle.exchange_graph.specs.Sweeps.{IsShortestFromOne}
 use Rattle.independent_matching.specs.Engines.{HasStayed, Standing}
-use Rattle.independent_matching.specs.Marks.{IsTMark}
 use Rattle.independent_matching.specs.Sides.{in_q, layers_of, number, size_of, tableau_of}
 use Rattle.independent_matching.proofs.EngineLaws.{solved}
 use Rattle.independent_matching.proofs.MarkLaws.{left-mark}
@@ -24,10 +23,11 @@ augment-requires-clause-route g c =
     let S = g.T.Tableau.state c.self.inside.mover.pair.tableau in
     let M = c.self.inside.mover.pair.mates in
     let ready = c.self.invariant in
+    let resting = c.self.inside.resting in
     let marks = c.self.inside.mover.marks in
     let at = step_of c.shortest_in_turn.new.self in
     let arc = leads_to p (layers_of S M) (tableau_of S M) in
-    search-route p S M ready.width marks ready.marks c.self.inside.search.places ready.search ready.pair at c.in-Some.last c.step-x.result
+    search-route p S M ready.width resting marks ready.marks c.self.inside.search.places ready.search ready.pair at c.in-Some.last c.step-x.result
     (subst (λ free. IsShortestFromOne arc c.self.inside.search.places (members_of free) (members_of marks.ends.items) at c.in-Some.last) c.deref.ensures.value
     (subst (λ ends. IsShortestFromOne arc c.self.inside.search.places (members_of c.deref.result.now)
     (members_of ends) at c.in-Some.last) c.deref-2.ensures.value c.in-Some.ensures.found))
@@ -42,11 +42,12 @@ unwrap-end-requires g c =
     let S = g.T.Tableau.state c.self.inside.mover.pair.tableau in
     let M = c.self.inside.mover.pair.mates in
     let ready = c.self.invariant in
+    let resting = c.self.inside.resting in
     let marks = c.self.inside.mover.marks in
     let at = step_of c.shortest_in_turn.new.self in
     let arc = leads_to p (layers_of S M) (tableau_of S M) in
     c.free_row.ensures.end ∙
-    walk-end p S M ready.width marks ready.marks c.self.inside.search.places ready.search at c.in-Some.last c.step-x.result
+    walk-end p S M ready.width resting marks ready.marks c.self.inside.search.places ready.search at c.in-Some.last c.step-x.result
     (subst (λ free. IsShortestFromOne arc c.self.inside.search.places (members_of free) (members_of marks.ends.items) at c.in-Some.last) c.deref.ensures.value
     (subst (λ ends. IsShortestFromOne arc c.self.inside.search.places (members_of c.deref.result.now)
     (members_of ends) at c.in-Some.last) c.deref-2.ensures.value c.in-Some.ensures.found))
@@ -58,9 +59,8 @@ close-requires-clause-by_t g c =
     let M = c.self.inside.mover.pair.mates in
     let S' = g.T.Tableau.state c.augment.new.self.pair.tableau in
     let M' = c.augment.new.self.pair.mates in
-    λ x l apart. subst (λ b. IsTMark M' b.items x) (sym c.augment.ensures.by_t)
-    (left-mark S S' M M' c.augment.ensures.layers c.unwrap-end.result c.augment.ensures.rows c.self.inside.mover.marks.by_t.items x
-    (c.self.invariant.marks.by_t x (subst (λ n. x < n) (ap (λ (L : LayeredMatrix). L.columns) c.augment.ensures.layers) l)) apart)
+    λ x l apart. left-mark S S' M M' c.augment.ensures.layers c.unwrap-end.result c.augment.ensures.rows c.self.inside.resting.by_t.items x
+    (c.self.invariant.marks.by_t x (subst (λ n. x < n) (ap (λ (L : LayeredMatrix). L.columns) c.augment.ensures.layers) l)) apart
 
 pub close-requires-clause-free : goal.close-requires-clause-free
 close-requires-clause-free g c =
@@ -68,8 +68,7 @@ close-requires-clause-free g c =
     let S' = g.T.Tableau.state c.augment.new.self.pair.tableau in
     λ x l ne.
     let here : x < S.columns = subst (λ n. x < n) (ap (λ (L : LayeredMatrix). L.columns) c.augment.ensures.layers) l in
-    ap (λ f. members_of f.items x) c.augment.ensures.free ∙ (c.self.invariant.marks.free x here
-    ∙ sym (c.augment.ensures.taken.others x here (λ e. ne (e ∙ sym c.step.ensures))))
+    c.self.invariant.marks.free x here ∙ sym (c.augment.ensures.taken.others x here (λ e. ne (e ∙ sym c.step-first.ensures)))
 
 pub overflow_add-self : goal.overflow_add-self
 overflow_add-self g c =
@@ -103,6 +102,7 @@ returns-in-None-clause-best g c = λ _.
     let S = g.T.Tableau.state e.mover.pair.tableau in
     let M = e.mover.pair.mates in
     let ready = c.self.invariant in
+    let resting = e.resting in
     let marks = e.mover.marks in
     let arc = leads_to p (layers_of S M) (tableau_of S M) in
     let search = c.shortest_in_turn.new.self in
@@ -119,12 +119,12 @@ returns-in-None-clause-best g c = λ _.
     subst (λ s. HasStayed g.row.T.Denot g.T.Tableau.state p s now c.args.steps.now c.shortest_in_turn.new.steps) c.self.view_is
     (record {
       solved = solved p g.met.F.Field.prime S M ready.pair
-          (no_walk-told p S M ready.width marks ready.marks e.search.places ready.search
+          (no_walk-told p S M ready.width resting marks ready.marks e.search.places ready.search
           (subst (λ free. NoEndReached arc e.search.places (members_of free) (members_of marks.ends.items)) c.deref.ensures.value
           (subst (λ ends. NoEndReached arc e.search.places (members_of c.deref.result.now) (members_of ends))
           c.deref-2.ensures.value (E.none.0 refl))))
           (vain_of search)
-          (reached-told p S M ready.width marks ready.marks e.search.places ready.search (vain_of search)
+          (reached-told p S M ready.width resting marks ready.marks e.search.places ready.search (vain_of search)
           (subst (λ free. IsReachedSet arc e.search.places (members_of free) (vain_of search)) c.deref.ensures.value E.reached));
       tableau = refl;
       matching = refl;

@@ -23,7 +23,7 @@ invariant_of-result g c =
       width = ap (λ (m : Matching). m.pattern.width) c.in_ok-open.ensures.empty
           ∙ (c.l.invariant.same_columns ∙ (ap (λ (l : Layers). l.q.width) c.l.view_is ∙ sym c.requires.columns_are));
       search = c.in_ok-open-2.ensures.places ∙ c.columns-columns.ensures.columns;
-      marks = c.in_ok-marks.ensures;
+      marks = c.in_ok-resting.ensures;
       count = open-size p S M c.requires.no_base unmatched;
       few = omega arith;
       few_looks = omega arith;

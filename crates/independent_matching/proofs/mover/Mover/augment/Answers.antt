@@ -22,8 +22,6 @@ loop-next-init g c =
       marks = c.requires.marks;
       count = refl;
       pivots = refl;
-      free = refl;
-      by_t = refl;
     }
 
 pub take-requires-clause-x : goal.take-requires-clause-x
@@ -131,8 +129,6 @@ loop-next-preserved g c =
             c.in-Some.row c.loop-next.left I.moving c.in-Some.is i here,
       );
       pivots = omega (arith, c.take.ensures.steps, c.take.ensures.pivots, I.pivots);
-      free = c.take.ensures.free ∙ I.free;
-      by_t = c.take.ensures.by_t ∙ I.by_t;
     }
 
 pub returns-clause-pair : goal.returns-clause-pair

@@ -15,7 +15,7 @@ returns-in-T-clause-marks g c =
     let here : (x : ℕ) → x < S'.columns → x < S.columns = λ x l. subst (λ n. x < n) same l in
     let marks = c.args.self.now.marks in
     record {
-      sized = subst (λ n. IsKept n marks) (sym same) c.requires.marks.sized;
+      sized = subst (λ n. IsKept n c.args.resting.now marks) (sym same) c.requires.marks.sized;
       by_q = λ x l. mate-mark g.F.Field.modulus S S' M M' c.args.x c.requires.x c.take.ensures.layers
           (number c.args.row) (c.take.ensures.takes.of_t (ap in_q c.in-T.is)) marks.by_q.items x
           (c.requires.marks.by_q x (here x l));
