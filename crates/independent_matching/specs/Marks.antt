@@ -72,6 +72,13 @@ pub record IsChangedAt (r r' : Resting) (m now : Marks) (x : ℕ) : Type 0 where
 abbrev pub AreTouched : ℕ → State → Marks → ℕ → Type 0
 AreTouched p S m row = (x : ℕ) → x < S.columns → S.p row x % p ≢ 0 → IsTouched m x
 
+-- the base and the matched columns are a pair, the marks that a pivot may change are right, and there were few pivots
+pub record IsInOrder (p : ℕ) (S : State) (M : Matching) (r : Resting) (m : Marks) (pivots : ℕ) : Type 0 where
+  pub pair : HasTableau p (layers_of S M) (tableau_of S M)
+  pub width : M.pattern.width ≡ S.columns
+  pub marks : AreMarksOfQ p S r m
+  pub few : pivots ≤ size_of S M * size_of S M
+
 -- the base and the matched columns are a pair of that size, the marks are right, and there were few pivots and looks
 pub record IsReady (p : ℕ) (S : State) (M : Matching) (places : ℕ) (r : Resting) (m : Marks)
     (size pivots looks : ℕ) : Type 0 where

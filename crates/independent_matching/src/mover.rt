@@ -5,10 +5,9 @@ ghost use Rattle.limits.specs.Limits.{column_limit};
 ghost use Rattle.residue_theory.specs.Sums.{size_on};
 ghost use Rattle.exchange_graph.specs.Results.{step_of};
 ghost use Rattle.mixed_matrices.specs.Arcs.{is_free};
-ghost use Rattle.mixed_matrices.specs.Tableaus.{HasTableau};
 ghost use Rattle.mixed_augmentation.specs.Moves.{IsFreeRow, IsRoute, route};
-ghost use Rattle.independent_matching.specs.Marks.{AreMarksOfQ};
-ghost use Rattle.independent_matching.specs.Sides.{AreRowsLeft, CanTake, IsFreeTaken, Takes, in_q, layers_of, number, size_of, tableau_of};
+ghost use Rattle.independent_matching.specs.Marks.{AreMarksOfQ, IsInOrder};
+ghost use Rattle.independent_matching.specs.Sides.{CanTake, HasGained, Takes, in_q, layers_of, number, tableau_of};
 
 use crate::marks::Marks;
 use crate::pair::Pair;
@@ -37,35 +36,21 @@ impl<F: Field, T: Tableau<F>> Mover<F, T> {
         end: Row,
         steps: &mut Steps<L>,
     )
-        requires width { self.old.pair.mates.pattern.width ≡ (T.state self.old.pair.tableau).columns }
+        requires order { IsInOrder F.modulus (T.state self.old.pair.tableau) self.old.pair.mates resting.now
+            self.old.marks self.old.pivots }
         requires places { search.now.places ≡ (T.state self.old.pair.tableau).columns }
         requires last { last < search.now.places }
-        requires few { self.old.pivots ≤ size_of (T.state self.old.pair.tableau) self.old.pair.mates * size_of
-            (T.state self.old.pair.tableau) self.old.pair.mates }
-        requires marks { AreMarksOfQ F.modulus (T.state self.old.pair.tableau) resting.now self.old.marks }
-        requires pair { HasTableau F.modulus (layers_of (T.state self.old.pair.tableau) self.old.pair.mates)
-            (tableau_of (T.state self.old.pair.tableau) self.old.pair.mates) }
         requires route { IsRoute F.modulus (layers_of (T.state self.old.pair.tableau) self.old.pair.mates)
             (tableau_of (T.state self.old.pair.tableau) self.old.pair.mates)
             (route (tableau_of (T.state self.old.pair.tableau) self.old.pair.mates) (step_of search.now) last
             (in_q end) (number end)) }
-        ensures layers { layers_of (T.state self.new.pair.tableau) self.new.pair.mates
-            ≡ layers_of (T.state self.old.pair.tableau) self.old.pair.mates }
-        ensures width { self.new.pair.mates.pattern.width ≡ self.old.pair.mates.pattern.width }
-        ensures pair { HasTableau F.modulus (layers_of (T.state self.old.pair.tableau) self.old.pair.mates)
-            (tableau_of (T.state self.new.pair.tableau) self.new.pair.mates) }
-        ensures size { size_of (T.state self.new.pair.tableau) self.new.pair.mates
-            ≡ size_of (T.state self.old.pair.tableau) self.old.pair.mates + 1 }
+        ensures order { IsInOrder F.modulus (T.state self.new.pair.tableau) self.new.pair.mates resting.now
+            self.new.marks self.new.pivots }
+        ensures gained { HasGained (T.state self.old.pair.tableau) (T.state self.new.pair.tableau)
+            self.old.pair.mates self.new.pair.mates (step_of search.now 0) end }
         ensures steps { steps.new ≤ steps.old + size_on (T.state self.old.pair.tableau).base
             (T.state self.old.pair.tableau).columns + 1 }
         ensures pivots { steps.new + self.old.pivots ≡ steps.old + self.new.pivots }
-        ensures few { self.new.pivots ≤ size_of (T.state self.new.pair.tableau) self.new.pair.mates * size_of
-            (T.state self.new.pair.tableau) self.new.pair.mates }
-        ensures marks { AreMarksOfQ F.modulus (T.state self.new.pair.tableau) resting.now self.new.marks }
-        ensures rows { AreRowsLeft self.old.pair.mates self.new.pair.mates end }
-        ensures taken { IsFreeTaken (T.state self.old.pair.tableau).columns
-            (tableau_of (T.state self.old.pair.tableau) self.old.pair.mates)
-            (tableau_of (T.state self.new.pair.tableau) self.new.pair.mates) (step_of search.now 0) }
         ensures narrow { (T.state self.old.pair.tableau).columns ≤ column_limit }
     {
         // there are at most 8,192 columns, so that the sum below fits
@@ -82,32 +67,18 @@ impl<F: Field, T: Tableau<F>> Mover<F, T> {
 
     /// Gives the free column x a row that it may take and that no column has.
     pub fn give<L: Ledger>(&mut self, resting: &Resting, x: usize, row: Row, steps: &mut Steps<L>)
-        requires width { self.old.pair.mates.pattern.width ≡ (T.state self.old.pair.tableau).columns }
-        requires few { self.old.pivots ≤ size_of (T.state self.old.pair.tableau) self.old.pair.mates * size_of
-            (T.state self.old.pair.tableau) self.old.pair.mates }
+        requires order { IsInOrder F.modulus (T.state self.old.pair.tableau) self.old.pair.mates resting.now
+            self.old.marks self.old.pivots }
         requires x { x < (T.state self.old.pair.tableau).columns }
-        requires marks { AreMarksOfQ F.modulus (T.state self.old.pair.tableau) resting.now self.old.marks }
-        requires pair { HasTableau F.modulus (layers_of (T.state self.old.pair.tableau) self.old.pair.mates)
-            (tableau_of (T.state self.old.pair.tableau) self.old.pair.mates) }
         requires free { is_free (tableau_of (T.state self.old.pair.tableau) self.old.pair.mates) x ≡ true }
         requires row { IsFreeRow F.modulus (layers_of (T.state self.old.pair.tableau) self.old.pair.mates)
             (tableau_of (T.state self.old.pair.tableau) self.old.pair.mates) x (in_q row) (number row) }
-        ensures layers { layers_of (T.state self.new.pair.tableau) self.new.pair.mates
-            ≡ layers_of (T.state self.old.pair.tableau) self.old.pair.mates }
-        ensures width { self.new.pair.mates.pattern.width ≡ self.old.pair.mates.pattern.width }
-        ensures pair { HasTableau F.modulus (layers_of (T.state self.old.pair.tableau) self.old.pair.mates)
-            (tableau_of (T.state self.new.pair.tableau) self.new.pair.mates) }
-        ensures size { size_of (T.state self.new.pair.tableau) self.new.pair.mates
-            ≡ size_of (T.state self.old.pair.tableau) self.old.pair.mates + 1 }
-        ensures pivots { steps.new + self.old.pivots ≡ steps.old + self.new.pivots }
-        ensures few { self.new.pivots ≤ size_of (T.state self.new.pair.tableau) self.new.pair.mates * size_of
-            (T.state self.new.pair.tableau) self.new.pair.mates }
+        ensures order { IsInOrder F.modulus (T.state self.new.pair.tableau) self.new.pair.mates resting.now
+            self.new.marks self.new.pivots }
+        ensures gained { HasGained (T.state self.old.pair.tableau) (T.state self.new.pair.tableau)
+            self.old.pair.mates self.new.pair.mates x row }
         ensures steps { steps.new ≤ steps.old + 1 }
-        ensures marks { AreMarksOfQ F.modulus (T.state self.new.pair.tableau) resting.now self.new.marks }
-        ensures rows { AreRowsLeft self.old.pair.mates self.new.pair.mates row }
-        ensures taken { IsFreeTaken (T.state self.old.pair.tableau).columns
-            (tableau_of (T.state self.old.pair.tableau) self.old.pair.mates)
-            (tableau_of (T.state self.new.pair.tableau) self.new.pair.mates) x }
+        ensures pivots { steps.new + self.old.pivots ≡ steps.old + self.new.pivots }
         ensures narrow { (T.state self.old.pair.tableau).columns ≤ column_limit }
     {
         // there are at most 8,192 columns, so that the size fits

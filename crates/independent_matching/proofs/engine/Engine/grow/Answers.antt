@@ -1,8 +1,9 @@
-use Rattle.std.proofs.Common.{◌≡◌, ◌<◌, ◌≤◌, ◌∙◌, true, ap, sym, subst, arith}
+use Rattle.std.proofs.Common.{◌≡◌, ◌<◌, ◌≤◌, ◌∙◌, true, ap, refl, sym, subst, arith}
 use Rattle.mixed_matrices.specs.Arcs.{is_end}
 use Rattle.mixed_matrices.specs.LayeredMatrices.{LayeredMatrix}
 use Rattle.independent_matching.specs.Sides.{layers_of, tableau_of}
 use Rattle.independent_matching.proofs.MarkLaws.{left-mark}
+use Rattle.independent_matching.proofs.ReadyLaws.{ready-more, ready-order}
 use Rattle.independent_matching.proofs.RunLaws.{size-bound}
 use Rattle.independent_matching.proofs.engine.Engine.grow.Goals as goal
 
@@ -17,8 +18,8 @@ close-requires-clause-by_t g c =
     let M = c.self.inside.mover.pair.mates in
     let S' = g.T.Tableau.state c.give.new.self.pair.tableau in
     let M' = c.give.new.self.pair.mates in
-    λ x l apart. left-mark S S' M M' c.give.ensures.layers c.unwrap-row.result c.give.ensures.rows c.self.inside.resting.by_t.items x
-    (c.self.invariant.marks.by_t x (subst (λ n. x < n) (ap (λ (L : LayeredMatrix). L.columns) c.give.ensures.layers) l)) apart
+    λ x l apart. left-mark S S' M M' c.give.ensures.gained.layers c.unwrap-row.result c.give.ensures.gained.rows c.self.inside.resting.by_t.items x
+    (c.self.invariant.marks.by_t x (subst (λ n. x < n) (ap (λ (L : LayeredMatrix). L.columns) c.give.ensures.gained.layers) l)) apart
 
 pub overflow_add-self : goal.overflow_add-self
 overflow_add-self g c =
@@ -27,3 +28,20 @@ overflow_add-self g c =
     let small : c.self.inside.size ≤ 8192 =
     omega (arith, c.self.invariant.count, size-bound g.F.Field.modulus S M c.self.invariant.pair, c.give.ensures.narrow) in
     omega (arith, small)
+
+pub give-requires-clause-order : goal.give-requires-clause-order
+give-requires-clause-order g c =
+    let e = c.self.inside in
+    ready-order g.F.Field.modulus (g.T.Tableau.state e.mover.pair.tableau) e.mover.pair.mates e.search.places e.resting
+    e.mover.marks e.size e.mover.pivots e.looks c.self.invariant
+
+pub invariant_of-self : goal.invariant_of-self
+invariant_of-self g c =
+    let e = c.self.inside in
+    let state = g.T.Tableau.state in
+    let now = c.give.new.self in
+    let E = c.give.ensures in
+    ready-more g.F.Field.modulus (state e.mover.pair.tableau) e.mover.pair.mates e.search.places e.resting e.mover.marks
+    e.size e.mover.pivots e.looks c.self.invariant (state now.pair.tableau) now.pair.mates c.args.x c.unwrap-row.result E.gained
+    e.resting now.marks now.pivots E.order c.close.new.resting c.close.new.self c.close.ensures
+    e.search.places refl 0 e.looks (omega arith) (omega arith)

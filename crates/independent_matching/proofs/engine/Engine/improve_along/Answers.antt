@@ -1,4 +1,4 @@
-use Rattle.std.proofs.Common.{◌≡◌, ◌+◌, ◌*◌, ◌<◌, ◌≤◌, ◌∙◌, ap, refl, subst, sym, arith}
+use Rattle.std.proofs.Common.{◌≡◌, ◌+◌, ◌<◌, ◌≤◌, ◌∙◌, ap, refl, subst, sym, arith}
 use Rattle.closed_sets.specs.Closed.{IsReachedSet, NoEndReached}
 use Rattle.residue_theory.specs.Sums.{size_on}
 use Rattle.exchange_graph.specs.Counts.{counted_on}
@@ -7,13 +7,13 @@ use Rattle.exchange_graph.specs.Results.{vain_of, step_of}
 use Rattle.mixed_augmentation.specs.Moves.{IsFreeRow}
 use Rattle.mixed_matrices.specs.Arcs.{leads_to}
 use Rattle.mixed_matrices.specs.LayeredMatrices.{LayeredMatrix}
-use Rattle.mixed_matrices.specs.Tableaus.{HasTableau}
 use Rattle.exchange_graph.specs.Sweeps.{IsShortestFromOne}
 use Rattle.independent_matching.specs.Engines.{HasStayed, Standing}
-use Rattle.independent_matching.specs.Sides.{in_q, layers_of, number, size_of, tableau_of}
+use Rattle.independent_matching.specs.Sides.{in_q, layers_of, number, tableau_of}
 use Rattle.independent_matching.proofs.EngineLaws.{solved}
 use Rattle.independent_matching.proofs.MarkLaws.{left-mark}
-use Rattle.independent_matching.proofs.RunLaws.{looks-bound, looks-more, size-bound}
+use Rattle.independent_matching.proofs.ReadyLaws.{ready-more, ready-order}
+use Rattle.independent_matching.proofs.RunLaws.{looks-bound, size-bound}
 use Rattle.independent_matching.proofs.SearchLaws.{no_walk-told, reached-told, search-route, some-read, walk-end}
 use Rattle.independent_matching.proofs.engine.Engine.improve_along.Goals as goal
 
@@ -59,16 +59,16 @@ close-requires-clause-by_t g c =
     let M = c.self.inside.mover.pair.mates in
     let S' = g.T.Tableau.state c.augment.new.self.pair.tableau in
     let M' = c.augment.new.self.pair.mates in
-    λ x l apart. left-mark S S' M M' c.augment.ensures.layers c.unwrap-end.result c.augment.ensures.rows c.self.inside.resting.by_t.items x
-    (c.self.invariant.marks.by_t x (subst (λ n. x < n) (ap (λ (L : LayeredMatrix). L.columns) c.augment.ensures.layers) l)) apart
+    λ x l apart. left-mark S S' M M' c.augment.ensures.gained.layers c.unwrap-end.result c.augment.ensures.gained.rows c.self.inside.resting.by_t.items x
+    (c.self.invariant.marks.by_t x (subst (λ n. x < n) (ap (λ (L : LayeredMatrix). L.columns) c.augment.ensures.gained.layers) l)) apart
 
 pub close-requires-clause-free : goal.close-requires-clause-free
 close-requires-clause-free g c =
     let S = g.T.Tableau.state c.self.inside.mover.pair.tableau in
     let S' = g.T.Tableau.state c.augment.new.self.pair.tableau in
     λ x l ne.
-    let here : x < S.columns = subst (λ n. x < n) (ap (λ (L : LayeredMatrix). L.columns) c.augment.ensures.layers) l in
-    c.self.invariant.marks.free x here ∙ sym (c.augment.ensures.taken.others x here (λ e. ne (e ∙ sym c.step-first.ensures)))
+    let here : x < S.columns = subst (λ n. x < n) (ap (λ (L : LayeredMatrix). L.columns) c.augment.ensures.gained.layers) l in
+    c.self.invariant.marks.free x here ∙ sym (c.augment.ensures.gained.taken.others x here (λ e. ne (e ∙ sym c.step-first.ensures)))
 
 pub overflow_add-self : goal.overflow_add-self
 overflow_add-self g c =
@@ -136,26 +136,21 @@ returns-in-None-clause-best g c = λ _.
           (E.all_looks ∙ ap (counted_on e.search.all_looks) looks);
     })
 
+pub augment-requires-clause-order : goal.augment-requires-clause-order
+augment-requires-clause-order g c =
+    let e = c.self.inside in
+    ready-order g.F.Field.modulus (g.T.Tableau.state e.mover.pair.tableau) e.mover.pair.mates e.search.places e.resting
+    e.mover.marks e.size e.mover.pivots e.looks c.self.invariant
+
 pub invariant_of-self-in-Some : goal.invariant_of-self-in-Some
 invariant_of-self-in-Some g c =
-    let p = g.F.Field.modulus in
-    let S = g.T.Tableau.state c.self.inside.mover.pair.tableau in
-    let M = c.self.inside.mover.pair.mates in
-    let S' = g.T.Tableau.state c.augment.new.self.pair.tableau in
-    let M' = c.augment.new.self.pair.mates in
-    let ready = c.self.invariant in
+    let e = c.self.inside in
+    let state = g.T.Tableau.state in
+    let now = c.augment.new.self in
     let E = c.augment.ensures in
-    let same : S'.columns ≡ S.columns = ap (λ (L : LayeredMatrix). L.columns) E.layers in
-    let grown : size_of S' M' ≡ c.self.inside.size + 1 = omega (arith, E.size, ready.count) in
-    record {
-      pair = subst (λ L. HasTableau p L (tableau_of S' M')) (sym E.layers) E.pair;
-      width = E.width ∙ (ready.width ∙ sym same);
-      search = c.in-Some.ensures.places ∙ (ready.search ∙ sym same);
-      marks = c.close.ensures;
-      count = sym grown;
-      few = subst (λ n. c.augment.new.self.pivots ≤ n * n) grown E.few;
-      few_looks = subst (λ n. c.self.inside.looks + c.looks.result ≤ (c.self.inside.size + 1) * n) (sym same)
-          (looks-more c.self.inside.size (c.self.inside.size + 1) S.columns c.self.inside.looks
-          c.looks.result (c.self.inside.looks + c.looks.result) ready.few_looks
-          refl (omega (arith, c.looks.ensures, c.in-Some.ensures.few, ready.search)) refl);
-    }
+    let few : c.looks.result ≤ (state e.mover.pair.tableau).columns =
+    omega (arith, c.looks.ensures, c.in-Some.ensures.few, c.self.invariant.search) in
+    ready-more g.F.Field.modulus (state e.mover.pair.tableau) e.mover.pair.mates e.search.places e.resting e.mover.marks
+    e.size e.mover.pivots e.looks c.self.invariant (state now.pair.tableau) now.pair.mates _ c.unwrap-end.result E.gained
+    e.resting now.marks now.pivots E.order c.close.new.resting c.close.new.self c.close.ensures
+    c.shortest_in_turn.new.self.places c.in-Some.ensures.places c.looks.result (e.looks + c.looks.result) few refl
