@@ -86,7 +86,8 @@ impl<F: Field, T: Tableau<F>> Mover<F, T> {
         self.take(resting, row, x, steps);
     }
 
-    // Moves column x to the row, out of the T row that it has.
+    // Moves column x to the row, out of the T row that it has; for a Q row that is a pivot, and the columns that it
+    // touches are looked at anew.
     fn take<L: Ledger>(&mut self, resting: &Resting, row: Row, x: usize, steps: &mut Steps<L>)
         requires width { self.old.pair.mates.pattern.width ≡ (T.state self.old.pair.tableau).columns }
         requires few { self.old.pivots ≤ 16384 * column_limit }
@@ -105,32 +106,13 @@ impl<F: Field, T: Tableau<F>> Mover<F, T> {
         ensures marks { AreMarksOfQ F.modulus (T.state self.new.pair.tableau) resting.now self.new.marks }
     {
         match row {
-            Row::Q(row) => self.pivot(resting, row, x, steps),
+            Row::Q(at) => {
+                self.marks.touch(&self.pair, at);
+                self.pair.take(row, x, steps);
+                self.marks.settle(resting, &self.pair, at);
+                self.pivots += 1;
+            }
             Row::T(_) => self.pair.take(row, x, steps),
         }
-    }
-
-    // Moves column x to the Q row, and looks anew at the columns that the pivot touches.
-    fn pivot<L: Ledger>(&mut self, resting: &Resting, row: usize, x: usize, steps: &mut Steps<L>)
-        requires width { self.old.pair.mates.pattern.width ≡ (T.state self.old.pair.tableau).columns }
-        requires few { self.old.pivots ≤ 16384 * column_limit }
-        requires x { x < (T.state self.old.pair.tableau).columns }
-        requires can { CanTake F.modulus (layers_of (T.state self.old.pair.tableau) self.old.pair.mates)
-            (tableau_of (T.state self.old.pair.tableau) self.old.pair.mates) (Row.Q row) x }
-        requires marks { AreMarksOfQ F.modulus (T.state self.old.pair.tableau) resting.now self.old.marks }
-        ensures takes { Takes F.modulus (layers_of (T.state self.old.pair.tableau) self.old.pair.mates)
-            (tableau_of (T.state self.old.pair.tableau) self.old.pair.mates)
-            (tableau_of (T.state self.new.pair.tableau) self.new.pair.mates) (Row.Q row) x }
-        ensures layers { layers_of (T.state self.new.pair.tableau) self.new.pair.mates
-            ≡ layers_of (T.state self.old.pair.tableau) self.old.pair.mates }
-        ensures pattern { self.new.pair.mates.pattern ≡ self.old.pair.mates.pattern }
-        ensures steps { steps.new ≡ steps.old + 1 }
-        ensures pivots { self.new.pivots ≡ self.old.pivots + 1 }
-        ensures marks { AreMarksOfQ F.modulus (T.state self.new.pair.tableau) resting.now self.new.marks }
-    {
-        self.marks.touch(&self.pair, row);
-        self.pair.take(Row::Q(row), x, steps);
-        self.marks.settle(resting, &self.pair, row);
-        self.pivots += 1;
     }
 }
