@@ -9,3 +9,4 @@ pub mod MarkLaws
 pub mod StepLaws
 pub mod LeftLaws
 pub mod NextLaws
+pub mod ReadyLaws

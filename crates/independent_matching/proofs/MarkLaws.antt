@@ -9,6 +9,7 @@ use Rattle.exchange_graph.specs.Marks.{members_of}
 use Rattle.mixed_augmentation.specs.Moves.{TakesRow, TakesMate}
 use Rattle.mixed_matrices.specs.LayeredMatrices.{LayeredMatrix}
 use Rattle.independent_matching.specs.declared.marks.Marks.{Marks}
+use Rattle.independent_matching.specs.declared.resting.Resting.{Resting}
 use Rattle.independent_matching.specs.declared.row.Row.{Row}
 use Rattle.independent_matching.specs.Marks.{AreTouched, IsChangedAt, IsEndMark, IsQMark, IsTMark, IsTouched, row_at}
 use Rattle.independent_matching.specs.Sides.{AreRowsLeft, IsFreeQRow, in_q, layers_of, number, tableau_of}
@@ -116,12 +117,12 @@ pub same-q : (p : ℕ) (S : State) (by_q now : List (Option ℕ)) (x : ℕ) → 
 same-q p S by_q now x e mark = record { some = λ i h. mark.some i (sym e ∙ h); none = λ h. mark.none (sym e ∙ h) }
 
 -- ---- one column's marks change
-module _ (m now : Marks) (x : ℕ) (C : IsChangedAt m now x) (y : ℕ) (ne : y ≢ x) where
-  pub other-end : IsEndMark m y → IsEndMark now y
+module _ (r r' : Resting) (m now : Marks) (x : ℕ) (C : IsChangedAt r r' m now x) (y : ℕ) (ne : y ≢ x) where
+  pub other-end : IsEndMark r m y → IsEndMark r' now y
   other-end h = C.ends y ne ∙ h ∙ ap (λ t. t || is_some (row_at m.by_q.items y)) (sym (C.by_t y ne))
-      ∙ ap (λ o. members_of now.by_t.items y || is_some o) (sym (C.by_q y ne))
+      ∙ ap (λ o. members_of r'.by_t.items y || is_some o) (sym (C.by_q y ne))
 
-  pub other-t : (M : Matching) → IsTMark M m.by_t.items y → IsTMark M now.by_t.items y
+  pub other-t : (M : Matching) → IsTMark M r.by_t.items y → IsTMark M r'.by_t.items y
   other-t M mark = record {
     some = λ h. mark.some (sym (C.by_t y ne) ∙ h);
     none = λ h. mark.none (sym (C.by_t y ne) ∙ h);

@@ -1,5 +1,5 @@
 -- The loop of searches.
-use Rattle.std.proofs.Common.{◌≡◌, ◌+◌, ◌-◌, ◌*◌, ◌<◌, ◌≤◌, ℕ, Bool, true, false, cond, IsTrue, IsFalse, inl, inr, refl, ap, sym, subst, ◌∙◌, arith}
+use Rattle.std.proofs.Common.{◌≡◌, ◌+◌, ◌*◌, ◌≤◌, ℕ, inl, inr, refl, ap, sym, subst, ◌∙◌, arith}
 use Rattle.std.proofs.lemmas.Nat.{mul-le}
 use Rattle.residue_theory.specs.Sets.{either, everything}
 use Rattle.residue_theory.specs.Sums.{size_on}
@@ -9,8 +9,10 @@ use Rattle.bipartite_matching.specs.Matchings.{Matching}
 use Rattle.row_transform.specs.Tableaus.{State}
 use Rattle.mixed_matrices.specs.Tableaus.{HasTableau}
 use Rattle.exchange_graph.specs.Counts.{counted_on}
-use Rattle.exchange_graph.specs.Results.{Found}
-use Rattle.independent_matching.specs.Engines.{AreFewLooks, AreFewPivots, AreFewSteps, AreLooksOfSearch, AreLooksOfSearches}
+use Rattle.exchange_graph.specs.Results.{Found, vain_of}
+use Rattle.mixed_matrices.specs.LayeredMatrices.{LayeredMatrix}
+use Rattle.independent_matching.specs.Engines.{AreEntries, AreFewLooks, AreFewPivots, AreFewSteps, AreLooksOfSearch, AreLooksOfSearches}
+use Rattle.independent_matching.specs.Engines.{HasGrown, HasRun, HasStayed, Standing, layers}
 use Rattle.independent_matching.specs.Sides.{is_matched, layers_of, size_of, tableau_of}
 
 pub size-bound : (p : ℕ) (S : State) (M : Matching) → HasTableau p (layers_of S M) (tableau_of S M) → size_of S M ≤ S.columns
@@ -23,10 +25,6 @@ size-bound p S M tableau = omega (
 
 pub base-bound : (S : State) (M : Matching) → size_on S.base S.columns ≤ size_of S M
 base-bound S M = omega arith
-
-pub run-smaller : (b : Bool) (n u v : ℕ) → v ≤ n → (IsTrue b → v ≡ u + 1) → (IsFalse b → v ≡ u) → n - v + cond b 1 0 < n - u + 1
-run-smaller true n u v l t f = omega (arith, t refl, l)
-run-smaller false n u v l t f = omega (arith, f refl, l)
 
 -- a search that succeeds
 pub run-going : (n u v base k start before after : ℕ) → before + k ≤ start + u * n + u * u →
@@ -82,23 +80,89 @@ pub looks-last : (found now next : Found) (before after last : ℕ) → AreLooks
 unfolding AreLooksSoFar
 looks-last found now next before after last (k, e, h) all = (k, e, all ∙ h last)
 
--- after a search, whether it succeeds or is the last one
-pub made-more : (b : Bool) (s u v made : ℕ) → made + s ≡ u + 0 → (IsTrue b → v ≡ u + 1) → (IsFalse b → v ≡ u) → made + 1 + s ≡ v + cond b 0 1
-made-more true s u v made h t f = omega (arith, h, t refl)
-made-more false s u v made h t f = omega (arith, h, f refl)
+-- while a pair grows: `made` searches, one for each column that it gained and one that comes next
+pub record IsGrowing (A : Type 0) (state : A → State) (p : ℕ) (old now : Standing A) (made before after : ℕ) : Type 0 where
+  pub same : (q : ℕ → ℕ → ℕ) → layers q (state now.tableau) now.matching ≡ layers q (state old.tableau) old.matching
+  pub entries : (q : ℕ → ℕ → ℕ) → AreEntries p (state old.tableau) q → AreEntries p (state now.tableau) q
+  pub steps : after + (size_of (state old.tableau) old.matching * (state old.tableau).columns
+      + size_of (state old.tableau) old.matching * size_of (state old.tableau) old.matching)
+      ≤ before + size_of (state now.tableau) now.matching * (state old.tableau).columns
+      + size_of (state now.tableau) now.matching * size_of (state now.tableau) now.matching
+  pub told : after + (old.pivots + old.looks) ≡ before + (now.pivots + now.looks)
+  pub few_pivots : AreFewPivots (size_of (state old.tableau) old.matching) (size_of (state now.tableau) now.matching)
+      old.pivots now.pivots
+  pub few_looks : AreFewLooks (state old.tableau).columns (size_of (state old.tableau) old.matching)
+      (size_of (state now.tableau) now.matching) old.looks now.looks
+  pub looked : AreLooksSoFar old.found now.found old.looks now.looks
+  pub searched : made + size_of (state old.tableau) old.matching ≡ size_of (state now.tableau) now.matching + 1
 
-pub pivots-next : (b : Bool) (s u v base start before after : ℕ) → AreFewPivots s u start before →
-    (IsTrue b → after ≤ before + base + 1) → base ≤ u → (IsTrue b → v ≡ u + 1) →
-    (IsFalse b → after ≡ before) → (IsFalse b → v ≡ u) → AreFewPivots s v start after
-pivots-next true s u v base start before after h a l t kept f = pivots-going s u v base start before after h (a refl) l (t refl)
-pivots-next false s u v base start before after h a l t kept f = subst (λ w. AreFewPivots s w start after)
-    (sym (f refl)) (subst (λ k. AreFewPivots s u start k) (sym (kept refl)) h)
+module _ (A : Type 0) (state : A → State) (p : ℕ) (old : Standing A) where
+  abbrev N : ℕ
+  N = (state old.tableau).columns
 
-pub looks-next : (b : Bool) (n s u v start before after : ℕ) → AreFewLooks n s u start before → (IsTrue b → after ≤ before + n) → (IsTrue b → v ≡ u + 1) →
-    (IsFalse b → after ≡ before) → (IsFalse b → v ≡ u) → AreFewLooks n s v start after
-looks-next true n s u v start before after h a t kept f = looks-going n s u v start before after h (a refl) (t refl)
-looks-next false n s u v start before after h a t kept f = subst (λ w. AreFewLooks n s w start after) (sym (f refl))
-    (subst (λ k. AreFewLooks n s u start k) (sym (kept refl)) h)
+  abbrev s : ℕ
+  s = size_of (state old.tableau) old.matching
 
-pub never : IsFalse true → ⊥
-never e = cc
+  abbrev size : Standing A → ℕ
+  size e = size_of (state e.tableau) e.matching
+
+  pub growing-start : (k : ℕ) → IsGrowing A state p old old 1 k k
+  growing-start k = record {
+    same = λ q. refl;
+    entries = λ q h. h;
+    steps = omega arith;
+    told = refl;
+    few_pivots = omega arith;
+    few_looks = omega arith;
+    looked = looks-none old.found old.looks;
+    searched = omega arith;
+  }
+
+  -- an improvement of a pair that has grown
+  module _ (now next : Standing A) (made before between after : ℕ) (G : IsGrowing A state p old now made before between)
+      (same : (q : ℕ → ℕ → ℕ) → layers q (state next.tableau) next.matching ≡ layers q (state now.tableau) now.matching)
+      (entries : (q : ℕ → ℕ → ℕ) → AreEntries p (state now.tableau) q → AreEntries p (state next.tableau) q) where
+    abbrev base : ℕ
+    base = size_on (state now.tableau).base (state now.tableau).columns
+
+    abbrev vain : ℕ
+    vain = size_on (vain_of next.found) (state now.tableau).columns
+
+    columns : (state now.tableau).columns ≡ N
+    columns = ap (λ (L : LayeredMatrix). L.columns) (G.same (state old.tableau).q)
+
+    pub growing-more : HasGrown A state now next between after → IsGrowing A state p old next (made + 1) before after
+    growing-more H = record {
+      same = λ q. same q ∙ G.same q;
+      entries = λ q h. entries q (G.entries q h);
+      steps = run-going N (size now) (size next) base (s * N + s * s) before between after G.steps
+          (omega (arith, H.told, H.few_pivots, H.few_looks, columns)) (base-bound (state now.tableau) now.matching) H.size;
+      told = omega (arith, H.told, G.told);
+      few_pivots = pivots-going s (size now) (size next) base old.pivots now.pivots next.pivots G.few_pivots
+          H.few_pivots (base-bound (state now.tableau) now.matching) H.size;
+      few_looks = looks-going N s (size now) (size next) old.looks now.looks next.looks G.few_looks
+          (omega (arith, H.few_looks, columns)) H.size;
+      looked = looks-search old.found now.found next.found old.looks now.looks next.looks G.looked H.searched;
+      searched = omega (arith, G.searched, H.size);
+    }
+
+    pub growing-last : HasStayed A state p now next between after → HasRun A state p old (record next { searches = made }) before after
+    growing-last H = record {
+      same = λ q. same q ∙ G.same q;
+      entries = λ q h. entries q (G.entries q h);
+      solved = H.solved;
+      steps = run-count N s (size now) (size next) before between after G.steps (omega (arith, H.few, columns)) stays;
+      told = subst (λ n. after + (old.pivots + old.looks) ≡ before + (next.pivots + next.looks) + size_on (vain_of next.found) n)
+          columns (omega (arith, H.steps, H.pivots, H.looks, G.told));
+      few_pivots = subst (λ w. AreFewPivots s w old.pivots next.pivots) (sym stays)
+          (subst (λ k. AreFewPivots s (size now) old.pivots k) (sym H.pivots) G.few_pivots);
+      few_looks = subst (λ w. AreFewLooks N s w old.looks next.looks) (sym stays)
+          (subst (λ k. AreFewLooks N s (size now) old.looks k) (sym H.looks) G.few_looks);
+      looked = subst (λ n. AreLooksOfSearches old.found next.found old.looks next.looks (size_on (vain_of next.found) n))
+          columns (subst (λ k. AreLooksOfSearches old.found next.found old.looks k vain) (sym H.looks)
+          (looks-last old.found now.found next.found old.looks now.looks vain G.looked H.all_looks));
+      searches = omega (arith, G.searched, stays);
+    }
+      where
+        stays : size next ≡ size now
+        stays = ap (λ t. size_of (state t) next.matching) H.tableau ∙ ap (λ m. size_of (state now.tableau) m) H.matching

@@ -15,14 +15,16 @@ use Rattle.mixed_augmentation.specs.Moves.{IsFreeRow, IsRoute, route}
 use Rattle.mixed_augmentation.proofs.Routes.{shortest_from-route}
 use Rattle.independent_matching.specs.declared.row.Row.{Row}
 use Rattle.independent_matching.specs.declared.marks.Marks.{Marks}
+use Rattle.independent_matching.specs.declared.resting.Resting.{Resting}
 use Rattle.independent_matching.specs.Marks.{AreMarks}
 use Rattle.independent_matching.proofs.SideLaws.{mark-end}
 use Rattle.independent_matching.specs.Sides.{in_q, layers_of, number, tableau_of}
 use Rattle.std.specs.Prelude.{List}
 
-module _ (p : ℕ) (S : State) (M : Matching) (width : M.pattern.width ≡ S.columns) (m : Marks) (marks : AreMarks p S M m) (n : ℕ) (same : n ≡ S.columns) where
+module _ (p : ℕ) (S : State) (M : Matching) (width : M.pattern.width ≡ S.columns) (r : Resting) (m : Marks)
+    (marks : AreMarks p S M r m) (n : ℕ) (same : n ≡ S.columns) where
   abbrev free : List Bool
-  free = m.free.items
+  free = r.free.items
 
   abbrev ends : List Bool
   ends = m.ends.items
@@ -40,7 +42,7 @@ module _ (p : ℕ) (S : State) (M : Matching) (width : M.pattern.width ≡ S.col
   high x l = omega (arith, l, same)
 
   ends_tell : (x : ℕ) → x < S.columns → members_of ends x ≡ is_end p L F x
-  ends_tell x l = mark-end p S M x width m (marks.of_q.ends x l) (marks.by_t x l) (marks.of_q.by_q x l)
+  ends_tell x l = mark-end p S M x width r m (marks.of_q.ends x l) (marks.by_t x l) (marks.of_q.by_q x l)
 
   start : (x : ℕ) → x < S.columns → members_of free x ≡ true → is_free F x ≡ true
   start x l h = sym (marks.free x l) ∙ h

@@ -11,6 +11,7 @@ use Rattle.residue_theory.proofs.SetLaws.{differ, not_true}
 use Rattle.row_transform.specs.Tableaus.{State}
 use Rattle.exchange_graph.specs.Marks.{members_of}
 use Rattle.independent_matching.specs.declared.marks.Marks.{Marks}
+use Rattle.independent_matching.specs.declared.resting.Resting.{Resting}
 use Rattle.independent_matching.specs.Marks.{IsEndMark, IsQMark, IsTMark, row_at}
 use Rattle.independent_matching.specs.Sides.{HasNoMate, IsFreeQRow, IsFreeTRow, layers_of, tableau_of}
 use Rattle.bipartite_matching.proofs.MateLaws.{pair-matched}
@@ -57,9 +58,9 @@ module _ (p : ℕ) (S : State) (M : Matching) (x : ℕ) where
             t_rows row (record { below = l; touching = t; loose = λ c cl. none c (omega (arith, cl, width)) })
 
     -- the marks tell the ends
-    pub mark-end : (m : Marks) → IsEndMark m x → IsTMark M m.by_t.items x → IsQMark p S m.by_q.items x →
+    pub mark-end : (r : Resting) (m : Marks) → IsEndMark r m x → IsTMark M r.by_t.items x → IsQMark p S m.by_q.items x →
         members_of m.ends.items x ≡ is_end p (layers_of S M) (tableau_of S M) x
-    mark-end m end t q = end ∙ go (members_of m.by_t.items x) (row_at m.by_q.items x) t.some t.none q.some q.none
+    mark-end r m end t q = end ∙ go (members_of r.by_t.items x) (row_at m.by_q.items x) t.some t.none q.some q.none
       where
         go : (by_t : Bool) (by_q : Option ℕ) → (by_t ≡ true → (row : ℕ) × IsFreeTRow M x row) → (by_t ≡ false → (row : ℕ) → IsFreeTRow M x row → ⊥) →
             ((row : ℕ) → by_q ≡ Some row → IsFreeQRow p S x row) → (by_q ≡ None → (row : ℕ) → IsFreeQRow p S x row →

@@ -1,4 +1,5 @@
--- Marks of the free columns and of the ends, and what makes a column an end.
+-- Marks of the free columns and of the ends, and what makes a column an end: those that rest while columns move, r, and
+-- those that a pivot may change, m.
 use Rattle.std.specs.Prelude.{ℕ, ◌*◌, ◌<◌, ◌≤◌, ◌≡◌, ◌≢◌, ◌%◌, ◌||◌, Bool, true, false, List, Option, Some, None, is_some, length, slice_index, slice_index_or}
 use Rattle.bipartite_matching.specs.Matchings.{Matching}
 use Rattle.row_transform.specs.Tableaus.{State}
@@ -6,6 +7,7 @@ use Rattle.exchange_graph.specs.Marks.{members_of}
 use Rattle.mixed_matrices.specs.Arcs.{is_free}
 use Rattle.mixed_matrices.specs.Tableaus.{HasTableau}
 use Rattle.independent_matching.specs.declared.marks.Marks.{Marks}
+use Rattle.independent_matching.specs.declared.resting.Resting.{Resting}
 use Rattle.independent_matching.specs.Sides.{IsFreeQRow, IsFreeTRow, layers_of, size_of, tableau_of}
 
 -- the Q row that is told for x
@@ -19,16 +21,20 @@ touched_at m i = slice_index m.touched.items i
 abbrev pub IsTouched : Marks → ℕ → Type 0
 IsTouched m x = (i : ℕ) × (i < m.count) × (touched_at m i ≡ x)
 
+-- there is room to note each of the columns, and what is noted is some of them
+pub record AreNoted (columns : ℕ) (m : Marks) : Type 0 where
+  pub count : length m.touched.items ≡ columns
+  pub below : (i : ℕ) → i < m.count → touched_at m i < columns
+  pub few : m.count ≤ columns
+
 -- each list has an item for each of the columns, and no column before the first is free and an end
-pub record IsKept (columns : ℕ) (m : Marks) : Type 0 where
-  pub free_count : length m.free.items ≡ columns
+pub record IsKept (columns : ℕ) (r : Resting) (m : Marks) : Type 0 where
+  pub free_count : length r.free.items ≡ columns
   pub end_count : length m.ends.items ≡ columns
-  pub t_count : length m.by_t.items ≡ columns
+  pub t_count : length r.by_t.items ≡ columns
   pub q_count : length m.by_q.items ≡ columns
-  pub touched_count : length m.touched.items ≡ columns
-  pub touched_below : (i : ℕ) → i < m.count → touched_at m i < columns
-  pub few_touched : m.count ≤ columns
-  pub passed : (x : ℕ) → x < m.first → members_of m.free.items x ≡ true → members_of m.ends.items x ≡ true → ⊥
+  pub touched : AreNoted columns m
+  pub passed : (x : ℕ) → x < m.first → members_of r.free.items x ≡ true → members_of m.ends.items x ≡ true → ⊥
 
 -- x is marked where it touches a T row that no column has
 pub record IsTMark (M : Matching) (by_t : List Bool) (x : ℕ) : Type 0 where
@@ -41,38 +47,45 @@ pub record IsQMark (p : ℕ) (S : State) (by_q : List (Option ℕ)) (x : ℕ) : 
   pub none : row_at by_q x ≡ None → (row : ℕ) → IsFreeQRow p S x row → ⊥
 
 -- x is marked as an end where a row is told for it or it is marked for T
-abbrev pub IsEndMark : Marks → ℕ → Type 0
-IsEndMark m x = members_of m.ends.items x ≡ (members_of m.by_t.items x || is_some (row_at m.by_q.items x))
+abbrev pub IsEndMark : Resting → Marks → ℕ → Type 0
+IsEndMark r m x = members_of m.ends.items x ≡ (members_of r.by_t.items x || is_some (row_at m.by_q.items x))
 
 -- the marks for Q are right, and with those for T they tell the ends
-pub record AreMarksOfQ (p : ℕ) (S : State) (m : Marks) : Type 0 where
-  pub sized : IsKept S.columns m
+pub record AreMarksOfQ (p : ℕ) (S : State) (r : Resting) (m : Marks) : Type 0 where
+  pub sized : IsKept S.columns r m
   pub by_q : (x : ℕ) → x < S.columns → IsQMark p S m.by_q.items x
-  pub ends : (x : ℕ) → x < S.columns → IsEndMark m x
+  pub ends : (x : ℕ) → x < S.columns → IsEndMark r m x
 
 -- all marks are right
-pub record AreMarks (p : ℕ) (S : State) (M : Matching) (m : Marks) : Type 0 where
-  pub of_q : AreMarksOfQ p S m
-  pub by_t : (x : ℕ) → x < S.columns → IsTMark M m.by_t.items x
-  pub free : (x : ℕ) → x < S.columns → members_of m.free.items x ≡ is_free (tableau_of S M) x
+pub record AreMarks (p : ℕ) (S : State) (M : Matching) (r : Resting) (m : Marks) : Type 0 where
+  pub of_q : AreMarksOfQ p S r m
+  pub by_t : (x : ℕ) → x < S.columns → IsTMark M r.by_t.items x
+  pub free : (x : ℕ) → x < S.columns → members_of r.free.items x ≡ is_free (tableau_of S M) x
 
 -- the marks of x alone may differ
-pub record IsChangedAt (m now : Marks) (x : ℕ) : Type 0 where
-  pub free : now.free ≡ m.free
+pub record IsChangedAt (r r' : Resting) (m now : Marks) (x : ℕ) : Type 0 where
   pub ends : (y : ℕ) → y ≢ x → members_of now.ends.items y ≡ members_of m.ends.items y
-  pub by_t : (y : ℕ) → y ≢ x → members_of now.by_t.items y ≡ members_of m.by_t.items y
+  pub by_t : (y : ℕ) → y ≢ x → members_of r'.by_t.items y ≡ members_of r.by_t.items y
   pub by_q : (y : ℕ) → y ≢ x → row_at now.by_q.items y ≡ row_at m.by_q.items y
 
 -- each column in which P has an entry in the row is touched
 abbrev pub AreTouched : ℕ → State → Marks → ℕ → Type 0
 AreTouched p S m row = (x : ℕ) → x < S.columns → S.p row x % p ≢ 0 → IsTouched m x
 
+-- the base and the matched columns are a pair, the marks that a pivot may change are right, and there were few pivots
+pub record IsInOrder (p : ℕ) (S : State) (M : Matching) (r : Resting) (m : Marks) (pivots : ℕ) : Type 0 where
+  pub pair : HasTableau p (layers_of S M) (tableau_of S M)
+  pub width : M.pattern.width ≡ S.columns
+  pub marks : AreMarksOfQ p S r m
+  pub few : pivots ≤ size_of S M * size_of S M
+
 -- the base and the matched columns are a pair of that size, the marks are right, and there were few pivots and looks
-pub record IsReady (p : ℕ) (S : State) (M : Matching) (places : ℕ) (m : Marks) (size pivots looks : ℕ) : Type 0 where
+pub record IsReady (p : ℕ) (S : State) (M : Matching) (places : ℕ) (r : Resting) (m : Marks)
+    (size pivots looks : ℕ) : Type 0 where
   pub pair : HasTableau p (layers_of S M) (tableau_of S M)
   pub width : M.pattern.width ≡ S.columns
   pub search : places ≡ S.columns
-  pub marks : AreMarks p S M m
+  pub marks : AreMarks p S M r m
   pub count : size ≡ size_of S M
   pub few : pivots ≤ size * size
   pub few_looks : looks ≤ size * S.columns

@@ -117,3 +117,10 @@ AreRowsMoving M₀ end M next = (row : ℕ) → (HasNoMate M row × (next ≢ So
 pub record IsFreeTaken (columns : ℕ) (F G : Tableau) (x : ℕ) : Type 0 where
   pub here : is_free G x ≡ false
   pub others : (y : ℕ) → y < columns → y ≢ x → is_free G y ≡ is_free F y
+
+-- the pair has gained the column `first`, along a walk that took the row `end`
+pub record HasGained (S S' : State) (M M' : Matching) (first : ℕ) (end : Row) : Type 0 where
+  pub layers : layers_of S' M' ≡ layers_of S M
+  pub size : size_of S' M' ≡ size_of S M + 1
+  pub rows : AreRowsLeft M M' end
+  pub taken : IsFreeTaken S.columns (tableau_of S M) (tableau_of S' M') first

@@ -1,6 +1,7 @@
-//! The engine: a best pair of independent columns of Q and matched columns of T, and what it tells.
+//! The engine: a pair of independent columns of Q and matched columns of T that grows column by column, along shortest
+//! walks of its exchange graph, and what it tells (Murota 2000, chapter 2: augmentation of an independent matching).
 
-ghost use Rattle.std.specs.Prelude.{◌≡◌, ◌≤◌, ℕ, ◌+◌, ◌*◌, ◌<◌, IfOk, IsTrue, IsFalse, is_some, Option, length, IfSome, IfNone};
+ghost use Rattle.std.specs.Prelude.{◌≡◌, ◌≤◌, ℕ, ◌+◌, ◌*◌, ◌<◌, true, IfOk, IsTrue, IsFalse, is_some, Option, length, IfSome, IfNone};
 ghost use Rattle.dense_q.specs.Tables.{entry, height};
 ghost use Rattle.sparse_t.specs.Incidences.{row_count};
 ghost use Rattle.bipartite_matching.specs.Matchings.{HasPair, IsMatching, IsRowFree, mate_at};
@@ -13,15 +14,18 @@ ghost use Rattle.independent_matching.specs.Engines.{Standing, AreEntries, HasGr
 ghost use Rattle.independent_matching.specs.Sides.{layers_of, size_of, tableau_of};
 ghost use Rattle.independent_matching.specs.Turns.{turn_of};
 
-use crate::improver::Improver;
+use crate::marks::Marks;
+use crate::mover::Mover;
+use crate::pair::Pair;
+use crate::resting::Resting;
 use bipartite_matching::Match;
-use exchange_graph::{Arcs, Steps};
+use exchange_graph::{Arcs, Search, Steps};
 use mixed_model::Layered;
 use out_of_memory::NoMemory;
 use residue_field::Field;
 use row_transform::{DenseTableau, Tableau};
 use std::alloc::Global;
-use std::marker::{Brand, Model};
+use std::marker::{Brand, Model, PhantomData};
 use std::sync::ledger::{Blank, Ledger};
 
 /// A pair of a layered matrix, independent columns of Q and other columns matched in T, that `run` makes best. Rows
@@ -31,7 +35,11 @@ use std::sync::ledger::{Blank, Ledger};
 /// the base column y, or the T row matched with y touches x.
 #[derive(Drop)]
 pub struct Engine<F: Field, T: Tableau<F> = DenseTableau<F>> {
-    improver: Improver<F, T>,
+    mover: Mover<F, T>,
+    resting: Resting,
+    search: Search,
+    size: usize,
+    looks: usize,
     searches: usize,
 }
 
@@ -42,17 +50,16 @@ impl<F: Field, T: Tableau<F>> Model for Engine<F, T> {
     ghost Value = { Standing T };
 
     ghost view = { λ e. record {
-      tableau = e.improver.mover.pair.tableau;
-      matching = e.improver.mover.pair.mates;
-      found = e.improver.search;
-      pivots =
-          e.improver.mover.pivots;
-      looks = e.improver.looks;
+      tableau = e.mover.pair.tableau;
+      matching = e.mover.pair.mates;
+      found = e.search;
+      pivots = e.mover.pivots;
+      looks = e.looks;
       searches = e.searches;
     } };
 
-    ghost invariant = { λ e. IsReady F.modulus (T.state e.improver.mover.pair.tableau) e.improver.mover.pair.mates
-        e.improver.search.places e.improver.mover.marks e.improver.size e.improver.mover.pivots e.improver.looks };
+    ghost invariant = { λ e. IsReady F.modulus (T.state e.mover.pair.tableau) e.mover.pair.mates
+        e.search.places e.resting e.mover.marks e.size e.mover.pivots e.looks };
 }
 
 impl<F: Field, T: Tableau<F>> Engine<F, T> {
@@ -83,16 +90,30 @@ impl<F: Field, T: Tableau<F>> Engine<F, T> {
         l.are_layers();
         // what it tells is a tableau
         let _rows = tableau.rows();
-        let mates = Match::open(alloc, &l.t)?;
+        let columns = tableau.columns();
+        let pair = Pair {
+            mates: Match::open(alloc, &l.t)?,
+            tableau,
+            field: PhantomData,
+        };
+        let (resting, marks) = Marks::open(alloc, &pair)?;
         Ok(Engine {
-            improver: Improver::open(alloc, tableau, mates)?,
+            mover: Mover {
+                pair,
+                marks,
+                pivots: 0,
+            },
+            resting,
+            search: Search::open(alloc, columns)?,
+            size: 0,
+            looks: 0,
             searches: 0,
         })
     }
 
-    /// Searches once for a walk from a free column to an end, from one free column after another. Where there is one, the
-    /// pair grows by a column along it, from its end backwards; else the pair is best and stays. A free column that is an end is such a walk,
-    /// and then no column is looked at.
+    /// Searches once for a walk from a free column to an end, from one free column after another. Where there is one,
+    /// the pair grows by a column along it, from its end backwards; else the pair is best and stays. A free column that
+    /// is an end is such a walk, and then no column is looked at.
     ///
     /// A step is a look at a column in the search or a pivot. Where the pair grows there is at most one look for each
     /// column, and there are at most as many pivots as there were base columns, and one; `looks` rises by the looks of
@@ -111,7 +132,64 @@ impl<F: Field, T: Tableau<F>> Engine<F, T> {
         ensures searches { searches.new ≡ searches.old + 1 }
         ensures same_searches { self.new.searches ≡ self.old.searches }
     {
-        self.improver.improve(searches, steps)
+        searches.tick();
+        match self.mover.marks.free_end(&self.resting) {
+            Some(x) => {
+                self.grow(x, steps);
+                true
+            }
+            None => self.improve_along(steps),
+        }
+    }
+
+    // Makes the pair larger by the free column x, which is an end.
+    fn grow<L: Ledger>(&mut self, x: usize, steps: &mut Steps<L>)
+        requires x { x < (T.state self.old.tableau).columns }
+        requires free { is_free (tableau_of (T.state self.old.tableau) self.old.matching) x ≡ true }
+        requires end { is_end F.modulus (layers_of (T.state self.old.tableau) self.old.matching)
+            (tableau_of (T.state self.old.tableau) self.old.matching) x ≡ true }
+        ensures layers { layers_of (T.state self.new.tableau) self.new.matching
+            ≡ layers_of (T.state self.old.tableau) self.old.matching }
+        ensures grown { HasGrown T T.state self.old self.new steps.old steps.new }
+        ensures searches { self.new.searches ≡ self.old.searches }
+    {
+        let row = self.mover.marks.free_row(&self.mover.pair, x).unwrap();
+        self.mover.give(&self.resting, x, row, steps);
+        self.mover
+            .marks
+            .close(&mut self.resting, &self.mover.pair, x, row);
+        self.size += 1;
+    }
+
+    // Makes the pair larger along a walk that is a shortest one from its free column, or finds that it is best.
+    fn improve_along<L: Ledger>(&mut self, steps: &mut Steps<L>) -> bool
+        ensures layers { layers_of (T.state self.new.tableau) self.new.matching
+            ≡ layers_of (T.state self.old.tableau) self.old.matching }
+        ensures grown { IsTrue result → HasGrown T T.state self.old self.new steps.old steps.new }
+        ensures best { IsFalse result → HasStayed T T.state F.modulus self.old self.new steps.old steps.new }
+        ensures searches { self.new.searches ≡ self.old.searches }
+    {
+        match self.search.shortest_in_turn(
+            &self.mover.pair,
+            &self.resting.free,
+            &self.mover.marks.ends,
+            steps,
+        ) {
+            None => false,
+            Some(last) => {
+                let x = self.search.step(last);
+                let end = self.mover.marks.free_row(&self.mover.pair, x).unwrap();
+                self.mover
+                    .augment(&self.resting, &self.search, last, end, steps);
+                let first = self.search.step(0);
+                self.mover
+                    .marks
+                    .close(&mut self.resting, &self.mover.pair, first, end);
+                self.size += 1;
+                self.looks += self.search.looks();
+                true
+            }
+        }
     }
 
     /// Ends with a best pair: it improves the pair until a search finds no walk.
@@ -144,7 +222,14 @@ impl<F: Field, T: Tableau<F>> Engine<F, T> {
         ensures run { HasRun T T.state F.modulus self.old self.new steps.old steps.new }
         ensures counted { searches.new ≡ searches.old + self.new.searches }
     {
-        let made = self.improver.run(searches, steps);
+        // there are at most 8,192 columns, so that the count fits
+        let _columns = self.mover.pair.tableau.columns();
+        let before = self.size;
+        let mut made = 1;
+        while self.improve(searches, steps) {
+            // one for each column that the pair gained, and one that comes next
+            made = self.size - before + 1;
+        }
         self.searches = made;
     }
 
@@ -155,7 +240,7 @@ impl<F: Field, T: Tableau<F>> Engine<F, T> {
             HasTableau F.modulus (layers q (T.state self.now.tableau) self.now.matching)
             (tableau_of (T.state self.now.tableau) self.now.matching) }
     {
-        self.improver.size
+        self.size
     }
 
     /// How many pivots there have been since the engine was opened. A run or an improvement that makes the pair larger
@@ -165,7 +250,7 @@ impl<F: Field, T: Tableau<F>> Engine<F, T> {
         ensures few { result ≤ size_of (T.state self.now.tableau) self.now.matching * size_of (T.state self.now.tableau)
             self.now.matching }
     {
-        self.improver.mover.pivots
+        self.mover.pivots
     }
 
     /// How many looks there have been since the engine was opened in the searches that found a walk: for each of these
@@ -176,7 +261,7 @@ impl<F: Field, T: Tableau<F>> Engine<F, T> {
         ensures few { result ≤ size_of (T.state self.now.tableau) self.now.matching *
             (T.state self.now.tableau).columns }
     {
-        self.improver.looks
+        self.looks
     }
 
     /// How many searches the last run made: 0 before the first one.
@@ -191,7 +276,7 @@ impl<F: Field, T: Tableau<F>> Engine<F, T> {
         requires { col < (T.state self.now.tableau).columns }
         ensures { result ≡ (tableau_of (T.state self.now.tableau) self.now.matching).base col }
     {
-        self.improver.mover.pair.tableau.row_of(col).is_some()
+        self.mover.pair.tableau.row_of(col).is_some()
     }
 
     /// The T row that the column is matched with, if it is.
@@ -199,7 +284,7 @@ impl<F: Field, T: Tableau<F>> Engine<F, T> {
         requires { col < (T.state self.now.tableau).columns }
         ensures { result ≡ mate_at self.now.matching col }
     {
-        self.improver.mover.pair.mates.mate_of_col(col)
+        self.mover.pair.mates.mate_of_col(col)
     }
 
     /// The column that the T row is matched with, if it is.
@@ -210,7 +295,7 @@ impl<F: Field, T: Tableau<F>> Engine<F, T> {
         ensures none { IfNone result (IsRowFree self.now.matching row) }
         ensures matching { IsMatching self.now.matching }
     {
-        self.improver.mover.pair.mates.mate_of_row(row)
+        self.mover.pair.mates.mate_of_row(row)
     }
 
     /// Whether the column is free: not in the pair.
@@ -218,7 +303,7 @@ impl<F: Field, T: Tableau<F>> Engine<F, T> {
         requires { col < (T.state self.now.tableau).columns }
         ensures { result ≡ is_free (tableau_of (T.state self.now.tableau) self.now.matching) col }
     {
-        self.improver.mover.marks.free[col]
+        self.resting.free[col]
     }
 
     /// Whether the column is an end: P has an entry in it at a Q row without base column, or it touches a T row that
@@ -228,7 +313,7 @@ impl<F: Field, T: Tableau<F>> Engine<F, T> {
         ensures { result ≡ is_end F.modulus (layers_of (T.state self.now.tableau) self.now.matching)
             (tableau_of (T.state self.now.tableau) self.now.matching) col }
     {
-        self.improver.mover.marks.ends[col]
+        self.mover.marks.ends[col]
     }
 
     /// A mark for each column, set where it is free.
@@ -237,7 +322,7 @@ impl<F: Field, T: Tableau<F>> Engine<F, T> {
         ensures marks { (col : ℕ) → col < (T.state self.now.tableau).columns →
             members_of result.now col ≡ is_free (tableau_of (T.state self.now.tableau) self.now.matching) col }
     {
-        &self.improver.mover.marks.free
+        &self.resting.free
     }
 
     /// A mark for each column, set where it is an end.
@@ -247,7 +332,7 @@ impl<F: Field, T: Tableau<F>> Engine<F, T> {
             members_of result.now col ≡ is_end F.modulus (layers_of (T.state self.now.tableau) self.now.matching)
             (tableau_of (T.state self.now.tableau) self.now.matching) col }
     {
-        &self.improver.mover.marks.ends
+        &self.mover.marks.ends
     }
 
     /// Whether the column is in the least minimiser of p(X) = rho(X) + gamma(X) - |X|, after `run`.
@@ -255,14 +340,14 @@ impl<F: Field, T: Tableau<F>> Engine<F, T> {
         requires { col < (T.state self.now.tableau).columns }
         ensures { result ≡ vain_of self.now.found col }
     {
-        self.improver.search.reached_in_vain(col)
+        self.search.reached_in_vain(col)
     }
 
     /// The tableau of Q whose base columns are the pair's independent columns.
     pub fn tableau(&self) -> &T
         ensures { result.now ≡ self.now.tableau }
     {
-        &self.improver.mover.pair.tableau
+        &self.mover.pair.tableau
     }
 }
 
@@ -275,10 +360,10 @@ impl<F: Field, T: Tableau<F>> Arcs for Engine<F, T> {
     ghost turn = { λ e. turn_of (T.state e.tableau) e.matching };
 
     fn arc(&self, x: usize, y: usize) -> bool {
-        self.improver.mover.pair.arc(x, y)
+        self.mover.pair.arc(x, y)
     }
 
     fn next_arc(&self, x: usize, from: usize) -> Option<(usize, usize)> {
-        self.improver.mover.pair.next_arc(x, from)
+        self.mover.pair.next_arc(x, from)
     }
 }

@@ -3,10 +3,10 @@
 #![tactic(auto)]
 
 mod engine;
-mod improver;
 mod marks;
 mod mover;
 mod pair;
+mod resting;
 mod row;
 
 pub use engine::Engine;

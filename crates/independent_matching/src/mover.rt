@@ -5,20 +5,20 @@ ghost use Rattle.limits.specs.Limits.{column_limit};
 ghost use Rattle.residue_theory.specs.Sums.{size_on};
 ghost use Rattle.exchange_graph.specs.Results.{step_of};
 ghost use Rattle.mixed_matrices.specs.Arcs.{is_free};
-ghost use Rattle.mixed_matrices.specs.Tableaus.{HasTableau};
 ghost use Rattle.mixed_augmentation.specs.Moves.{IsFreeRow, IsRoute, route};
-ghost use Rattle.independent_matching.specs.Marks.{AreMarksOfQ};
-ghost use Rattle.independent_matching.specs.Sides.{AreRowsLeft, CanTake, IsFreeTaken, Takes, in_q, layers_of, number, size_of, tableau_of};
+ghost use Rattle.independent_matching.specs.Marks.{AreMarksOfQ, IsInOrder};
+ghost use Rattle.independent_matching.specs.Sides.{CanTake, HasGained, Takes, in_q, layers_of, number, tableau_of};
 
 use crate::marks::Marks;
 use crate::pair::Pair;
+use crate::resting::Resting;
 use crate::row::Row;
 use exchange_graph::{Search, Steps};
 use residue_field::Field;
 use row_transform::Tableau;
 use std::sync::ledger::Ledger;
 
-// A pair, the marks of its free columns and its ends, and a count of the pivots.
+// A pair, the marks that its pivots change, and a count of them.
 #[derive(Drop)]
 pub struct Mover<F: Field, T: Tableau<F>> {
     pub pair: Pair<F, T>,
@@ -30,42 +30,27 @@ impl<F: Field, T: Tableau<F>> Mover<F, T> {
     /// Moves the columns of the walk that the search found, from its last one back, which takes the row `end`.
     pub fn augment<L: Ledger>(
         &mut self,
+        resting: &Resting,
         search: &Search,
         last: usize,
         end: Row,
         steps: &mut Steps<L>,
     )
-        requires width { self.old.pair.mates.pattern.width ≡ (T.state self.old.pair.tableau).columns }
+        requires order { IsInOrder F.modulus (T.state self.old.pair.tableau) self.old.pair.mates resting.now
+            self.old.marks self.old.pivots }
         requires places { search.now.places ≡ (T.state self.old.pair.tableau).columns }
         requires last { last < search.now.places }
-        requires few { self.old.pivots ≤ size_of (T.state self.old.pair.tableau) self.old.pair.mates * size_of
-            (T.state self.old.pair.tableau) self.old.pair.mates }
-        requires marks { AreMarksOfQ F.modulus (T.state self.old.pair.tableau) self.old.marks }
-        requires pair { HasTableau F.modulus (layers_of (T.state self.old.pair.tableau) self.old.pair.mates)
-            (tableau_of (T.state self.old.pair.tableau) self.old.pair.mates) }
         requires route { IsRoute F.modulus (layers_of (T.state self.old.pair.tableau) self.old.pair.mates)
             (tableau_of (T.state self.old.pair.tableau) self.old.pair.mates)
             (route (tableau_of (T.state self.old.pair.tableau) self.old.pair.mates) (step_of search.now) last
             (in_q end) (number end)) }
-        ensures layers { layers_of (T.state self.new.pair.tableau) self.new.pair.mates
-            ≡ layers_of (T.state self.old.pair.tableau) self.old.pair.mates }
-        ensures width { self.new.pair.mates.pattern.width ≡ self.old.pair.mates.pattern.width }
-        ensures pair { HasTableau F.modulus (layers_of (T.state self.old.pair.tableau) self.old.pair.mates)
-            (tableau_of (T.state self.new.pair.tableau) self.new.pair.mates) }
-        ensures size { size_of (T.state self.new.pair.tableau) self.new.pair.mates
-            ≡ size_of (T.state self.old.pair.tableau) self.old.pair.mates + 1 }
+        ensures order { IsInOrder F.modulus (T.state self.new.pair.tableau) self.new.pair.mates resting.now
+            self.new.marks self.new.pivots }
+        ensures gained { HasGained (T.state self.old.pair.tableau) (T.state self.new.pair.tableau)
+            self.old.pair.mates self.new.pair.mates (step_of search.now 0) end }
         ensures steps { steps.new ≤ steps.old + size_on (T.state self.old.pair.tableau).base
             (T.state self.old.pair.tableau).columns + 1 }
         ensures pivots { steps.new + self.old.pivots ≡ steps.old + self.new.pivots }
-        ensures few { self.new.pivots ≤ size_of (T.state self.new.pair.tableau) self.new.pair.mates * size_of
-            (T.state self.new.pair.tableau) self.new.pair.mates }
-        ensures free { self.new.marks.free ≡ self.old.marks.free }
-        ensures by_t { self.new.marks.by_t ≡ self.old.marks.by_t }
-        ensures marks { AreMarksOfQ F.modulus (T.state self.new.pair.tableau) self.new.marks }
-        ensures rows { AreRowsLeft self.old.pair.mates self.new.pair.mates end }
-        ensures taken { IsFreeTaken (T.state self.old.pair.tableau).columns
-            (tableau_of (T.state self.old.pair.tableau) self.old.pair.mates)
-            (tableau_of (T.state self.new.pair.tableau) self.new.pair.mates) (step_of search.now 0) }
         ensures narrow { (T.state self.old.pair.tableau).columns ≤ column_limit }
     {
         // there are at most 8,192 columns, so that the sum below fits
@@ -76,55 +61,40 @@ impl<F: Field, T: Tableau<F>> Mover<F, T> {
             left -= 1;
             let x = search.step(left);
             next = self.pair.row_of(x);
-            self.take(row, x, steps);
+            self.take(resting, row, x, steps);
         }
     }
 
     /// Gives the free column x a row that it may take and that no column has.
-    pub fn give<L: Ledger>(&mut self, x: usize, row: Row, steps: &mut Steps<L>)
-        requires width { self.old.pair.mates.pattern.width ≡ (T.state self.old.pair.tableau).columns }
-        requires few { self.old.pivots ≤ size_of (T.state self.old.pair.tableau) self.old.pair.mates * size_of
-            (T.state self.old.pair.tableau) self.old.pair.mates }
+    pub fn give<L: Ledger>(&mut self, resting: &Resting, x: usize, row: Row, steps: &mut Steps<L>)
+        requires order { IsInOrder F.modulus (T.state self.old.pair.tableau) self.old.pair.mates resting.now
+            self.old.marks self.old.pivots }
         requires x { x < (T.state self.old.pair.tableau).columns }
-        requires marks { AreMarksOfQ F.modulus (T.state self.old.pair.tableau) self.old.marks }
-        requires pair { HasTableau F.modulus (layers_of (T.state self.old.pair.tableau) self.old.pair.mates)
-            (tableau_of (T.state self.old.pair.tableau) self.old.pair.mates) }
         requires free { is_free (tableau_of (T.state self.old.pair.tableau) self.old.pair.mates) x ≡ true }
         requires row { IsFreeRow F.modulus (layers_of (T.state self.old.pair.tableau) self.old.pair.mates)
             (tableau_of (T.state self.old.pair.tableau) self.old.pair.mates) x (in_q row) (number row) }
-        ensures layers { layers_of (T.state self.new.pair.tableau) self.new.pair.mates
-            ≡ layers_of (T.state self.old.pair.tableau) self.old.pair.mates }
-        ensures width { self.new.pair.mates.pattern.width ≡ self.old.pair.mates.pattern.width }
-        ensures pair { HasTableau F.modulus (layers_of (T.state self.old.pair.tableau) self.old.pair.mates)
-            (tableau_of (T.state self.new.pair.tableau) self.new.pair.mates) }
-        ensures size { size_of (T.state self.new.pair.tableau) self.new.pair.mates
-            ≡ size_of (T.state self.old.pair.tableau) self.old.pair.mates + 1 }
-        ensures pivots { steps.new + self.old.pivots ≡ steps.old + self.new.pivots }
-        ensures few { self.new.pivots ≤ size_of (T.state self.new.pair.tableau) self.new.pair.mates * size_of
-            (T.state self.new.pair.tableau) self.new.pair.mates }
+        ensures order { IsInOrder F.modulus (T.state self.new.pair.tableau) self.new.pair.mates resting.now
+            self.new.marks self.new.pivots }
+        ensures gained { HasGained (T.state self.old.pair.tableau) (T.state self.new.pair.tableau)
+            self.old.pair.mates self.new.pair.mates x row }
         ensures steps { steps.new ≤ steps.old + 1 }
-        ensures free { self.new.marks.free ≡ self.old.marks.free }
-        ensures by_t { self.new.marks.by_t ≡ self.old.marks.by_t }
-        ensures marks { AreMarksOfQ F.modulus (T.state self.new.pair.tableau) self.new.marks }
-        ensures rows { AreRowsLeft self.old.pair.mates self.new.pair.mates row }
-        ensures taken { IsFreeTaken (T.state self.old.pair.tableau).columns
-            (tableau_of (T.state self.old.pair.tableau) self.old.pair.mates)
-            (tableau_of (T.state self.new.pair.tableau) self.new.pair.mates) x }
+        ensures pivots { steps.new + self.old.pivots ≡ steps.old + self.new.pivots }
         ensures narrow { (T.state self.old.pair.tableau).columns ≤ column_limit }
     {
         // there are at most 8,192 columns, so that the size fits
         let _columns = self.pair.tableau.columns();
-        self.take(row, x, steps);
+        self.take(resting, row, x, steps);
     }
 
-    // Moves column x to the row, out of the T row that it has.
-    fn take<L: Ledger>(&mut self, row: Row, x: usize, steps: &mut Steps<L>)
+    // Moves column x to the row, out of the T row that it has; for a Q row that is a pivot, and the columns that it
+    // touches are looked at anew.
+    fn take<L: Ledger>(&mut self, resting: &Resting, row: Row, x: usize, steps: &mut Steps<L>)
         requires width { self.old.pair.mates.pattern.width ≡ (T.state self.old.pair.tableau).columns }
         requires few { self.old.pivots ≤ 16384 * column_limit }
         requires x { x < (T.state self.old.pair.tableau).columns }
         requires can { CanTake F.modulus (layers_of (T.state self.old.pair.tableau) self.old.pair.mates)
             (tableau_of (T.state self.old.pair.tableau) self.old.pair.mates) row x }
-        requires marks { AreMarksOfQ F.modulus (T.state self.old.pair.tableau) self.old.marks }
+        requires marks { AreMarksOfQ F.modulus (T.state self.old.pair.tableau) resting.now self.old.marks }
         ensures takes { Takes F.modulus (layers_of (T.state self.old.pair.tableau) self.old.pair.mates)
             (tableau_of (T.state self.old.pair.tableau) self.old.pair.mates)
             (tableau_of (T.state self.new.pair.tableau) self.new.pair.mates) row x }
@@ -133,39 +103,16 @@ impl<F: Field, T: Tableau<F>> Mover<F, T> {
         ensures pattern { self.new.pair.mates.pattern ≡ self.old.pair.mates.pattern }
         ensures steps { steps.new ≡ steps.old + cond (in_q row) 1 0 }
         ensures pivots { self.new.pivots ≡ self.old.pivots + cond (in_q row) 1 0 }
-        ensures marks { AreMarksOfQ F.modulus (T.state self.new.pair.tableau) self.new.marks }
-        ensures free { self.new.marks.free ≡ self.old.marks.free }
-        ensures by_t { self.new.marks.by_t ≡ self.old.marks.by_t }
+        ensures marks { AreMarksOfQ F.modulus (T.state self.new.pair.tableau) resting.now self.new.marks }
     {
         match row {
-            Row::Q(row) => self.pivot(row, x, steps),
+            Row::Q(at) => {
+                self.marks.touch(&self.pair, at);
+                self.pair.take(row, x, steps);
+                self.marks.settle(resting, &self.pair, at);
+                self.pivots += 1;
+            }
             Row::T(_) => self.pair.take(row, x, steps),
         }
-    }
-
-    // Moves column x to the Q row, and looks anew at the columns that the pivot touches.
-    fn pivot<L: Ledger>(&mut self, row: usize, x: usize, steps: &mut Steps<L>)
-        requires width { self.old.pair.mates.pattern.width ≡ (T.state self.old.pair.tableau).columns }
-        requires few { self.old.pivots ≤ 16384 * column_limit }
-        requires x { x < (T.state self.old.pair.tableau).columns }
-        requires can { CanTake F.modulus (layers_of (T.state self.old.pair.tableau) self.old.pair.mates)
-            (tableau_of (T.state self.old.pair.tableau) self.old.pair.mates) (Row.Q row) x }
-        requires marks { AreMarksOfQ F.modulus (T.state self.old.pair.tableau) self.old.marks }
-        ensures takes { Takes F.modulus (layers_of (T.state self.old.pair.tableau) self.old.pair.mates)
-            (tableau_of (T.state self.old.pair.tableau) self.old.pair.mates)
-            (tableau_of (T.state self.new.pair.tableau) self.new.pair.mates) (Row.Q row) x }
-        ensures layers { layers_of (T.state self.new.pair.tableau) self.new.pair.mates
-            ≡ layers_of (T.state self.old.pair.tableau) self.old.pair.mates }
-        ensures pattern { self.new.pair.mates.pattern ≡ self.old.pair.mates.pattern }
-        ensures steps { steps.new ≡ steps.old + 1 }
-        ensures pivots { self.new.pivots ≡ self.old.pivots + 1 }
-        ensures marks { AreMarksOfQ F.modulus (T.state self.new.pair.tableau) self.new.marks }
-        ensures free { self.new.marks.free ≡ self.old.marks.free }
-        ensures by_t { self.new.marks.by_t ≡ self.old.marks.by_t }
-    {
-        self.marks.touch(&self.pair, row);
-        self.pair.take(Row::Q(row), x, steps);
-        self.marks.settle(&self.pair, row);
-        self.pivots += 1;
     }
 }

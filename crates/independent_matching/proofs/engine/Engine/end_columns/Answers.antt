@@ -8,7 +8,7 @@ use Rattle.independent_matching.proofs.engine.Engine.end_columns.Goals as goal
 pub returns-clause-marks : goal.returns-clause-marks
 returns-clause-marks g c =
     let p = g.F.Field.modulus in
-    let e = c.self.inside.improver.mover in
+    let e = c.self.inside.mover in
     let S = g.T.Tableau.state e.pair.tableau in
     let M = e.pair.mates in
     let marks = c.self.invariant.marks in
@@ -16,4 +16,4 @@ returns-clause-marks g c =
     is_end p (layers_of (g.T.Tableau.state v.tableau) v.matching) (tableau_of (g.T.Tableau.state v.tableau) v.matching) col)
     c.self.view_is
     (λ col below. ap (λ list. members_of list col) c.deref.ensures.value
-    ∙ mark-end p S M col c.self.invariant.width e.marks (marks.of_q.ends col below) (marks.by_t col below) (marks.of_q.by_q col below))
+    ∙ mark-end p S M col c.self.invariant.width c.self.inside.resting e.marks (marks.of_q.ends col below) (marks.by_t col below) (marks.of_q.by_q col below))

@@ -11,5 +11,5 @@ returns-clause-pair g c =
     subst (λ e. (q : ℕ → ℕ → ℕ) → AreEntries p (g.T.Tableau.state e.tableau) q →
     HasTableau p (layers q (g.T.Tableau.state e.tableau) e.matching)
     (tableau_of (g.T.Tableau.state e.tableau) e.matching)) c.self.view_is
-    (λ q agree. entries-tableau p q (g.T.Tableau.state c.self.inside.improver.mover.pair.tableau)
-    c.self.inside.improver.mover.pair.mates agree c.self.invariant.pair)
+    (λ q agree. entries-tableau p q (g.T.Tableau.state c.self.inside.mover.pair.tableau)
+    c.self.inside.mover.pair.mates agree c.self.invariant.pair)

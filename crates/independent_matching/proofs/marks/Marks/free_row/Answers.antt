@@ -16,25 +16,25 @@ returns-in-None-Some-clause-free g c =
     let S = g.T.Tableau.state c.args.pair.now.tableau in
     let told : row_at c.args.self.now.by_q.items c.args.x ≡ Some c.in-None-Some.row =
     sym (get_or_read_under c.args.self.now.by_q.items c.args.x _ c.index.result.now None c.index.ensures c.requires.x
-    (sym c.requires.marks.of_q.sized.q_count)) ∙ c.in-None-Some.is-1 in
+    (sym c.requires.count)) ∙ c.in-None-Some.is-1 in
     free_q-row g.F.Field.modulus S c.args.pair.now.mates c.args.x c.in-None-Some.row
-    ((c.requires.marks.of_q.by_q c.args.x c.requires.x).some c.in-None-Some.row told)
+    ((c.requires.marks c.args.x c.requires.x).some c.in-None-Some.row told)
 
 pub returns-in-None-Some-clause-end : goal.returns-in-None-Some-clause-end
 returns-in-None-Some-clause-end g c =
     let S = g.T.Tableau.state c.args.pair.now.tableau in
     let told : row_at c.args.self.now.by_q.items c.args.x ≡ Some c.in-None-Some.row =
     sym (get_or_read_under c.args.self.now.by_q.items c.args.x _ c.index.result.now None c.index.ensures c.requires.x
-    (sym c.requires.marks.of_q.sized.q_count)) ∙ c.in-None-Some.is-1 in
+    (sym c.requires.count)) ∙ c.in-None-Some.is-1 in
     free-end g.F.Field.modulus S c.args.pair.now.mates c.args.x _ c.in-None-Some.row
     (free_q-row g.F.Field.modulus S c.args.pair.now.mates c.args.x c.in-None-Some.row
-    ((c.requires.marks.of_q.by_q c.args.x c.requires.x).some c.in-None-Some.row told))
+    ((c.requires.marks c.args.x c.requires.x).some c.in-None-Some.row told))
 
 pub returns-in-None-None-clause-end : goal.returns-in-None-None-clause-end
 returns-in-None-None-clause-end g c =
     let S = g.T.Tableau.state c.args.pair.now.tableau in
     let told : row_at c.args.self.now.by_q.items c.args.x ≡ None =
     sym (get_or_read_under c.args.self.now.by_q.items c.args.x _ c.index.result.now None c.index.ensures c.requires.x
-    (sym c.requires.marks.of_q.sized.q_count)) ∙ c.in-None-None.is-1 in
+    (sym c.requires.count)) ∙ c.in-None-None.is-1 in
     none-end g.F.Field.modulus S c.args.pair.now.mates c.args.x c.requires.width c.in-None-None.ensures.none
-    ((c.requires.marks.of_q.by_q c.args.x c.requires.x).none told)
+    ((c.requires.marks c.args.x c.requires.x).none told)

@@ -11,25 +11,27 @@ loop-x-preserved g c =
     let S = g.T.Tableau.state c.args.pair.now.tableau in
     let M = c.args.pair.now.mates in
     let I = c.loop-x.invariant in
+    let rested = c.loop-x.resting in
+    let rest = c.find_t_row.new.resting in
     let between = c.find_t_row.new.self in
     let now = c.find_q_row.new.self in
     let T' = c.find_t_row.ensures in
     let Q' = c.find_q_row.ensures in
     record {
       sized = Q'.sized;
-      free = λ y l. ap (λ f. members_of f.items y) (Q'.others.free ∙ T'.others.free) ∙ I.free y l;
-      by_t = λ y l. subst (λ b. IsTMark M b.items y) (sym Q'.by_t) (elim (nat_cases y c.loop-x.x) [
-        | inl e ↦ subst (λ k. IsTMark M between.by_t.items k) (sym e) T'.found
-        | inr ne ↦ other-t c.loop-x.marks between c.loop-x.x T'.others y ne M (I.by_t y (omega (arith, l, ne)))
-      ]);
+      free = λ y l. ap (λ f. members_of f.items y) T'.free ∙ I.free y l;
+      by_t = λ y l. elim (nat_cases y c.loop-x.x) [
+        | inl e ↦ subst (λ k. IsTMark M rest.by_t.items k) (sym e) T'.found
+        | inr ne ↦ other-t rested rest c.loop-x.marks between c.loop-x.x T'.others y ne M (I.by_t y (omega (arith, l, ne)))
+      ];
       by_q = λ y l. elim (nat_cases y c.loop-x.x) [
         | inl e ↦ subst (λ k. IsQMark p S now.by_q.items k) (sym e) Q'.found
-        | inr ne ↦ other-q between now c.loop-x.x Q'.others y ne p S (subst (λ b. IsQMark p S b.items y) (sym T'.by_q) (I.by_q y (omega (arith, l, ne))))
+        | inr ne ↦ other-q rest rest between now c.loop-x.x Q'.others y ne p S (subst (λ b. IsQMark p S b.items y) (sym T'.by_q) (I.by_q y (omega (arith, l, ne))))
       ];
       ends = λ y l. elim (nat_cases y c.loop-x.x) [
-        | inl e ↦ subst (λ k. IsEndMark now k) (sym e) Q'.end
-        | inr ne ↦ other-end between now c.loop-x.x Q'.others y ne
-            (other-end c.loop-x.marks between c.loop-x.x T'.others y ne (I.ends y (omega (arith, l, ne))))
+        | inl e ↦ subst (λ k. IsEndMark rest now k) (sym e) Q'.end
+        | inr ne ↦ other-end rest rest between now c.loop-x.x Q'.others y ne
+            (other-end rested rest c.loop-x.marks between c.loop-x.x T'.others y ne (I.ends y (omega (arith, l, ne))))
       ];
     }
 

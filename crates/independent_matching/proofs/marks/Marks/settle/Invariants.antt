@@ -6,12 +6,10 @@ abbrev pub invariant-loop-at : goal.invariant-loop-at
 invariant-loop-at g l =
     let S = g.T.Tableau.state l.pair.tableau in
     record {
-      sized : IsKept S.columns l.self;
-      by_t : l.self.by_t ≡ l.fn.self.by_t;
-      free : l.self.free ≡ l.fn.self.free;
+      sized : IsKept S.columns l.resting l.self;
       touched : l.self.touched ≡ l.fn.self.touched;
       count : l.self.count ≡ l.fn.self.count;
-      ends : (y : ℕ) → y < S.columns → IsEndMark l.self y;
+      ends : (y : ℕ) → y < S.columns → IsEndMark l.resting l.self y;
       done : (y : ℕ) → y < S.columns → ((i : ℕ) → l.at ≤ i → i < l.fn.self.count → touched_at l.fn.self i ≢ y) →
           IsQMark g.F.Field.modulus S l.self.by_q.items y;
     }

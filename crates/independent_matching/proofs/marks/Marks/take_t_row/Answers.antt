@@ -31,20 +31,22 @@ loop-x-preserved g c =
     let x = slice_index list k in
     let was = c.loop-x.self in
     let now = c.find_t_row.new.self in
+    let rested = c.loop-x.resting in
+    let rest = c.find_t_row.new.resting in
     let T' = c.find_t_row.ensures in
     record {
       of_q = record {
-        sized = subst (λ n. IsKept n now) c.requires.width T'.sized;
+        sized = subst (λ n. IsKept n rest now) c.requires.width T'.sized;
         by_q = λ y l. subst (λ b. IsQMark p S b.items y) (sym T'.by_q) (I.of_q.by_q y l);
         ends = λ y l. elim (nat_cases y x) [
-          | inl e ↦ subst (λ z. IsEndMark now z) (sym e) T'.end
-          | inr ne ↦ other-end was now x T'.others y ne (I.of_q.ends y l)
+          | inl e ↦ subst (λ z. IsEndMark rest now z) (sym e) T'.end
+          | inr ne ↦ other-end rested rest was now x T'.others y ne (I.of_q.ends y l)
         ];
       };
-      free = T'.others.free ∙ I.free;
+      free = T'.free ∙ I.free;
       by_t = λ y l none. elim (nat_cases y x) [
-        | inl e ↦ subst (λ z. IsTMark M now.by_t.items z) (sym e) T'.found
-        | inr ne ↦ other-t was now x T'.others y ne M
+        | inl e ↦ subst (λ z. IsTMark M rest.by_t.items z) (sym e) T'.found
+        | inr ne ↦ other-t rested rest was now x T'.others y ne M
             (I.by_t y l (λ j le jl e. elim (nat_cases j k) [
               | inl q ↦
                   ne (sym e ∙ ap (λ i. slice_index list i) q)

@@ -3,7 +3,7 @@ use Rattle.std.proofs.Math.Nat.{zero-mod}
 use Rattle.std.proofs.lemmas.Bool.Decides.{nat_tests}
 use Rattle.residue_theory.proofs.SumLaws.{nat_cases}
 use Rattle.residue_theory.proofs.SetLaws.{lt_cases}
-use Rattle.independent_matching.specs.Marks.{IsKept, touched_at}
+use Rattle.independent_matching.specs.Marks.{AreNoted, touched_at}
 use Rattle.independent_matching.specs.declared.marks.Marks.{Marks}
 use Rattle.independent_matching.proofs.marks.Marks.touch.Goals as goal
 
@@ -24,18 +24,13 @@ loop-entry-preserved g c =
     let L = c.in-Some.ensures.least in
     let col = c.in-Some.entry.0 in
     record {
-      sized = subst (IsKept S.columns) (sym E.rest) (record {
-        free_count = I.sized.free_count;
-        end_count = I.sized.end_count;
-        t_count = I.sized.t_count;
-        q_count = I.sized.q_count;
-        touched_count = E.length ∙ I.sized.touched_count;
-        touched_below = λ i l. elim (nat_cases i s.count) [
+      noted = subst (AreNoted S.columns) (sym E.rest) (record {
+        count = E.length ∙ I.noted.count;
+        below = λ i l. elim (nat_cases i s.count) [
           | inl q ↦ omega (arith, ap (touched_at t) q, E.here, L.before_end)
-          | inr ne ↦ omega (arith, E.others i ne, I.sized.touched_below i (omega arith))
+          | inr ne ↦ omega (arith, E.others i ne, I.noted.below i (omega arith))
         ];
-        few_touched = omega (arith, I.few, L.from_on, L.before_end);
-        passed = I.sized.passed;
+        few = omega (arith, I.few, L.from_on, L.before_end);
       });
       rest = E.rest ∙ ap (λ (m : Marks). record m { touched = t.touched; count = s.count + 1 }) I.rest
           ∙ ap (λ n. record c.args.self.now { touched = t.touched; count = n }) (sym (ap (λ (m : Marks). m.count) E.rest));

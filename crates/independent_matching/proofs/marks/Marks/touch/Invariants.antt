@@ -1,12 +1,12 @@
 use Rattle.std.proofs.Common.{◌≡◌, ◌≢◌, ◌<◌, ◌≤◌, ◌%◌, ◌-◌, ℕ}
-use Rattle.independent_matching.specs.Marks.{IsKept, IsTouched}
+use Rattle.independent_matching.specs.Marks.{AreNoted, IsTouched}
 use Rattle.independent_matching.proofs.marks.Marks.touch.Given as goal
 
 abbrev pub invariant-loop-entry : goal.invariant-loop-entry
 invariant-loop-entry g l =
     let S = g.T.Tableau.state l.pair.tableau in
     record {
-      sized : IsKept S.columns l.self;
+      noted : AreNoted S.columns l.self;
       rest : l.self ≡ record l.fn.self { touched = l.self.touched; count = l.self.count };
       within : l.from ≤ S.columns;
       few : l.self.count ≤ l.from;

@@ -3,6 +3,7 @@ use Rattle.residue_theory.specs.Sums.{size_on}
 use Rattle.exchange_graph.specs.Results.{step_of}
 use Rattle.mixed_augmentation.specs.Moves.{route}
 use Rattle.mixed_matrices.specs.LayeredMatrices.{LayeredMatrix}
+use Rattle.mixed_matrices.specs.Tableaus.{HasTableau}
 use Rattle.independent_matching.specs.Sides.{AreRowsMoving, CanTake, IsMoving, Takes, in_q, is_matched, layers_of, number, row_had, size_of, tableau_of}
 use Rattle.independent_matching.proofs.LeftLaws.{move-rows, moved-rows, moving-rows}
 use Rattle.independent_matching.proofs.MoveLaws.{can-take, moving-apart, moving-below, moving-count, moving-next}
@@ -17,13 +18,11 @@ loop-next-init g c =
     let M = c.args.self.now.pair.mates in
     let at = step_of c.args.search.now in
     record {
-      moving = moving-start g.F.Field.modulus S M c.requires.pair at c.args.last c.args.end c.requires.route;
+      moving = moving-start g.F.Field.modulus S M c.requires.order.pair at c.args.last c.args.end c.requires.route;
       rows = moving-rows M c.args.end;
-      marks = c.requires.marks;
+      marks = c.requires.order.marks;
       count = refl;
       pivots = refl;
-      free = refl;
-      by_t = refl;
     }
 
 pub take-requires-clause-x : goal.take-requires-clause-x
@@ -35,7 +34,7 @@ take-requires-clause-x g c =
     let M = c.loop-next.self.pair.mates in
     let I = c.loop-next.invariant in
     subst (λ n. c.step-x.result < n) (sym (ap (λ (L : LayeredMatrix). L.columns) I.moving.layers))
-    (step-below p S₀ M₀ c.requires.pair (step_of c.args.search.now) c.args.last c.args.end c.requires.route S M
+    (step-below p S₀ M₀ c.requires.order.pair (step_of c.args.search.now) c.args.last c.args.end c.requires.route S M
     c.loop-next.next c.in-Some.row c.loop-next.left I.moving c.in-Some.is c.step-x.result c.step-x.ensures)
 
 pub row_of-next-requires-clause-tableau : goal.row_of-next-requires-clause-tableau
@@ -47,7 +46,7 @@ row_of-next-requires-clause-tableau g c =
     let M = c.loop-next.self.pair.mates in
     let I = c.loop-next.invariant in
     subst (λ n. c.step-x.result < n) (sym (ap (λ (L : LayeredMatrix). L.columns) I.moving.layers))
-    (step-below p S₀ M₀ c.requires.pair (step_of c.args.search.now) c.args.last c.args.end c.requires.route S M
+    (step-below p S₀ M₀ c.requires.order.pair (step_of c.args.search.now) c.args.last c.args.end c.requires.route S M
     c.loop-next.next c.in-Some.row c.loop-next.left I.moving c.in-Some.is c.step-x.result c.step-x.ensures)
 
 pub row_of-next-requires-clause-mates : goal.row_of-next-requires-clause-mates
@@ -58,8 +57,8 @@ row_of-next-requires-clause-mates g c =
     let S = g.T.Tableau.state c.loop-next.self.pair.tableau in
     let M = c.loop-next.self.pair.mates in
     let I = c.loop-next.invariant in
-    subst (λ n. c.step-x.result < n) (sym (I.moving.width ∙ c.requires.width))
-    (step-below p S₀ M₀ c.requires.pair (step_of c.args.search.now) c.args.last c.args.end c.requires.route S M
+    subst (λ n. c.step-x.result < n) (sym (I.moving.width ∙ c.requires.order.width))
+    (step-below p S₀ M₀ c.requires.order.pair (step_of c.args.search.now) c.args.last c.args.end c.requires.route S M
     c.loop-next.next c.in-Some.row c.loop-next.left I.moving c.in-Some.is c.step-x.result c.step-x.ensures)
 
 pub take-requires-clause-can : goal.take-requires-clause-can
@@ -73,12 +72,12 @@ take-requires-clause-can g c =
     let i = c.loop-next.left - 1 in
     let I = c.loop-next.invariant in
     let positive : 0 < c.loop-next.left =
-    moving-positive p S₀ M₀ c.requires.pair at c.args.last c.args.end c.requires.route S M c.loop-next.next
+    moving-positive p S₀ M₀ c.requires.order.pair at c.args.last c.args.end c.requires.route S M c.loop-next.next
     c.in-Some.row c.loop-next.left I.moving c.in-Some.is in
     let here : i + 1 ≡ c.loop-next.left = omega (arith, positive) in
     let x_is : c.step-x.result ≡ at i = c.step-x.ensures in
     subst (λ x. CanTake p (layers_of S M) (tableau_of S M) c.in-Some.row x) (sym x_is)
-    (can-take p S₀ M₀ c.requires.pair at c.args.last c.args.end c.requires.route S M c.loop-next.next c.in-Some.row
+    (can-take p S₀ M₀ c.requires.order.pair at c.args.last c.args.end c.requires.route S M c.loop-next.next c.in-Some.row
     c.loop-next.left I.moving c.in-Some.is i here)
 
 pub loop-next-preserved : goal.loop-next-preserved
@@ -94,14 +93,14 @@ loop-next-preserved g c =
     let i = c.loop-next.left - 1 in
     let I = c.loop-next.invariant in
     let positive : 0 < c.loop-next.left =
-    moving-positive p S₀ M₀ c.requires.pair at c.args.last c.args.end c.requires.route S M c.loop-next.next
+    moving-positive p S₀ M₀ c.requires.order.pair at c.args.last c.args.end c.requires.route S M c.loop-next.next
     c.in-Some.row c.loop-next.left I.moving c.in-Some.is in
     let here : i + 1 ≡ c.loop-next.left = omega (arith, positive) in
     let x_is : c.step-x.result ≡ at i = c.step-x.ensures in
     record {
       moving = subst (λ next. IsMoving p S₀ M₀ (route (tableau_of S₀ M₀) at c.args.last (in_q c.args.end)
           (number c.args.end)) S' M' next i) (sym (c.row_of-next.ensures ∙ ap (row_had (tableau_of S M)) x_is))
-          (moving-next p S₀ M₀ c.requires.pair at c.args.last c.args.end c.requires.route S M c.loop-next.next
+          (moving-next p S₀ M₀ c.requires.order.pair at c.args.last c.args.end c.requires.route S M c.loop-next.next
           c.in-Some.row c.loop-next.left I.moving c.in-Some.is i here S' M' c.take.ensures.layers
           c.take.ensures.pattern
           (subst (λ x. Takes p (layers_of S M) (tableau_of S M) (tableau_of S' M') c.in-Some.row x) x_is c.take.ensures.takes));
@@ -109,17 +108,17 @@ loop-next-preserved g c =
           (move-rows p S S' M M' (omega (
             arith,
             I.moving.width,
-            c.requires.width,
+            c.requires.order.width,
             ap
                 (λ (L : LayeredMatrix). L.columns) I.moving.layers,
           ))
           (ap (λ m. m.width) c.take.ensures.pattern) c.step-x.result
           (subst (λ n. c.step-x.result < n) (sym (ap (λ (L : LayeredMatrix). L.columns) I.moving.layers))
           (subst (λ x. x < S₀.columns) (sym x_is)
-          (moving-below p S₀ M₀ c.requires.pair at c.args.last c.args.end c.requires.route S M c.loop-next.next
+          (moving-below p S₀ M₀ c.requires.order.pair at c.args.last c.args.end c.requires.route S M c.loop-next.next
           c.in-Some.row c.loop-next.left I.moving c.in-Some.is i here)))
           (subst (λ x. S.base x ≡ true → is_matched M x ≡ true → ⊥) (sym x_is)
-          (moving-apart p S₀ M₀ c.requires.pair at c.args.last c.args.end c.requires.route S M c.loop-next.next
+          (moving-apart p S₀ M₀ c.requires.order.pair at c.args.last c.args.end c.requires.route S M c.loop-next.next
           c.in-Some.row c.loop-next.left I.moving c.in-Some.is i here))
           c.in-Some.row c.take.ensures.takes M₀ c.args.end (subst (λ next. AreRowsMoving M₀ c.args.end M next) c.in-Some.is I.rows));
       marks = c.take.ensures.marks;
@@ -127,29 +126,11 @@ loop-next-preserved g c =
         arith,
         c.take.ensures.steps,
         I.count,
-        moving-count p S₀ M₀ c.requires.pair at c.args.last c.args.end c.requires.route S M c.loop-next.next
+        moving-count p S₀ M₀ c.requires.order.pair at c.args.last c.args.end c.requires.route S M c.loop-next.next
             c.in-Some.row c.loop-next.left I.moving c.in-Some.is i here,
       );
       pivots = omega (arith, c.take.ensures.steps, c.take.ensures.pivots, I.pivots);
-      free = c.take.ensures.free ∙ I.free;
-      by_t = c.take.ensures.by_t ∙ I.by_t;
     }
-
-pub returns-clause-pair : goal.returns-clause-pair
-returns-clause-pair g c =
-    let S₀ = g.T.Tableau.state c.args.self.now.pair.tableau in
-    let M₀ = c.args.self.now.pair.mates in
-    let at = step_of c.args.search.now in
-    moving-tableau g.F.Field.modulus S₀ M₀ c.requires.pair at c.args.last c.args.end c.requires.route
-    (g.T.Tableau.state c.loop-next.self.pair.tableau) c.loop-next.self.pair.mates c.loop-next.next c.loop-next.left c.loop-next.invariant.moving c.in_default.is
-
-pub returns-clause-size : goal.returns-clause-size
-returns-clause-size g c =
-    let S₀ = g.T.Tableau.state c.args.self.now.pair.tableau in
-    let M₀ = c.args.self.now.pair.mates in
-    let at = step_of c.args.search.now in
-    moving-size g.F.Field.modulus S₀ M₀ c.requires.pair at c.args.last c.args.end c.requires.route
-    (g.T.Tableau.state c.loop-next.self.pair.tableau) c.loop-next.self.pair.mates c.loop-next.next c.loop-next.left c.loop-next.invariant.moving c.in_default.is
 
 pub returns-clause-steps : goal.returns-clause-steps
 returns-clause-steps g c =
@@ -160,8 +141,8 @@ returns-clause-steps g c =
     omega (
       arith,
       c.loop-next.invariant.count,
-      moving-pivots p S₀ M₀ c.requires.pair at c.args.last c.args.end c.requires.route,
-      moving-none p S₀ M₀ c.requires.pair at c.args.last c.args.end c.requires.route
+      moving-pivots p S₀ M₀ c.requires.order.pair at c.args.last c.args.end c.requires.route,
+      moving-none p S₀ M₀ c.requires.order.pair at c.args.last c.args.end c.requires.route
           (g.T.Tableau.state c.loop-next.self.pair.tableau) c.loop-next.self.pair.mates c.loop-next.next
           c.loop-next.left c.loop-next.invariant.moving c.in_default.is,
     )
@@ -172,40 +153,54 @@ take-requires-clause-few g c =
     let S₀ = g.T.Tableau.state c.args.self.now.pair.tableau in
     let M₀ = c.args.self.now.pair.mates in
     let at = step_of c.args.search.now in
-    let small : size_of S₀ M₀ ≤ 8192 = omega (arith, size-bound p S₀ M₀ c.requires.pair, c.columns-columns.ensures.narrow, c.columns-columns.ensures.columns) in
+    let small : size_of S₀ M₀ ≤ 8192 = omega (arith, size-bound p S₀ M₀ c.requires.order.pair, c.columns-columns.ensures.narrow, c.columns-columns.ensures.columns) in
     omega (
       arith,
       small,
       c.loop-next.invariant.count,
       c.loop-next.invariant.pivots,
-      pivots-bound (size_of S₀ M₀) c.args.self.now.pivots c.requires.few small,
-      moving-pivots p S₀ M₀ c.requires.pair at c.args.last c.args.end c.requires.route,
+      pivots-bound (size_of S₀ M₀) c.args.self.now.pivots c.requires.order.few small,
+      moving-pivots p S₀ M₀ c.requires.order.pair at c.args.last c.args.end c.requires.route,
       base-bound S₀ M₀,
     )
 
-pub returns-clause-few : goal.returns-clause-few
-returns-clause-few g c =
+pub returns-clause-order : goal.returns-clause-order
+returns-clause-order g c =
     let p = g.F.Field.modulus in
     let S₀ = g.T.Tableau.state c.args.self.now.pair.tableau in
     let M₀ = c.args.self.now.pair.mates in
     let S = g.T.Tableau.state c.loop-next.self.pair.tableau in
     let M = c.loop-next.self.pair.mates in
     let at = step_of c.args.search.now in
-    pivots-more (size_of S₀ M₀) (size_of S M) c.args.self.now.pivots (size_on S₀.base S₀.columns + 1) c.loop-next.self.pivots c.requires.few
-    (omega (arith, c.loop-next.invariant.count, c.loop-next.invariant.pivots, moving-pivots p S₀ M₀ c.requires.pair at c.args.last c.args.end c.requires.route))
-    (omega (arith, base-bound S₀ M₀))
-    (moving-size p S₀ M₀ c.requires.pair at c.args.last c.args.end c.requires.route S M c.loop-next.next
-    c.loop-next.left c.loop-next.invariant.moving c.in_default.is)
+    let I = c.loop-next.invariant in
+    record {
+      pair = subst (λ L. HasTableau p L (tableau_of S M)) (sym I.moving.layers)
+          (moving-tableau p S₀ M₀ c.requires.order.pair at c.args.last c.args.end c.requires.route S M c.loop-next.next
+          c.loop-next.left I.moving c.in_default.is);
+      width = I.moving.width ∙ (c.requires.order.width ∙ sym (ap (λ (L : LayeredMatrix). L.columns) I.moving.layers));
+      marks = I.marks;
+      few = pivots-more (size_of S₀ M₀) (size_of S M) c.args.self.now.pivots (size_on S₀.base S₀.columns + 1)
+          c.loop-next.self.pivots c.requires.order.few
+          (omega (arith, I.count, I.pivots, moving-pivots p S₀ M₀ c.requires.order.pair at c.args.last c.args.end c.requires.route))
+          (omega (arith, base-bound S₀ M₀))
+          (moving-size p S₀ M₀ c.requires.order.pair at c.args.last c.args.end c.requires.route S M c.loop-next.next
+          c.loop-next.left I.moving c.in_default.is);
+    }
 
-pub returns-clause-rows : goal.returns-clause-rows
-returns-clause-rows g c =
-    moved-rows c.args.self.now.pair.mates c.loop-next.self.pair.mates c.args.end c.loop-next.next c.in_default.is
-    c.loop-next.invariant.rows
-
-pub returns-clause-taken : goal.returns-clause-taken
-returns-clause-taken g c =
+pub returns-clause-gained : goal.returns-clause-gained
+returns-clause-gained g c =
+    let p = g.F.Field.modulus in
     let S₀ = g.T.Tableau.state c.args.self.now.pair.tableau in
     let M₀ = c.args.self.now.pair.mates in
+    let S = g.T.Tableau.state c.loop-next.self.pair.tableau in
+    let M = c.loop-next.self.pair.mates in
     let at = step_of c.args.search.now in
-    moving-taken g.F.Field.modulus S₀ M₀ c.requires.pair at c.args.last c.args.end c.requires.route
-    (g.T.Tableau.state c.loop-next.self.pair.tableau) c.loop-next.self.pair.mates c.loop-next.next c.loop-next.left c.loop-next.invariant.moving c.in_default.is
+    let I = c.loop-next.invariant in
+    record {
+      layers = I.moving.layers;
+      size = moving-size p S₀ M₀ c.requires.order.pair at c.args.last c.args.end c.requires.route S M c.loop-next.next
+          c.loop-next.left I.moving c.in_default.is;
+      rows = moved-rows M₀ M c.args.end c.loop-next.next c.in_default.is I.rows;
+      taken = moving-taken p S₀ M₀ c.requires.order.pair at c.args.last c.args.end c.requires.route S M c.loop-next.next
+          c.loop-next.left I.moving c.in_default.is;
+    }

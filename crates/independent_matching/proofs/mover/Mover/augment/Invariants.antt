@@ -14,11 +14,9 @@ invariant-loop-next g l =
     record {
       moving : IsMoving g.F.Field.modulus S M R (g.T.Tableau.state l.self.pair.tableau) l.self.pair.mates l.next l.left;
       rows : AreRowsMoving M l.fn.end l.self.pair.mates l.next;
-      marks : AreMarksOfQ g.F.Field.modulus (g.T.Tableau.state l.self.pair.tableau) l.self.marks;
+      marks : AreMarksOfQ g.F.Field.modulus (g.T.Tableau.state l.self.pair.tableau) l.resting l.self.marks;
       count : l.steps + size_on R.in_q l.left ≡ l.fn.steps + size_on R.in_q (l.last + 1);
       pivots : l.steps + l.fn.self.pivots ≡ l.fn.steps + l.self.pivots;
-      free : l.self.marks.free ≡ l.fn.self.marks.free;
-      by_t : l.self.marks.by_t ≡ l.fn.self.marks.by_t;
     }
 
 abbrev pub decreases-loop-next : goal.decreases-loop-next
