@@ -262,6 +262,16 @@ none_in_word xs w x from at next v before fits e zero le y yf yl = by (lt_cases 
         ∙ (bit_from v (at % 64) (y % 64) (omega arith) ∙ ap (λ m. bit_at m (y % 64 - at % 64)) zero))
         ∙ zero_bit (y % 64 - at % 64))
 
+-- no bit is set behind the words that are used
+pub none_behind : (rows size w : ℕ) (xs us : List ℕ) (x from top end : ℕ) → IsKept rows size w xs us → x < rows → end ≤ size →
+    ((y : ℕ) → top ≤ y → get_or us x 0 ≤ y / 64) → HasNone (bit_of xs w x) from top → HasNone (bit_of xs w x) from end
+none_behind rows size w xs us x from top end K xl el used none y yf yl = elim (lt_cases y top) [
+  | inl l ↦ none y yf l
+  | inr g ↦ ap (λ m. bit_at m (y % 64) == 1)
+      (K.behind x (y / 64) xl (used y g) (half_below size w y K.width_is (omega arith)))
+      ∙ zero_bit (y % 64)
+]
+
 -- the bit that is found: the lowest one that is set in a word from the bit of a place on
 pub found_bit : (xs : List ℕ) (w x from at v t : ℕ) → from ≤ at → HasNone (bit_of xs w x) from at →
     x * w + at / 64 < length xs → v ≡ get_or xs (x * w + at / 64) v → at % 64 + t < 64 →

@@ -1,6 +1,6 @@
 //! A table of bits in words of 64, so that a row is looked through a word at a time.
 
-ghost use Rattle.std.specs.Prelude.{◌≡◌, ℕ, ◌<◌, ◌≤◌, ◌*◌, Bool, true, false, length, IfOk, IfSome, IfNone};
+ghost use Rattle.std.specs.Prelude.{◌≡◌, ℕ, ◌<◌, ◌≤◌, ◌*◌, Bool, true, false, length, slice_index, vec_len, IfOk, IfSome, IfNone};
 ghost use Rattle.number_ranges.specs.Ranges.{HasNone, IsLeast};
 ghost use Rattle.bit_table.specs.Bits.{bit_in, IsBitSet, IsJoined, IsRowCleared, IsRowEmptied};
 
@@ -29,6 +29,20 @@ impl Model for BitTable {
     ghost invariant = { λ t. IsKept t.rows t.size t.width t.words.items t.used.items };
 }
 
+// So many words, each 0, copied from a block of them.
+fn zeros(alloc: Global, length: usize) -> Result<Vec<u64>, NoMemory>
+    ensures length { IfOk result (λ v. vec_len v ≡ length) }
+    ensures zeros { IfOk result (λ v. (k : ℕ) → slice_index v.items k ≡ 0) }
+{
+    let block = vec![in alloc; 0u64; length.min(256)]?;
+    let mut words = Vec::with_capacity(alloc, length)?;
+    while words.len() < length {
+        let more = (length - words.len()).min(block.len());
+        words.extend_from_slice(&block[..more])?;
+    }
+    Ok(words)
+}
+
 impl BitTable {
     /// So many rows of so many bits, none of them set.
     pub fn open(alloc: Global, rows: usize, size: usize) -> Result<Self, NoMemory>
@@ -40,8 +54,7 @@ impl BitTable {
         let Some(length) = rows.checked_mul(width) else {
             return Err(NoMemory);
         };
-        let mut words = Vec::with_capacity(alloc, length)?;
-        words.resize(length, 0)?;
+        let words = zeros(alloc, length)?;
         Ok(BitTable {
             rows,
             size,
@@ -104,15 +117,18 @@ impl BitTable {
         ensures none { IfNone result (HasNone (bit_in self.now x) from end) }
         ensures least { IfSome result (IsLeast (bit_in self.now x) from end) }
     {
-        let top = end.min(self.used[x].saturating_mul(64));
         let mut at = from;
-        while at < top {
+        while at < end {
             let word = self.words[x * self.width + at / 64] >> (at % 64);
             if word != 0 {
                 let next = at + word.trailing_zeros() as usize;
                 return if next < end { Some(next) } else { None };
             }
-            at = at.saturating_add(64 - at % 64);
+            at = if at / 64 + 1 < self.used[x] {
+                at.saturating_add(64 - at % 64)
+            } else {
+                end
+            };
         }
         None
     }
