@@ -1,16 +1,17 @@
 -- Bits in rows of words.
 use Rattle.std.proofs.Common.{◌≡◌, ℕ, ◌+◌, ◌-◌, ◌*◌, ◌/◌, ◌%◌, ◌^◌, ◌<◌, ◌≤◌, ◌≢◌, false, ◌||◌, ◌==◌, ◌⊎◌, inl, inr, List, length, get_or, set, bit_and, bit_or, w64, ap, sym, subst, ◌∙◌, arith}
 use Rattle.std.specs.Int.{bit_at, trailing_zeros}
+use Rattle.std.specs.Int.Bits.{or_zero_r}
 use Rattle.std.proofs.Math.Nat.{mul-le-mul_left}
 use Rattle.std.proofs.lemmas.Bool.Decides.{nat_tests}
 use Rattle.std.proofs.lemmas.Grind.{common_steps}
-use Rattle.std.proofs.lemmas.List.{get_or-set_same, get_or-set_other}
+use Rattle.std.proofs.lemmas.List.{get_or-set_same, get_or-set_other, length-set}
 use Rattle.std.proofs.lemmas.Nat.{same_from_place, shr-shr, shr_le}
 use Rattle.std.proofs.lemmas.Nat.Bits.{shr_and_one, bit_at_or, bit_at-lt, bit_at-zero, bit_at_set_same, bit_at_set_other, bit_at_above, bit_at-trailing_zeros}
 use Rattle.residue_theory.proofs.SumLaws.{nat_cases}
 use Rattle.residue_theory.proofs.SetLaws.{lt_cases}
 use Rattle.number_ranges.specs.Ranges.{HasNone, IsLeast}
-use Rattle.bit_table.specs.Bits.{bit_of, IsBitSet, IsJoined, IsRowCleared}
+use Rattle.bit_table.specs.Bits.{bit_of, IsBitSet, IsJoined, IsKept, IsRowCleared, IsRowEmptied}
 
 pub item_is : (xs : List ℕ) (k v : ℕ) → k < length xs → v ≡ get_or xs k v → get_or xs k 0 ≡ v
 item_is xs k v l e = grind (arith, common_steps)
@@ -50,7 +51,7 @@ rows_apart w x y = elim (lt_cases x y) [
 pub in_row : (n w x i : ℕ) → x < n → i < w → x * w + i < n * w
 in_row n w x i l il = omega (arith, mul-le-mul_left w l)
 
-half_below : (n w y : ℕ) → w ≡ n / 64 + 1 → y < n → y / 64 < w
+pub half_below : (n w y : ℕ) → w ≡ n / 64 + 1 → y < n → y / 64 < w
 half_below n w y e l = omega arith
 
 pub word_fits : (m n w x y : ℕ) → w ≡ n / 64 + 1 → x < m → y < n → x * w + y / 64 < m * w
@@ -92,12 +93,98 @@ set_bit xs m n w x y v len width xl yl e = record {
         ∙ ap (λ m. bit_at m (j % 64) == 1) (sym was ∙ ap (λ m. get_or xs m 0) (sym place)))
 
 -- a word of another row stands before or behind this row
-outside : (n w x i j : ℕ) → w ≡ n / 64 + 1 → j < n → i ≢ x → (i * w + j / 64 < x * w) ⊎ (x * w + w ≤ i * w + j / 64)
-outside n w x i j width jl ne = apart (half_below n w j width jl) (lt_cases i x)
+word_outside : (w x z i : ℕ) → i < w → z ≢ x → (z * w + i < x * w) ⊎ (x * w + w ≤ z * w + i)
+word_outside w x z i fits ne = apart (lt_cases z x)
   where
-    apart : j / 64 < w → (i < x) ⊎ (x ≤ i) → (i * w + j / 64 < x * w) ⊎ (x * w + w ≤ i * w + j / 64)
-    apart fits (inl less) = inl (omega (arith, mul-le-mul_left w less))
-    apart fits (inr ge) = let more : x + 1 ≤ i = omega arith in inr (omega (arith, mul-le-mul_left w more))
+    apart : (z < x) ⊎ (x ≤ z) → (z * w + i < x * w) ⊎ (x * w + w ≤ z * w + i)
+    apart (inl less) = inl (omega (arith, mul-le-mul_left w less))
+    apart (inr ge) = let more : x + 1 ≤ z = omega arith in inr (omega (arith, mul-le-mul_left w more))
+
+outside : (n w x i j : ℕ) → w ≡ n / 64 + 1 → j < n → i ≢ x → (i * w + j / 64 < x * w) ⊎ (x * w + w ≤ i * w + j / 64)
+outside n w x i j width jl ne = word_outside w x i (j / 64) (half_below n w j width jl) ne
+
+-- what the words of a row are while they are joined, from the first one on
+pub record JoinedTo (xs ys zs : List ℕ) (into from i : ℕ) : Type 0 where
+  pub joined : (j : ℕ) → j < i → get_or ys (into + j) 0 ≡ bit_or (get_or xs (into + j) 0) (get_or zs (from + j) 0)
+  pub rest : (k : ℕ) → (k < into) ⊎ (into + i ≤ k) → get_or ys k 0 ≡ get_or xs k 0
+
+-- what the words of a row are while they are cleared, from the first one on
+pub record ClearedTo (xs ys : List ℕ) (first i : ℕ) : Type 0 where
+  pub cleared : (j : ℕ) → j < i → get_or ys (first + j) 0 ≡ 0
+  pub rest : (k : ℕ) → (k < first) ⊎ (first + i ≤ k) → get_or ys k 0 ≡ get_or xs k 0
+
+-- row x is changed, and then uses its first v words
+pub keep_row : (rows size w : ℕ) (xs us ys : List ℕ) (x v : ℕ) → IsKept rows size w xs us → x < rows → length ys ≡ length xs →
+    v ≤ w → ((k : ℕ) → (k < x * w) ⊎ (x * w + w ≤ k) → get_or ys k 0 ≡ get_or xs k 0) →
+    ((i : ℕ) → v ≤ i → i < w → get_or ys (x * w + i) 0 ≡ 0) → IsKept rows size w ys (set us x v)
+keep_row rows size w xs us ys x v K xl len vl rest zeros = record {
+  words_are = len ∙ K.words_are;
+  width_is = K.width_is;
+  used_are = length-set us x v ∙ K.used_are;
+  within = λ z zl. elim (nat_cases z x) [
+    | inl q ↦ subst (λ m. get_or (set us x v) m 0 ≤ w) (sym q) (subst (λ m. m ≤ w) (sym here) vl)
+    | inr ne ↦ subst (λ m. m ≤ w) (sym (get_or-set_other us x z v 0 ne)) (K.within z zl)
+  ];
+  behind = λ z i zl le il. elim (nat_cases z x) [
+    | inl q ↦ subst (λ m. get_or ys (m * w + i) 0 ≡ 0) (sym q)
+        (zeros i (subst (λ m. m ≤ i) (ap (λ m. get_or (set us x v) m 0) q ∙ here) le) il)
+    | inr ne ↦ rest (z * w + i) (word_outside w x z i il ne)
+        ∙ K.behind z i zl (subst (λ m. m ≤ i) (get_or-set_other us x z v 0 ne) le) il
+  ];
+}
+  where
+    here : get_or (set us x v) x 0 ≡ v
+    here = get_or-set_same us x v 0 (omega (arith, K.used_are, xl))
+
+-- where a row's words that are used are joined with those of another one, all are
+pub joined_row : (xs ys zs : List ℕ) (into from w u : ℕ) → JoinedTo xs ys zs into from u →
+    ((i : ℕ) → u ≤ i → i < w → get_or zs (from + i) 0 ≡ 0) →
+    (i : ℕ) → i < w → get_or ys (into + i) 0 ≡ bit_or (get_or xs (into + i) 0) (get_or zs (from + i) 0)
+joined_row xs ys zs into from w u J none i il = elim (lt_cases i u) [
+  | inl l ↦ J.joined i l
+  | inr g ↦ J.rest (into + i) (inr (omega arith))
+      ∙ sym (ap (bit_or (get_or xs (into + i) 0)) (none i g il) ∙ or_zero_r (get_or xs (into + i) 0))
+]
+
+-- the table after row x is joined with one that uses u words; v are those that it uses then
+pub keep_joined : (rows size w : ℕ) (xs us ys zs : List ℕ) (from x u v : ℕ) → IsKept rows size w xs us → x < rows →
+    length ys ≡ length xs → JoinedTo xs ys zs (x * w) from u → u ≤ v → get_or us x 0 ≤ v → v ≤ w →
+    IsKept rows size w ys (set us x v)
+keep_joined rows size w xs us ys zs from x u v K xl len J ul ol vl = keep_row rows size w xs us ys x v K xl len vl
+    (λ k out. J.rest k (elim out [ inl a ↦ inl a | inr b ↦ inr (omega arith) ]))
+    (λ i vi il. J.rest (x * w + i) (inr (omega arith)) ∙ K.behind x i xl (omega arith) il)
+
+-- the table after a bit of row x is set
+pub keep_set : (rows size w : ℕ) (xs us : List ℕ) (x y v b : ℕ) → IsKept rows size w xs us → x < rows → y < size →
+    y / 64 + 1 ≤ v → get_or us x 0 ≤ v → v ≤ w → IsKept rows size w (set xs (x * w + y / 64) b) (set us x v)
+keep_set rows size w xs us x y v b K xl yl fits ol vl = keep_row rows size w xs us (set xs (x * w + y / 64) b) x v K xl
+    (length-set xs (x * w + y / 64) b) vl
+    (λ k out. get_or-set_other xs (x * w + y / 64) k b 0 (λ q. elim out [ inl a ↦ omega arith | inr c ↦ omega arith ]))
+    (λ i vi il. get_or-set_other xs (x * w + y / 64) (x * w + i) b 0 (λ q. omega arith) ∙ K.behind x i xl (omega arith) il)
+
+-- where the words of row x that are used are cleared, all are
+pub emptied_row : (rows size w : ℕ) (xs us ys : List ℕ) (x : ℕ) → IsKept rows size w xs us → x < rows →
+    ClearedTo xs ys (x * w) (get_or us x 0) → IsRowEmptied xs ys w x
+emptied_row rows size w xs us ys x K xl C = record {
+  here = λ i il. elim (lt_cases i (get_or us x 0)) [
+    | inl l ↦ C.cleared i l
+    | inr g ↦ C.rest (x * w + i) (inr (omega arith)) ∙ K.behind x i xl g il
+  ];
+  others = λ k out. C.rest k (elim out [ inl a ↦ inl a | inr b ↦ inr (omega (arith, K.within x xl)) ]);
+}
+
+-- the table after all words of row x are cleared
+pub keep_emptied : (rows size w : ℕ) (xs us ys : List ℕ) (x : ℕ) → IsKept rows size w xs us → x < rows → length ys ≡ length xs →
+    IsRowEmptied xs ys w x → IsKept rows size w ys (set us x 0)
+keep_emptied rows size w xs us ys x K xl len E = keep_row rows size w xs us ys x 0 K xl len (omega arith) E.others (λ i _ il. E.here i il)
+
+-- one row more is empty
+pub emptied_step : (xs ys : List ℕ) (w x : ℕ) → IsRowEmptied xs ys w x → ((k : ℕ) → k < x * w → get_or xs k 0 ≡ 0) →
+    (k : ℕ) → k < (x + 1) * w → get_or ys k 0 ≡ 0
+emptied_step xs ys w x E before k kl = elim (lt_cases k (x * w)) [
+  | inl l ↦ E.others k (inl l) ∙ before k l
+  | inr g ↦ subst (λ m. get_or ys m 0 ≡ 0) (omega (arith, g)) (E.here (k - x * w) (omega (arith, g, kl)))
+]
 
 -- the words of a row are joined with those of another, which stand in rows of v words
 pub join_bits : (xs ys zs : List ℕ) (n w v x y : ℕ) → w ≡ n / 64 + 1 →
@@ -110,18 +197,12 @@ join_bits xs ys zs n w v x y width joined rest = record {
 }
 
 -- the words of a row are cleared
-pub clear_bits : (xs ys : List ℕ) (n w x : ℕ) → w ≡ n / 64 + 1 → ((i : ℕ) → i < w → get_or ys (x * w + i) 0 ≡ 0) →
-    ((k : ℕ) → (k < x * w) ⊎ (x * w + w ≤ k) → get_or ys k 0 ≡ get_or xs k 0) →
+pub clear_bits : (xs ys : List ℕ) (n w x : ℕ) → w ≡ n / 64 + 1 → IsRowEmptied xs ys w x →
     IsRowCleared (bit_of xs w) (bit_of ys w) n x
-clear_bits xs ys n w x width zeros rest = record {
-  here = λ j jl. ap (λ m. bit_at m (j % 64) == 1) (zeros (j / 64) (half_below n w j width jl)) ∙ zero_bit (j % 64);
-  others = λ i j jl ne. ap (λ m. bit_at m (j % 64) == 1) (rest (i * w + j / 64) (outside n w x i j width jl ne));
+clear_bits xs ys n w x width E = record {
+  here = λ j jl. ap (λ m. bit_at m (j % 64) == 1) (E.here (j / 64) (half_below n w j width jl)) ∙ zero_bit (j % 64);
+  others = λ i j jl ne. ap (λ m. bit_at m (j % 64) == 1) (E.others (i * w + j / 64) (outside n w x i j width jl ne));
 }
-
--- what the words of a row are while they are joined, from the first one on
-pub record JoinedTo (xs ys zs : List ℕ) (into from i : ℕ) : Type 0 where
-  pub joined : (j : ℕ) → j < i → get_or ys (into + j) 0 ≡ bit_or (get_or xs (into + j) 0) (get_or zs (from + j) 0)
-  pub rest : (k : ℕ) → (k < into) ⊎ (into + i ≤ k) → get_or ys k 0 ≡ get_or xs k 0
 
 -- one word more; `u` is the word that is read
 pub join_step : (xs ys zs : List ℕ) (into from i v u : ℕ) → JoinedTo xs ys zs into from i → into + i < length ys →
@@ -148,11 +229,6 @@ pub still_there : (xs ys : List ℕ) (into from w i u : ℕ) → JoinedTo xs ys 
 still_there xs ys into from w i u J apart il l e = sym (item_is ys (from + i) u l e)
     ∙ J.rest (from + i) (elim apart
     [ inl q ↦ inr (omega arith) | inr o ↦ elim o [ inl a ↦ inr (omega arith) | inr b ↦ inl (omega arith) ] ])
-
--- what the words of a row are while they are cleared, from the first one on
-pub record ClearedTo (xs ys : List ℕ) (first i : ℕ) : Type 0 where
-  pub cleared : (j : ℕ) → j < i → get_or ys (first + j) 0 ≡ 0
-  pub rest : (k : ℕ) → (k < first) ⊎ (first + i ≤ k) → get_or ys k 0 ≡ get_or xs k 0
 
 -- one word more
 pub clear_step : (xs ys : List ℕ) (first i : ℕ) → ClearedTo xs ys first i → first + i < length ys → ClearedTo xs (set ys (first + i) 0) first (i + 1)
@@ -185,6 +261,16 @@ none_in_word xs w x from at next v before fits e zero le y yf yl = by (lt_cases 
         ∙ (ap (λ m. m == 1) (ap (λ m. bit_at m (y % 64)) (item_is xs (x * w + at / 64) v fits e)
         ∙ (bit_from v (at % 64) (y % 64) (omega arith) ∙ ap (λ m. bit_at m (y % 64 - at % 64)) zero))
         ∙ zero_bit (y % 64 - at % 64))
+
+-- no bit is set behind the words that are used
+pub none_behind : (rows size w : ℕ) (xs us : List ℕ) (x from top end : ℕ) → IsKept rows size w xs us → x < rows → end ≤ size →
+    ((y : ℕ) → top ≤ y → get_or us x 0 ≤ y / 64) → HasNone (bit_of xs w x) from top → HasNone (bit_of xs w x) from end
+none_behind rows size w xs us x from top end K xl el used none y yf yl = elim (lt_cases y top) [
+  | inl l ↦ none y yf l
+  | inr g ↦ ap (λ m. bit_at m (y % 64) == 1)
+      (K.behind x (y / 64) xl (used y g) (half_below size w y K.width_is (omega arith)))
+      ∙ zero_bit (y % 64)
+]
 
 -- the bit that is found: the lowest one that is set in a word from the bit of a place on
 pub found_bit : (xs : List ℕ) (w x from at v t : ℕ) → from ≤ at → HasNone (bit_of xs w x) from at →

@@ -1,5 +1,5 @@
 -- Rows of bits, each in words of 64.
-use Rattle.std.specs.Prelude.{ℕ, ◌+◌, ◌*◌, ◌/◌, ◌%◌, ◌<◌, ◌≡◌, ◌≢◌, ◌==◌, ◌||◌, Bool, true, false, List, slice_index}
+use Rattle.std.specs.Prelude.{ℕ, ◌+◌, ◌*◌, ◌/◌, ◌%◌, ◌<◌, ◌≤◌, ◌≡◌, ◌≢◌, ◌⊎◌, ◌==◌, ◌||◌, Bool, true, false, List, length, slice_index}
 use Rattle.std.specs.Int.{bit_at}
 
 -- how many rows there are, how many bits a row has, and the words that keep them, so many for each row
@@ -17,10 +17,13 @@ bit_of words width x y = bit_at (slice_index words (x * width + y / 64)) (y % 64
 abbrev pub bit_in : Bits → ℕ → ℕ → Bool
 bit_in t = bit_of t.words t.width
 
--- there are so many rows of so many bits, kept in words
-pub record IsKept (rows size width words : ℕ) : Type 0 where
-  pub words_are : words ≡ rows * width
+-- there are so many rows of so many bits, kept in words, of which row x uses the first ones alone
+pub record IsKept (rows size width : ℕ) (words used : List ℕ) : Type 0 where
+  pub words_are : length words ≡ rows * width
   pub width_is : width ≡ size / 64 + 1
+  pub used_are : length used ≡ rows
+  pub within : (x : ℕ) → x < rows → slice_index used x ≤ width
+  pub behind : (x i : ℕ) → x < rows → slice_index used x ≤ i → i < width → slice_index words (x * width + i) ≡ 0
 
 -- the bit at x and y is set, and no other bit of the n of each row changes
 pub record IsBitSet (before now : ℕ → ℕ → Bool) (n x y : ℕ) : Type 0 where
@@ -37,3 +40,8 @@ pub record IsJoined (before now : ℕ → ℕ → Bool) (row : ℕ → Bool) (n 
 pub record IsRowCleared (before now : ℕ → ℕ → Bool) (n x : ℕ) : Type 0 where
   pub here : (j : ℕ) → j < n → now x j ≡ false
   pub others : (i j : ℕ) → j < n → i ≢ x → now i j ≡ before i j
+
+-- each word of row x is 0, and no other one changes
+pub record IsRowEmptied (before now : List ℕ) (width x : ℕ) : Type 0 where
+  pub here : (i : ℕ) → i < width → slice_index now (x * width + i) ≡ 0
+  pub others : (k : ℕ) → (k < x * width) ⊎ (x * width + width ≤ k) → slice_index now k ≡ slice_index before k

@@ -1,8 +1,8 @@
 //! A table of bits in words of 64, so that a row is looked through a word at a time.
 
-ghost use Rattle.std.specs.Prelude.{◌≡◌, ℕ, ◌<◌, ◌≤◌, Bool, true, false, IfOk, IfSome, IfNone};
+ghost use Rattle.std.specs.Prelude.{◌≡◌, ℕ, ◌<◌, ◌≤◌, ◌*◌, Bool, true, false, length, slice_index, vec_len, IfOk, IfSome, IfNone};
 ghost use Rattle.number_ranges.specs.Ranges.{HasNone, IsLeast};
-ghost use Rattle.bit_table.specs.Bits.{bit_in, IsBitSet, IsJoined, IsRowCleared};
+ghost use Rattle.bit_table.specs.Bits.{bit_in, IsBitSet, IsJoined, IsRowCleared, IsRowEmptied};
 
 use out_of_memory::NoMemory;
 use std::alloc::Global;
@@ -15,17 +15,32 @@ pub struct BitTable {
     size: usize,
     width: usize,
     words: Vec<u64>,
+    // no bit of a row is set behind so many of its words: an empty row costs next to nothing
+    used: Vec<usize>,
 }
 
 impl Model for BitTable {
-    ghost use Rattle.std.specs.Prelude.{vec_len};
     ghost use Rattle.bit_table.specs.Bits.{Bits, IsKept};
 
     ghost Value = { Bits };
 
     ghost view = { λ t. record { rows = t.rows; size = t.size; width = t.width; words = t.words.items } };
 
-    ghost invariant = { λ t. IsKept t.rows t.size t.width (vec_len t.words) };
+    ghost invariant = { λ t. IsKept t.rows t.size t.width t.words.items t.used.items };
+}
+
+// So many words, each 0, copied from a block of them.
+fn zeros(alloc: Global, length: usize) -> Result<Vec<u64>, NoMemory>
+    ensures length { IfOk result (λ v. vec_len v ≡ length) }
+    ensures zeros { IfOk result (λ v. (k : ℕ) → slice_index v.items k ≡ 0) }
+{
+    let block = vec![in alloc; 0u64; length.min(256)]?;
+    let mut words = Vec::with_capacity(alloc, length)?;
+    while words.len() < length {
+        let more = (length - words.len()).min(block.len());
+        words.extend_from_slice(&block[..more])?;
+    }
+    Ok(words)
 }
 
 impl BitTable {
@@ -39,12 +54,13 @@ impl BitTable {
         let Some(length) = rows.checked_mul(width) else {
             return Err(NoMemory);
         };
-        let words = vec![in alloc; 0u64; length]?;
+        let words = zeros(alloc, length)?;
         Ok(BitTable {
             rows,
             size,
             width,
             words,
+            used: vec![in alloc; 0; rows]?,
         })
     }
 
@@ -54,9 +70,25 @@ impl BitTable {
         ensures rows { self.new.rows ≡ self.old.rows }
         ensures size { self.new.size ≡ self.old.size }
     {
-        for word in self.words.iter_mut() {
-            *word = 0;
+        for x in 0..self.rows {
+            self.empty_row(x);
         }
+    }
+
+    // Makes each word of a row 0.
+    fn empty_row(&mut self, x: usize)
+        requires { x < self.old.rows }
+        ensures emptied { IsRowEmptied self.old.words self.new.words self.old.width x }
+        ensures cleared { IsRowCleared (bit_in self.old) (bit_in self.new) self.old.size x }
+        ensures kept { self.new ≡ record self.old { words = self.new.words } }
+        ensures length { length self.new.words ≡ self.old.rows * self.old.width }
+    {
+        let first = x * self.width;
+        let used = self.used[x];
+        for i in 0..used {
+            self.words[first + i] = 0;
+        }
+        self.used[x] = 0;
     }
 
     /// Takes all bits of a row back.
@@ -66,10 +98,7 @@ impl BitTable {
         ensures rows { self.new.rows ≡ self.old.rows }
         ensures size { self.new.size ≡ self.old.size }
     {
-        let first = x * self.width;
-        for i in 0..self.width {
-            self.words[first + i] = 0;
-        }
+        self.empty_row(x);
     }
 
     /// Whether the bit is set.
@@ -95,7 +124,11 @@ impl BitTable {
                 let next = at + word.trailing_zeros() as usize;
                 return if next < end { Some(next) } else { None };
             }
-            at = at.saturating_add(64 - at % 64);
+            at = if at / 64 + 1 < self.used[x] {
+                at.saturating_add(64 - at % 64)
+            } else {
+                end
+            };
         }
         None
     }
@@ -109,6 +142,7 @@ impl BitTable {
         ensures size { self.new.size ≡ self.old.size }
     {
         self.words[x * self.width + y / 64] |= 1 << (y % 64);
+        self.used[x] = self.used[x].max(y / 64 + 1);
     }
 
     /// Sets in row x all bits that are set in row y.
@@ -120,10 +154,12 @@ impl BitTable {
         ensures size { self.new.size ≡ self.old.size }
     {
         let (into, from) = (x * self.width, y * self.width);
-        for i in 0..self.width {
+        let used = self.used[y];
+        for i in 0..used {
             let word = self.words[from + i];
             self.words[into + i] |= word;
         }
+        self.used[x] = self.used[x].max(used);
     }
 
     /// Sets in row x all bits that are set in row y of another table with rows of the same size.
@@ -136,8 +172,10 @@ impl BitTable {
         ensures size { self.new.size ≡ self.old.size }
     {
         let (into, from) = (x * self.width, y * other.width);
-        for i in 0..self.width {
+        let used = other.used[y];
+        for i in 0..used {
             self.words[into + i] |= other.words[from + i];
         }
+        self.used[x] = self.used[x].max(used);
     }
 }

@@ -77,10 +77,8 @@ impl Components {
         ensures stored { IsStored self.new }
         ensures places { places self.new ≡ places self.old }
     {
-        for place in 0..self.seen.len() {
-            self.seen[place] = false;
-            self.done[place] = false;
-        }
+        self.seen.fill(false);
+        self.done.fill(false);
         self.strict.clear();
         self.height = 0;
         self.groups = 0;

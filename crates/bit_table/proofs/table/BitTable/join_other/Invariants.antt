@@ -8,5 +8,6 @@ invariant-loop-i l = record {
   rows : l.self-inside.rows ≡ l.initial.self-inside.rows;
   size : l.self-inside.size ≡ l.initial.self-inside.size;
   width : l.self-inside.width ≡ l.initial.self-inside.width;
+  used : l.self-inside.used ≡ l.initial.self-inside.used;
   joined : JoinedTo l.initial.self-inside.words.items l.self-inside.words.items l.other-inside.words.items l.into l.from l.i;
 }

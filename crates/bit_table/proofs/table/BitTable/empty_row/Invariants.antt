@@ -1,6 +1,6 @@
 use Rattle.std.proofs.Common.{◌≡◌, vec_len}
 use Rattle.bit_table.proofs.BitLaws.{ClearedTo}
-use Rattle.bit_table.proofs.table.BitTable.clear_row.Given as goal
+use Rattle.bit_table.proofs.table.BitTable.empty_row.Given as goal
 
 abbrev pub invariant-loop-i : goal.invariant-loop-i
 invariant-loop-i l = record {
@@ -8,5 +8,6 @@ invariant-loop-i l = record {
   rows : l.self-inside.rows ≡ l.initial.self-inside.rows;
   size : l.self-inside.size ≡ l.initial.self-inside.size;
   width : l.self-inside.width ≡ l.initial.self-inside.width;
+  used : l.self-inside.used ≡ l.initial.self-inside.used;
   cleared : ClearedTo l.initial.self-inside.words.items l.self-inside.words.items l.first l.i;
 }
