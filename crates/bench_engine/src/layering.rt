@@ -10,6 +10,7 @@ use independent_matching::NoMemory;
 use limits::COLUMN_LIMIT;
 use mixed_model::{Layered, Origin};
 use residue_field::{Field, Res};
+use row_entries::EntryMat;
 use sparse_t::Pattern;
 use std::alloc::Global;
 
@@ -132,6 +133,7 @@ fn push_row(t: &mut Pattern, columns: &[usize]) -> Result<(), NoMemory>
 fn with_origins(alloc: Global, q: Mat<Res>, t: Pattern) -> Result<Layered<Res>, NoMemory>
     requires { t.width ≡ q.width }
 {
+    let q = EntryMat::of(alloc, &q)?;
     let q_origins = vec![in alloc; 0; q.rows()]?;
     let t_origins = vec![in alloc; 0; t.rows()]?;
     let column_origins = vec![in alloc; Origin::Unknown(0); q.cols()]?;

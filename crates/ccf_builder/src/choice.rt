@@ -6,13 +6,13 @@ ghost use Rattle.residue_theory.specs.Sums.{size_on};
 ghost use Rattle.dense_q.specs.Tables.{entry, height};
 ghost use Rattle.ccf_builder.specs.Choices.{HasFewEntries, has_entry_at};
 
-use dense_q::Mat;
 use residue_field::Field;
+use row_entries::EntryMat;
 
 /// Whether a matrix has at most as many entries that are not zero as it has rows and columns. As the edges of a graph on the
 /// rows and columns these make little more than a forest, in which pivots fill nothing in; so a sparse tableau suits it.
 /// Where there are more, pivots fill the matrix in, and a dense tableau is faster.
-pub fn has_few_entries<F: Field>(q: &Mat<F>) -> bool
+pub fn has_few_entries<F: Field>(q: &EntryMat<F>) -> bool
     ensures { IsTrue result ↔ HasFewEntries (entry q.now) (height q.now) q.now.width }
 {
     let most = q.rows() + q.cols();
@@ -27,16 +27,18 @@ pub fn has_few_entries<F: Field>(q: &Mat<F>) -> bool
 }
 
 // How many entries of a row are not zero.
-fn entries_in_row<F: Field>(q: &Mat<F>, row: usize) -> usize
+fn entries_in_row<F: Field>(q: &EntryMat<F>, row: usize) -> usize
     requires { row < height q.now }
     ensures count { result ≡ size_on (has_entry_at (entry q.now) row) q.now.width }
     ensures few { result ≤ column_limit }
 {
+    // there are at most 8,192 columns, so that the sums below fit
+    let _columns = q.cols();
     let mut entries = 0;
-    for col in 0..q.cols() {
-        if !q.get(row, col).is_zero() {
-            entries += 1;
-        }
+    let mut from = 0;
+    while let Some((col, _)) = q.next(row, from) {
+        entries += 1;
+        from = col + 1;
     }
     entries
 }
