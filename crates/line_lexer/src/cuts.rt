@@ -1,8 +1,7 @@
 //! Lines cut into tokens.
 
-ghost use Rattle.std.specs.Prelude.{◌≡◌, true, false, position, MatchResult};
-ghost use Rattle.std.specs.List.{list_all};
-ghost use Rattle.line_lexer.specs.Tokens.{is_text_byte, is_comment_sign, is_clean, tokens_of, uncommented};
+ghost use Rattle.std.specs.Prelude.{◌≡◌, true, false, position, MatchOption, MatchResult};
+ghost use Rattle.line_lexer.specs.Tokens.{is_comment_sign, is_odd, is_clean, tokens_of, uncommented};
 
 use crate::line::Line;
 use crate::token::Tokens;
@@ -17,10 +16,9 @@ pub fn tokens<'a>(line: Line<'a>) -> Result<Tokens<'a>, Why>
         (λ left. (is_clean line.entry.bytes.now ≡ true) × (left ≡ tokens_of line.entry.bytes.now))
         (λ why. (is_clean line.entry.bytes.now ≡ false) × (why ≡ Why.BadByte)) }
 {
-    let text = before_comment(line.bytes);
-    if !are_text_bytes(text) {
+    let Some(text) = clean_text(line.bytes) else {
         return Err(Why::BadByte);
-    }
+    };
     match str::from_utf8(text) {
         Ok(text) => Ok(Tokens::new(text)),
         Err(_) => unreachable!(),
@@ -44,9 +42,36 @@ fn comment_sign(line: &[u8]) -> Option<usize>
     line.iter().position(|byte| *byte == b'#')
 }
 
-fn are_text_bytes(text: &[u8]) -> bool
-    ensures { result ≡ list_all is_text_byte text.now }
+// What stands in a line before its comment, where no byte of that is bad.
+fn clean_text(line: &[u8]) -> Option<&[u8]>
+    ensures { MatchOption result
+        (is_clean line.now ≡ false)
+        (λ text. (is_clean line.now ≡ true) × (text.now ≡ uncommented line.now)) }
 {
-    text.iter()
-        .all(|byte| *byte == b'\t' || (32..=126).contains(byte))
+    let Some(end) = first_odd(line) else {
+        return Some(line);
+    };
+    if line[end] == b'#' {
+        Some(&line[..end])
+    } else {
+        None
+    }
+}
+
+// Where the text of a line ends: at the sign of a comment, or at a byte that may stand in a comment alone.
+fn first_odd(line: &[u8]) -> Option<usize>
+    ensures { result ≡ position is_odd line.now }
+{
+    line.iter().position(|byte| is_odd(*byte))
+}
+
+// Letters, digits and most signs lie above the sign of a comment, and take one comparison.
+fn is_odd(byte: u8) -> bool
+    ensures { result ≡ is_odd byte }
+{
+    if byte > b'#' {
+        byte > 126
+    } else {
+        byte == b'#' || byte < b' ' && byte != b'\t'
+    }
 }

@@ -95,5 +95,5 @@ fn begins_name(byte: u8) -> bool
 fn continues_name(byte: u8) -> bool
     ensures { result ≡ continues_name byte }
 {
-    begins_name(byte) || byte.is_ascii_digit() || byte == b'.'
+    byte.is_ascii_digit() || begins_name(byte) || byte == b'.'
 }
