@@ -4,8 +4,10 @@ ghost use Rattle.std.specs.Prelude.{◌≡◌, true, false, position, MatchOptio
 ghost use Rattle.line_lexer.specs.Tokens.{is_comment_sign, is_odd, is_clean, tokens_of, uncommented};
 
 use crate::line::Line;
+use crate::scan::{ByteTest, first_place};
 use crate::token::Tokens;
 use refusals::Why;
+use std::simd::prelude::*;
 use std::str;
 
 /// The tokens of a line: the longest runs of bytes that are no space and no tab, up to a `#`, which starts a
@@ -62,16 +64,29 @@ fn clean_text(line: &[u8]) -> Option<&[u8]>
 fn first_odd(line: &[u8]) -> Option<usize>
     ensures { result ≡ position is_odd line.now }
 {
-    line.iter().position(|byte| is_odd(*byte))
+    first_place::<Odd>(line)
 }
 
-// Letters, digits and most signs lie above the sign of a comment, and take one comparison.
-fn is_odd(byte: u8) -> bool
-    ensures { result ≡ is_odd byte }
-{
-    if byte > b'#' {
-        byte > 126
-    } else {
-        byte == b'#' || byte < b' ' && byte != b'\t'
+struct Odd;
+
+impl ByteTest for Odd {
+    ghost use Rattle.line_lexer.specs.Tokens.{is_odd};
+
+    ghost holds = { is_odd };
+
+    // Letters, digits and most signs lie above the sign of a comment, and take one comparison.
+    fn passes(byte: u8) -> bool {
+        if byte > b'#' {
+            byte > b'~'
+        } else {
+            byte == b'#' || byte < b' ' && byte != b'\t'
+        }
+    }
+
+    fn marks(lanes: u8x16) -> u64 {
+        let signs = lanes.simd_eq(u8x16::splat(b'#'));
+        let controls = lanes.simd_lt(u8x16::splat(b' ')) & lanes.simd_ne(u8x16::splat(b'\t'));
+        let others = lanes.simd_gt(u8x16::splat(b'~'));
+        (signs | controls | others).to_bitmask()
     }
 }

@@ -4,6 +4,9 @@ ghost use Rattle.std.specs.Prelude.{◌≡◌, position};
 ghost use Rattle.std.specs.Str.Lines.{strip_carriage_return};
 ghost use Rattle.line_lexer.specs.Lines.{is_line_feed};
 
+use crate::scan::{ByteTest, first_place};
+use std::simd::prelude::*;
+
 /// A line of a text, without its line feed and without one carriage return before that, and its number from 1.
 #[derive(Clone, Copy, Debug)]
 pub struct Line<'a> {
@@ -15,7 +18,23 @@ pub struct Line<'a> {
 pub fn first_line_feed(bytes: &[u8]) -> Option<usize>
     ensures { result ≡ position is_line_feed bytes.now }
 {
-    bytes.iter().position(|byte| *byte == b'\n')
+    first_place::<LineFeed>(bytes)
+}
+
+struct LineFeed;
+
+impl ByteTest for LineFeed {
+    ghost use Rattle.line_lexer.specs.Lines.{is_line_feed};
+
+    ghost holds = { is_line_feed };
+
+    fn passes(byte: u8) -> bool {
+        byte == b'\n'
+    }
+
+    fn marks(lanes: u8x16) -> u64 {
+        lanes.simd_eq(u8x16::splat(b'\n')).to_bitmask()
+    }
 }
 
 /// A line without the one carriage return at its end, if it has one.
