@@ -44,7 +44,7 @@ fn first_marked<T: ByteTest>(bytes: &[u8], place: usize) -> Option<usize>
     ensures { MatchOption result
         ((k : ℕ) → place ≤ k → k < place + LANES → T.holds (slice_index bytes.now k) ≡ false)
         (λ found. (found < place + LANES) × (T.holds (slice_index bytes.now found) ≡ true)
-            × ((k : ℕ) → place ≤ k → k < found → T.holds (slice_index bytes.now k) ≡ false)) }
+        × ((k : ℕ) → place ≤ k → k < found → T.holds (slice_index bytes.now k) ≡ false)) }
 {
     let marks = T::marks(u8x16::from_slice(&bytes[place..]));
     if marks == 0 {

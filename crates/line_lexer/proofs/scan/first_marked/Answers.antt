@@ -20,8 +20,7 @@ returns g c =
     let some : 0 < mask_l (map test lanes) = omega (arith, c.marks-marks.ensures) in
     let counted : count_trailing_zeros 64 c.marks-marks.result ≡ prefix_len (λ byte. not (test byte)) lanes =
     ap (count_trailing_zeros 64) c.marks-marks.ensures ∙ trailing_mask_l test 64 lanes (omega arith) some in
-    let short : count_trailing_zeros 64 c.marks-marks.result < 16 = omega (arith, counted, long, some_lane test lanes some) in
-    (
+    let short : count_trailing_zeros 64 c.marks-marks.result < 16 = omega (arith, counted, long, some_lane test lanes some) in (
       omega (arith, short),
       run_in_chunk_stops test bytes place 16 _ 0 c.requires counted short,
       run_in_chunk_fails test bytes place 16 _ 0 c.requires counted,
