@@ -1,6 +1,6 @@
 -- A test at each lane of a vector, and the first place that passes it.
 use Rattle.std.proofs.Common.{◌≡◌, ℕ, ◌+◌, ◌*◌, ◌%◌, ◌^◌, ◌<◌, ◌≤◌, Bool, true, false, not, cond, ⊎_elim, List, [], ◌∷◌, map, length, get_or, position, nat_lt, Option, Some, None, MatchOption, Fits, w8, refl, sym, ap, ap₂, ◌∙◌, arith, lt-ltb, le-ltb}
-use Rattle.std.specs.List.{position_or_len, prefix_len}
+use Rattle.std.specs.List.{prefix_len}
 use Rattle.std.specs.Simd.Lanes.{mask_l, top, Each1}
 use Rattle.std.proofs.lemmas.Bool.{agree_below, agree_below_at, cases_lt}
 use Rattle.std.proofs.lemmas.List.{length-map}
@@ -65,10 +65,10 @@ module _ (test : ℕ → Bool) (bytes : List ℕ) (seen start : ℕ) (overlap : 
   found_next found within passes after = sym (position-Some test bytes found within (fails_to found after) passes)
 
   -- and where the next ones are the last
-  pub found_last : (result : Option ℕ) → start + 16 ≡ length bytes → MatchOption result
-      ((k : ℕ) → start ≤ k → k < start + 16 → test (get_or bytes k 0) ≡ false)
-      (λ found. (found < start + 16) × (test (get_or bytes found 0) ≡ true)
+  pub found_last : (n : ℕ) (result : Option ℕ) → start + n ≡ length bytes → MatchOption result
+      ((k : ℕ) → start ≤ k → k < start + n → test (get_or bytes k 0) ≡ false)
+      (λ found. (found < start + n) × (test (get_or bytes found 0) ≡ true)
       × ((k : ℕ) → start ≤ k → k < found → test (get_or bytes k 0) ≡ false)) → result ≡ position test bytes
-  found_last None whole after =
+  found_last n None whole after =
       sym (position-None test bytes (fails_to (length bytes) (λ k from to. after k from (omega arith))))
-  found_last (Some found) whole next = found_next found (omega (arith, next.0)) next.1 next.2
+  found_last n (Some found) whole next = found_next found (omega (arith, next.0)) next.1 next.2

@@ -1,10 +1,11 @@
 //! Lines cut into tokens.
 
-ghost use Rattle.std.specs.Prelude.{◌≡◌, true, false, position, MatchOption, MatchResult};
+ghost use Rattle.std.specs.Simd.Lanes.{mask_l};
+ghost use Rattle.std.specs.Prelude.{◌≤◌, map, ◌≡◌, true, false, position, MatchOption, MatchResult};
 ghost use Rattle.line_lexer.specs.Tokens.{is_comment_sign, is_odd, is_clean, tokens_of, uncommented};
 
 use crate::line::Line;
-use crate::scan::{ByteTest, first_place};
+use crate::scan::{ByteTest, LaneTest, first_place};
 use crate::token::Tokens;
 use refusals::Why;
 use std::simd::prelude::*;
@@ -82,11 +83,16 @@ impl ByteTest for Odd {
             byte == b'#' || byte < b' ' && byte != b'\t'
         }
     }
+}
 
-    fn marks(lanes: u8x16) -> u64 {
-        let signs = lanes.simd_eq(u8x16::splat(b'#'));
-        let controls = lanes.simd_lt(u8x16::splat(b' ')) & lanes.simd_ne(u8x16::splat(b'\t'));
-        let others = lanes.simd_gt(u8x16::splat(b'~'));
+impl<const N: usize> LaneTest<N> for Odd {
+    fn marks(lanes: Simd<u8, N>) -> u64
+        requires { N ≤ 64 }
+        ensures { result ≡ mask_l (map is_odd lanes.entry) }
+    {
+        let signs = lanes.simd_eq(Simd::splat(b'#'));
+        let controls = lanes.simd_lt(Simd::splat(b' ')) & lanes.simd_ne(Simd::splat(b'\t'));
+        let others = lanes.simd_gt(Simd::splat(b'~'));
         (signs | controls | others).to_bitmask()
     }
 }

@@ -1,10 +1,11 @@
 //! Lines of a text, with their numbers.
 
-ghost use Rattle.std.specs.Prelude.{◌≡◌, position};
+ghost use Rattle.std.specs.Simd.Lanes.{mask_l};
+ghost use Rattle.std.specs.Prelude.{◌≤◌, map, ◌≡◌, position};
 ghost use Rattle.std.specs.Str.Lines.{strip_carriage_return};
 ghost use Rattle.line_lexer.specs.Lines.{is_line_feed};
 
-use crate::scan::{ByteTest, first_place};
+use crate::scan::{ByteTest, LaneTest, first_place};
 use std::simd::prelude::*;
 
 /// A line of a text, without its line feed and without one carriage return before that, and its number from 1.
@@ -31,9 +32,14 @@ impl ByteTest for LineFeed {
     fn passes(byte: u8) -> bool {
         byte == b'\n'
     }
+}
 
-    fn marks(lanes: u8x16) -> u64 {
-        lanes.simd_eq(u8x16::splat(b'\n')).to_bitmask()
+impl<const N: usize> LaneTest<N> for LineFeed {
+    fn marks(lanes: Simd<u8, N>) -> u64
+        requires { N ≤ 64 }
+        ensures { result ≡ mask_l (map is_line_feed lanes.entry) }
+    {
+        lanes.simd_eq(Simd::splat(b'\n')).to_bitmask()
     }
 }
 

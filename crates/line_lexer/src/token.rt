@@ -1,12 +1,13 @@
 //! The tokens of a line.
 
-ghost use Rattle.std.specs.Prelude.{◌≡◌, ◌∷◌, [], ℕ, ◌+◌, ◌<◌, ◌≤◌, ◌^◌, length, not, position, MatchOption};
+ghost use Rattle.std.specs.Simd.Lanes.{mask_l};
+ghost use Rattle.std.specs.Prelude.{map, ◌≡◌, ◌∷◌, [], ℕ, ◌+◌, ◌<◌, ◌≤◌, ◌^◌, length, not, position, MatchOption};
 ghost use Rattle.std.specs.Iterator.{YieldsFirstBy, item_count};
 ghost use Rattle.std.specs.Str.{IsAscii};
 ghost use Rattle.line_lexer.specs.Tokens.{is_blank, tokens_from};
 ghost use Rattle.line_lexer.specs.Cuts.{CutsToken};
 
-use crate::scan::{ByteTest, first_place};
+use crate::scan::{ByteTest, LaneTest, first_place};
 use std::marker::Model;
 use std::simd::prelude::*;
 
@@ -101,10 +102,15 @@ impl ByteTest for Blank {
     fn passes(byte: u8) -> bool {
         is_blank(byte)
     }
+}
 
-    fn marks(lanes: u8x16) -> u64 {
-        let spaces = lanes.simd_eq(u8x16::splat(b' '));
-        let tabs = lanes.simd_eq(u8x16::splat(b'\t'));
+impl<const N: usize> LaneTest<N> for Blank {
+    fn marks(lanes: Simd<u8, N>) -> u64
+        requires { N ≤ 64 }
+        ensures { result ≡ mask_l (map is_blank lanes.entry) }
+    {
+        let spaces = lanes.simd_eq(Simd::splat(b' '));
+        let tabs = lanes.simd_eq(Simd::splat(b'\t'));
         (spaces | tabs).to_bitmask()
     }
 }
