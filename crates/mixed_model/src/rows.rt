@@ -170,6 +170,7 @@ fn put_symbol<F: Field>(row: &mut Vec<Entry<F>>, column: usize) -> Result<(), Ad
 
 // Puts an entry at a place of a row: the entries of a list mostly rise, and go last. A refusal changes nothing.
 #[tactic(auto, using(std::proofs::lemmas::List::Edits::insert_end))]
+#[inline(always)]
 fn put_entry<F: Field>(
     row: &mut Vec<Entry<F>>,
     place: usize,
