@@ -1,4 +1,5 @@
 pub mod NumberLaws
 pub mod ResidueLaws
 pub mod PlaceLaws
+pub mod LaneLaws
 pub mod TokenLaws

@@ -1,8 +1,8 @@
 -- The first token of a text, and the others.
-use Rattle.std.proofs.Common.{◌≡◌, ℕ, ◌+◌, ◌<◌, Bool, true, false, not, ◌&&◌, List, [], ◌∷◌, length, take, drop}
-use Rattle.std.proofs.Common.{filter, cond, nat_lt, Some, None, position, lt-ltb, refl, sym, ap, ◌∙◌, arith}
+use Rattle.std.proofs.Common.{◌≡◌, ◌≢◌, ℕ, ◌+◌, ◌<◌, Bool, true, false, not, ◌&&◌, ne_eqb, List, [], ◌∷◌, length, take, drop}
+use Rattle.std.proofs.Common.{filter, cond, nat_lt, get_or, Some, None, position, lt-ltb, refl, sym, ap, ◌∙◌, arith}
 use Rattle.std.proofs.Common.{length-drop, length-take-le, one-add, add-zero, add_assoc}
-use Rattle.std.specs.List.{position_or_len}
+use Rattle.std.specs.List.{position_or_len, slice_index}
 use Rattle.std.specs.Str.{IsAscii, IsUtf8}
 use Rattle.std.specs.List.{list_all}
 use Rattle.std.proofs.Math.Seq.{take-length}
@@ -10,11 +10,12 @@ use Rattle.std.proofs.lemmas.Bool.Decides.{nat_tests}
 use Rattle.std.proofs.lemmas.Str.Ascii.{IsAscii-nil, IsAscii-cons}
 use Rattle.std.proofs.Math.ListN.{drop_of_length-le}
 use Rattle.std.proofs.lemmas.List.Quantifiers.{position-Some}
+use Rattle.std.proofs.lemmas.List.{get_or_default, get_or_past}
 use Rattle.std.proofs.lemmas.List.Sums.{prefix_len-le-length, prefix_len-drop_yes}
 use Rattle.std.proofs.lemmas.Str.{IsAscii-drop, IsUtf8-from_ascii}
 use Rattle.line_lexer.proofs.PlaceLaws.{position_or_len-Some, position_or_len-None}
 use Rattle.line_lexer.specs.Cuts.{CutsToken}
-use Rattle.line_lexer.specs.Tokens.{is_blank, is_comment_sign, is_text_byte, uncommented, parts_from, onto_first_part, has_bytes, tokens_from}
+use Rattle.line_lexer.specs.Tokens.{is_blank, is_comment_sign, is_odd, is_text_byte, is_clean, uncommented, parts_from, onto_first_part, has_bytes, tokens_from}
 
 -- blanks before a token only move its place
 pub tokens_after_blanks : (i : ℕ) (text : List ℕ) → tokens_from i text ≡ tokens_from
@@ -136,3 +137,82 @@ IsAscii-from_text_bytes (byte ∷ text) h = by (is_text_byte byte) refl h (λ re
 
 pub text_is_utf8 : (text : List ℕ) → list_all is_text_byte text ≡ true → IsUtf8 text
 text_is_utf8 text h = IsUtf8-from_ascii text (IsAscii-from_text_bytes text h)
+
+-- up to the first odd byte all is text
+before_odd : (line : List ℕ) → list_all is_text_byte (take (position_or_len is_odd line) line) ≡ true
+before_odd [] = refl
+before_odd (byte ∷ line) = by (is_comment_sign byte) refl (is_text_byte byte) refl (before_odd line)
+  where
+    by : (sign : Bool) → is_comment_sign byte ≡ sign → (text : Bool) → is_text_byte byte ≡ text →
+        list_all is_text_byte (take (position_or_len is_odd line) line) ≡ true →
+        list_all is_text_byte (take (position_or_len is_odd (byte ∷ line)) (byte ∷ line)) ≡ true
+    by true e text f rest = rw e refl
+    by false e true f rest = rw (e, f, one-add) (rw f rest)
+    by false e false f rest = rw (e, f) refl
+
+-- it is the sign of the comment, or the line has none and ends there
+at_sign : (line : List ℕ) → is_comment_sign (get_or line (position_or_len is_odd line) 35) ≡ true →
+    position_or_len is_comment_sign line ≡ position_or_len is_odd line
+at_sign [] h = refl
+at_sign (byte ∷ line) h = by (is_comment_sign byte) refl (is_text_byte byte) refl (at_sign line) h
+  where
+    by : (sign : Bool) → is_comment_sign byte ≡ sign → (text : Bool) → is_text_byte byte ≡ text →
+        (is_comment_sign (get_or line (position_or_len is_odd line) 35) ≡ true →
+        position_or_len is_comment_sign line ≡ position_or_len is_odd line) →
+        is_comment_sign (get_or (byte ∷ line) (position_or_len is_odd (byte ∷ line)) 35) ≡ true →
+        position_or_len is_comment_sign (byte ∷ line) ≡ position_or_len is_odd (byte ∷ line)
+    by true e text f rest at = rw e refl
+    by false e true f rest at =
+        let moved : is_comment_sign (get_or (byte ∷ line) (position_or_len is_odd (byte ∷ line)) 35) ≡
+        is_comment_sign (get_or line (position_or_len is_odd line) 35) = rw (e, f, one-add) refl in
+        rw (e, f) (ap (λ n. 1 + n) (rest (sym moved ∙ at)))
+    by false e false f rest at =
+        let here : is_comment_sign (get_or (byte ∷ line) (position_or_len is_odd (byte ∷ line)) 35) ≡ false =
+        rw (e, f) e in let h : ⊥ = cc in absurd h
+
+text_before : (line : List ℕ) → is_comment_sign (get_or line (position_or_len is_odd line) 35) ≡ true → is_clean line ≡ true
+text_before line sign = ap (λ n. list_all is_text_byte (take n line)) (at_sign line sign) ∙ before_odd line
+
+-- or it is bad
+at_bad_byte : (line : List ℕ) → is_comment_sign (get_or line (position_or_len is_odd line) 35) ≡ false → is_clean line ≡ false
+at_bad_byte [] h = let f : ⊥ = cc in absurd f
+at_bad_byte (byte ∷ line) h = by (is_comment_sign byte) refl (is_text_byte byte) refl (at_bad_byte line) h
+  where
+    by : (sign : Bool) → is_comment_sign byte ≡ sign → (text : Bool) → is_text_byte byte ≡ text →
+        (is_comment_sign (get_or line (position_or_len is_odd line) 35) ≡ false → is_clean line ≡ false) →
+        is_comment_sign (get_or (byte ∷ line) (position_or_len is_odd (byte ∷ line)) 35) ≡ false →
+        is_clean (byte ∷ line) ≡ false
+    by true e text f rest at =
+        let here : is_comment_sign (get_or (byte ∷ line) (position_or_len is_odd (byte ∷ line)) 35) ≡ true =
+        rw e e in let h : ⊥ = cc in absurd h
+    by false e true f rest at =
+        let moved : is_comment_sign (get_or (byte ∷ line) (position_or_len is_odd (byte ∷ line)) 35) ≡
+        is_comment_sign (get_or line (position_or_len is_odd line) 35) = rw (e, f, one-add) refl in
+        rw (e, one-add) (rw f (rest (sym moved ∙ at)))
+    by false e false f rest at = rw (e, one-add) (rw f refl)
+
+-- what the first odd byte of a line says of it
+pub text-whole : (line : List ℕ) → position is_odd line ≡ None → (is_clean line ≡ true) × (line ≡ uncommented line)
+text-whole line none =
+    let end = position_or_len-None is_odd line none in
+    let sign : is_comment_sign (get_or line (position_or_len is_odd line) 35) ≡ true =
+    ap is_comment_sign (get_or_past line (position_or_len is_odd line) 35 (omega (arith, end))) in
+    let same : position_or_len is_comment_sign line ≡ length line = at_sign line sign ∙ end in
+    (text_before line sign, sym (take-length line) ∙ ap (λ n. take n line) (sym same))
+
+pub text-sign : (line : List ℕ) (end : ℕ) → position is_odd line ≡ Some end → slice_index line end ≡ 35 →
+    (is_clean line ≡ true) × (take end line ≡ uncommented line)
+text-sign line end found sign =
+    let at = position-Some is_odd line end 0 found in
+    let place = position_or_len-Some is_odd line end found in
+    let here : is_comment_sign (get_or line (position_or_len is_odd line) 35) ≡ true =
+    ap (λ n. is_comment_sign (get_or line n 35)) place ∙ ap is_comment_sign (get_or_default line end 35 0 at.0 ∙ sign) in
+    (text_before line here, ap (λ n. take n line) (sym (at_sign line here ∙ place)))
+
+pub text-bad : (line : List ℕ) (end : ℕ) → position is_odd line ≡ Some end → slice_index line end ≢ 35 → is_clean line ≡ false
+text-bad line end found other =
+    let at = position-Some is_odd line end 0 found in
+    let place = position_or_len-Some is_odd line end found in
+    at_bad_byte line
+    (ap (λ n. is_comment_sign (get_or line n 35)) place
+    ∙ ap is_comment_sign (get_or_default line end 35 0 at.0) ∙ ne_eqb (slice_index line end) 35 other)

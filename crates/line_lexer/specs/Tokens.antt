@@ -1,5 +1,5 @@
 -- The tokens of a line.
-use Rattle.std.specs.Prelude.{ℕ, ◌+◌, Bool, ◌&&◌, ◌||◌, List, [], ◌∷◌, nat_eq, nat_le, nat_lt, length, if◌then◌else◌, map, filter}
+use Rattle.std.specs.Prelude.{ℕ, ◌+◌, Bool, not, ◌&&◌, ◌||◌, List, [], ◌∷◌, nat_eq, nat_le, nat_lt, length, if◌then◌else◌, map, filter}
 use Rattle.std.specs.List.{before_first, list_all}
 
 -- a space or a tab
@@ -13,6 +13,10 @@ is_comment_sign byte = nat_eq byte 35
 -- what may stand outside a comment: a tab, or an ASCII byte that prints
 abbrev pub is_text_byte : ℕ → Bool
 is_text_byte byte = nat_eq byte 9 || (nat_le 32 byte && nat_le byte 126)
+
+-- what ends the text of a line: the sign of a comment, or a byte that may stand in a comment alone
+abbrev pub is_odd : ℕ → Bool
+is_odd byte = is_comment_sign byte || not (is_text_byte byte)
 
 -- a line without its comment
 abbrev pub uncommented : List ℕ → List ℕ

@@ -5,6 +5,7 @@ mod cuts;
 mod line;
 mod names;
 mod numbers;
+mod scan;
 mod token;
 
 pub use cuts::{before_comment, tokens};

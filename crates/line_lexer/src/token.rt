@@ -1,12 +1,15 @@
 //! The tokens of a line.
 
-ghost use Rattle.std.specs.Prelude.{◌≡◌, ◌∷◌, [], ℕ, ◌+◌, ◌<◌, ◌≤◌, ◌^◌, length, not, position, MatchOption};
+ghost use Rattle.std.specs.Simd.Lanes.{mask_l};
+ghost use Rattle.std.specs.Prelude.{map, ◌≡◌, ◌∷◌, [], ℕ, ◌+◌, ◌<◌, ◌≤◌, ◌^◌, length, not, position, MatchOption};
 ghost use Rattle.std.specs.Iterator.{YieldsFirstBy, item_count};
 ghost use Rattle.std.specs.Str.{IsAscii};
 ghost use Rattle.line_lexer.specs.Tokens.{is_blank, tokens_from};
 ghost use Rattle.line_lexer.specs.Cuts.{CutsToken};
 
+use crate::scan::{ByteTest, LaneTest, first_place};
 use std::marker::Model;
+use std::simd::prelude::*;
 
 /// A token of a line: a longest run of bytes that are no blank, and the place in the line where it begins.
 #[derive(Clone, Copy, Debug)]
@@ -86,7 +89,30 @@ fn first_of_token(text: &str) -> Option<usize>
 fn first_blank(text: &str) -> Option<usize>
     ensures { result ≡ position is_blank text.now }
 {
-    text.as_bytes().iter().position(|byte| is_blank(*byte))
+    first_place::<Blank>(text.as_bytes())
+}
+
+struct Blank;
+
+impl ByteTest for Blank {
+    ghost use Rattle.line_lexer.specs.Tokens.{is_blank};
+
+    ghost holds = { is_blank };
+
+    fn passes(byte: u8) -> bool {
+        is_blank(byte)
+    }
+}
+
+impl<const N: usize> LaneTest<N> for Blank {
+    fn marks(lanes: Simd<u8, N>) -> u64
+        requires { N ≤ 64 }
+        ensures { result ≡ mask_l (map is_blank lanes.entry) }
+    {
+        let spaces = lanes.simd_eq(Simd::splat(b' '));
+        let tabs = lanes.simd_eq(Simd::splat(b'\t'));
+        (spaces | tabs).to_bitmask()
+    }
 }
 
 /// Whether a byte is a blank: a space or a tab.

@@ -2,13 +2,14 @@
 
 ghost use Rattle.std.specs.Prelude.{◌≡◌, ◌≢◌, ◌<◌, ◌≤◌, ℕ, Some, None, length, All, slice_index_or, vec_len, MatchResult, OnOk, OnErr};
 ghost use Rattle.std.specs.Prelude.{is_some};
-ghost use Rattle.std.specs.List.{list_any};
+ghost use Rattle.std.specs.List.{insert, list_any};
 ghost use Rattle.mixed_model.specs.Names.{AnswersAdd};
 ghost use Rattle.mixed_model.specs.Rows.{IsRow, PutsConstant, PutsSymbol, FitsBetween, StandsAt, ChangesRow, row_at, rows_of, entry_in, constant_in, symbol_in, putting, putting_symbol};
 
 use crate::entry::Entry;
 use crate::errors::AddError;
 use residue_field::Field;
+use std::alloc::AllocFailed;
 
 // The entry of row `i` at a column.
 pub(crate) fn entry_in_row<F: Field>(
@@ -123,7 +124,8 @@ fn put_constant<F: Field>(
             }
             row[place] = Entry { constant, ..*entry };
         }
-        Err(place) => row.insert(
+        Err(place) => put_entry(
+            row,
             place,
             Entry {
                 column,
@@ -153,7 +155,8 @@ fn put_symbol<F: Field>(row: &mut Vec<Entry<F>>, column: usize) -> Result<(), Ad
                 ..*entry
             };
         }
-        Err(place) => row.insert(
+        Err(place) => put_entry(
+            row,
             place,
             Entry {
                 column,
@@ -163,6 +166,25 @@ fn put_symbol<F: Field>(row: &mut Vec<Entry<F>>, column: usize) -> Result<(), Ad
         )?,
     }
     Ok(())
+}
+
+// Puts an entry at a place of a row: the entries of a list mostly rise, and go last. A refusal changes nothing.
+#[tactic(auto, using(std::proofs::lemmas::List::Edits::insert_end))]
+#[inline(always)]
+fn put_entry<F: Field>(
+    row: &mut Vec<Entry<F>>,
+    place: usize,
+    entry: Entry<F>,
+) -> Result<(), AllocFailed<Entry<F>>>
+    requires { place ≤ vec_len row.old }
+    ensures items { OnOk result (row.new.items ≡ insert row.old.items place entry) }
+    ensures kept { OnErr result (row.new.items ≡ row.old.items) }
+{
+    if place == row.len() {
+        row.push(entry)
+    } else {
+        row.insert(place, entry)
+    }
 }
 
 // Where a column stands in a row, or else where it belongs. One past all others takes one comparison.
