@@ -22,9 +22,10 @@ pub fn tokens<'a>(line: Line<'a>) -> Result<Tokens<'a>, Why>
     let Some(text) = clean_text(line.bytes) else {
         return Err(Why::BadByte);
     };
-    // ASCII, by the test above
-    let text = unsafe { str::from_utf8_unchecked(text) };
-    Ok(Tokens::new(text))
+    match str::from_utf8(text) {
+        Ok(text) => Ok(Tokens::new(text)),
+        Err(_) => unreachable!(),
+    }
 }
 
 /// What stands in a line before its comment: the whole line where it has none.
