@@ -1,5 +1,6 @@
 -- What is left of the text of a layered matrix once a piece of it is put.
-use Rattle.std.proofs.Common.{◌≡◌, ℕ, zero, suc, ◌+◌, ◌<◌, ◌≤◌, List, [], ◌∷◌, ◌++◌, length, get_or, drop, slice_index, Some, ap, ◌∙◌}
+use Rattle.std.proofs.Common.{◌≡◌, ℕ, zero, suc, ◌+◌, ◌-◌, ◌<◌, ◌≤◌, false, not, eqb, List, [], ◌∷◌, ◌++◌, length, get_or, drop, slice_index, Some, ap, ◌∙◌, arith}
+use Rattle.std.proofs.lemmas.Bool.Decides.{nat_tests}
 use Rattle.std.specs.List.{slice_get}
 use Rattle.std.proofs.Math.ListN.{drop_of_length-le}
 use Rattle.mixed_model.specs.Models.{MixedModel}
@@ -28,6 +29,40 @@ entries_left row i d within = ap (row_entries_text (i + 1)) (drop_next row i d w
 
 pub entries_end : (column : ℕ) (row : List ℕ) (i : ℕ) → length row ≤ i → row_entries_text column (drop i row) ≡ []
 entries_end column row i all = ap (row_entries_text column) (drop_of_length-le row all)
+
+-- entries that are 0 have no text
+pub entries_skip : (row : List ℕ) (d i : ℕ) → i + d ≤ length row → ((j : ℕ) → i ≤ j → j < i + d → get_or row j 0 ≡ 0) →
+    row_entries_text (i + 1) (drop i row) ≡ row_entries_text (i + d + 1) (drop (i + d) row)
+entries_skip row zero i le none = ap (λ k. row_entries_text (k + 1) (drop k row)) (omega arith)
+entries_skip row (suc d) i le none =
+    entries_left row i 0 (omega arith)
+    ∙ ap (λ n. entry_text (i + 1) n ++ row_entries_text (i + 1 + 1) (drop (i + 1) row)) (none i (omega arith) (omega arith))
+    ∙ entries_skip row d (i + 1) (omega arith) (λ j ge less. none j (omega arith) (omega arith))
+    ∙ ap (λ k. row_entries_text (k + 1) (drop k row)) (omega arith)
+
+-- up to the next entry that is not 0
+pub entries_next : (row : List ℕ) (i j : ℕ) → i ≤ j → j < length row → ((k : ℕ) → i ≤ k → k < j → get_or row k 0 ≡ 0) →
+    row_entries_text (i + 1) (drop i row)
+    ≡ entry_text (j + 1) (get_or row j 0) ++ row_entries_text (j + 1 + 1) (drop (j + 1) row)
+entries_next row i j le less none =
+    entries_skip row (j - i) i (omega arith) (λ k ge lt. none k ge (omega arith))
+    ∙ ap (λ k. row_entries_text (k + 1) (drop k row)) (there le) ∙ entries_left row j 0 less
+  where
+    there : i ≤ j → i + (j - i) ≡ j
+    there le = omega arith
+
+-- and to the end where there is none
+pub entries_none : (row : List ℕ) (i : ℕ) → i ≤ length row → ((k : ℕ) → i ≤ k → k < length row → get_or row k 0 ≡ 0) →
+    row_entries_text (i + 1) (drop i row) ≡ []
+entries_none row i le none =
+    entries_skip row (length row - i) i (omega arith) (λ k ge lt. none k ge (omega arith))
+    ∙ ap (λ k. row_entries_text (k + 1) (drop k row)) (there le) ∙ entries_end (length row + 1) row (length row) (omega arith)
+  where
+    there : i ≤ length row → i + (length row - i) ≡ length row
+    there le = omega arith
+
+pub unmarked : (n : ℕ) → not (eqb n 0) ≡ false → n ≡ 0
+unmarked n e = grind (arith, nat_tests)
 
 pub rows_left : (line : ℕ → List ℕ → List ℕ → List ℕ) (names : List (List ℕ)) (origins : List ℕ) (rows : List (List ℕ)) (k : ℕ) → k < length rows →
     row_lines line names origins k (drop k rows) ≡ line (k + 1) (name_at names (slice_index origins k))

@@ -10,10 +10,10 @@ ghost use Rattle.answer_texts.specs.Columns.{IsOriginIn};
 ghost use Rattle.sparse_t.specs.Incidences.{columns_at};
 ghost use Rattle.text_writer.specs.Texts.{Puts};
 
-use dense_q::Mat;
 use mixed_model::{Layered, Mixed, Origin};
 use port_io::Sink;
 use residue_field::Field;
+use row_entries::EntryMat;
 use text_writer::TextWriter;
 
 /// Puts the whole text of the layered matrix of a model.
@@ -170,12 +170,16 @@ fn put_q_line<F: Field, K: Sink>(
 }
 
 // Puts the entries of a row of constants.
-fn put_entries<F: Field, K: Sink>(out: &mut TextWriter<'_, K>, matrix: &Mat<F>, row: usize)
+fn put_entries<F: Field, K: Sink>(out: &mut TextWriter<'_, K>, matrix: &EntryMat<F>, row: usize)
     requires { row < height matrix.now }
     ensures { Puts K.Sink out.old out.new (row_entries_text 1 (row_at matrix.now row)) }
 {
-    for column in 0..matrix.cols() {
-        put_entry(out, column + 1, matrix.get(row, column));
+    // there are at most 8,192 columns, so that the sums below fit
+    let _columns = matrix.cols();
+    let mut from = 0;
+    while let Some(entry) = matrix.next(row, from) {
+        put_entry(out, entry.0 + 1, entry.1);
+        from = entry.0 + 1;
     }
 }
 

@@ -1,7 +1,8 @@
-//! Tests of dense matrices, over the residues modulo 65,521.
+//! Tests of matrices, dense and by their entries, over the residues modulo 65,521.
 
 use dense_q::{Mat, NoMemory};
 use residue_field::{Field, Res};
+use row_entries::EntryMat;
 use std::alloc::Global;
 use std::process::Abort;
 use std::test::Fail;
@@ -63,5 +64,36 @@ fn multiplies(rt: HostRuntime) -> Result<(), Fail> {
     assert_eq!(rt; a.cols(), b.rows());
     let product = Mat::product(rt.alloc(), &a, &b)?;
     assert_entries(&rt, &product, &[&[25, 6], &[57, 20], &[89, 34]], "product");
+    Ok(())
+}
+
+// The columns and the numbers of the entries of a row that are not zero.
+fn assert_row(rt: &impl Abort, m: &EntryMat<Res>, row: usize, want: &[(usize, u32)]) {
+    assert!(rt; row < m.rows());
+    let mut from = 0;
+    for (column, number) in want {
+        let found = m.next(row, from).map(|entry| (entry.0, entry.1.value()));
+        assert_eq!(rt; found, Some((*column, *number)), "row {row}");
+        from = *column;
+        assert!(rt; from < 8_192);
+        from += 1;
+    }
+    assert!(rt; m.next(row, from).is_none(), "row {row}");
+}
+
+#[test]
+fn keeps_entries(rt: HostRuntime) -> Result<(), Fail> {
+    let m = matrix(rt.alloc(), &[[0, 2], [3, 65_521], [0, 0]])?;
+    let entries = EntryMat::of(rt.alloc(), &m)?;
+    assert_eq!(rt; (entries.rows(), entries.cols()), (3, 2));
+    assert_row(&rt, &entries, 0, &[(1, 2)]);
+    assert_row(&rt, &entries, 1, &[(0, 3)]);
+    assert_row(&rt, &entries.copy()?, 2, &[]);
+    assert_entries(&rt, &entries.dense()?, &[&[0, 2], &[3, 0], &[0, 0]], "dense");
+    let mut none = EntryMat::<Res>::empty(rt.alloc(), 3);
+    none.add_row()?;
+    assert_eq!(rt; (none.rows(), none.cols()), (1, 3));
+    assert_row(&rt, &none, 0, &[]);
+    assert_eq!(rt; none.get(0, 2).value(), 0);
     Ok(())
 }

@@ -3,6 +3,7 @@
 use dense_q::Mat;
 use mixed_model::{AddError, Layered, Mixed, Origin, is_label};
 use residue_field::{Field, Res};
+use row_entries::EntryMat;
 use sparse_t::Pattern;
 use std::alloc::Global;
 use std::process::Abort;
@@ -146,6 +147,7 @@ fn a_split_entry_has_an_auxiliary_column(rt: HostRuntime) -> Result<(), Fail> {
     t.push_row(&[0, 1])?;
     let equations = Vec::from_slice(alloc, &[0])?;
     let columns = Vec::from_slice(alloc, &[Origin::Unknown(0), Origin::Split(0)])?;
+    let q = EntryMat::of(alloc, &q)?;
     let layered = Layered::new(q, t, equations, Vec::from_slice(alloc, &[0])?, columns);
     assert_eq!(rt; layered.split(), 1);
     assert_eq!(rt; (layered.q_origin(0), layered.t_origin(0)), (0, 0));

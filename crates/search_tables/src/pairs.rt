@@ -6,6 +6,7 @@ use dense_q::Mat;
 use independent_matching::{Engine, Steps};
 use mixed_model::{Layered, Origin};
 use residue_field::{Field, Res};
+use row_entries::EntryMat;
 use row_transform::{DenseTableau, Tableau};
 use sparse_t::Pattern;
 use sparse_tableau::SparseTableau;
@@ -37,6 +38,7 @@ fn constants(alloc: Global, columns: usize, rows: &[&[u64]]) -> Result<Mat<Res>,
 fn layered(alloc: Global, q: Mat<Res>, t: Pattern) -> Result<Layered<Res>, Fail>
     requires { t.width ≡ q.width }
 {
+    let q = EntryMat::of(alloc, &q)?;
     let q_origins = vec![in alloc; 0; q.rows()]?;
     let t_origins = vec![in alloc; 0; t.rows()]?;
     let column_origins = vec![in alloc; Origin::Unknown(0); q.cols()]?;

@@ -2,6 +2,7 @@
 
 use crate::matrices::{assert_entries, matrix};
 use residue_field::{Field, Res};
+use row_entries::EntryMat;
 use row_table::{Placement, PutOff, RowTable};
 use std::process::Abort;
 use std::test::Fail;
@@ -22,7 +23,7 @@ fn assert_rows(rt: &impl Abort, t: &PutOff<Res>, want: &[[u32; 2]], at: &str) {
 #[test]
 fn puts_off_more_than_may_wait(rt: HostRuntime) -> Result<(), Fail> {
     let q = matrix(&rt, rt.alloc(), &[&[1, 2], &[3, 4], &[5, 6]])?;
-    let mut t = PutOff::open(rt.alloc(), &q)?;
+    let mut t = PutOff::open(rt.alloc(), &EntryMat::of(rt.alloc(), &q)?)?;
     let factors = [Res::one(), Res::one(), Res::zero()];
     for _turn in 0..40 {
         assert_eq!(rt; t.rows(), factors.len());
@@ -49,7 +50,7 @@ fn places_columns(rt: HostRuntime) -> Result<(), Fail> {
 #[test]
 fn has_unit_matrices_before_any_pivot(rt: HostRuntime) -> Result<(), Fail> {
     let q = matrix(&rt, rt.alloc(), &[&[1, 2], &[3, 4]])?;
-    let t = RowTable::open(rt.alloc(), &q)?;
+    let t = RowTable::open(rt.alloc(), &EntryMat::of(rt.alloc(), &q)?)?;
     assert_entries(&rt, &t.p()?, &[&[1, 2], &[3, 4]], "P");
     assert_entries(&rt, &t.s()?, &[&[1, 0], &[0, 1]], "S");
     assert_entries(&rt, &t.u()?, &[&[1, 0], &[0, 1]], "U");

@@ -2,6 +2,7 @@
 
 use crate::matrices::{assert_entries, matrix};
 use residue_field::{Field, Res};
+use row_entries::EntryMat;
 use sparse_q::SparseMat;
 use std::alloc::Global;
 use std::process::Abort;
@@ -21,7 +22,7 @@ fn assert_dense(
 #[test]
 fn keeps_the_entries(rt: HostRuntime) -> Result<(), Fail> {
     let q = matrix(&rt, rt.alloc(), &[&[0, 2, 0], &[4, 0, 65_521]])?;
-    let m = SparseMat::of(rt.alloc(), &q)?;
+    let m = SparseMat::of(rt.alloc(), &EntryMat::of(rt.alloc(), &q)?)?;
     assert_eq!(rt; (m.rows(), m.cols()), (2, 3));
     let found = (m.next(0, 0), m.next(0, 2), m.next(1, 1));
     assert_eq!(rt; found, (Some(1), None, None));
@@ -35,7 +36,7 @@ fn keeps_the_entries(rt: HostRuntime) -> Result<(), Fail> {
 #[test]
 fn changes_rows(rt: HostRuntime) -> Result<(), Fail> {
     let q = matrix(&rt, rt.alloc(), &[&[1, 0, 65_519], &[0, 5, 1]])?;
-    let mut m = SparseMat::of(rt.alloc(), &q)?;
+    let mut m = SparseMat::of(rt.alloc(), &EntryMat::of(rt.alloc(), &q)?)?;
     assert_eq!(rt; (m.rows(), m.cols()), (2, 3));
     m.add_row(0, 1, Res::of(2));
     assert_eq!(rt; m.next(0, 2), None);
@@ -44,7 +45,7 @@ fn changes_rows(rt: HostRuntime) -> Result<(), Fail> {
     assert!(rt; !factor.is_zero());
     m.scale_row(1, factor);
     assert_dense(&rt, rt.alloc(), &m, &[&[1, 10, 0], &[0, 15, 3]], "scaled")?;
-    let other = SparseMat::of(rt.alloc(), &q)?;
+    let other = SparseMat::of(rt.alloc(), &EntryMat::of(rt.alloc(), &q)?)?;
     assert_eq!(rt; (other.rows(), other.cols()), (2, 3));
     m.copy_row(1, &other, 0);
     assert_dense(

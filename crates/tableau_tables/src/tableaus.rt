@@ -3,6 +3,7 @@
 use crate::matrices::{assert_entries, matrix};
 use dense_q::Mat;
 use residue_field::{Field, Res};
+use row_entries::EntryMat;
 use row_transform::{DenseTableau, Tableau};
 use sparse_tableau::SparseTableau;
 use std::alloc::Global;
@@ -222,7 +223,7 @@ fn take<T: Tableau<Res>>(
 // Opens a tableau for each case, and takes its steps in turn.
 fn follow<T: Tableau<Res>>(rt: &impl Abort, alloc: Global) -> Result<(), Fail> {
     for (name, q, steps) in CASES {
-        let mut t = T::open(alloc, &matrix(rt, alloc, q)?)?;
+        let mut t = T::open(alloc, &EntryMat::of(alloc, &matrix(rt, alloc, q)?)?)?;
         for step in steps {
             take(rt, alloc, &mut t, q, step, name)?;
         }
