@@ -89,7 +89,12 @@ fn keeps_entries(rt: HostRuntime) -> Result<(), Fail> {
     assert_row(&rt, &entries, 0, &[(1, 2)]);
     assert_row(&rt, &entries, 1, &[(0, 3)]);
     assert_row(&rt, &entries.copy()?, 2, &[]);
-    assert_entries(&rt, &entries.dense()?, &[&[0, 2], &[3, 0], &[0, 0]], "dense");
+    assert_entries(
+        &rt,
+        &entries.dense()?,
+        &[&[0, 2], &[3, 0], &[0, 0]],
+        "dense",
+    );
     let mut none = EntryMat::<Res>::empty(rt.alloc(), 3);
     none.add_row()?;
     assert_eq!(rt; (none.rows(), none.cols()), (1, 3));
