@@ -27,7 +27,7 @@ size-none A n (suc m) le none = elim (nat_cases n (suc m)) [
   | inr ne ↦ omega (
     arith,
     size-none A n m (omega arith) (λ y ge less. none y ge (omega arith)),
-    ap (λ b. cond b 1 0) (none m (omega arith) (omega arith)),
+    ap {B = ℕ} (λ b. cond b 1 0) (none m (omega arith) (omega arith)),
   )
 ]
 
@@ -35,4 +35,4 @@ size-none A n (suc m) le none = elim (nat_cases n (suc m)) [
 pub size-least : (A : ℕ → Bool) (n y end : ℕ) → IsLeast A n end y → size_on A (y + 1) ≡ size_on A n + 1
 size-least A n y end least =
     ap (size_on A) (add-one y)
-    ∙ omega (arith, size-none A n y least.from_on least.none_before, ap (λ b. cond b 1 0) least.holds)
+    ∙ omega (arith, size-none A n y least.from_on least.none_before, ap {B = ℕ} (λ b. cond b 1 0) least.holds)

@@ -15,7 +15,7 @@ loop-entry-preserved g c =
     let at = c.in-Some.entry.0 in
     let L = c.in-Some.ensures.least in
     let rest = row_entries_text (at + 1 + 1) (drop (at + 1) row) in
-    let long : length row ≡ c.args.matrix.now.width = row_long c.args.matrix.now c.args.row c.requires c.cols.ensures.matrix in
+    let long : length row ≡ c.args.matrix.now.width = row_long c.args.matrix.now c.args.row c.requires c.cols-columns.ensures.matrix in
     record {
       within = omega (arith, L.before_end);
       put = loop_goes_on (entries_next row c.loop-entry.from at L.from_on (omega (arith, long, L.before_end))
@@ -26,7 +26,7 @@ loop-entry-preserved g c =
 pub returns : goal.returns
 returns g c =
     let row = row_at c.args.matrix.now c.args.row in
-    let long : length row ≡ c.args.matrix.now.width = row_long c.args.matrix.now c.args.row c.requires c.cols.ensures.matrix in
+    let long : length row ≡ c.args.matrix.now.width = row_long c.args.matrix.now c.args.row c.requires c.cols-columns.ensures.matrix in
     loop_ends (entries_none row c.loop-entry.from (omega (arith, long, c.loop-entry.invariant.within))
     (λ k le l. unmarked (entry c.args.matrix.now c.args.row k) (c.in_default.ensures.none k le (omega (arith, long, l)))))
     c.loop-entry.invariant.put
