@@ -91,7 +91,7 @@ pub fn run<S: Source, K: Sink, N: Sink>(
             status
         }
         Ok(Request::Make(size, named)) => {
-            let status = make(alloc, size, FieldName::over(named), out);
+            let status = make(alloc, size, over(named), out);
             tell(notes, status);
             status
         }
