@@ -51,8 +51,7 @@ pub(crate) fn solve<L: Ledger>(
         free: engine.free_columns().iter().filter(|free| **free).count(),
         least,
         searches: engine.searches(),
-        // the last one looked at each column that it reached
-        looks: engine.looks().saturating_add(least),
+        looks: engine.looks(),
         pivots: engine.pivots(),
     })
 }

@@ -1,5 +1,5 @@
 -- How many entries of a matrix are not 0.
-use Rattle.std.specs.Prelude.{ℕ, ◌+◌, ◌≤◌, not, eqb, Bool}
+use Rattle.std.specs.Prelude.{ℕ, ◌+◌, ◌*◌, ◌/◌, ◌≤◌, max, not, eqb, Bool}
 use Rattle.residue_theory.specs.Sums.{size_on, sum_below}
 
 -- which entries of row i are not 0
@@ -10,6 +10,6 @@ has_entry_at a i j = not (eqb (a i j) 0)
 abbrev pub entry_count : (ℕ → ℕ → ℕ) → ℕ → ℕ → ℕ
 entry_count a m n = sum_below m (λ i. size_on (has_entry_at a i) n)
 
--- at most as many as there are rows and columns
+-- at most as many as there are rows and columns, or at most five for two columns
 abbrev pub HasFewEntries : (ℕ → ℕ → ℕ) → ℕ → ℕ → Type 0
-HasFewEntries a m n = entry_count a m n ≤ m + n
+HasFewEntries a m n = entry_count a m n ≤ max (m + n) (5 * n / 2)

@@ -3,7 +3,7 @@ use Rattle.std.proofs.Common.{◌≡◌, ℕ, zero, suc, ◌+◌, ◌*◌, ◌%�
 use Rattle.std.proofs.Common.{map, drop, slice_index, slice_set, inl, inr, refl, ap, sym, subst, ◌∙◌, arith}
 use Rattle.std.specs.List.Sorted.{IsStrictlyIncreasing}
 use Rattle.std.proofs.lemmas.List.{get_or-set_same, get_or-set_other}
-use Rattle.std.proofs.Math.Nat.{add-mod-mod, mod-add-mod, mod-mod}
+use Rattle.std.proofs.Math.Nat.{mod-add-mod, mod-mod}
 use Rattle.residue_theory.proofs.SetLaws.{not_true, eqb_true, eqb_from}
 use Rattle.residue_theory.specs.Sets.{everything, without}
 use Rattle.residue_theory.specs.Sums.{sum_on, sum_below}
@@ -59,23 +59,17 @@ entry-none entries k j low = ap (λ es. entry_at es j) (drop-all entries k low)
 abbrev pub IsLeft : ℕ → ℕ → ℕ → List ℕ → List (ℕ × ℕ) → (ℕ → ℕ) → Type 0
 IsLeft p n factor now entries want = (j : ℕ) → j < n → (slice_index now j + factor * entry_at entries j) % p ≡ want j % p
 
-moved : (p x f e v w : ℕ) → v ≡ (e * f) % p → w ≡ (x + v) % p → (w + f * 0) % p ≡ (x + f * e) % p
-moved p x f e v w product sum =
-    let first : (x + v) % p ≡ (x + f * e) % p = ap (λ z. (x + z) % p) product ∙ add-mod-mod x (e * f) p ∙ ap (λ z. (x + z) % p) (swapped e f) in
-    let none : w + f * 0 ≡ w = plain w f in
-    ap (λ z. z % p) none ∙ ap (λ z. z % p) sum ∙ mod-mod (x + v) p ∙ first
+moved : (p x f e w : ℕ) → w ≡ (x + f * e) % p → (w + f * 0) % p ≡ (x + f * e) % p
+moved p x f e w sum = ap (λ z. z % p) (plain w f) ∙ ap (λ z. z % p) sum ∙ mod-mod (x + f * e) p
   where
-    swapped : (a b : ℕ) → a * b ≡ b * a
-    swapped a b = grind arith
-
     plain : (a b : ℕ) → a + b * 0 ≡ a
     plain a b = grind arith
 
-pub left-step : (p n f : ℕ) (now : List ℕ) (entry : ℕ × ℕ) (entries : List (ℕ × ℕ)) (want : ℕ → ℕ) (v w : ℕ) →
+pub left-step : (p n f : ℕ) (now : List ℕ) (entry : ℕ × ℕ) (entries : List (ℕ × ℕ)) (want : ℕ → ℕ) (w : ℕ) →
     length now ≡ n → entry.0 < n → AreKeysRising (entry ∷ entries) →
-    v ≡ (entry.1 * f) % p → w ≡ (slice_index now entry.0 + v) % p → IsLeft p n f now (entry ∷ entries) want →
+    w ≡ (slice_index now entry.0 + f * entry.1) % p → IsLeft p n f now (entry ∷ entries) want →
     IsLeft p n f (slice_set now entry.0 w) entries want
-left-step p n f now entry entries want v w long low rising product sum left j jl = go (nat_cases j entry.0)
+left-step p n f now entry entries want w long low rising sum left j jl = go (nat_cases j entry.0)
   where
     goal : ℕ → Type 0
     goal i = (slice_index (slice_set now entry.0 w) i + f * entry_at entries i) % p ≡ want i % p
@@ -84,7 +78,7 @@ left-step p n f now entry entries want v w long low rising product sum left j jl
     go (inl same) = subst goal (sym same)
         (ap (λ z. (z + f * entry_at entries entry.0) % p) (get_or-set_same now entry.0 w 0 (omega (arith, long, low)))
         ∙ ap (λ z. (w + f * z) % p) (entry-once entry entries rising)
-        ∙ moved p (slice_index now entry.0) f entry.1 v w product sum
+        ∙ moved p (slice_index now entry.0) f entry.1 w sum
         ∙ ap (λ b. (slice_index now entry.0 + f * cond b entry.1 (entry_at entries entry.0)) % p) (sym (eqb_from entry.0 entry.0 refl))
         ∙ left entry.0 low)
     go (inr other) =

@@ -23,7 +23,7 @@ fn add_entries<F: Field>(row: &mut [F], entries: &[(usize, F)], factor: F)
 {
     for entry in entries {
         let column = entry.0;
-        row[column] = row[column].add(entry.1.mul(factor));
+        row[column] = row[column].plus_multiple(factor, entry.1);
     }
 }
 

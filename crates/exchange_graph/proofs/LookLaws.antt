@@ -4,7 +4,8 @@ use Rattle.residue_theory.proofs.SumLaws.{nat_cases}
 use Rattle.residue_theory.proofs.SetLaws.{differ, eqb_from, eqb_true, lt_cases, not_true}
 use Rattle.residue_theory.specs.Sets.{only}
 use Rattle.search_laws.specs.Searches.{State, IsSearch, IsPut, IsGrown, HasStarts, NoEndBefore, IsShortest}
-use Rattle.search_laws.proofs.SearchLaws.{search-put, search-next, grown-put, grown-same, grown-join, grown-starts, grown-ends, ends-next, starts-put, trace-all}
+use Rattle.search_laws.proofs.SearchLaws.{search-put, search-next, grown-put, grown-same, grown-join, grown-starts}
+use Rattle.search_laws.proofs.SearchLaws.{grown-ends, ends-next, starts-put, trace-all}
 use Rattle.exchange_graph.specs.Looks.{IsLookingFrom, IsStartingFrom}
 use Rattle.exchange_graph.specs.Turns.{HasNextTurn, HaveHadTurns}
 

@@ -1,13 +1,14 @@
 //! Shortest walks and reached sets, by breadth-first search.
 
-ghost use Rattle.std.specs.Prelude.{◌≡◌, ℕ, ◌+◌, ◌<◌, ◌≤◌, ◌↔◌, Bool, length, IfOk, IfSome, IfNone, IsNone};
+ghost use Rattle.std.specs.Prelude.{◌≡◌, ℕ, ◌+◌, ◌<◌, ◌≤◌, ◌↔◌, Bool, false, length, IfOk, IfSome, IfNone, IsNone};
+ghost use Rattle.residue_theory.specs.Sets.{IsWithin};
 ghost use Rattle.residue_theory.specs.Sums.{size_on};
 ghost use Rattle.closed_sets.specs.Closed.{IsClosed, IsReachedSet, NoEndReached};
 ghost use Rattle.search_laws.specs.Searches.{IsShortest};
 ghost use Rattle.exchange_graph.specs.Counts.{AreLookedAt, counted_on};
 ghost use Rattle.exchange_graph.specs.Marks.{members_of};
 ghost use Rattle.exchange_graph.specs.Results.{Found, reached_of, step_of, vain_of};
-ghost use Rattle.exchange_graph.specs.Sweeps.{AreLookedAtInVain, IsShortestFromOne};
+ghost use Rattle.exchange_graph.specs.Sweeps.{AreLookedAtInVain, IsLeftOut, IsShortestFromOne};
 
 use crate::arcs::Arcs;
 use crate::steps::Steps;
@@ -33,6 +34,7 @@ impl Model for Search {
       places = places s.sweep;
       marks = s.sweep.scan.reached.items;
       vain = s.sweep.left.items;
+      next = s.sweep.next;
       walk = s.sweep.scan.walk.items;
       looks = s.sweep.scan.looks;
       all_looks = s.sweep.scan.all_looks;
@@ -42,9 +44,11 @@ impl Model for Search {
 }
 
 impl Search {
-    /// A search over the places below n. It takes all the memory that the search will use.
+    /// A search over the places below n, which leaves out none. It takes all the memory that the search will use.
     pub fn open(alloc: Global, n: usize) -> Result<Self, NoMemory>
         ensures places { IfOk result (λ s. s.places ≡ n) }
+        ensures vain { IfOk result (λ s. (y : ℕ) → vain_of s y ≡ false) }
+        ensures next { IfOk result (λ s. s.next ≡ 0) }
         ensures looks { IfOk result (λ s. s.looks ≡ 0) }
         ensures all_looks { IfOk result (λ s. s.all_looks ≡ 0) }
     {
@@ -84,6 +88,8 @@ impl Search {
             (members_of ends.now) k self.new.looks) }
         ensures walk { IfNone result (self.new.walk ≡ self.old.walk) }
         ensures all_looks { self.new.all_looks ≡ counted_on self.old.all_looks self.new.looks }
+        ensures vain { self.new.vain ≡ self.old.vain }
+        ensures next { self.new.next ≡ self.old.next }
         ensures few { self.new.looks ≤ self.old.places }
         ensures places { self.new.places ≡ self.old.places }
     {
@@ -94,9 +100,11 @@ impl Search {
     /// leads from a start to an end. After `Some`, `step` tells such a walk; after `None`, `reached_in_vain` tells what is
     /// reached from the starts.
     ///
-    /// It searches from one start after another, and begins after the one from which it found a walk last. What the
-    /// earlier ones reached in vain it leaves out of the later searches, so that all of them together look at each place
-    /// at most once, and at no end; it ticks once for each look, and tells by `looks` how many there were.
+    /// It searches from one start after another, and begins with the one at which the last walk began. What a start
+    /// reaches in vain is left out for good, in this call and in those that follow: so the arcs, the starts and the ends
+    /// may change between calls only so that what is left out is still reached in vain, and holds the starts before
+    /// the one that comes next. It looks at no end, at no place that is left out, and at each other one at most once; it
+    /// ticks once for each look, and tells by `looks` how many there were.
     pub fn shortest_in_turn<A: Arcs, L: Ledger>(
         &mut self,
         arcs: &A,
@@ -107,19 +115,26 @@ impl Search {
         requires places { A.places arcs.now ≡ self.old.places }
         requires starts { length starts.now ≡ self.old.places }
         requires ends { length ends.now ≡ self.old.places }
+        requires left { IsLeftOut (A.leads arcs.now) self.old.places (members_of starts.now) (members_of ends.now)
+            (vain_of self.old) self.old.next }
         ensures none { IsNone result ↔ NoEndReached (A.leads arcs.now) self.old.places (members_of starts.now)
             (members_of ends.now) }
         ensures found { IfSome result (λ k. IsShortestFromOne (A.leads arcs.now) self.old.places
             (members_of starts.now) (members_of ends.now) (step_of self.new) k) }
+        ensures first { IfSome result (λ k. step_of self.new 0 ≡ self.new.next) }
         ensures closed { IfNone result (IsClosed (A.leads arcs.now) self.old.places (members_of starts.now)
             (members_of ends.now) (vain_of self.new)) }
         ensures reached { IfNone result (IsReachedSet (A.leads arcs.now) self.old.places (members_of starts.now)
             (vain_of self.new)) }
-        ensures looks { IfNone result (steps.new ≡ steps.old + size_on (vain_of self.new) self.old.places) }
+        ensures left { IsLeftOut (A.leads arcs.now) self.old.places (members_of starts.now) (members_of ends.now)
+            (vain_of self.new) self.new.next }
+        ensures grown { IsWithin self.old.places (vain_of self.old) (vain_of self.new) }
+        ensures looks { IfNone result (size_on (vain_of self.new) self.old.places
+            ≡ size_on (vain_of self.old) self.old.places + self.new.looks) }
         ensures count { steps.new ≤ steps.old + self.old.places }
         ensures told { steps.new ≡ steps.old + self.new.looks }
         ensures looked { AreLookedAtInVain (A.leads arcs.now) self.old.places (members_of starts.now)
-            (members_of ends.now) self.new.looks }
+            (members_of ends.now) (vain_of self.old) self.new.looks }
         ensures walk { IfNone result (self.new.walk ≡ self.old.walk) }
         ensures all_looks { self.new.all_looks ≡ counted_on self.old.all_looks self.new.looks }
         ensures few { self.new.looks ≤ self.old.places }
@@ -139,6 +154,8 @@ impl Search {
         ensures walk { self.new.walk ≡ self.old.walk }
         ensures all_looks { self.new.all_looks
             ≡ counted_on self.old.all_looks (size_on (reached_of self.new) self.old.places) }
+        ensures vain { self.new.vain ≡ self.old.vain }
+        ensures next { self.new.next ≡ self.old.next }
         ensures places { self.new.places ≡ self.old.places }
     {
         self.sweep.scan.reach(arcs, starts);
@@ -160,7 +177,8 @@ impl Search {
         self.sweep.scan.reached[x]
     }
 
-    /// Whether x is reached from a start, after searches in turn that found no walk.
+    /// Whether x was reached in vain, and is left out for good: after searches in turn that found no walk, whether it is
+    /// reached from a start.
     pub fn reached_in_vain(&self, x: usize) -> bool
         requires { x < self.now.places }
         ensures { result ≡ vain_of self.now x }

@@ -1,16 +1,16 @@
-//! Sweeps: a walk is searched from one start after another, and what was reached in vain is left out of the searches
-//! that follow, so that all of them together look at each place once.
+//! Sweeps: a walk is searched from one start after another, and what was reached in vain is left out for good, so that
+//! all searches together look at each place of it once.
 
 ghost use Rattle.std.specs.Prelude.{◌≡◌, ℕ, ◌+◌, ◌<◌, ◌≤◌, Bool, true, false, length, vec_len, slice_index, IfOk, IfSome, IfNone};
 ghost use Rattle.residue_theory.specs.Sets.{IsWithin, either, only};
 ghost use Rattle.residue_theory.specs.Sums.{size_on};
 ghost use Rattle.closed_sets.specs.Closed.{IsClosed, IsReachedSet};
-ghost use Rattle.search_laws.specs.Outside.{leads_outside};
+ghost use Rattle.search_laws.specs.Outside.{IsReachedInVain, leads_outside};
 ghost use Rattle.search_laws.specs.Searches.{IsShortest};
 ghost use Rattle.exchange_graph.specs.Counts.{AreLookedAt, counted_on};
 ghost use Rattle.exchange_graph.specs.Marks.{members_of};
 ghost use Rattle.exchange_graph.specs.Scans.{walk_of};
-ghost use Rattle.exchange_graph.specs.Sweeps.{AreLookedAtInVain, IsShortestFromOne};
+ghost use Rattle.exchange_graph.specs.Sweeps.{AreLookedAtInVain, IsLeftOut, IsShortestFromOne};
 ghost use Rattle.exchange_graph.specs.SweepStates.{IsStored, IsSweeping, left_by, places};
 
 use crate::arcs::Arcs;
@@ -20,45 +20,30 @@ use crate::steps::Steps;
 use std::alloc::{AllocError, Global};
 use std::sync::ledger::Ledger;
 
-// A scan, the marks of what the searches of the last sweep reached in vain, and whether there is any; and the start with
-// which the next sweep begins: it goes round, so that those from which nothing was found last come last.
+// A scan, the marks of what was reached in vain, which stays left out, and the start with which the next sweep begins:
+// those before it are left out, or are starts no more.
 #[derive(Drop)]
 pub struct Sweep {
     pub scan: Scan,
     pub left: Vec<bool>,
-    pub any_left: bool,
     pub next: usize,
 }
 
 impl Sweep {
-    /// Room for sweeps over the places below n.
+    /// Room for sweeps over the places below n. Nothing is left out.
     pub fn open(alloc: Global, n: usize) -> Result<Self, AllocError>
         ensures stored { IfOk result (λ s. IsStored s) }
         ensures places { IfOk result (λ s. places s ≡ n) }
+        ensures left { IfOk result (λ s. (y : ℕ) → left_by s y ≡ false) }
+        ensures next { IfOk result (λ s. s.next ≡ 0) }
         ensures looks { IfOk result (λ s. s.scan.looks ≡ 0) }
         ensures all_looks { IfOk result (λ s. s.scan.all_looks ≡ 0) }
     {
         Ok(Sweep {
             scan: Scan::open(alloc, n)?,
             left: vec![in alloc; false; n]?,
-            any_left: false,
             next: 0,
         })
-    }
-
-    // Nothing is left out.
-    fn clear(&mut self)
-        requires stored { IsStored self.old }
-        ensures left { (y : ℕ) → y < places self.old → left_by self.new y ≡ false }
-        ensures looks { self.new.scan ≡ record self.old.scan { looks = 0 } }
-        ensures next { self.new.next ≡ self.old.next }
-        ensures stored { IsStored self.new }
-    {
-        if self.any_left {
-            self.left.fill(false);
-            self.any_left = false;
-        }
-        self.scan.looks = 0;
     }
 
     // Leaves out what the last search reached.
@@ -68,10 +53,9 @@ impl Sweep {
             members_of self.old.scan.reached.items (slice_index self.old.scan.order.items i) ≡ true }
         ensures left { (y : ℕ) → y < places self.old →
             left_by self.new y ≡ either (left_by self.old) (members_of self.old.scan.reached.items) y }
-        ensures kept { self.new ≡ record self.old { left = self.new.left; any_left = true } }
+        ensures kept { self.new ≡ record self.old { left = self.new.left } }
         ensures stored { IsStored self.new }
     {
-        self.any_left = true;
         for at in 0..self.scan.filled {
             let place = self.scan.order[at];
             self.left[place] = true;
@@ -121,7 +105,6 @@ impl Sweep {
         ensures all_looks { self.new.scan.all_looks ≡ counted_on self.old.scan.all_looks self.new.scan.looks }
         ensures few { self.new.scan.looks ≤ places self.old }
         ensures left { self.new.left ≡ self.old.left }
-        ensures any_left { self.new.any_left ≡ self.old.any_left }
         ensures next { self.new.next ≡ self.old.next }
         ensures stored { IsStored self.new }
         ensures places { places self.new ≡ places self.old }
@@ -143,20 +126,27 @@ impl Sweep {
         ends: &[bool],
         steps: &mut Steps<L>,
     ) -> Option<usize>
+        requires stored { IsStored self.old }
         requires places { A.places arcs.now ≡ places self.old }
         requires starts { length starts.now ≡ places self.old }
         requires ends { length ends.now ≡ places self.old }
         requires start { start < places self.old }
-        requires sweeping { IsSweeping (A.leads arcs.now) (places self.old) (members_of starts.now)
-            (members_of ends.now) self.old }
+        requires vain { IsReachedInVain (A.leads arcs.now) (places self.old) (members_of starts.now)
+            (members_of ends.now) (left_by self.old) }
+        requires few { self.old.scan.looks ≤ size_on (left_by self.old) (places self.old) }
         ensures found { IfSome result (λ k. IsShortestFromOne (A.leads arcs.now) (places self.old)
             (members_of starts.now) (members_of ends.now) (walk_of self.new.scan) k) }
-        ensures looked { AreLookedAtInVain (A.leads arcs.now) (places self.old) (members_of starts.now)
-            (members_of ends.now) self.new.scan.looks }
-        ensures sweeping { IfNone result (IsSweeping (A.leads arcs.now) (places self.old) (members_of starts.now)
-            (members_of ends.now) self.new) }
+        ensures first { IfSome result (λ k. walk_of self.new.scan 0 ≡ start) }
+        ensures looked { (before : ℕ → Bool) → IsSweeping (A.leads arcs.now) (places self.old) (members_of starts.now)
+            (members_of ends.now) before self.old → AreLookedAtInVain (A.leads arcs.now) (places self.old)
+            (members_of starts.now) (members_of ends.now) before self.new.scan.looks }
+        ensures left { IfSome result (λ k. self.new.left ≡ self.old.left) }
+        ensures sweeping { (before : ℕ → Bool) → IsSweeping (A.leads arcs.now) (places self.old)
+            (members_of starts.now) (members_of ends.now) before self.old → IfNone result (IsSweeping
+            (A.leads arcs.now) (places self.old) (members_of starts.now) (members_of ends.now) before self.new) }
         ensures held { IfNone result (members_of starts.now start ≡ true → left_by self.new start ≡ true) }
         ensures grown { IsWithin (places self.old) (left_by self.old) (left_by self.new) }
+        ensures next { self.new.next ≡ self.old.next }
         ensures walk { IfNone result (self.new.scan.walk ≡ self.old.scan.walk) }
         ensures told { steps.new + self.old.scan.looks ≡ steps.old + self.new.scan.looks }
         ensures all_looks { (first : ℕ) → self.old.scan.all_looks ≡ counted_on first self.old.scan.looks →
@@ -181,48 +171,8 @@ impl Sweep {
         }
     }
 
-    // Searches for a walk from one start after another, from `from` on and below `to`.
-    fn search_over<A: Arcs, L: Ledger>(
-        &mut self,
-        arcs: &A,
-        from: usize,
-        to: usize,
-        starts: &[bool],
-        ends: &[bool],
-        steps: &mut Steps<L>,
-    ) -> Option<usize>
-        requires places { A.places arcs.now ≡ places self.old }
-        requires starts { length starts.now ≡ places self.old }
-        requires ends { length ends.now ≡ places self.old }
-        requires to { to ≤ places self.old }
-        requires sweeping { IsSweeping (A.leads arcs.now) (places self.old) (members_of starts.now)
-            (members_of ends.now) self.old }
-        ensures found { IfSome result (λ k. IsShortestFromOne (A.leads arcs.now) (places self.old)
-            (members_of starts.now) (members_of ends.now) (walk_of self.new.scan) k) }
-        ensures looked { AreLookedAtInVain (A.leads arcs.now) (places self.old) (members_of starts.now)
-            (members_of ends.now) self.new.scan.looks }
-        ensures sweeping { IfNone result (IsSweeping (A.leads arcs.now) (places self.old) (members_of starts.now)
-            (members_of ends.now) self.new) }
-        ensures held { IfNone result ((x : ℕ) → from ≤ x → x < to → members_of starts.now x ≡ true →
-            left_by self.new x ≡ true) }
-        ensures grown { IsWithin (places self.old) (left_by self.old) (left_by self.new) }
-        ensures walk { IfNone result (self.new.scan.walk ≡ self.old.scan.walk) }
-        ensures told { steps.new + self.old.scan.looks ≡ steps.old + self.new.scan.looks }
-        ensures all_looks { (first : ℕ) → self.old.scan.all_looks ≡ counted_on first self.old.scan.looks →
-            self.new.scan.all_looks ≡ counted_on first self.new.scan.looks }
-        ensures stored { IsStored self.new }
-        ensures places { places self.new ≡ places self.old }
-    {
-        for start in from..to {
-            if let Some(length) = self.search_at(arcs, start, starts, ends, steps) {
-                self.next = start + 1;
-                return Some(length);
-            }
-        }
-        None
-    }
-
-    /// The number of arcs of a walk from a start to an end that is a shortest one from that start.
+    /// The number of arcs of a walk from a start to an end that is a shortest one from that start. The starts are tried
+    /// one after another, but for those that are left out.
     pub fn search<A: Arcs, L: Ledger>(
         &mut self,
         arcs: &A,
@@ -234,27 +184,36 @@ impl Sweep {
         requires places { A.places arcs.now ≡ places self.old }
         requires starts { length starts.now ≡ places self.old }
         requires ends { length ends.now ≡ places self.old }
+        requires left { IsLeftOut (A.leads arcs.now) (places self.old) (members_of starts.now) (members_of ends.now)
+            (left_by self.old) self.old.next }
         ensures found { IfSome result (λ k. IsShortestFromOne (A.leads arcs.now) (places self.old)
             (members_of starts.now) (members_of ends.now) (walk_of self.new.scan) k) }
+        ensures first { IfSome result (λ k. walk_of self.new.scan 0 ≡ self.new.next) }
         ensures looked { AreLookedAtInVain (A.leads arcs.now) (places self.old) (members_of starts.now)
-            (members_of ends.now) self.new.scan.looks }
+            (members_of ends.now) (left_by self.old) self.new.scan.looks }
+        ensures left { IsLeftOut (A.leads arcs.now) (places self.old) (members_of starts.now) (members_of ends.now)
+            (left_by self.new) self.new.next }
+        ensures grown { IsWithin (places self.old) (left_by self.old) (left_by self.new) }
         ensures closed { IfNone result (IsClosed (A.leads arcs.now) (places self.old) (members_of starts.now)
             (members_of ends.now) (left_by self.new)) }
         ensures reached { IfNone result (IsReachedSet (A.leads arcs.now) (places self.old) (members_of starts.now)
             (left_by self.new)) }
-        ensures size { IfNone result (size_on (left_by self.new) (places self.old) ≡ self.new.scan.looks) }
+        ensures size { IfNone result (size_on (left_by self.new) (places self.old)
+            ≡ size_on (left_by self.old) (places self.old) + self.new.scan.looks) }
         ensures walk { IfNone result (self.new.scan.walk ≡ self.old.scan.walk) }
         ensures told { steps.new ≡ steps.old + self.new.scan.looks }
         ensures all_looks { self.new.scan.all_looks ≡ counted_on self.old.scan.all_looks self.new.scan.looks }
         ensures stored { IsStored self.new }
         ensures places { places self.new ≡ places self.old }
     {
-        self.clear();
+        self.scan.looks = 0;
         let places = self.left.len();
-        let first = self.next.min(places);
-        match self.search_over(arcs, first, places, starts, ends, steps) {
-            Some(length) => Some(length),
-            None => self.search_over(arcs, 0, first, starts, ends, steps),
+        for start in self.next.min(places)..places {
+            if let Some(length) = self.search_at(arcs, start, starts, ends, steps) {
+                self.next = start;
+                return Some(length);
+            }
         }
+        None
     }
 }

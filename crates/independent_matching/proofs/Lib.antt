@@ -10,3 +10,4 @@ pub mod StepLaws
 pub mod LeftLaws
 pub mod NextLaws
 pub mod ReadyLaws
+pub mod VainLaws

@@ -13,6 +13,8 @@ use Rattle.mixed_augmentation.specs.Moves.{Route, IsRoute, IsStage, TakesRow, Ta
 use Rattle.mixed_augmentation.proofs.Moves.{end-size, end-tableau, row-entry, row-no_base, stage-mate, stage-row, stage-start, test_cases}
 use Rattle.mixed_augmentation.proofs.Routes.{route-last_row, route-last_to}
 use Rattle.mixed_augmentation.proofs.Counting.{route-pivots}
+use Rattle.mixed_augmentation.specs.Sealed.{KeepsSealed}
+use Rattle.mixed_augmentation.proofs.Sealed.{mate-keeps, row-keeps}
 use Rattle.independent_matching.specs.declared.row.Row.{Row}
 use Rattle.independent_matching.specs.declared.row.Row.TheVariants.{Q, T}
 use Rattle.independent_matching.specs.Sides.{CanTake, IsFreeTaken, IsMoving, Takes, in_q, layers_of, number, row_had, size_of, tableau_of}
@@ -132,6 +134,16 @@ module _ (p : ℕ) (S₀ : State) (M₀ : Matching) (tableau : HasTableau p (lay
             (subst (λ r. TakesRow p L₀ (tableau_of S M) (tableau_of S' M') r (at i)) (sym number_is) (takes_here.of_q q))
         stage_next false t = stage-mate p L₀ F₀ R tableau W i (tableau_of S M) (tableau_of S' M') stage_now (sym in_q_is ∙ t)
             (subst (λ r. TakesMate L₀ (tableau_of S M) (tableau_of S' M') r (at i)) (sym number_is) (takes_here.of_t t))
+
+        -- the columns from which no end is reached stay
+        pub moving-keeps : KeepsSealed p L₀ F₀ (tableau_of S M) → KeepsSealed p L₀ F₀ (tableau_of S' M')
+        moving-keeps K = go (in_q row) refl
+          where
+            go : (b : Bool) → in_q row ≡ b → KeepsSealed p L₀ F₀ (tableau_of S' M')
+            go true q = row-keeps p L₀ F₀ R tableau W i i_le (tableau_of S M) (tableau_of S' M') K (sym in_q_is ∙ q)
+                (subst (λ r. TakesRow p L₀ (tableau_of S M) (tableau_of S' M') r (at i)) (sym number_is) (takes_here.of_q q))
+            go false t = mate-keeps p L₀ F₀ R tableau W i i_le (tableau_of S M) (tableau_of S' M') K (sym in_q_is ∙ t)
+                (subst (λ r. TakesMate L₀ (tableau_of S M) (tableau_of S' M') r (at i)) (sym number_is) (takes_here.of_t t))
 
         none_left : i ≡ 0 → row_had (tableau_of S M) (at i) ≡ None
         none_left e = had-none (tableau_of S M) (at i)

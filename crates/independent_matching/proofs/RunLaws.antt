@@ -1,10 +1,11 @@
 -- The loop of searches.
-use Rattle.std.proofs.Common.{◌≡◌, ◌+◌, ◌*◌, ◌≤◌, ℕ, inl, inr, refl, ap, sym, subst, ◌∙◌, arith}
+use Rattle.std.proofs.Common.{◌≡◌, ◌+◌, ◌*◌, ◌<◌, ◌≤◌, ℕ, inl, inr, refl, ap, sym, subst, ◌∙◌, arith}
 use Rattle.std.proofs.lemmas.Nat.{mul-le}
-use Rattle.residue_theory.specs.Sets.{either, everything}
+use Rattle.residue_theory.specs.Sets.{IsWithin, either, everything}
 use Rattle.residue_theory.specs.Sums.{size_on}
 use Rattle.residue_theory.proofs.CountLaws.{size-either, size-everything}
 use Rattle.residue_theory.proofs.SumLaws.{size_on-within}
+use Rattle.closed_sets.proofs.SetLaws.{size_on-bound}
 use Rattle.bipartite_matching.specs.Matchings.{Matching}
 use Rattle.row_transform.specs.Tableaus.{State}
 use Rattle.mixed_matrices.specs.Tableaus.{HasTableau}
@@ -44,20 +45,24 @@ pub pivots-more : (u v k more after : ℕ) → k ≤ u * u → after ≤ k + mor
 pivots-more u v k more after h a m e = subst (λ w. after ≤ w * w) (sym e) (omega (arith, h, a, m))
 
 -- the looks up to now can be counted
-pub looks-bound : (size n k : ℕ) → k ≤ size * n → size ≤ 8192 → n ≤ 8192 → k ≤ 8192 * 8192
-looks-bound size n k h s l = omega (arith, h, mul-le size n 8192 8192 s l)
+pub looks-bound : (size n left k : ℕ) → k ≤ size * n + left → left ≤ n → size ≤ 8192 → n ≤ 8192 → k ≤ 8192 * 8192 + 8192
+looks-bound size n left k h few s l = omega (arith, h, few, mul-le size n 8192 8192 s l)
 
 -- and stay so when the pair grows
-pub looks-more : (u v n k more after : ℕ) → k ≤ u * n → after ≡ k + more → more ≤ n → v ≡ u + 1 → after ≤ v * n
-looks-more u v n k more after h a m e = subst (λ w. after ≤ w * n) (sym e) (omega (arith, h, a, m))
+pub looks-more : (u v n left now k more after : ℕ) → k ≤ u * n + left → after ≡ k + more → more ≤ n → v ≡ u + 1 →
+    left ≤ now → after ≤ v * n + now
+looks-more u v n left now k more after h a m e grown =
+    subst (λ w. after ≤ w * n + now) (sym e) (omega (arith, h, a, m, grown))
 
 -- a search that succeeds takes few pivots and few looks
 pub pivots-going : (s u v base start before after : ℕ) → before + s * s ≤ start + u * u → after ≤ before + base + 1 →
     base ≤ u → v ≡ u + 1 → after + s * s ≤ start + v * v
 pivots-going s u v base start before after h a b e = subst (λ w. after + s * s ≤ start + w * w) (sym e) (omega (arith, h, a, b))
 
-pub looks-going : (n s u v start before after : ℕ) → before + s * n ≤ start + u * n → after ≤ before + n → v ≡ u + 1 → after + s * n ≤ start + v * n
-looks-going n s u v start before after h a e = subst (λ w. after + s * n ≤ start + w * n) (sym e) (omega (arith, h, a))
+pub looks-going : (n s u v first left now start before after : ℕ) → AreFewLooks n s u first left start before →
+    after ≤ before + n → v ≡ u + 1 → left ≤ now → AreFewLooks n s v first now start after
+looks-going n s u v first left now start before after h a e grown =
+    subst (λ w. AreFewLooks n s w first now start after) (sym e) (omega (arith, h, a, grown))
 
 -- the looks up to now: what is counted on from them is counted on from the first ones
 pub AreLooksSoFar : Found → Found → ℕ → ℕ → Type 0
@@ -75,10 +80,12 @@ looks-search found now next before between after (k, e, h) (inl (same, none)) =
 looks-search found now next before between after (k, e, h) (inr (all, some)) =
     (k + next.looks, omega (arith, some, e), λ more. omega (arith, all, h (next.looks + more)))
 
-pub looks-last : (found now next : Found) (before after last : ℕ) → AreLooksSoFar found now before after →
-    next.all_looks ≡ counted_on now.all_looks last → AreLooksOfSearches found next before after last
+pub looks-last : (found now next : Found) (before between after : ℕ) → AreLooksSoFar found now before between →
+    next.all_looks ≡ counted_on now.all_looks next.looks → after ≡ between + next.looks →
+    AreLooksOfSearches found next before after
 unfolding AreLooksSoFar
-looks-last found now next before after last (k, e, h) all = (k, e, all ∙ h last)
+looks-last found now next before between after (k, e, h) all some =
+    (k + next.looks, omega (arith, e, some), all ∙ h next.looks)
 
 -- while a pair grows: `made` searches, one for each column that it gained and one that comes next
 pub record IsGrowing (A : Type 0) (state : A → State) (p : ℕ) (old now : Standing A) (made before after : ℕ) : Type 0 where
@@ -92,7 +99,9 @@ pub record IsGrowing (A : Type 0) (state : A → State) (p : ℕ) (old now : Sta
   pub few_pivots : AreFewPivots (size_of (state old.tableau) old.matching) (size_of (state now.tableau) now.matching)
       old.pivots now.pivots
   pub few_looks : AreFewLooks (state old.tableau).columns (size_of (state old.tableau) old.matching)
-      (size_of (state now.tableau) now.matching) old.looks now.looks
+      (size_of (state now.tableau) now.matching) (size_on (vain_of old.found) (state old.tableau).columns)
+      (size_on (vain_of now.found) (state old.tableau).columns) old.looks now.looks
+  pub kept : IsWithin (state old.tableau).columns (vain_of old.found) (vain_of now.found)
   pub looked : AreLooksSoFar old.found now.found old.looks now.looks
   pub searched : made + size_of (state old.tableau) old.matching ≡ size_of (state now.tableau) now.matching + 1
 
@@ -106,6 +115,10 @@ module _ (A : Type 0) (state : A → State) (p : ℕ) (old : Standing A) where
   abbrev size : Standing A → ℕ
   size e = size_of (state e.tableau) e.matching
 
+  -- how many columns are left out
+  abbrev vain : Standing A → ℕ
+  vain e = size_on (vain_of e.found) N
+
   pub growing-start : (k : ℕ) → IsGrowing A state p old old 1 k k
   growing-start k = record {
     same = λ q. refl;
@@ -114,6 +127,7 @@ module _ (A : Type 0) (state : A → State) (p : ℕ) (old : Standing A) where
     told = refl;
     few_pivots = omega arith;
     few_looks = omega arith;
+    kept = λ j l h. h;
     looked = looks-none old.found old.looks;
     searched = omega arith;
   }
@@ -125,11 +139,16 @@ module _ (A : Type 0) (state : A → State) (p : ℕ) (old : Standing A) where
     abbrev base : ℕ
     base = size_on (state now.tableau).base (state now.tableau).columns
 
-    abbrev vain : ℕ
-    vain = size_on (vain_of next.found) (state now.tableau).columns
-
     columns : (state now.tableau).columns ≡ N
     columns = ap (λ (L : LayeredMatrix). L.columns) (G.same (state old.tableau).q)
+
+    kept-on : IsWithin (state now.tableau).columns (vain_of now.found) (vain_of next.found) →
+        IsWithin N (vain_of old.found) (vain_of next.found)
+    kept-on kept j l h = kept j (subst (λ n. j < n) (sym columns) l) (G.kept j l h)
+
+    vain-more : IsWithin (state now.tableau).columns (vain_of now.found) (vain_of next.found) → vain now ≤ vain next
+    vain-more kept = size_on-within (vain_of next.found) (vain_of now.found) N
+        (λ j l h. kept j (subst (λ n. j < n) (sym columns) l) h)
 
     pub growing-more : HasGrown A state now next between after → IsGrowing A state p old next (made + 1) before after
     growing-more H = record {
@@ -140,29 +159,34 @@ module _ (A : Type 0) (state : A → State) (p : ℕ) (old : Standing A) where
       told = omega (arith, H.told, G.told);
       few_pivots = pivots-going s (size now) (size next) base old.pivots now.pivots next.pivots G.few_pivots
           H.few_pivots (base-bound (state now.tableau) now.matching) H.size;
-      few_looks = looks-going N s (size now) (size next) old.looks now.looks next.looks G.few_looks
-          (omega (arith, H.few_looks, columns)) H.size;
+      few_looks = looks-going N s (size now) (size next) (vain old) (vain now) (vain next) old.looks now.looks next.looks
+          G.few_looks (omega (arith, H.few_looks, columns)) H.size (vain-more H.kept);
+      kept = kept-on H.kept;
       looked = looks-search old.found now.found next.found old.looks now.looks next.looks G.looked H.searched;
       searched = omega (arith, G.searched, H.size);
     }
 
-    pub growing-last : HasStayed A state p now next between after → HasRun A state p old (record next { searches = made }) before after
+    pub growing-last : HasStayed A state p now next between after →
+        HasRun A state p old (record next { searches = made }) before after
     growing-last H = record {
       same = λ q. same q ∙ G.same q;
       entries = λ q h. entries q (G.entries q h);
       solved = H.solved;
-      steps = run-count N s (size now) (size next) before between after G.steps (omega (arith, H.few, columns)) stays;
-      told = subst (λ n. after + (old.pivots + old.looks) ≡ before + (next.pivots + next.looks) + size_on (vain_of next.found) n)
-          columns (omega (arith, H.steps, H.pivots, H.looks, G.told));
+      kept = kept-on H.kept;
+      steps = run-count N s (size now) (size next) before between after G.steps
+          (omega (arith, H.told, looks, size_on-bound (vain_of next.found) N)) stays;
+      told = omega (arith, H.told, H.pivots, G.told);
       few_pivots = subst (λ w. AreFewPivots s w old.pivots next.pivots) (sym stays)
           (subst (λ k. AreFewPivots s (size now) old.pivots k) (sym H.pivots) G.few_pivots);
-      few_looks = subst (λ w. AreFewLooks N s w old.looks next.looks) (sym stays)
-          (subst (λ k. AreFewLooks N s (size now) old.looks k) (sym H.looks) G.few_looks);
-      looked = subst (λ n. AreLooksOfSearches old.found next.found old.looks next.looks (size_on (vain_of next.found) n))
-          columns (subst (λ k. AreLooksOfSearches old.found next.found old.looks k vain) (sym H.looks)
-          (looks-last old.found now.found next.found old.looks now.looks vain G.looked H.all_looks));
+      few_looks = subst (λ w. AreFewLooks N s w (vain old) (vain next) old.looks next.looks) (sym stays)
+          (omega (arith, looks, G.few_looks));
+      looked = looks-last old.found now.found next.found old.looks now.looks next.looks G.looked H.all_looks H.looked;
       searches = omega (arith, G.searched, stays);
     }
       where
+        looks : next.looks + vain now ≡ now.looks + vain next
+        looks = subst (λ n. next.looks + size_on (vain_of now.found) n ≡ now.looks + size_on (vain_of next.found) n) columns
+            H.looks
+
         stays : size next ≡ size now
         stays = ap (λ t. size_of (state t) next.matching) H.tableau ∙ ap (λ m. size_of (state now.tableau) m) H.matching

@@ -1,5 +1,6 @@
 -- A search over marks, in the words of the tableau.
-use Rattle.std.proofs.Common.{◌≡◌, ◌<◌, ◌∙◌, ℕ, Bool, true, Option, Some, IfSome, sym, subst, arith}
+use Rattle.std.proofs.Common.{◌≡◌, ◌<◌, ◌∙◌, ℕ, Bool, true, Option, Some, IfSome, refl, sym, subst, arith}
+use Rattle.residue_theory.proofs.SetLaws.{both-first, both-second, both_true, differ}
 use Rattle.closed_sets.specs.Closed.{IsReachedSet, NoEndReached}
 use Rattle.closed_sets.specs.Walks.{FromSome}
 use Rattle.bipartite_matching.specs.Matchings.{Matching}
@@ -7,7 +8,7 @@ use Rattle.row_transform.specs.Tableaus.{State}
 use Rattle.search_laws.specs.Searches.{IsShortest}
 use Rattle.residue_theory.specs.Sets.{only}
 use Rattle.exchange_graph.specs.Marks.{members_of}
-use Rattle.exchange_graph.specs.Sweeps.{IsShortestFromOne}
+use Rattle.exchange_graph.specs.Sweeps.{IsLeftOut, IsShortestFromOne}
 use Rattle.mixed_matrices.specs.Arcs.{HasNoWalk, IsReachedFromFree, is_end, is_free, leads_to}
 use Rattle.mixed_matrices.specs.LayeredMatrices.{LayeredMatrix}
 use Rattle.mixed_matrices.specs.Tableaus.{Tableau, HasTableau}
@@ -92,6 +93,63 @@ module _ (p : ℕ) (S : State) (M : Matching) (width : M.pattern.width ≡ S.col
   pub no_walk-told : NoEndReached (leads_to p L F) n (members_of free) (members_of ends) → HasNoWalk p L F
   no_walk-told none = subst (λ m. NoEndReached (leads_to p L F) m (is_free F) (is_end p L F)) same
       (λ e l h w. none e l (end_told e (low e l) h) (told-from e w))
+
+  -- what is left out, in the words of the tableau and in those of the marks
+  module _ (C : ℕ → Bool) (next : ℕ) where
+    told-left : IsLeftOut (leads_to p L F) L.columns (is_free F) (is_end p L F) C next →
+        IsLeftOut (leads_to p L F) L.columns (members_of free) (members_of ends) C next
+    told-left V = record {
+      vain = record {
+        closed = record {
+          holds_starts = λ x l h. absurd (differ refl h);
+          no_end = λ x l h e. V.vain.closed.no_end x l h (end_tells x l e);
+          follows = V.vain.closed.follows;
+        };
+        rooted = λ x l h. let (s, sl, b, w) = V.vain.rooted x l h in (
+          s,
+          sl,
+          both_true (members_of free s) (C s) (started s sl (both-first (is_free F s) (C s) b))
+              (both-second (is_free F s) (C s) b),
+          w,
+        );
+      };
+      passed = λ x l less h. V.passed x l less (start x l h);
+    }
+
+    left-told : IsLeftOut (leads_to p L F) L.columns (members_of free) (members_of ends) C next →
+        IsLeftOut (leads_to p L F) L.columns (is_free F) (is_end p L F) C next
+    left-told V = record {
+      vain = record {
+        closed = record {
+          holds_starts = λ x l h. absurd (differ refl h);
+          no_end = λ x l h e. V.vain.closed.no_end x l h (end_told x l e);
+          follows = V.vain.closed.follows;
+        };
+        rooted = λ x l h. let (s, sl, b, w) = V.vain.rooted x l h in (
+          s,
+          sl,
+          both_true (is_free F s) (C s) (start s sl (both-first (members_of free s) (C s) b))
+              (both-second (members_of free s) (C s) b),
+          w,
+        );
+      };
+      passed = λ x l less h. V.passed x l less (started x l h);
+    }
+
+    -- in the marks that a search is given
+    module _ (starts stops : List Bool) (starts_are : starts ≡ free) (stops_are : stops ≡ ends) where
+      pub given-left : IsLeftOut (leads_to p L F) L.columns (is_free F) (is_end p L F) C next →
+          IsLeftOut (leads_to p L F) n (members_of starts) (members_of stops) C next
+      given-left V = subst (λ v. IsLeftOut (leads_to p L F) n (members_of v) (members_of stops) C next) (sym starts_are)
+          (subst (λ v. IsLeftOut (leads_to p L F) n (members_of free) (members_of v) C next) (sym stops_are)
+          (subst (λ m. IsLeftOut (leads_to p L F) m (members_of free) (members_of ends) C next) (sym same) (told-left V)))
+
+      pub left-given : IsLeftOut (leads_to p L F) n (members_of starts) (members_of stops) C next →
+          IsLeftOut (leads_to p L F) L.columns (is_free F) (is_end p L F) C next
+      left-given V = left-told
+          (subst (λ m. IsLeftOut (leads_to p L F) m (members_of free) (members_of ends) C next) same
+          (subst (λ v. IsLeftOut (leads_to p L F) n (members_of free) (members_of v) C next) stops_are
+          (subst (λ v. IsLeftOut (leads_to p L F) n (members_of v) (members_of stops) C next) starts_are V)))
 
 -- what is read of a row that is there
 pub some-read : (o : Option Row) (row : Row) (P : Row → Type 0) → o ≡ Some row → IfSome o P → P row

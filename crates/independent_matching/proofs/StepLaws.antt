@@ -7,10 +7,12 @@ use Rattle.mixed_matrices.specs.Arcs.{is_end, is_free, leads_to}
 use Rattle.mixed_matrices.specs.Tableaus.{HasTableau}
 use Rattle.mixed_augmentation.specs.Moves.{IsFreeRow, IsRoute, route}
 use Rattle.mixed_augmentation.proofs.Routes.{shortest-route}
+use Rattle.mixed_augmentation.specs.Sealed.{KeepsSealed}
+use Rattle.mixed_augmentation.proofs.Sealed.{self-keeps}
 use Rattle.independent_matching.specs.declared.row.Row.{Row}
 use Rattle.independent_matching.specs.Sides.{AreRowsLeft, CanTake, IsFreeTaken, IsMoving, Takes, in_q, layers_of, number, row_had, size_of, tableau_of}
 use Rattle.independent_matching.proofs.LeftLaws.{move-rows, moved-rows, moving-rows}
-use Rattle.independent_matching.proofs.MoveLaws.{can-take, moving-apart, moving-next, moving-size, moving-start, moving-tableau, moving-taken}
+use Rattle.independent_matching.proofs.MoveLaws.{can-take, moving-apart, moving-keeps, moving-next, moving-size, moving-start, moving-tableau, moving-taken}
 use Rattle.independent_matching.proofs.SideLaws.{free-end}
 
 pub one-step : (row : Row) → cond (in_q row) 1 0 ≤ 1
@@ -63,3 +65,7 @@ module _ (p : ℕ) (S : State) (M : Matching) (tableau : HasTableau p (layers_of
 
     pub one-size : size_of S' M' ≡ size_of S M + 1
     one-size = moving-size p S M tableau at 0 row one-route S' M' (row_had (tableau_of S M) x) 0 after (after.none refl)
+
+    pub one-keeps : KeepsSealed p (layers_of S M) (tableau_of S M) (tableau_of S' M')
+    one-keeps = moving-keeps p S M tableau at 0 row one-route S M (Some row) row 1 start refl 0 refl S' M' same pattern takes
+        (self-keeps p (layers_of S M) (tableau_of S M))

@@ -15,8 +15,8 @@ use Rattle.mixed_matrices.specs.StructuralRanks.{IsLayeredRank}
 use Rattle.mixed_matrices.specs.Tableaus.{Tableau, HasTableau}
 use Rattle.independent_matching.specs.Sides.{layers_of, size_of, tableau_of}
 
--- the tableau of Q, the matching in T, what the last search found, how many pivots there were, how many looks of the
--- searches that found a walk, and how many searches the last run made
+-- the tableau of Q, the matching in T, what the last search found, how many pivots and looks there were, and how many
+-- searches the last run made
 pub record Standing (A : Type 0) : Type 0 where
   pub tableau : A
   pub matching : Matching
@@ -63,18 +63,19 @@ AreLooksOfSearch found now before after =
     ((now ≡ found) × (after ≡ before))
     ⊎ ((now.all_looks ≡ counted_on found.all_looks now.looks) × (after ≡ before + now.looks))
 
--- the looks of the searches that were made are those that were counted, and those of the last search
-abbrev pub AreLooksOfSearches : Found → Found → ℕ → ℕ → ℕ → Type 0
-AreLooksOfSearches found now before after last =
-    (k : ℕ) × (after ≡ before + k) × (now.all_looks ≡ counted_on found.all_looks (k + last))
+-- the looks of the searches that were made are those that were counted
+abbrev pub AreLooksOfSearches : Found → Found → ℕ → ℕ → Type 0
+AreLooksOfSearches found now before after =
+    (k : ℕ) × (after ≡ before + k) × (now.all_looks ≡ counted_on found.all_looks k)
 
 -- while a pair grows from s columns to m: the pivots, for each column that it gains at most as many as it had, and one
 abbrev pub AreFewPivots : ℕ → ℕ → ℕ → ℕ → Type 0
 AreFewPivots s m before after = after + s * s ≤ before + m * m
 
--- while a pair grows from s columns to m, over n columns: the looks, for each column that it gains at most n
-abbrev pub AreFewLooks : ℕ → ℕ → ℕ → ℕ → ℕ → Type 0
-AreFewLooks n s m before after = after + s * n ≤ before + m * n
+-- while a pair grows from s columns to m, over n columns, and what is left out from `left` columns to `now`: the looks,
+-- for each column that the pair gains at most n, and one for each column that is left out
+abbrev pub AreFewLooks : ℕ → ℕ → ℕ → ℕ → ℕ → ℕ → ℕ → Type 0
+AreFewLooks n s m left now before after = after + s * n + left ≤ before + m * n + now
 
 -- what a run makes of an engine, over tableaus of type A that tell a state, while it takes the steps from `before` to
 -- `after`
@@ -86,25 +87,28 @@ pub record HasRun (A : Type 0) (state : A → State) (p : ℕ) (old now : Standi
   pub solved : (q : ℕ → ℕ → ℕ) → AreEntries p (state now.tableau) q →
       IsSolved p (layers q (state now.tableau) now.matching) (tableau_of (state now.tableau) now.matching)
       (vain_of now.found)
-  -- the steps are few, and they are the pivots and the looks that are told, and the looks of the last search
+  -- what was left out is left out for good
+  pub kept : IsWithin (state old.tableau).columns (vain_of old.found) (vain_of now.found)
+  -- the steps are few, and they are the pivots and the looks that are told
   pub steps : AreFewSteps (state old.tableau).columns (size_of (state old.tableau) old.matching)
       (size_of (state now.tableau) now.matching) before after
   pub told : after + (old.pivots + old.looks) ≡ before + (now.pivots + now.looks)
-      + size_on (vain_of now.found) (state old.tableau).columns
   -- the pivots are few
   pub few_pivots : AreFewPivots (size_of (state old.tableau) old.matching) (size_of (state now.tableau) now.matching)
       old.pivots now.pivots
-  -- the looks that are told are few, and they are those of all searches but the last one
+  -- the looks are few, and they are those of all searches
   pub few_looks : AreFewLooks (state old.tableau).columns (size_of (state old.tableau) old.matching)
-      (size_of (state now.tableau) now.matching) old.looks now.looks
+      (size_of (state now.tableau) now.matching) (size_on (vain_of old.found) (state old.tableau).columns)
+      (size_on (vain_of now.found) (state old.tableau).columns) old.looks now.looks
   pub looked : AreLooksOfSearches old.found now.found old.looks now.looks
-      (size_on (vain_of now.found) (state old.tableau).columns)
   -- there was a search for each column that the pair gained, and one more
   pub searches : now.searches + size_of (state old.tableau) old.matching ≡ size_of (state now.tableau) now.matching + 1
 
 -- the pair has grown by a column, while an improvement took the steps from `before` to `after`
 pub record HasGrown (A : Type 0) (state : A → State) (old now : Standing A) (before after : ℕ) : Type 0 where
   pub size : size_of (state now.tableau) now.matching ≡ size_of (state old.tableau) old.matching + 1
+  -- what was left out is left out for good
+  pub kept : IsWithin (state old.tableau).columns (vain_of old.found) (vain_of now.found)
   -- the steps are the pivots and the looks that are told
   pub told : after + (old.pivots + old.looks) ≡ before + (now.pivots + now.looks)
   pub few_pivots : now.pivots ≤ old.pivots + size_on (state old.tableau).base (state old.tableau).columns + 1
@@ -119,9 +123,11 @@ pub record HasStayed (A : Type 0) (state : A → State) (p : ℕ) (old now : Sta
   pub tableau : now.tableau ≡ old.tableau
   pub matching : now.matching ≡ old.matching
   pub pivots : now.pivots ≡ old.pivots
-  pub looks : now.looks ≡ old.looks
-  -- the steps are the looks of the search, one at each column that it reached
-  pub steps : after ≡ before + size_on (vain_of now.found) (state old.tableau).columns
-  pub few : after ≤ before + (state old.tableau).columns
-  pub all_looks : now.found.all_looks
-      ≡ counted_on old.found.all_looks (size_on (vain_of now.found) (state old.tableau).columns)
+  -- what was left out is left out for good
+  pub kept : IsWithin (state old.tableau).columns (vain_of old.found) (vain_of now.found)
+  -- the steps are the looks of the search, one at each column that it reached and that was not left out before
+  pub told : after + old.looks ≡ before + now.looks
+  pub looks : now.looks + size_on (vain_of old.found) (state old.tableau).columns
+      ≡ old.looks + size_on (vain_of now.found) (state old.tableau).columns
+  pub looked : now.looks ≡ old.looks + now.found.looks
+  pub all_looks : now.found.all_looks ≡ counted_on old.found.all_looks now.found.looks

@@ -1,10 +1,14 @@
 -- Marks of the free columns and of the ends, and what makes a column an end: those that rest while columns move, r, and
 -- those that a pivot may change, m.
-use Rattle.std.specs.Prelude.{ℕ, ◌*◌, ◌<◌, ◌≤◌, ◌≡◌, ◌≢◌, ◌%◌, ◌||◌, Bool, true, false, List, Option, Some, None, is_some, length, slice_index, slice_index_or}
+use Rattle.std.specs.Prelude.{ℕ, ◌+◌, ◌*◌, ◌<◌, ◌≤◌, ◌≡◌, ◌≢◌, ◌%◌, ◌||◌, Bool, true, false, List, Option, Some}
+use Rattle.std.specs.Prelude.{None, is_some, length, slice_index, slice_index_or}
+use Rattle.residue_theory.specs.Sums.{size_on}
 use Rattle.bipartite_matching.specs.Matchings.{Matching}
 use Rattle.row_transform.specs.Tableaus.{State}
 use Rattle.exchange_graph.specs.Marks.{members_of}
-use Rattle.mixed_matrices.specs.Arcs.{is_free}
+use Rattle.exchange_graph.specs.Results.{Found, vain_of}
+use Rattle.exchange_graph.specs.Sweeps.{IsLeftOut}
+use Rattle.mixed_matrices.specs.Arcs.{is_end, is_free, leads_to}
 use Rattle.mixed_matrices.specs.Tableaus.{HasTableau}
 use Rattle.independent_matching.specs.declared.marks.Marks.{Marks}
 use Rattle.independent_matching.specs.declared.resting.Resting.{Resting}
@@ -79,13 +83,16 @@ pub record IsInOrder (p : ℕ) (S : State) (M : Matching) (r : Resting) (m : Mar
   pub marks : AreMarksOfQ p S r m
   pub few : pivots ≤ size_of S M * size_of S M
 
--- the base and the matched columns are a pair of that size, the marks are right, and there were few pivots and looks
-pub record IsReady (p : ℕ) (S : State) (M : Matching) (places : ℕ) (r : Resting) (m : Marks)
+-- the base and the matched columns are a pair of that size, the marks are right, what the search leaves out reaches no
+-- end, and there were few pivots and looks
+pub record IsReady (p : ℕ) (S : State) (M : Matching) (found : Found) (r : Resting) (m : Marks)
     (size pivots looks : ℕ) : Type 0 where
   pub pair : HasTableau p (layers_of S M) (tableau_of S M)
   pub width : M.pattern.width ≡ S.columns
-  pub search : places ≡ S.columns
+  pub search : found.places ≡ S.columns
+  pub left : IsLeftOut (leads_to p (layers_of S M) (tableau_of S M)) S.columns (is_free (tableau_of S M))
+      (is_end p (layers_of S M) (tableau_of S M)) (vain_of found) found.next
   pub marks : AreMarks p S M r m
   pub count : size ≡ size_of S M
   pub few : pivots ≤ size * size
-  pub few_looks : looks ≤ size * S.columns
+  pub few_looks : looks ≤ size * S.columns + size_on (vain_of found) S.columns

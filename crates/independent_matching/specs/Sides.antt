@@ -9,6 +9,7 @@ use Rattle.mixed_matrices.specs.LayeredMatrices.{LayeredMatrix}
 use Rattle.mixed_matrices.specs.Pairs.{pair_size}
 use Rattle.mixed_matrices.specs.Tableaus.{Tableau}
 use Rattle.mixed_augmentation.specs.Moves.{TakesRow, TakesMate, Route, IsStage}
+use Rattle.mixed_augmentation.specs.Sealed.{KeepsSealed}
 use Rattle.independent_matching.specs.declared.row.Row.{Row}
 use Rattle.independent_matching.specs.declared.row.Row.TheVariants.{Q, T}
 
@@ -118,9 +119,11 @@ pub record IsFreeTaken (columns : ℕ) (F G : Tableau) (x : ℕ) : Type 0 where
   pub here : is_free G x ≡ false
   pub others : (y : ℕ) → y < columns → y ≢ x → is_free G y ≡ is_free F y
 
--- the pair has gained the column `first`, along a walk that took the row `end`
-pub record HasGained (S S' : State) (M M' : Matching) (first : ℕ) (end : Row) : Type 0 where
+-- the pair has gained the column `first`, along a walk that took the row `end`, and the columns from which no end was
+-- reached have stayed
+pub record HasGained (p : ℕ) (S S' : State) (M M' : Matching) (first : ℕ) (end : Row) : Type 0 where
   pub layers : layers_of S' M' ≡ layers_of S M
   pub size : size_of S' M' ≡ size_of S M + 1
   pub rows : AreRowsLeft M M' end
   pub taken : IsFreeTaken S.columns (tableau_of S M) (tableau_of S' M') first
+  pub sealed : KeepsSealed p (layers_of S M) (tableau_of S M) (tableau_of S' M')

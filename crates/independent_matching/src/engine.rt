@@ -5,6 +5,7 @@ ghost use Rattle.std.specs.Prelude.{◌≡◌, ◌≤◌, ℕ, ◌+◌, ◌*◌,
 ghost use Rattle.dense_q.specs.Tables.{entry, height};
 ghost use Rattle.sparse_t.specs.Incidences.{row_count};
 ghost use Rattle.bipartite_matching.specs.Matchings.{HasPair, IsMatching, IsRowFree, mate_at};
+ghost use Rattle.residue_theory.specs.Sums.{size_on};
 ghost use Rattle.mixed_matrices.specs.Arcs.{is_end, is_free, leads_to};
 ghost use Rattle.exchange_graph.specs.Marks.{members_of};
 ghost use Rattle.exchange_graph.specs.Results.{vain_of};
@@ -59,7 +60,7 @@ impl<F: Field, T: Tableau<F>> Model for Engine<F, T> {
     } };
 
     ghost invariant = { λ e. IsReady F.modulus (T.state e.mover.pair.tableau) e.mover.pair.mates
-        e.search.places e.resting e.mover.marks e.size e.mover.pivots e.looks };
+        e.search e.resting e.mover.marks e.size e.mover.pivots e.looks };
 }
 
 impl<F: Field, T: Tableau<F>> Engine<F, T> {
@@ -113,11 +114,12 @@ impl<F: Field, T: Tableau<F>> Engine<F, T> {
 
     /// Searches once for a walk from a free column to an end, from one free column after another. Where there is one,
     /// the pair grows by a column along it, from its end backwards; else the pair is best and stays. A free column that
-    /// is an end is such a walk, and then no column is looked at.
+    /// is an end is such a walk, and then no column is looked at. What is reached from a free column in vain can reach no
+    /// end after any later growth either, and no later search looks at it.
     ///
     /// A step is a look at a column in the search or a pivot. Where the pair grows there is at most one look for each
-    /// column, and there are at most as many pivots as there were base columns, and one; `looks` rises by the looks of
-    /// the search, and `pivots` by the rest of the steps.
+    /// column, and there are at most as many pivots as there were base columns, and one; `looks` rises by the looks, and
+    /// `pivots` by the rest of the steps.
     pub fn improve<L: Ledger, M: Ledger>(
         &mut self,
         searches: &mut Steps<M>,
@@ -169,12 +171,16 @@ impl<F: Field, T: Tableau<F>> Engine<F, T> {
         ensures best { IsFalse result → HasStayed T T.state F.modulus self.old self.new steps.old steps.new }
         ensures searches { self.new.searches ≡ self.old.searches }
     {
-        match self.search.shortest_in_turn(
+        // there are at most 8,192 columns, so that the counts fit
+        let _columns = self.mover.pair.tableau.columns();
+        let walk = self.search.shortest_in_turn(
             &self.mover.pair,
             &self.resting.free,
             &self.mover.marks.ends,
             steps,
-        ) {
+        );
+        self.looks += self.search.looks();
+        match walk {
             None => false,
             Some(last) => {
                 let x = self.search.step(last);
@@ -186,7 +192,6 @@ impl<F: Field, T: Tableau<F>> Engine<F, T> {
                     .marks
                     .close(&mut self.resting, &self.mover.pair, first, end);
                 self.size += 1;
-                self.looks += self.search.looks();
                 true
             }
         }
@@ -196,7 +201,7 @@ impl<F: Field, T: Tableau<F>> Engine<F, T> {
     ///
     /// From a pair of s columns to one of m, over n columns, `searches` tells m - s + 1 afterwards, and there are at
     /// most as many steps as `AreFewSteps` says: from the empty pair (m + 1) n + m m. These are the pivots and the
-    /// looks that `pivots` and `looks` rise by, and a look at each column of the least minimiser.
+    /// looks that `pivots` and `looks` rise by.
     pub fn run<L: Ledger>(&mut self, steps: &mut Steps<L>)
         ensures run { HasRun T T.state F.modulus self.old self.new steps.old steps.new }
     {
@@ -244,7 +249,7 @@ impl<F: Field, T: Tableau<F>> Engine<F, T> {
     }
 
     /// How many pivots there have been since the engine was opened. A run or an improvement that makes the pair larger
-    /// adds to it the steps that it took but for the looks: those that `looks` tells, and those of a run's last search.
+    /// adds to it the steps that it took but for the looks, which `looks` tells.
     pub fn pivots(&self) -> usize
         ensures pivots { result ≡ self.now.pivots }
         ensures few { result ≤ size_of (T.state self.now.tableau) self.now.matching * size_of (T.state self.now.tableau)
@@ -253,13 +258,14 @@ impl<F: Field, T: Tableau<F>> Engine<F, T> {
         self.mover.pivots
     }
 
-    /// How many looks there have been since the engine was opened in the searches that found a walk: for each of these
-    /// what `Search::looks` told of it. A search that finds none, as a run's last one, looks once at each column of
-    /// `least_minimiser`: these looks are not counted here.
+    /// How many looks there have been since the engine was opened: for each search what `Search::looks` told of it.
+    /// They are at most one for each column that is left out, and for each column of the pair as many as there are
+    /// columns.
     pub fn looks(&self) -> usize
         ensures looks { result ≡ self.now.looks }
-        ensures few { result ≤ size_of (T.state self.now.tableau) self.now.matching *
-            (T.state self.now.tableau).columns }
+        ensures few { result ≤ size_of (T.state self.now.tableau) self.now.matching
+            * (T.state self.now.tableau).columns
+            + size_on (vain_of self.now.found) (T.state self.now.tableau).columns }
     {
         self.looks
     }

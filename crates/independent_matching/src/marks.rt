@@ -5,7 +5,8 @@ ghost use Rattle.sparse_t.specs.Incidences.{row_count, touches};
 ghost use Rattle.exchange_graph.specs.Marks.{members_of};
 ghost use Rattle.mixed_augmentation.specs.Moves.{IsFreeRow};
 ghost use Rattle.mixed_matrices.specs.Arcs.{is_end, is_free};
-ghost use Rattle.independent_matching.specs.Marks.{AreMarks, AreMarksOfQ, AreNoted, AreTouched, IsChangedAt, IsEndMark, IsKept, IsQMark, IsTMark, IsTouched, touched_at};
+ghost use Rattle.independent_matching.specs.Marks.{AreMarks, AreMarksOfQ, AreNoted, AreTouched, IsChangedAt};
+ghost use Rattle.independent_matching.specs.Marks.{IsEndMark, IsKept, IsQMark, IsTMark, IsTouched, touched_at};
 ghost use Rattle.independent_matching.specs.Sides.{in_q, layers_of, number, tableau_of};
 
 use crate::pair::Pair;

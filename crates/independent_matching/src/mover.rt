@@ -46,7 +46,7 @@ impl<F: Field, T: Tableau<F>> Mover<F, T> {
             (in_q end) (number end)) }
         ensures order { IsInOrder F.modulus (T.state self.new.pair.tableau) self.new.pair.mates resting.now
             self.new.marks self.new.pivots }
-        ensures gained { HasGained (T.state self.old.pair.tableau) (T.state self.new.pair.tableau)
+        ensures gained { HasGained F.modulus (T.state self.old.pair.tableau) (T.state self.new.pair.tableau)
             self.old.pair.mates self.new.pair.mates (step_of search.now 0) end }
         ensures steps { steps.new ≤ steps.old + size_on (T.state self.old.pair.tableau).base
             (T.state self.old.pair.tableau).columns + 1 }
@@ -75,7 +75,7 @@ impl<F: Field, T: Tableau<F>> Mover<F, T> {
             (tableau_of (T.state self.old.pair.tableau) self.old.pair.mates) x (in_q row) (number row) }
         ensures order { IsInOrder F.modulus (T.state self.new.pair.tableau) self.new.pair.mates resting.now
             self.new.marks self.new.pivots }
-        ensures gained { HasGained (T.state self.old.pair.tableau) (T.state self.new.pair.tableau)
+        ensures gained { HasGained F.modulus (T.state self.old.pair.tableau) (T.state self.new.pair.tableau)
             self.old.pair.mates self.new.pair.mates x row }
         ensures steps { steps.new ≤ steps.old + 1 }
         ensures pivots { steps.new + self.old.pivots ≡ steps.old + self.new.pivots }

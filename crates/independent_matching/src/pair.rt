@@ -1,6 +1,7 @@
 //! A pair: independent columns of Q and matched columns of T, as the arcs of its exchange graph.
 
-ghost use Rattle.std.specs.Prelude.{◌≡◌, ℕ, ◌+◌, ◌<◌, ◌≤◌, ◌%◌, ◌⊎◌, ◌&&◌, Bool, true, false, cond, min, not, eqb, Option, Some, IfSome, IfNone, IsTrue, IsFalse};
+ghost use Rattle.std.specs.Prelude.{◌≡◌, ℕ, ◌+◌, ◌<◌, ◌≤◌, ◌%◌, ◌⊎◌, ◌&&◌, Bool, true, false, cond, min, not, eqb};
+ghost use Rattle.std.specs.Prelude.{Option, Some, IfSome, IfNone, IsTrue, IsFalse};
 ghost use Rattle.sparse_t.specs.Incidences.{touches};
 ghost use Rattle.bipartite_matching.specs.Matchings.{HasPair, IsMatching};
 ghost use Rattle.row_transform.specs.Tableaus.{has_entry};
@@ -9,7 +10,8 @@ ghost use Rattle.limits.specs.Limits.{column_limit};
 ghost use Rattle.mixed_matrices.specs.Arcs.{is_free, leads_to};
 ghost use Rattle.mixed_augmentation.specs.Moves.{IsUnlinked};
 ghost use Rattle.independent_matching.specs.Turns.{t_turn, t_turns, turn_of};
-ghost use Rattle.independent_matching.specs.Sides.{IsFreeQRow, IsFreeTRow, common_columns, q_arc, t_arc, is_matched, mate_of, layers_of, tableau_of, in_q, row_had, CanTake, Takes};
+ghost use Rattle.independent_matching.specs.Sides.{IsFreeQRow, IsFreeTRow, common_columns, q_arc, t_arc, is_matched};
+ghost use Rattle.independent_matching.specs.Sides.{mate_of, layers_of, tableau_of, in_q, row_had, CanTake, Takes};
 
 use crate::row::Row;
 use bipartite_matching::Match;

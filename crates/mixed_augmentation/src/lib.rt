@@ -3,7 +3,10 @@
 #![tactic(auto)]
 
 ghost use Rattle.mixed_augmentation.specs.Laws.{EndsHaveAFreeRow, ShortestWalksAreRoutes, MovesBegin, MovesGoOn, MovesEndInALargerPair, RoutesHaveFewPivots};
-ghost use Rattle.mixed_augmentation.specs.SealedLaws.{NothingIsSealed, SealedSetsHoldTheirRows, MovesLeaveSealedSets, SealedFreeColumnsEndTheSearch, SealedSetsGrow, RoutesMissSealedSets, RoutesLeaveSealedSets, SealedSetsStaySealed, ShortestWalksFromSomeAreRoutes};
+ghost use Rattle.mixed_augmentation.specs.SealedLaws.{NothingIsSealed, SealedSetsHoldTheirRows, MovesLeaveSealedSets};
+ghost use Rattle.mixed_augmentation.specs.SealedLaws.{SealedFreeColumnsEndTheSearch, SealedSetsGrow};
+ghost use Rattle.mixed_augmentation.specs.SealedLaws.{RoutesMissSealedSets, RoutesLeaveSealedSets};
+ghost use Rattle.mixed_augmentation.specs.SealedLaws.{SealedSetsStaySealed, ShortestWalksFromSomeAreRoutes};
 
 /// A column is an end exactly where it may take a row that no column has.
 pub fn ends_have_a_free_row()

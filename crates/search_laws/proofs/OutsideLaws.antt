@@ -1,6 +1,6 @@
 -- Searches that leave out what was reached in vain.
 use Rattle.std.proofs.Common.{◌≡◌, ℕ, zero, suc, ◌+◌, ◌<◌, Bool, true, false, not, inl, inr, refl, subst}
-use Rattle.residue_theory.specs.Sets.{IsApart, IsWithin, either, nothing}
+use Rattle.residue_theory.specs.Sets.{IsApart, IsWithin, both, either, nothing}
 use Rattle.residue_theory.specs.Sums.{size_on}
 use Rattle.residue_theory.proofs.CountLaws.{size-either}
 use Rattle.residue_theory.proofs.SetLaws.{both-first, both-second, both_true, differ, either-first, either-second, either_cases, not_true}
@@ -54,7 +54,7 @@ module _ (arc : ℕ → ℕ → Bool) (n : ℕ) (left : ℕ → Bool) where
           W.least s e m sl el st en (walk-outside m s e el (not_true (left e) (λ h. C.no_end e el h en)) w);
     }
 
-    module _ (starts : ℕ → Bool) (rooted : (x : ℕ) → x < n → left x ≡ true → FromSome arc n starts x) (some X : ℕ → Bool)
+    module _ (starts : ℕ → Bool) (rooted : (x : ℕ) → x < n → left x ≡ true → FromSome arc n (both starts left) x) (some X : ℕ → Bool)
         (within : IsWithin n some starts) (apart : IsApart n left some) (D : IsClosed inner n some ends X)
         (R : IsReachedSet inner n some X) where
       pub vain-grown : IsReachedInVain arc n starts ends (either left X)
@@ -71,8 +71,19 @@ module _ (arc : ℕ → ℕ → Bool) (n : ℕ) (left : ℕ → Bool) where
           ];
         };
         rooted = λ x l h. elim (either_cases (left x) (X x) h) [
-          | inl c ↦ rooted x l c
-          | inr m ↦ let (s, sl, st, w) = from-outside some x ((R x l).0 m) in (s, sl, within s sl st, w)
+          | inl c ↦ let (s, sl, h, w) = rooted x l c in (
+            s,
+            sl,
+            both_true (starts s) (either left X s) (both-first (starts s) (left s) h)
+                (either-first (left s) (X s) (both-second (starts s) (left s) h)),
+            w,
+          )
+          | inr m ↦ let (s, sl, st, w) = from-outside some x ((R x l).0 m) in (
+            s,
+            sl,
+            both_true (starts s) (either left X s) (within s sl st) (either-second (left s) (X s) (D.holds_starts s sl st)),
+            w,
+          )
         ];
       }
 

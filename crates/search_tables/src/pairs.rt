@@ -234,3 +234,34 @@ fn counts_pivots(rt: HostRuntime) -> Result<(), Fail> {
     let q = constants(rt.alloc(), 2, &[])?;
     assert_pivots(&rt, rt.alloc(), q, t, 0)
 }
+
+// The looks of a run, and those up to the end of a second one.
+fn looks_of_two_runs<L: Ledger>(
+    alloc: Global,
+    layered: &Layered<Res>,
+    blank: Blank,
+) -> Result<[usize; 2], Fail>
+    requires name { blank.name ≡ L.name }
+    requires parts { blank.parts ≡ L.parts }
+    requires some { 0 < blank.parts }
+{
+    let mut engine: Engine<Res> = Engine::open(alloc, layered)?;
+    let mut steps = Steps::<L>::new(blank);
+    engine.run(&mut steps);
+    let first = engine.looks();
+    engine.run(&mut steps);
+    Ok([first, engine.looks()])
+}
+
+// Columns 0 and 1 cancel: 0 takes the row, 1 leads to it in vain, and neither is looked at again. Column 2 takes
+// the T row, and 3, which it touches too, leads to 2.
+#[test]
+fn looks_once_at_what_is_left_out(rt: HostRuntime) -> Result<(), Fail> {
+    let mut t = Pattern::empty(rt.alloc(), 4)?;
+    t.push_row(&[2, 3])?;
+    let q = constants(rt.alloc(), 4, &[&[1, 1, 0, 0]])?;
+    let layered = layered(rt.alloc(), q, t)?;
+    let looks = looks_of_two_runs::<Brand>(rt.alloc(), &layered, Blank::new(1))?;
+    assert_eq!(rt; looks.as_slice(), [4, 4].as_slice());
+    Ok(())
+}

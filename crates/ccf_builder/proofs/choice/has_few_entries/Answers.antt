@@ -20,6 +20,8 @@ returns-then-most-entries g c =
         count-rises a (suc row) (height c.args.q.now) n (omega (arith, c.rows-row-end.ensures)),
         c.rows.ensures,
         c.cols.ensures,
+        c.cols-2.ensures,
+        c.max-most.ensures,
         c.rows-row-end.ensures,
       )),
     )

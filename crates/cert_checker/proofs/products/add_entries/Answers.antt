@@ -25,11 +25,11 @@ loop-entry-preserved g c =
     let low : entry.0 < n = subst (λ (e : ℕ × g.row.F.Denot). e.0 < n) (sym c.entry-item.is) (c.requires.columns k entry c.loop-entry-test.true) in
     let old : number c.index-row-column.result ≡ slice_index (map number row) entry.0 =
     ap number c.index-row-column.is ∙ sym (get_or-map number row entry.0 c.index-row-column.result 0 (omega (arith, c.loop-entry.auto.row, low))) in
-    subst (λ xs. IsLeft p n factor xs (drop (k + 1) printed) want) (sym (map-set number row entry.0 c.add.result))
-    (left-step p n factor (map number row) (named number entry) (drop (k + 1) printed) want (number c.mul.result) (number c.add.result)
+    subst (λ xs. IsLeft p n factor xs (drop (k + 1) printed) want) (sym (map-set number row entry.0 c.plus_multiple.result))
+    (left-step p n factor (map number row) (named number entry) (drop (k + 1) printed) want (number c.plus_multiple.result)
     (omega (arith, length-map row number, c.loop-entry.auto.row)) low
-    (subst AreKeysRising cut (rising-drop k printed (rising_entry number c.args.entries.now c.requires.rising))) c.mul.ensures
-    (c.add.ensures ∙ ap (λ z. (z + number c.mul.result) % p) old)
+    (subst AreKeysRising cut (rising-drop k printed (rising_entry number c.args.entries.now c.requires.rising)))
+    (c.plus_multiple.ensures ∙ ap (λ z. (z + factor * number entry.1) % p) old)
     (subst (λ es. IsLeft p n factor (map number row) es want) cut c.loop-entry.invariant))
 
 pub returns : goal.returns

@@ -1,6 +1,6 @@
 use Rattle.std.proofs.Common.{◌≤◌, ℕ, ap, subst, arith}
-use Rattle.std.specs.Prelude.{IsNone, ◌↔◌}
-use Rattle.closed_sets.specs.Closed.{NoEndReached}
+use Rattle.std.specs.Prelude.{IfNone, IsNone, ◌↔◌}
+use Rattle.closed_sets.specs.Closed.{IsReachedSet, NoEndReached}
 use Rattle.exchange_graph.specs.Marks.{members_of}
 use Rattle.exchange_graph.specs.Results.{Found}
 use Rattle.exchange_graph.specs.Scans.{walk_of}
@@ -20,7 +20,7 @@ returns-clause-none g c =
 pub returns-clause-few : goal.returns-clause-few
 returns-clause-few g c = subst (λ (n : ℕ). c.search.new.self.scan.looks ≤ n) (ap (λ (f : Found). f.places) c.self.view_is)
     (looked-few (g.A.Arcs.leads c.args.arcs.now) (places c.self.inside.sweep) (members_of c.args.starts.now)
-    (members_of c.args.ends.now) c.search.new.self.scan.looks c.search.ensures.looked)
+    (members_of c.args.ends.now) (left_by c.self.inside.sweep) c.search.new.self.scan.looks c.search.ensures.looked)
 
 pub returns-clause-count : goal.returns-clause-count
 returns-clause-count g c = omega (
@@ -28,5 +28,11 @@ returns-clause-count g c = omega (
   c.search.ensures.told,
   subst (λ (n : ℕ). c.search.new.self.scan.looks ≤ n) (ap (λ (f : Found). f.places) c.self.view_is)
       (looked-few (g.A.Arcs.leads c.args.arcs.now) (places c.self.inside.sweep) (members_of c.args.starts.now)
-      (members_of c.args.ends.now) c.search.new.self.scan.looks c.search.ensures.looked),
+      (members_of c.args.ends.now) (left_by c.self.inside.sweep) c.search.new.self.scan.looks c.search.ensures.looked),
 )
+
+pub returns-clause-reached : goal.returns-clause-reached
+returns-clause-reached g c =
+    subst (λ (n : ℕ). IfNone c.search.result (IsReachedSet (g.A.Arcs.leads c.args.arcs.now) n
+    (members_of c.args.starts.now) (left_by c.search.new.self))) (ap (λ (f : Found). f.places) c.self.view_is)
+    c.search.ensures.reached

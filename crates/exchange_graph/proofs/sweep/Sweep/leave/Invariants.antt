@@ -5,7 +5,7 @@ use Rattle.exchange_graph.proofs.sweep.Sweep.leave.Given as goal
 
 abbrev pub invariant-loop-at : goal.invariant-loop-at
 invariant-loop-at l = record {
-  kept : l.self ≡ record l.fn.self { left = l.self.left; any_left = true };
+  kept : l.self ≡ record l.fn.self { left = l.self.left };
   marks : vec_len l.self.left ≡ places l.fn.self;
   here : (y : ℕ) → y < places l.fn.self → position_of l.fn.self.scan y < l.at → left_by l.self y ≡ true;
   others : (y : ℕ) → y < places l.fn.self → l.at ≤ position_of l.fn.self.scan y →

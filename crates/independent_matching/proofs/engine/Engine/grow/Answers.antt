@@ -32,7 +32,7 @@ overflow_add-self g c =
 pub give-requires-clause-order : goal.give-requires-clause-order
 give-requires-clause-order g c =
     let e = c.self.inside in
-    ready-order g.F.Field.modulus (g.T.Tableau.state e.mover.pair.tableau) e.mover.pair.mates e.search.places e.resting
+    ready-order g.F.Field.modulus (g.T.Tableau.state e.mover.pair.tableau) e.mover.pair.mates e.search e.resting
     e.mover.marks e.size e.mover.pivots e.looks c.self.invariant
 
 pub invariant_of-self : goal.invariant_of-self
@@ -41,7 +41,8 @@ invariant_of-self g c =
     let state = g.T.Tableau.state in
     let now = c.give.new.self in
     let E = c.give.ensures in
-    ready-more g.F.Field.modulus (state e.mover.pair.tableau) e.mover.pair.mates e.search.places e.resting e.mover.marks
-    e.size e.mover.pivots e.looks c.self.invariant (state now.pair.tableau) now.pair.mates c.args.x c.unwrap-row.result E.gained
+    ready-more g.F.Field.modulus (state e.mover.pair.tableau) e.mover.pair.mates e.search e.resting e.mover.marks
+    e.size e.mover.pivots e.looks c.self.invariant e.search refl c.self.invariant.left (λ x l h. h)
+    (state now.pair.tableau) now.pair.mates c.args.x c.unwrap-row.result E.gained
     e.resting now.marks now.pivots E.order c.close.new.resting c.close.new.self c.close.ensures
-    e.search.places refl 0 e.looks (omega arith) (omega arith)
+    0 e.looks (omega arith) (omega arith)

@@ -2,7 +2,11 @@ use Rattle.std.proofs.Common.{◌≡◌, ℕ, false, sym, subst, ap, ◌∙◌, 
 use Rattle.dense_q.specs.Tables.{entry, height}
 use Rattle.mixed_model.specs.Layers.{Layers}
 use Rattle.bipartite_matching.specs.Matchings.{Matching}
-use Rattle.independent_matching.specs.Sides.{is_matched}
+use Rattle.exchange_graph.proofs.SweepLaws.{nothing-left}
+use Rattle.exchange_graph.specs.Results.{vain_of}
+use Rattle.exchange_graph.specs.Sweeps.{IsLeftOut}
+use Rattle.mixed_matrices.specs.Arcs.{is_end, is_free, leads_to}
+use Rattle.independent_matching.specs.Sides.{is_matched, layers_of, tableau_of}
 use Rattle.independent_matching.proofs.OpenLaws.{all-free, empty-unmatched, open-size, open-tableau, over-entries, over-layers, tableau-kernel}
 use Rattle.independent_matching.proofs.engine.Engine.open_on.Goals as goal
 
@@ -23,6 +27,10 @@ invariant_of-result g c =
       width = ap (λ (m : Matching). m.pattern.width) c.in_ok-open.ensures.empty
           ∙ (c.l.invariant.same_columns ∙ (ap (λ (l : Layers). l.q.width) c.l.view_is ∙ sym c.requires.columns_are));
       search = c.in_ok-open-2.ensures.places ∙ c.columns-columns.ensures.columns;
+      left = subst (λ k. IsLeftOut (leads_to p (layers_of S M) (tableau_of S M)) S.columns (is_free (tableau_of S M))
+          (is_end p (layers_of S M) (tableau_of S M)) (vain_of c.in_ok-open-2.field-0) k) (sym c.in_ok-open-2.ensures.next)
+          (nothing-left (leads_to p (layers_of S M) (tableau_of S M)) S.columns (is_free (tableau_of S M))
+          (is_end p (layers_of S M) (tableau_of S M)) (vain_of c.in_ok-open-2.field-0) c.in_ok-open-2.ensures.vain);
       marks = c.in_ok-resting.ensures;
       count = open-size p S M c.requires.no_base unmatched;
       few = omega arith;

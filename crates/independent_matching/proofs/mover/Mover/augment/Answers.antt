@@ -2,11 +2,12 @@ use Rattle.std.proofs.Common.{◌≡◌, ◌+◌, ◌-◌, ◌<◌, ◌≤◌, �
 use Rattle.residue_theory.specs.Sums.{size_on}
 use Rattle.exchange_graph.specs.Results.{step_of}
 use Rattle.mixed_augmentation.specs.Moves.{route}
+use Rattle.mixed_augmentation.proofs.Sealed.{self-keeps}
 use Rattle.mixed_matrices.specs.LayeredMatrices.{LayeredMatrix}
 use Rattle.mixed_matrices.specs.Tableaus.{HasTableau}
 use Rattle.independent_matching.specs.Sides.{AreRowsMoving, CanTake, IsMoving, Takes, in_q, is_matched, layers_of, number, row_had, size_of, tableau_of}
 use Rattle.independent_matching.proofs.LeftLaws.{move-rows, moved-rows, moving-rows}
-use Rattle.independent_matching.proofs.MoveLaws.{can-take, moving-apart, moving-below, moving-count, moving-next}
+use Rattle.independent_matching.proofs.MoveLaws.{can-take, moving-apart, moving-below, moving-count, moving-keeps, moving-next}
 use Rattle.independent_matching.proofs.MoveLaws.{moving-none, moving-pivots, moving-positive, moving-size}
 use Rattle.independent_matching.proofs.MoveLaws.{moving-start, moving-tableau, moving-taken, step-below}
 use Rattle.independent_matching.proofs.RunLaws.{base-bound, pivots-bound, pivots-more, size-bound}
@@ -20,6 +21,7 @@ loop-next-init g c =
     record {
       moving = moving-start g.F.Field.modulus S M c.requires.order.pair at c.args.last c.args.end c.requires.route;
       rows = moving-rows M c.args.end;
+      sealed = self-keeps g.F.Field.modulus (layers_of S M) (tableau_of S M);
       marks = c.requires.order.marks;
       count = refl;
       pivots = refl;
@@ -121,6 +123,10 @@ loop-next-preserved g c =
           (moving-apart p S₀ M₀ c.requires.order.pair at c.args.last c.args.end c.requires.route S M c.loop-next.next
           c.in-Some.row c.loop-next.left I.moving c.in-Some.is i here))
           c.in-Some.row c.take.ensures.takes M₀ c.args.end (subst (λ next. AreRowsMoving M₀ c.args.end M next) c.in-Some.is I.rows));
+      sealed = moving-keeps p S₀ M₀ c.requires.order.pair at c.args.last c.args.end c.requires.route S M
+          c.loop-next.next c.in-Some.row c.loop-next.left I.moving c.in-Some.is i here S' M' c.take.ensures.layers
+          c.take.ensures.pattern (subst (λ x. Takes p (layers_of S M) (tableau_of S M) (tableau_of S' M') c.in-Some.row x)
+          x_is c.take.ensures.takes) I.sealed;
       marks = c.take.ensures.marks;
       count = omega (
         arith,
@@ -203,4 +209,5 @@ returns-clause-gained g c =
       rows = moved-rows M₀ M c.args.end c.loop-next.next c.in_default.is I.rows;
       taken = moving-taken p S₀ M₀ c.requires.order.pair at c.args.last c.args.end c.requires.route S M c.loop-next.next
           c.loop-next.left I.moving c.in_default.is;
+      sealed = I.sealed;
     }

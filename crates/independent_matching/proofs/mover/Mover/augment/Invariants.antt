@@ -2,8 +2,9 @@ use Rattle.std.proofs.Common.{◌≡◌, ◌+◌}
 use Rattle.residue_theory.specs.Sums.{size_on}
 use Rattle.exchange_graph.specs.Results.{step_of}
 use Rattle.mixed_augmentation.specs.Moves.{route}
+use Rattle.mixed_augmentation.specs.Sealed.{KeepsSealed}
 use Rattle.independent_matching.specs.Marks.{AreMarksOfQ}
-use Rattle.independent_matching.specs.Sides.{AreRowsMoving, IsMoving, in_q, number, tableau_of}
+use Rattle.independent_matching.specs.Sides.{AreRowsMoving, IsMoving, in_q, layers_of, number, tableau_of}
 use Rattle.independent_matching.proofs.mover.Mover.augment.Given as goal
 
 abbrev pub invariant-loop-next : goal.invariant-loop-next
@@ -14,6 +15,8 @@ invariant-loop-next g l =
     record {
       moving : IsMoving g.F.Field.modulus S M R (g.T.Tableau.state l.self.pair.tableau) l.self.pair.mates l.next l.left;
       rows : AreRowsMoving M l.fn.end l.self.pair.mates l.next;
+      sealed : KeepsSealed g.F.Field.modulus (layers_of S M) (tableau_of S M)
+          (tableau_of (g.T.Tableau.state l.self.pair.tableau) l.self.pair.mates);
       marks : AreMarksOfQ g.F.Field.modulus (g.T.Tableau.state l.self.pair.tableau) l.resting l.self.marks;
       count : l.steps + size_on R.in_q l.left ≡ l.fn.steps + size_on R.in_q (l.last + 1);
       pivots : l.steps + l.fn.self.pivots ≡ l.fn.steps + l.self.pivots;

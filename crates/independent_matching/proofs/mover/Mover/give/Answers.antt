@@ -3,7 +3,7 @@ use Rattle.mixed_matrices.specs.LayeredMatrices.{LayeredMatrix}
 use Rattle.mixed_matrices.specs.Tableaus.{HasTableau}
 use Rattle.independent_matching.specs.Sides.{size_of, tableau_of}
 use Rattle.independent_matching.proofs.RunLaws.{pivots-bound, pivots-more, size-bound}
-use Rattle.independent_matching.proofs.StepLaws.{one-rows, one-size, one-step, one-tableau, one-take, one-taken}
+use Rattle.independent_matching.proofs.StepLaws.{one-keeps, one-rows, one-size, one-step, one-tableau, one-take, one-taken}
 use Rattle.independent_matching.proofs.mover.Mover.give.Goals as goal
 
 pub take-requires-clause-can : goal.take-requires-clause-can
@@ -54,4 +54,5 @@ returns-clause-gained g c =
       size = one-size p S M c.requires.order.pair c.args.x c.requires.x c.args.row c.requires.free c.requires.row S' M' E.layers E.pattern E.takes;
       rows = one-rows p S M c.requires.order.pair c.args.x c.requires.x c.args.row c.requires.free c.requires.row S' M' E.layers E.pattern E.takes c.requires.order.width;
       taken = one-taken p S M c.requires.order.pair c.args.x c.requires.x c.args.row c.requires.free c.requires.row S' M' E.layers E.pattern E.takes;
+      sealed = one-keeps p S M c.requires.order.pair c.args.x c.requires.x c.args.row c.requires.free c.requires.row S' M' E.layers E.pattern E.takes;
     }
