@@ -48,19 +48,13 @@ rows_apart w x y = elim (lt_cases x y) [
   ]
 ]
 
-pub in_row : (n w x i : ℕ) → x < n → i < w → x * w + i < n * w
-in_row n w x i l il = omega (arith, mul-le-mul_left w l)
-
 pub half_below : (n w y : ℕ) → w ≡ n / 64 + 1 → y < n → y / 64 < w
 half_below n w y e l = omega arith
 
-pub word_fits : (m n w x y : ℕ) → w ≡ n / 64 + 1 → x < m → y < n → x * w + y / 64 < m * w
-word_fits m n w x y width xl yl = in_row m w x (y / 64) xl (half_below n w y width yl)
-
--- one bit is set, in one of m rows of n bits
-pub set_bit : (xs : List ℕ) (m n w x y v : ℕ) → length xs ≡ m * w → w ≡ n / 64 + 1 → x < m → y < n → v ≡ get_or xs (x * w + y / 64) v →
+-- one bit is set, in a row of n bits that is made
+pub set_bit : (xs : List ℕ) (n w x y v : ℕ) → x * w + w ≤ length xs → w ≡ n / 64 + 1 → y < n → v ≡ get_or xs (x * w + y / 64) v →
     IsBitSet (bit_of xs w) (bit_of (set xs (x * w + y / 64) (bit_or v (1 * 2 ^ (y % 64) % 2 ^ 64))) w) n x y
-set_bit xs m n w x y v len width xl yl e = record {
+set_bit xs n w x y v made width yl e = record {
   here = ap (λ m. bit_at m (y % 64) == 1)
       (get_or-set_same xs (x * w + y / 64) (bit_or v (1 * 2 ^ (y % 64) % 2 ^ 64)) 0 fits)
       ∙ ap (λ m. m == 1) (bit_at_set_same w64 v (y % 64) small);
@@ -69,7 +63,7 @@ set_bit xs m n w x y v len width xl yl e = record {
 }
   where
     fits : x * w + y / 64 < length xs
-    fits = omega (arith, word_fits m n w x y width xl yl)
+    fits = omega (arith, made, half_below n w y width yl)
 
     small : y % 64 < 64
     small = omega arith
@@ -114,16 +108,22 @@ pub record ClearedTo (xs ys : List ℕ) (first i : ℕ) : Type 0 where
   pub rest : (k : ℕ) → (k < first) ⊎ (first + i ≤ k) → get_or ys k 0 ≡ get_or xs k 0
 
 -- row x is changed, and then uses its first v words
-pub keep_row : (rows size w : ℕ) (xs us ys : List ℕ) (x v : ℕ) → IsKept rows size w xs us → x < rows → length ys ≡ length xs →
-    v ≤ w → ((k : ℕ) → (k < x * w) ⊎ (x * w + w ≤ k) → get_or ys k 0 ≡ get_or xs k 0) →
-    ((i : ℕ) → v ≤ i → i < w → get_or ys (x * w + i) 0 ≡ 0) → IsKept rows size w ys (set us x v)
-keep_row rows size w xs us ys x v K xl len vl rest zeros = record {
-  words_are = len ∙ K.words_are;
+pub keep_row : (rows size w room : ℕ) (xs us ys : List ℕ) (x v : ℕ) → IsKept rows size w room xs us → x < rows → length ys ≡ length xs →
+    v ≤ w → (0 < v → x * w + w ≤ length xs) → ((k : ℕ) → (k < x * w) ⊎ (x * w + w ≤ k) → get_or ys k 0 ≡ get_or xs k 0) →
+    ((i : ℕ) → v ≤ i → i < w → get_or ys (x * w + i) 0 ≡ 0) → IsKept rows size w room ys (set us x v)
+keep_row rows size w room xs us ys x v K xl len vl made rest zeros = record {
+  room_is = K.room_is;
+  words_are = omega (arith, len, K.words_are);
   width_is = K.width_is;
   used_are = length-set us x v ∙ K.used_are;
   within = λ z zl. elim (nat_cases z x) [
     | inl q ↦ subst (λ m. get_or (set us x v) m 0 ≤ w) (sym q) (subst (λ m. m ≤ w) (sym here) vl)
     | inr ne ↦ subst (λ m. m ≤ w) (sym (get_or-set_other us x z v 0 ne)) (K.within z zl)
+  ];
+  made = λ z zl some. elim (nat_cases z x) [
+    | inl q ↦ let here_some : 0 < v = subst (λ m. 0 < m) (ap (λ m. get_or (set us x v) m 0) q ∙ here) some in
+        subst (λ m. m * w + w ≤ length ys) (sym q) (omega (arith, len, made here_some))
+    | inr ne ↦ omega (arith, len, K.made z zl (subst (λ m. 0 < m) (get_or-set_other us x z v 0 ne) some))
   ];
   behind = λ z i zl le il. elim (nat_cases z x) [
     | inl q ↦ subst (λ m. get_or ys (m * w + i) 0 ≡ 0) (sym q)
@@ -147,25 +147,26 @@ joined_row xs ys zs into from w u J none i il = elim (lt_cases i u) [
 ]
 
 -- the table after row x is joined with one that uses u words; v are those that it uses then
-pub keep_joined : (rows size w : ℕ) (xs us ys zs : List ℕ) (from x u v : ℕ) → IsKept rows size w xs us → x < rows →
-    length ys ≡ length xs → JoinedTo xs ys zs (x * w) from u → u ≤ v → get_or us x 0 ≤ v → v ≤ w →
-    IsKept rows size w ys (set us x v)
-keep_joined rows size w xs us ys zs from x u v K xl len J ul ol vl = keep_row rows size w xs us ys x v K xl len vl
+pub keep_joined : (rows size w room : ℕ) (xs us ys zs : List ℕ) (from x u v : ℕ) → IsKept rows size w room xs us → x < rows →
+    x * w + w ≤ length xs → length ys ≡ length xs → JoinedTo xs ys zs (x * w) from u → u ≤ v → get_or us x 0 ≤ v → v ≤ w →
+    IsKept rows size w room ys (set us x v)
+keep_joined rows size w room xs us ys zs from x u v K xl made len J ul ol vl = keep_row rows size w room xs us ys x v K xl len vl (λ _. made)
     (λ k out. J.rest k (elim out [ inl a ↦ inl a | inr b ↦ inr (omega arith) ]))
     (λ i vi il. J.rest (x * w + i) (inr (omega arith)) ∙ K.behind x i xl (omega arith) il)
 
 -- the table after a bit of row x is set
-pub keep_set : (rows size w : ℕ) (xs us : List ℕ) (x y v b : ℕ) → IsKept rows size w xs us → x < rows → y < size →
-    y / 64 + 1 ≤ v → get_or us x 0 ≤ v → v ≤ w → IsKept rows size w (set xs (x * w + y / 64) b) (set us x v)
-keep_set rows size w xs us x y v b K xl yl fits ol vl = keep_row rows size w xs us (set xs (x * w + y / 64) b) x v K xl
-    (length-set xs (x * w + y / 64) b) vl
+pub keep_set : (rows size w room : ℕ) (xs us : List ℕ) (x y v b : ℕ) → IsKept rows size w room xs us → x < rows → y < size →
+    x * w + w ≤ length xs → y / 64 + 1 ≤ v → get_or us x 0 ≤ v → v ≤ w →
+    IsKept rows size w room (set xs (x * w + y / 64) b) (set us x v)
+keep_set rows size w room xs us x y v b K xl yl made fits ol vl = keep_row rows size w room xs us (set xs (x * w + y / 64) b) x v K xl
+    (length-set xs (x * w + y / 64) b) vl (λ _. made)
     (λ k out. get_or-set_other xs (x * w + y / 64) k b 0 (λ q. elim out [ inl a ↦ omega arith | inr c ↦ omega arith ]))
     (λ i vi il. get_or-set_other xs (x * w + y / 64) (x * w + i) b 0 (λ q. omega arith) ∙ K.behind x i xl (omega arith) il)
 
 -- where the words of row x that are used are cleared, all are
-pub emptied_row : (rows size w : ℕ) (xs us ys : List ℕ) (x : ℕ) → IsKept rows size w xs us → x < rows →
+pub emptied_row : (rows size w room : ℕ) (xs us ys : List ℕ) (x : ℕ) → IsKept rows size w room xs us → x < rows →
     ClearedTo xs ys (x * w) (get_or us x 0) → IsRowEmptied xs ys w x
-emptied_row rows size w xs us ys x K xl C = record {
+emptied_row rows size w room xs us ys x K xl C = record {
   here = λ i il. elim (lt_cases i (get_or us x 0)) [
     | inl l ↦ C.cleared i l
     | inr g ↦ C.rest (x * w + i) (inr (omega arith)) ∙ K.behind x i xl g il
@@ -174,9 +175,10 @@ emptied_row rows size w xs us ys x K xl C = record {
 }
 
 -- the table after all words of row x are cleared
-pub keep_emptied : (rows size w : ℕ) (xs us ys : List ℕ) (x : ℕ) → IsKept rows size w xs us → x < rows → length ys ≡ length xs →
-    IsRowEmptied xs ys w x → IsKept rows size w ys (set us x 0)
-keep_emptied rows size w xs us ys x K xl len E = keep_row rows size w xs us ys x 0 K xl len (omega arith) E.others (λ i _ il. E.here i il)
+pub keep_emptied : (rows size w room : ℕ) (xs us ys : List ℕ) (x : ℕ) → IsKept rows size w room xs us → x < rows → length ys ≡ length xs →
+    IsRowEmptied xs ys w x → IsKept rows size w room ys (set us x 0)
+keep_emptied rows size w room xs us ys x K xl len E = keep_row rows size w room xs us ys x 0 K xl len (omega arith) (λ some. absurd (omega (arith, some)))
+    E.others (λ i _ il. E.here i il)
 
 -- one row more is empty
 pub emptied_step : (xs ys : List ℕ) (w x : ℕ) → IsRowEmptied xs ys w x → ((k : ℕ) → k < x * w → get_or xs k 0 ≡ 0) →
@@ -262,13 +264,22 @@ none_in_word xs w x from at next v before fits e zero le y yf yl = by (lt_cases 
         ∙ (bit_from v (at % 64) (y % 64) (omega arith) ∙ ap (λ m. bit_at m (y % 64 - at % 64)) zero))
         ∙ zero_bit (y % 64 - at % 64))
 
+-- a word before the end of the words that are used is there; `u` is how many these are, and `all` how many bits they have
+pub used_word : (rows size w room : ℕ) (xs us : List ℕ) (x at u all end behind : ℕ) → IsKept rows size w room xs us → x < rows →
+    u ≡ get_or us x u → all ≡ Prim.Native.Nat.min (u * 64) 18446744073709551615 → behind ≡ Prim.Native.Nat.min end all →
+    at < behind → x * w + at / 64 < length xs
+used_word rows size w room xs us x at u all end behind K xl is alls behinds al =
+    let used : get_or us x 0 ≡ u = item_is us x u (omega (arith, K.used_are, xl)) is in
+    let below : at < u * 64 = grind (arith, alls, behinds, al) in
+    omega (arith, K.made x xl (omega (arith, used, below)), K.within x xl, used, below)
+
 -- no bit is set behind the words that are used
-pub none_behind : (rows size w : ℕ) (xs us : List ℕ) (x from top end : ℕ) → IsKept rows size w xs us → x < rows → end ≤ size →
-    ((y : ℕ) → top ≤ y → get_or us x 0 ≤ y / 64) → HasNone (bit_of xs w x) from top → HasNone (bit_of xs w x) from end
-none_behind rows size w xs us x from top end K xl el used none y yf yl = elim (lt_cases y top) [
+pub none_behind : (rows size w room : ℕ) (xs us : List ℕ) (x from top end : ℕ) → IsKept rows size w room xs us → x < rows → end ≤ size →
+    ((y : ℕ) → top ≤ y → y < end → get_or us x 0 ≤ y / 64) → HasNone (bit_of xs w x) from top → HasNone (bit_of xs w x) from end
+none_behind rows size w room xs us x from top end K xl el used none y yf yl = elim (lt_cases y top) [
   | inl l ↦ none y yf l
   | inr g ↦ ap (λ m. bit_at m (y % 64) == 1)
-      (K.behind x (y / 64) xl (used y g) (half_below size w y K.width_is (omega arith)))
+      (K.behind x (y / 64) xl (used y g yl) (half_below size w y K.width_is (omega arith)))
       ∙ zero_bit (y % 64)
 ]
 

@@ -17,12 +17,15 @@ bit_of words width x y = bit_at (slice_index words (x * width + y / 64)) (y % 64
 abbrev pub bit_in : Bits → ℕ → ℕ → Bool
 bit_in t = bit_of t.words t.width
 
--- there are so many rows of so many bits, kept in words, of which row x uses the first ones alone
-pub record IsKept (rows size width : ℕ) (words used : List ℕ) : Type 0 where
-  pub words_are : length words ≡ rows * width
+-- there is room for so many rows of so many bits, kept in words, of which row x uses the first ones alone, and none where
+-- it is not made
+pub record IsKept (rows size width room : ℕ) (words used : List ℕ) : Type 0 where
+  pub room_is : rows * width ≤ room
+  pub words_are : length words ≤ rows * width
   pub width_is : width ≡ size / 64 + 1
   pub used_are : length used ≡ rows
   pub within : (x : ℕ) → x < rows → slice_index used x ≤ width
+  pub made : (x : ℕ) → x < rows → 0 < slice_index used x → x * width + width ≤ length words
   pub behind : (x i : ℕ) → x < rows → slice_index used x ≤ i → i < width → slice_index words (x * width + i) ≡ 0
 
 -- the bit at x and y is set, and no other bit of the n of each row changes

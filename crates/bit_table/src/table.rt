@@ -1,6 +1,6 @@
 //! A table of bits in words of 64, so that a row is looked through a word at a time.
 
-ghost use Rattle.std.specs.Prelude.{◌≡◌, ℕ, ◌<◌, ◌≤◌, ◌*◌, Bool, true, false, length, slice_index, vec_len, IfOk, IfSome, IfNone};
+ghost use Rattle.std.specs.Prelude.{◌≡◌, ℕ, ◌<◌, ◌≤◌, ◌+◌, ◌*◌, ◌/◌, Bool, true, false, length, IfOk, IfSome, IfNone};
 ghost use Rattle.number_ranges.specs.Ranges.{HasNone, IsLeast};
 ghost use Rattle.bit_table.specs.Bits.{bit_in, IsBitSet, IsJoined, IsRowCleared, IsRowEmptied};
 
@@ -14,33 +14,21 @@ pub struct BitTable {
     rows: usize,
     size: usize,
     width: usize,
+    // those of the rows up to the last one of which a bit was set
     words: Vec<u64>,
     // no bit of a row is set behind so many of its words: an empty row costs next to nothing
     used: Vec<usize>,
 }
 
 impl Model for BitTable {
+    ghost use Rattle.std.specs.Prelude.{vec_capacity};
     ghost use Rattle.bit_table.specs.Bits.{Bits, IsKept};
 
     ghost Value = { Bits };
 
     ghost view = { λ t. record { rows = t.rows; size = t.size; width = t.width; words = t.words.items } };
 
-    ghost invariant = { λ t. IsKept t.rows t.size t.width t.words.items t.used.items };
-}
-
-// So many words, each 0, copied from a block of them.
-fn zeros(alloc: Global, length: usize) -> Result<Vec<u64>, NoMemory>
-    ensures length { IfOk result (λ v. vec_len v ≡ length) }
-    ensures zeros { IfOk result (λ v. (k : ℕ) → slice_index v.items k ≡ 0) }
-{
-    let block = vec![in alloc; 0u64; length.min(256)]?;
-    let mut words = Vec::with_capacity(alloc, length)?;
-    while words.len() < length {
-        let more = (length - words.len()).min(block.len());
-        words.extend_from_slice(&block[..more])?;
-    }
-    Ok(words)
+    ghost invariant = { λ t. IsKept t.rows t.size t.width (vec_capacity t.words) t.words.items t.used.items };
 }
 
 impl BitTable {
@@ -54,12 +42,11 @@ impl BitTable {
         let Some(length) = rows.checked_mul(width) else {
             return Err(NoMemory);
         };
-        let words = zeros(alloc, length)?;
         Ok(BitTable {
             rows,
             size,
             width,
-            words,
+            words: Vec::with_capacity(alloc, length)?,
             used: vec![in alloc; 0; rows]?,
         })
     }
@@ -81,7 +68,7 @@ impl BitTable {
         ensures emptied { IsRowEmptied self.old.words self.new.words self.old.width x }
         ensures cleared { IsRowCleared (bit_in self.old) (bit_in self.new) self.old.size x }
         ensures kept { self.new ≡ record self.old { words = self.new.words } }
-        ensures length { length self.new.words ≡ self.old.rows * self.old.width }
+        ensures length { length self.new.words ≤ self.old.rows * self.old.width }
     {
         let first = x * self.width;
         let used = self.used[x];
@@ -107,6 +94,14 @@ impl BitTable {
         requires y { y < self.now.size }
         ensures { result ≡ bit_in self.now x y }
     {
+        y / 64 < self.used[x] && self.get_used(x, y)
+    }
+
+    // Whether the bit is set, in a word that is used.
+    fn get_used(&self, x: usize, y: usize) -> bool
+        requires { x * self.now.width + y / 64 < length self.now.words }
+        ensures { result ≡ bit_in self.now x y }
+    {
         (self.words[x * self.width + y / 64] >> (y % 64)) & 1 == 1
     }
 
@@ -117,26 +112,50 @@ impl BitTable {
         ensures none { IfNone result (HasNone (bit_in self.now x) from end) }
         ensures least { IfSome result (IsLeast (bit_in self.now x) from end) }
     {
+        let behind = end.min(self.used[x].saturating_mul(64));
         let mut at = from;
-        while at < end {
+        while at < behind {
             let word = self.words[x * self.width + at / 64] >> (at % 64);
             if word != 0 {
                 let next = at + word.trailing_zeros() as usize;
                 return if next < end { Some(next) } else { None };
             }
-            at = if at / 64 + 1 < self.used[x] {
-                at.saturating_add(64 - at % 64)
-            } else {
-                end
-            };
+            at = at.saturating_add(64 - at % 64);
         }
         None
+    }
+
+    // Makes the words of row x, and of those before it, where they are not there yet.
+    fn make_row(&mut self, x: usize)
+        requires { x < self.old.rows }
+        ensures made { x * self.new.width + self.new.width ≤ length self.new.words }
+        ensures bits { (i j : ℕ) → bit_in self.new i j ≡ bit_in self.old i j }
+        ensures rows { self.new.rows ≡ self.old.rows }
+        ensures size { self.new.size ≡ self.old.size }
+    {
+        let end = x * self.width + self.width;
+        if self.words.len() < end {
+            self.words.resize(end, 0).unwrap();
+        }
     }
 
     /// Sets a bit.
     pub fn set(&mut self, x: usize, y: usize)
         requires x { x < self.old.rows }
         requires y { y < self.old.size }
+        ensures set { IsBitSet (bit_in self.old) (bit_in self.new) self.old.size x y }
+        ensures rows { self.new.rows ≡ self.old.rows }
+        ensures size { self.new.size ≡ self.old.size }
+    {
+        self.make_row(x);
+        self.set_made(x, y);
+    }
+
+    // The same, in a row that is made.
+    fn set_made(&mut self, x: usize, y: usize)
+        requires x { x < self.old.rows }
+        requires y { y < self.old.size }
+        requires made { x * self.old.width + self.old.width ≤ length self.old.words }
         ensures set { IsBitSet (bit_in self.old) (bit_in self.new) self.old.size x y }
         ensures rows { self.new.rows ≡ self.old.rows }
         ensures size { self.new.size ≡ self.old.size }
@@ -149,6 +168,19 @@ impl BitTable {
     pub fn join(&mut self, x: usize, y: usize)
         requires x { x < self.old.rows }
         requires y { y < self.old.rows }
+        ensures joined { IsJoined (bit_in self.old) (bit_in self.new) (bit_in self.old y) self.old.size x }
+        ensures rows { self.new.rows ≡ self.old.rows }
+        ensures size { self.new.size ≡ self.old.size }
+    {
+        self.make_row(x);
+        self.join_made(x, y);
+    }
+
+    // The same, where row x is made.
+    fn join_made(&mut self, x: usize, y: usize)
+        requires x { x < self.old.rows }
+        requires y { y < self.old.rows }
+        requires made { x * self.old.width + self.old.width ≤ length self.old.words }
         ensures joined { IsJoined (bit_in self.old) (bit_in self.new) (bit_in self.old y) self.old.size x }
         ensures rows { self.new.rows ≡ self.old.rows }
         ensures size { self.new.size ≡ self.old.size }
@@ -167,6 +199,20 @@ impl BitTable {
         requires x { x < self.old.rows }
         requires y { y < other.now.rows }
         requires same_size { other.now.size ≡ self.old.size }
+        ensures joined { IsJoined (bit_in self.old) (bit_in self.new) (bit_in other.now y) self.old.size x }
+        ensures rows { self.new.rows ≡ self.old.rows }
+        ensures size { self.new.size ≡ self.old.size }
+    {
+        self.make_row(x);
+        self.join_other_made(x, other, y);
+    }
+
+    // The same, where row x is made.
+    fn join_other_made(&mut self, x: usize, other: &BitTable, y: usize)
+        requires x { x < self.old.rows }
+        requires y { y < other.now.rows }
+        requires same_size { other.now.size ≡ self.old.size }
+        requires made { x * self.old.width + self.old.width ≤ length self.old.words }
         ensures joined { IsJoined (bit_in self.old) (bit_in self.new) (bit_in other.now y) self.old.size x }
         ensures rows { self.new.rows ≡ self.old.rows }
         ensures size { self.new.size ≡ self.old.size }

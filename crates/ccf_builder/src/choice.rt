@@ -11,8 +11,8 @@ use row_entries::EntryMat;
 
 /// Whether a matrix has at most as many entries that are not zero as it has rows and columns, or at most five for two
 /// columns. As the edges of a graph on the rows and columns the first are little more than a forest, in which pivots fill
-/// nothing in; the second are what the devices of a circuit have, where they fill in little. So a sparse tableau suits it.
-/// Where there are more, pivots fill the matrix in, and a dense tableau is faster.
+/// nothing in; the second are what resistors, coils and capacitors have, where they fill in little. So a sparse tableau
+/// suits it. Where there are more, pivots fill the matrix in, and a dense tableau is faster.
 pub fn has_few_entries<F: Field>(q: &EntryMat<F>) -> bool
     ensures { IsTrue result ↔ HasFewEntries (entry q.now) (height q.now) q.now.width }
 {

@@ -10,8 +10,12 @@ use crate::columns::place_of;
 use mixed_model::Mixed;
 use out_of_memory::NoMemory;
 use residue_field::Field;
+use smallvec::SmallVec;
 use sparse_t::Pattern;
 use std::alloc::Global;
+
+// The columns of one row, of which most are few: these take no memory.
+type Columns = SmallVec<u32, 6>;
 
 /// The rows of symbols of these equations: a column for each unknown, then one for each split equation.
 pub fn symbols_of<F: Field>(
@@ -39,7 +43,7 @@ fn touched_by<F: Field>(
     model: &Mixed<F>,
     equation: usize,
     split: &[usize],
-) -> Result<Vec<u32>, NoMemory>
+) -> Result<Columns, NoMemory>
     requires equation { equation < length model.now.equations }
     requires split { AreSplit (length model.now.equations) split.now }
     ensures { IfOk result (λ list. AreTouched (length model.now.unknowns + length split.now)
@@ -57,11 +61,11 @@ fn symbol_columns<F: Field>(
     alloc: Global,
     model: &Mixed<F>,
     equation: usize,
-) -> Result<Vec<u32>, NoMemory>
+) -> Result<Columns, NoMemory>
     requires equation { equation < length model.now.equations }
     ensures { IfOk result (λ list. AreTouched (length model.now.unknowns) (symbol_of model.now equation) list.items) }
 {
-    let mut columns = Vec::new(alloc);
+    let mut columns = Columns::new(alloc);
     for entry in model.entries(equation) {
         if entry.symbol {
             columns.push(entry.column as u32)?;

@@ -81,6 +81,9 @@ seeing-new names name none result answer = subst (λ found. AnswersAdd result (p
 pub see-found : (names : List (List ℕ)) (name : List ℕ) (place : ℕ) → position (bytes_eq name) names ≡ Some place → names ≡ see names name
 see-found names name place found = rw (has_name-Some names name place found).2 refl
 
+pub see-there : (names : List (List ℕ)) (name : List ℕ) → has_name names name ≡ true → see names name ≡ names
+see-there names name there = rw there refl
+
 pub see-new : (names : List (List ℕ)) (name : List ℕ) → has_name names name ≡ false → see names name ≡ names ++ name ∷ []
 see-new names name new = rw new refl
 
@@ -98,16 +101,37 @@ IsNameList-push names name all label new room = record {
   distinct = IsDistinct-push nat_list_eq_equiv names name all.distinct new;
 }
 
--- a new text goes last
+pub IsNameList-see : (names : List (List ℕ)) (name : List ℕ) → IsNameList names → IsTrue (is_label name) →
+    length names < 4096 → IsNameList (see names name)
+IsNameList-see names name all label room = by (has_name names name) refl
+  where
+    by : (b : Bool) → has_name names name ≡ b → IsNameList (see names name)
+    by true e = subst IsNameList (sym (see-there names name e)) all
+    by false e = subst IsNameList (sym (see-new names name e)) (IsNameList-push names name all label e room)
+
+-- whether a text is among some is told by their bytes
+pub text_is_there : {A : Type 0} (keys : List (String A)) (text : String A) (name : List ℕ) →
+    string_bytes text ≡ name → list_any (string_eq text) keys ≡ has_name (map string_bytes keys) name
+text_is_there keys text name bytes =
+    ap (λ t. list_any (λ key. bytes_eq t (string_bytes key)) keys) bytes ∙ sym (list_any_map (bytes_eq name) string_bytes keys)
+
+-- a text goes last, unless it is there
 pub map-insert_key : {A : Type 0} (keys : List (String A)) (text : String A) (name : List ℕ) →
-    string_bytes text ≡ name → has_name (map string_bytes keys) name ≡ false →
-    map string_bytes (insert_key string_eq keys text) ≡ map string_bytes keys ++ name ∷ []
-map-insert_key keys text name bytes new =
-    let absent : list_any (string_eq text) keys ≡ false =
-    ap (λ t. list_any (λ key. bytes_eq t (string_bytes key)) keys) bytes ∙ sym (list_any_map (bytes_eq name) string_bytes keys) ∙ new in
-    ap (λ there. map string_bytes (cond there keys (keys ++ text ∷ []))) absent
-    ∙ map-append string_bytes keys (text ∷ [])
-    ∙ ap (λ t. map string_bytes keys ++ t ∷ []) bytes
+    string_bytes text ≡ name → map string_bytes (insert_key string_eq keys text) ≡ see (map string_bytes keys) name
+map-insert_key keys text name bytes = by (has_name names name) refl
+  where
+    names : List (List ℕ)
+    names = map string_bytes keys
+
+    by : (b : Bool) → has_name names name ≡ b → map string_bytes (insert_key string_eq keys text) ≡ see names name
+    by true e =
+        ap (λ there. map string_bytes (cond there keys (keys ++ text ∷ []))) (text_is_there keys text name bytes ∙ e)
+        ∙ sym (see-there names name e)
+    by false e =
+        ap (λ there. map string_bytes (cond there keys (keys ++ text ∷ []))) (text_is_there keys text name bytes ∙ e)
+        ∙ map-append string_bytes keys (text ∷ [])
+        ∙ ap (λ t. names ++ t ∷ []) bytes
+        ∙ sym (see-new names name e)
 
 -- a name is itself
 pub bytes_eq-refl : (name : List ℕ) → bytes_eq name name ≡ true

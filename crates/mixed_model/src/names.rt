@@ -1,9 +1,10 @@
 //! Lists of names.
 
-ghost use Rattle.std.specs.Prelude.{◌≡◌, ◌∷◌, ◌++◌, [], ◌<◌, IsTrue, false, not, ◌||◌, nat_eq, length, map, position, slice_get, Some, OnOk, OnErr};
+ghost use Rattle.std.specs.Prelude.{◌≡◌, ◌∷◌, ◌++◌, [], ◌<◌, ◌≤◌, IsTrue, false, not, ◌||◌, nat_eq, nat_le, length, map, position, slice_get, Some, Err, IfOk, OnOk, OnErr};
 ghost use Rattle.std.specs.List.{list_all};
 ghost use Rattle.std.specs.Str.{bytes_eq};
 ghost use Rattle.std.specs.String.{string_bytes};
+ghost use Rattle.limits.specs.Limits.{equation_limit};
 ghost use Rattle.mixed_model.specs.Names.{is_label, IsNameList, has_name, see, appending, adding, seeing, AnswersAdd};
 
 use crate::errors::AddError;
@@ -102,10 +103,15 @@ impl Names {
         ensures kept { OnErr result (self.new ≡ self.old) }
         ensures names { IsNameList self.new }
     {
-        if self.has(name) {
-            return Err(AddError::Twice);
+        if self.is_full() {
+            return Err(self.full_for(name));
         }
-        self.append(name)
+        let place = self.len();
+        if push_text(&mut self.texts, name)? {
+            Ok(place)
+        } else {
+            Err(AddError::Twice)
+        }
     }
 
     /// The place of a name, which is put last unless it is there. `TooMany` comes where it is not there and 4,096
@@ -134,22 +140,40 @@ impl Names {
         ensures kept { OnErr result (self.new ≡ self.old) }
         ensures names { IsNameList self.new }
     {
-        let place = self.len();
-        if place >= EQUATION_LIMIT {
+        if self.is_full() {
             return Err(AddError::TooMany);
         }
+        let place = self.len();
         push_text(&mut self.texts, name)?;
         Ok(place)
     }
+
+    fn is_full(&self) -> bool
+        ensures { result ≡ nat_le equation_limit (length self.now) }
+    {
+        self.len() >= EQUATION_LIMIT
+    }
+
+    // Why a name is not added where 4,096 are.
+    fn full_for(&self, name: &str) -> AddError
+        requires { equation_limit ≤ length self.now }
+        ensures { Err result ≡ adding self.now name.now }
+    {
+        if self.has(name) {
+            AddError::Twice
+        } else {
+            AddError::TooMany
+        }
+    }
 }
 
-// Puts a new text last.
-fn push_text(texts: &mut IndexSet<String>, text: &str) -> Result<(), AllocError>
-    requires { has_name (map string_bytes texts.old.keys) text.now ≡ false }
-    ensures pushed { OnOk result (map string_bytes texts.new.keys ≡ map string_bytes texts.old.keys ++ text.now ∷ []) }
+// Puts a text last, unless it is there, and tells whether it was new. One look finds both.
+fn push_text(texts: &mut IndexSet<String>, text: &str) -> Result<bool, AllocError>
+    ensures new { IfOk result (λ new. new ≡ not (has_name (map string_bytes texts.old.keys) text.now)) }
+    ensures seen { OnOk result (map string_bytes texts.new.keys ≡ see (map string_bytes texts.old.keys) text.now) }
     ensures kept { OnErr result (texts.new.keys ≡ texts.old.keys) }
 {
     let text = String::from_str(*texts.allocator(), text)?;
-    texts.insert(text)?;
-    Ok(())
+    let new = texts.insert(text)?;
+    Ok(new)
 }

@@ -23,7 +23,7 @@ loop-entry-preserved-in-Continue-1 g c =
     let split = c.loop-entry.invariant.split ∙ ap (λ left. seen ++ left) c.in-Some.ensures.steps in
     let within = entry_within g.F.Field.modulus row seen entry rest row_is.0 split columns row_is.1 in
     let lower = list-lower g.F.Field.modulus row seen entry rest row_is.0 split columns row_is.1 list c.loop-entry.invariant.exact in
-    let pushed = sym (c.in_ok-push.ensures.items ∙ ap (λ (x : RowEntry). list ++ x.column ∷ []) c.entry.view_is) in
+    let pushed = sym (c.in_ok-push.ensures.ok ∙ ap (λ (x : RowEntry). list ++ x.column ∷ []) c.entry.view_is) in
     record {
       can_next = tt;
       is_finite = tt;

@@ -10,7 +10,7 @@ returns g c =
     let list = c.in_ok-columns.columns.items in
     elim c.match-place_of.branch [
       | in-Some+in_ok-push w ↦
-          rw (w.columns-is, w.in_ok-push.ensures.items, w.unknowns.ensures.count)
+          rw (w.columns-is, w.in_ok-push.ensures.ok, w.unknowns.ensures.count)
           (touched-split M c.args.equation split list c.in_ok-columns.ensures w.in-Some.place c.requires.split.rising w.in-Some.ensures)
       | in_default w ↦
           rw w.columns-is (touched-whole M c.args.equation split list c.in_ok-columns.ensures w.in_default.ensures)

@@ -1,4 +1,5 @@
 use Rattle.std.proofs.Common.{◌≡◌, ◌<◌, ◌*◌, get_or, ap, subst, arith}
+use Rattle.std.specs.Prelude.{vec_capacity}
 use Rattle.bit_table.specs.Bits.{IsRowEmptied}
 use Rattle.bit_table.proofs.BitLaws.{ClearedTo, clear_bits, emptied_row, item_is, keep_emptied}
 use Rattle.bit_table.proofs.table.BitTable.empty_row.Goals as goal
@@ -12,7 +13,7 @@ row_is c =
     let used : get_or was.used.items c.args.x 0 ≡ c.index-used.result.now =
     item_is was.used.items c.args.x c.index-used.result.now (omega (arith, K.used_are, xl)) c.index-used.ensures in
     let all : c.loop-i.i ≡ get_or was.used.items c.args.x 0 = omega (arith, used, c.loop-i-test.false, c.loop-i.auto.i-end) in
-    emptied_row was.rows was.size was.width was.words.items was.used.items c.loop-i.self-inside.words.items c.args.x K xl
+    emptied_row was.rows was.size was.width (vec_capacity was.words) was.words.items was.used.items c.loop-i.self-inside.words.items c.args.x K xl
     (subst (ClearedTo was.words.items c.loop-i.self-inside.words.items (c.args.x * was.width)) all c.loop-i.invariant.cleared)
 
 pub invariant_of-self : goal.invariant_of-self
@@ -20,8 +21,8 @@ invariant_of-self c =
     let I = c.loop-i.invariant in
     let was = c.self.inside in
     let rows : was.rows ≡ c.args.self.now.rows = ap (λ t. t.rows) c.self.view_is in
-    rw (I.rows, I.size, I.width, I.used)
-    (keep_emptied was.rows was.size was.width was.words.items was.used.items c.loop-i.self-inside.words.items c.args.x
+    rw (I.rows, I.size, I.width, I.used, I.room)
+    (keep_emptied was.rows was.size was.width (vec_capacity was.words) was.words.items was.used.items c.loop-i.self-inside.words.items c.args.x
     c.self.invariant (omega (arith, rows, c.requires)) (omega (arith, I.words)) (row_is c))
 
 pub returns-clause-emptied : goal.returns-clause-emptied

@@ -1,4 +1,5 @@
 use Rattle.std.proofs.Common.{◌≡◌, vec_len}
+use Rattle.std.specs.Prelude.{vec_capacity}
 use Rattle.bit_table.proofs.BitLaws.{ClearedTo}
 use Rattle.bit_table.proofs.table.BitTable.empty_row.Given as goal
 
@@ -9,5 +10,6 @@ invariant-loop-i l = record {
   size : l.self-inside.size ≡ l.initial.self-inside.size;
   width : l.self-inside.width ≡ l.initial.self-inside.width;
   used : l.self-inside.used ≡ l.initial.self-inside.used;
+  room : vec_capacity l.self-inside.words ≡ vec_capacity l.initial.self-inside.words;
   cleared : ClearedTo l.initial.self-inside.words.items l.self-inside.words.items l.first l.i;
 }

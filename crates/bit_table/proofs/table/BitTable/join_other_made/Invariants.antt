@@ -1,6 +1,7 @@
 use Rattle.std.proofs.Common.{◌≡◌, vec_len}
+use Rattle.std.specs.Prelude.{vec_capacity}
 use Rattle.bit_table.proofs.BitLaws.{JoinedTo}
-use Rattle.bit_table.proofs.table.BitTable.join_other.Given as goal
+use Rattle.bit_table.proofs.table.BitTable.join_other_made.Given as goal
 
 abbrev pub invariant-loop-i : goal.invariant-loop-i
 invariant-loop-i l = record {
@@ -9,5 +10,6 @@ invariant-loop-i l = record {
   size : l.self-inside.size ≡ l.initial.self-inside.size;
   width : l.self-inside.width ≡ l.initial.self-inside.width;
   used : l.self-inside.used ≡ l.initial.self-inside.used;
+  room : vec_capacity l.self-inside.words ≡ vec_capacity l.initial.self-inside.words;
   joined : JoinedTo l.initial.self-inside.words.items l.self-inside.words.items l.other-inside.words.items l.into l.from l.i;
 }

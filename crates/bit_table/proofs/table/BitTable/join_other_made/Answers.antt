@@ -1,6 +1,8 @@
-use Rattle.std.proofs.Common.{◌+◌, ◌*◌, ◌<◌, ◌≡◌, length, get_or, subst, inl, inr, ap, sym, arith}
-use Rattle.bit_table.proofs.BitLaws.{JoinedTo, join_bits, join_step, joined_row, keep_joined, item_is, in_row}
-use Rattle.bit_table.proofs.table.BitTable.join_other.Goals as goal
+use Rattle.std.proofs.Common.{◌+◌, ◌*◌, ◌<◌, ◌≤◌, ◌≡◌, length, get_or, subst, inl, inr, ap, sym, arith}
+use Rattle.std.specs.Prelude.{vec_capacity}
+use Rattle.bit_table.specs.Bits.{Bits}
+use Rattle.bit_table.proofs.BitLaws.{JoinedTo, join_bits, join_step, joined_row, keep_joined, item_is}
+use Rattle.bit_table.proofs.table.BitTable.join_other_made.Goals as goal
 
 pub loop-i-preserved : goal.loop-i-preserved
 loop-i-preserved c =
@@ -18,27 +20,18 @@ loop-i-preserved c =
     (omega (arith, L.used_are, yl)) c.index-used.ensures in
     let other_il : c.loop-i.i < other.width = omega (arith, used, L.within c.args.y yl, c.loop-i-test.true) in
     let il : c.loop-i.i < was.width = omega (arith, other_il, K.width_is, L.width_is, size, other_size, c.requires.same_size) in
+    let made = subst (λ (v : Bits). c.args.x * v.width + v.width ≤ length v.words) (sym c.self.view_is) c.requires.made in
     let into_fits : c.args.x * was.width + c.loop-i.i < length c.loop-i.self-inside.words.items =
-    omega (
-      arith,
-      I.words,
-      K.words_are,
-      in_row was.rows was.width c.args.x c.loop-i.i
-          (omega (arith, rows, c.requires.x)) il,
-    ) in
+    omega (arith, I.words, made, il) in
     let from_fits : c.args.y * other.width + c.loop-i.i < length other.words.items =
-    omega (
-      arith,
-      L.words_are,
-      in_row other.rows other.width c.args.y c.loop-i.i
-          (omega (arith, other_rows, c.requires.y)) other_il,
-    ) in
+    omega (arith, L.made c.args.y yl (omega (arith, used, c.loop-i-test.true)), other_il) in
     record {
       words = omega (arith, I.words);
       rows = I.rows;
       size = I.size;
       width = I.width;
       used = I.used;
+      room = I.room;
       joined = join_step was.words.items c.loop-i.self-inside.words.items other.words.items (c.args.x * was.width)
           (c.args.y * other.width) c.loop-i.i c.index_mut.result.now c.index.result.now I.joined into_fits
           c.index_mut.ensures.value
@@ -96,8 +89,9 @@ invariant_of-self c =
     (omega (arith, K.used_are, xl)) (subst (λ v. c.index-2.result.now ≡ get_or v.items c.args.x c.index-2.result.now) I.used c.index-2.ensures) in
     let used : get_or other.used.items c.args.y 0 ≡ c.index-used.result.now = item_is other.used.items c.args.y c.index-used.result.now
     (omega (arith, L.used_are, yl)) c.index-used.ensures in
-    rw (I.rows, I.size, I.width, I.used)
-    (keep_joined was.rows was.size was.width was.words.items was.used.items c.loop-i.self-inside.words.items other.words.items
-    (c.args.y * other.width) c.args.x (get_or other.used.items c.args.y 0) c.max.result K xl (omega (arith, I.words)) (all_joined c)
+    let made = subst (λ (v : Bits). c.args.x * v.width + v.width ≤ length v.words) (sym c.self.view_is) c.requires.made in
+    rw (I.rows, I.size, I.width, I.used, I.room)
+    (keep_joined was.rows was.size was.width (vec_capacity was.words) was.words.items was.used.items c.loop-i.self-inside.words.items other.words.items
+    (c.args.y * other.width) c.args.x (get_or other.used.items c.args.y 0) c.max.result K xl made (omega (arith, I.words)) (all_joined c)
     (omega (arith, used, c.max.ensures)) (omega (arith, old, c.max.ensures))
     (omega (arith, old, used, c.max.ensures, K.within c.args.x xl, L.within c.args.y yl, same_width c)))

@@ -1,6 +1,8 @@
-use Rattle.std.proofs.Common.{◌+◌, ◌*◌, ◌<◌, ◌≡◌, length, get_or, inl, inr, ap, subst, arith}
-use Rattle.bit_table.proofs.BitLaws.{JoinedTo, join_bits, join_step, joined_row, keep_joined, item_is, still_there, rows_apart, in_row}
-use Rattle.bit_table.proofs.table.BitTable.join.Goals as goal
+use Rattle.std.proofs.Common.{◌+◌, ◌*◌, ◌<◌, ◌≤◌, ◌≡◌, length, get_or, inl, inr, ap, subst, sym, arith}
+use Rattle.std.specs.Prelude.{vec_capacity}
+use Rattle.bit_table.specs.Bits.{Bits}
+use Rattle.bit_table.proofs.BitLaws.{JoinedTo, join_bits, join_step, joined_row, keep_joined, item_is, still_there, rows_apart}
+use Rattle.bit_table.proofs.table.BitTable.join_made.Goals as goal
 
 pub loop-i-preserved : goal.loop-i-preserved
 loop-i-preserved c =
@@ -13,28 +15,18 @@ loop-i-preserved c =
     let used : get_or was.used.items c.args.y 0 ≡ c.index-used.result.now = item_is was.used.items c.args.y c.index-used.result.now
     (omega (arith, K.used_are, rows, c.requires.y)) c.index-used.ensures in
     let il : c.loop-i.i < was.width = omega (arith, used, K.within c.args.y (omega (arith, rows, c.requires.y)), c.loop-i-test.true) in
+    let made = subst (λ (v : Bits). c.args.x * v.width + v.width ≤ length v.words) (sym c.self.view_is) c.requires.made in
     let into_fits : into + c.loop-i.i < length c.loop-i.self-inside.words.items =
-    omega (
-      arith,
-      I.words,
-      K.words_are,
-      in_row was.rows was.width c.args.x c.loop-i.i
-          (omega (arith, rows, c.requires.x)) il,
-    ) in
+    omega (arith, I.words, made, il) in
     let from_fits : from + c.loop-i.i < length c.loop-i.self-inside.words.items =
-    omega (
-      arith,
-      I.words,
-      K.words_are,
-      in_row was.rows was.width c.args.y c.loop-i.i
-          (omega (arith, rows, c.requires.y)) il,
-    ) in
+    omega (arith, I.words, K.made c.args.y (omega (arith, rows, c.requires.y)) (omega (arith, used, c.loop-i-test.true)), il) in
     record {
       words = omega (arith, I.words);
       rows = I.rows;
       size = I.size;
       width = I.width;
       used = I.used;
+      room = I.room;
       joined = join_step was.words.items c.loop-i.self-inside.words.items was.words.items into from c.loop-i.i
           c.index_mut.result.now c.index-word.result.now I.joined into_fits c.index_mut.ensures.value
           (still_there was.words.items c.loop-i.self-inside.words.items into from was.width c.loop-i.i
@@ -82,8 +74,9 @@ invariant_of-self c =
     (omega (arith, K.used_are, xl)) (subst (λ v. c.index.result.now ≡ get_or v.items c.args.x c.index.result.now) I.used c.index.ensures) in
     let used : get_or was.used.items c.args.y 0 ≡ c.index-used.result.now = item_is was.used.items c.args.y c.index-used.result.now
     (omega (arith, K.used_are, yl)) c.index-used.ensures in
-    rw (I.rows, I.size, I.width, I.used)
-    (keep_joined was.rows was.size was.width was.words.items was.used.items c.loop-i.self-inside.words.items was.words.items
-    (c.args.y * was.width) c.args.x (get_or was.used.items c.args.y 0) c.max.result K xl (omega (arith, I.words)) (all_joined c)
+    let made = subst (λ (v : Bits). c.args.x * v.width + v.width ≤ length v.words) (sym c.self.view_is) c.requires.made in
+    rw (I.rows, I.size, I.width, I.used, I.room)
+    (keep_joined was.rows was.size was.width (vec_capacity was.words) was.words.items was.used.items c.loop-i.self-inside.words.items was.words.items
+    (c.args.y * was.width) c.args.x (get_or was.used.items c.args.y 0) c.max.result K xl made (omega (arith, I.words)) (all_joined c)
     (omega (arith, used, c.max.ensures)) (omega (arith, old, c.max.ensures))
     (omega (arith, old, used, c.max.ensures, K.within c.args.x xl, K.within c.args.y yl)))
