@@ -17,8 +17,8 @@ bit_of words width x y = bit_at (slice_index words (x * width + y / 64)) (y % 64
 abbrev pub bit_in : Bits → ℕ → ℕ → Bool
 bit_in t = bit_of t.words t.width
 
--- there is room for so many rows of so many bits, kept in words, of which row x uses the first ones alone, and none where
--- it is not made
+-- there is room for so many rows of so many bits, kept in words, of which row x uses the first ones alone, and none
+-- where it is not made
 pub record IsKept (rows size width room : ℕ) (words used : List ℕ) : Type 0 where
   pub room_is : rows * width ≤ room
   pub words_are : length words ≤ rows * width

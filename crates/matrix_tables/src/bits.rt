@@ -17,7 +17,7 @@ fn assert_bits(rt: &impl Abort, table: &BitTable, x: usize, size: usize, want: &
 }
 
 // A row, where a look begins, before which bit it ends, and what it finds.
-const LOOKS: [(usize, usize, usize, Option<usize>); 9] = [
+const LOOKS: [(usize, usize, usize, Option<usize>); 10] = [
     (0, 0, 130, None),
     (1, 0, 130, Some(63)),
     (1, 0, 63, None),
@@ -27,18 +27,21 @@ const LOOKS: [(usize, usize, usize, Option<usize>); 9] = [
     (1, 65, 130, Some(129)),
     (1, 130, 130, None),
     (1, 64, 63, None),
+    (2, 0, 130, None),
 ];
 
-// Two rows of three words, with bits at both sides of a word's border and at the end.
+// Rows of three words: the middle one has bits at both sides of a word's border and at the end, and behind it no bit was
+// ever set.
 #[test]
 fn finds_bits_over_the_borders_of_words(rt: HostRuntime) -> Result<(), Fail> {
-    let mut table = BitTable::open(rt.alloc(), 2, 130)?;
+    let mut table = BitTable::open(rt.alloc(), 3, 130)?;
     table.set(1, 63);
     table.set(1, 64);
     table.set(1, 129);
     assert_bits(&rt, &table, 1, 130, &[63, 64, 129]);
+    assert_bits(&rt, &table, 2, 130, &[]);
     for (x, from, end, want) in LOOKS {
-        assert!(rt; x < 2 && end <= 130);
+        assert!(rt; x < 3 && end <= 130);
         assert_eq!(rt;
             table.next(x, from, end),
             want,
@@ -48,10 +51,12 @@ fn finds_bits_over_the_borders_of_words(rt: HostRuntime) -> Result<(), Fail> {
     Ok(())
 }
 
-// More rows than bits, and a further table of one row.
+// More rows than bits, and a further table of one row. A row that no bit was set in is joined first.
 #[test]
 fn joins_and_clears_rows(rt: HostRuntime) -> Result<(), Fail> {
     let mut table = BitTable::open(rt.alloc(), 70, 66)?;
+    table.join(5, 69);
+    assert_bits(&rt, &table, 5, 66, &[]);
     table.set(68, 0);
     table.set(68, 65);
     table.set(69, 1);
