@@ -134,8 +134,9 @@ impl BitTable {
         ensures size { self.new.size ≡ self.old.size }
     {
         let end = x * self.width + self.width;
-        if self.words.len() < end {
-            self.words.resize(end, 0).unwrap();
+        while self.words.len() < end {
+            let next = self.words.len().saturating_add(self.width).min(end);
+            self.words.resize(next, 0).unwrap();
         }
     }
 
