@@ -14,7 +14,7 @@ pub struct BitTable {
     rows: usize,
     size: usize,
     width: usize,
-    // those of the rows up to the last one of which a bit was set
+    // those of the rows up to the last one that was set or joined
     words: Vec<u64>,
     // no bit of a row is set behind so many of its words: an empty row costs next to nothing
     used: Vec<usize>,

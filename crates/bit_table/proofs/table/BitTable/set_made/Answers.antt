@@ -25,5 +25,6 @@ invariant_of-self c =
     let old : get_or t.used.items c.args.x 0 ≡ c.index.result.now = item_is t.used.items c.args.x c.index.result.now
     (omega (arith, K.used_are, xl)) c.index.ensures in
     let made = subst (λ (v : Bits). c.args.x * v.width + v.width ≤ length v.words) (sym c.self.view_is) c.requires.made in
-    keep_set t.rows t.size t.width (vec_capacity t.words) t.words.items t.used.items c.args.x c.args.y c.max.result _ K xl yl made (omega (arith, c.max.ensures))
+    keep_set t.rows t.size t.width (vec_capacity t.words) t.words.items t.used.items c.args.x c.args.y c.max.result _ K xl yl made
+    (omega (arith, c.max.ensures))
     (omega (arith, old, c.max.ensures)) (omega (arith, old, c.max.ensures, K.within c.args.x xl, half_below t.size t.width c.args.y K.width_is yl))
