@@ -4,6 +4,7 @@ pub mod EntrySteps
 pub mod RisingLists
 pub mod UnitRows
 pub mod ProductLaws
+pub mod WideLaws
 pub mod UnitLaws
 pub mod StandingLaws
 pub mod SymbolLaws

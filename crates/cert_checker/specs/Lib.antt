@@ -1,4 +1,5 @@
 pub mod Gathering
+pub mod WideRows
 pub mod Units
 pub mod Standing
 pub mod Placing

@@ -11,6 +11,8 @@ mod rules;
 mod standing;
 mod symbols;
 mod units;
+mod value_rows;
+mod wide_rows;
 
 pub use checking::{CheckError, check};
 pub use out_of_memory::NoMemory;

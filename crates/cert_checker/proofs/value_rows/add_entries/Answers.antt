@@ -4,7 +4,7 @@ use Rattle.cert_text.specs.Contents.{numbered}
 use Rattle.cert_text.specs.Readings.{entry_at}
 use Rattle.cert_checker.proofs.EntrySteps.{IsLeft, AreKeysRising, rising-drop, left-step, left-end}
 use Rattle.cert_checker.proofs.NumberedRows.{entry_count, named, next_entry, rising_entry}
-use Rattle.cert_checker.proofs.products.add_entries.Goals as goal
+use Rattle.cert_checker.proofs.value_rows.add_entries.Goals as goal
 
 pub loop-entry-init : goal.loop-entry-init
 loop-entry-init g c j low = refl

@@ -2,7 +2,7 @@ use Rattle.std.proofs.Common.{◌+◌, ◌*◌, drop, length, map, slice_index}
 use Rattle.cert_text.specs.Contents.{numbered}
 use Rattle.cert_text.specs.Readings.{entry_at}
 use Rattle.cert_checker.proofs.EntrySteps.{IsLeft}
-use Rattle.cert_checker.proofs.products.add_entries.Given as goal
+use Rattle.cert_checker.proofs.value_rows.add_entries.Given as goal
 
 abbrev pub invariant-loop-entry : goal.invariant-loop-entry
 invariant-loop-entry g l =
