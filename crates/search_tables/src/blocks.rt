@@ -88,12 +88,7 @@ struct Case<'a> {
     below: usize,
 }
 
-fn parts(
-    alloc: Global,
-    lattice: &mut Lattice,
-    places: usize,
-    case: &Case,
-) -> Result<Vec<Part>, Fail>
+fn fill(alloc: Global, lattice: &mut Lattice, places: usize, case: &Case) -> Result<(), Fail>
     requires { lattice.old.places ≡ places }
     ensures { lattice.new.places ≡ places }
 {
@@ -101,6 +96,13 @@ fn parts(
     let starts = marks(alloc, places, case.starts)?;
     let ends = marks(alloc, places, case.ends)?;
     lattice.fill(&ByNumber::new(&listed), &starts, &ends);
+    Ok(())
+}
+
+// The part of each place.
+fn parts(alloc: Global, lattice: &Lattice, places: usize) -> Result<Vec<Part>, Fail>
+    requires { lattice.now.places ≡ places }
+{
     let mut parts = Vec::new(alloc);
     for place in 0..places {
         parts.push(lattice.part_of(place))?;
@@ -144,14 +146,28 @@ impl<'a> Case<'a> {
     }
 }
 
+// A lattice that is filled tells what is to be told.
+fn assert_told(
+    alloc: Global,
+    rt: &impl Abort,
+    lattice: &Lattice,
+    places: usize,
+    case: &Case,
+) -> Result<(), Fail>
+    requires { lattice.now.places ≡ places }
+{
+    assert_eq!(rt; parts(alloc, lattice, places)?.as_slice(), case.parts);
+    assert_eq!(rt; covers(alloc, lattice)?.as_slice(), case.covers);
+    assert_eq!(rt; pairs_below(lattice), case.below);
+    Ok(())
+}
+
 // One lattice is filled with all cases, one after the other.
 fn check(alloc: Global, rt: &impl Abort, places: usize, cases: &[Case]) -> Result<(), Fail> {
     let mut lattice = Lattice::open(alloc, places)?;
     for case in cases {
-        let parts = parts(alloc, &mut lattice, places, case)?;
-        assert_eq!(rt; parts.as_slice(), case.parts);
-        assert_eq!(rt; covers(alloc, &lattice)?.as_slice(), case.covers);
-        assert_eq!(rt; pairs_below(&lattice), case.below);
+        fill(alloc, &mut lattice, places, case)?;
+        assert_told(alloc, rt, &lattice, places, case)?;
     }
     Ok(())
 }
@@ -281,20 +297,34 @@ fn six_places(rt: HostRuntime) -> Result<(), Fail> {
     check(rt.alloc(), &rt, 6, &cases)
 }
 
-// Each place of a chain is a block, below all before it; words of bits end within it.
-#[test]
-fn a_long_chain(rt: HostRuntime) -> Result<(), Fail> {
+// The lattice of a chain of 130 places.
+fn long_chain(alloc: Global) -> Result<Lattice, Fail>
+    ensures { IfOk result (λ lattice. lattice.places ≡ 130) }
+{
     let path = Path { places: 130 };
-    let none = marks(rt.alloc(), 130, &[])?;
-    let mut lattice = Lattice::open(rt.alloc(), 130)?;
+    let none = marks(alloc, 130, &[])?;
+    let mut lattice = Lattice::open(alloc, 130)?;
     lattice.fill(&ByNumber::new(&path), &none, &none);
+    Ok(lattice)
+}
+
+// Each place of a chain is a block, below all before it; words of bits end within it.
+fn assert_chain(alloc: Global, rt: &impl Abort, lattice: &Lattice) -> Result<(), Fail>
+    requires { lattice.now.places ≡ 130 }
+{
     assert_eq!(rt;
         (lattice.part_of(129), lattice.part_of(0)),
         (Block(0), Block(129))
     );
-    assert_eq!(rt; pairs_below(&lattice), 8_385);
-    assert_eq!(rt; covers(rt.alloc(), &lattice)?.len(), 129);
+    assert_eq!(rt; pairs_below(lattice), 8_385);
+    assert_eq!(rt; covers(alloc, lattice)?.len(), 129);
     Ok(())
+}
+
+#[test]
+fn a_long_chain(rt: HostRuntime) -> Result<(), Fail> {
+    let lattice = long_chain(rt.alloc())?;
+    assert_chain(rt.alloc(), &rt, &lattice)
 }
 
 // Each arc is asked for twice, and once more where it leads to a place that was not seen.
