@@ -1,6 +1,7 @@
 pub mod SideLaws
 pub mod MoveLaws
 pub mod SearchLaws
+pub mod MadeLaws
 pub mod RunLaws
 pub mod OpenLaws
 pub mod EngineLaws

@@ -27,33 +27,33 @@ empty-unmatched p y = ap is_some (nobody (lt_cases y p.width))
     nobody (inl l) = get_or-replicate p.width y none none l
     nobody (inr g) = get_or_past (replicate p.width none) y none (subst (λ n. n ≤ y) (sym (length-replicate p.width none)) g)
 
-module _ (p : ℕ) (S : State) (M : Matching) (no_base : (y : ℕ) → S.base y ≡ false) (unmatched : (y : ℕ) → is_matched M y ≡ false) where
+module _ (p : ℕ) (S : State) (M : Matching) (no_base : (y : ℕ) → y < S.columns → S.base y ≡ false) (unmatched : (y : ℕ) → is_matched M y ≡ false) where
   pub open-tableau : SameKernel p S.rows S.columns S.q S.p → HasTableau p (layers_of S M) (tableau_of S M)
   open-tableau kernel = record {
     kernel = kernel;
     base = record {
-      row_below = λ b l h. absurd (differ (no_base b) h);
-      one = λ b l h. absurd (differ (no_base b) h);
-      zero = λ b i l h. absurd (differ (no_base b) h);
-      distinct = λ b c l m h. absurd (differ (no_base b) h);
+      row_below = λ b l h. absurd (differ (no_base b l) h);
+      one = λ b l h. absurd (differ (no_base b l) h);
+      zero = λ b i l h. absurd (differ (no_base b l) h);
+      distinct = λ b c l m h. absurd (differ (no_base b l) h);
     };
     matching = record {
       below = λ j l h. absurd (differ (unmatched j) h);
       symbol = λ j l h. absurd (differ (unmatched j) h);
       distinct = λ j k l m h. absurd (differ (unmatched j) h);
     };
-    apart = λ j l h. absurd (differ (no_base j) h);
+    apart = λ j l h. absurd (differ (no_base j l) h);
   }
 
-  pub all-free : (x : ℕ) → is_free (tableau_of S M) x ≡ true
+  pub all-free : (x : ℕ) → x < S.columns → is_free (tableau_of S M) x ≡ true
   unfolding is_free
-  all-free x = neither (S.base x) (is_matched M x) (no_base x) (unmatched x)
+  all-free x l = neither (S.base x) (is_matched M x) (no_base x l) (unmatched x)
     where
       neither : (a b : Bool) → a ≡ false → b ≡ false → (not a && not b) ≡ true
       neither a b e f = grind arith
 
   pub open-size : 0 ≡ size_of S M
-  open-size = omega (arith, size-zero S.base S.columns (λ j l. no_base j), size-zero (is_matched M) S.columns (λ j l. unmatched j))
+  open-size = omega (arith, size-zero S.base S.columns (λ j l. no_base j l), size-zero (is_matched M) S.columns (λ j l. unmatched j))
 
 -- a tableau with no base column
 pub opened-over : (p m n : ℕ) (q : ℕ → ℕ → ℕ) (S : State) → IsOpened p m n q S → IsBareOver p m n q S
@@ -61,8 +61,11 @@ opened-over p m n q S opened = record {
   rows_are = opened.rows_are;
   columns_are = opened.columns_are;
   q_is = opened.q_is;
-  no_base = opened.no_base;
+  no_base = λ y l. opened.no_base y;
 }
+
+pub over-bare : {p m n : ℕ} {q : ℕ → ℕ → ℕ} {S : State} → IsBareOver p m n q S → (y : ℕ) → y < S.columns → S.base y ≡ false
+over-bare {n = n} over y l = over.no_base y (subst (λ k. y < k) over.columns_are l)
 
 pub over-entries : (p m n : ℕ) (q : ℕ → ℕ → ℕ) (S : State) → IsBareOver p m n q S → AreEntries p S q
 over-entries p m n q S over i j il jl =

@@ -12,9 +12,10 @@ use Rattle.mixed_matrices.specs.Tableaus.{HasTableau}
 use Rattle.exchange_graph.specs.Counts.{counted_on}
 use Rattle.exchange_graph.specs.Results.{Found, vain_of}
 use Rattle.mixed_matrices.specs.LayeredMatrices.{LayeredMatrix}
-use Rattle.independent_matching.specs.Engines.{AreEntries, AreFewLooks, AreFewPivots, AreFewSteps, AreLooksOfSearch, AreLooksOfSearches}
+use Rattle.independent_matching.specs.Engines.{AreEntries, AreFewLooks, AreFewPivots, AreFewSteps, AreLooksOfSearch, AreLooksOfSearches, ArePivotsMade}
 use Rattle.independent_matching.specs.Engines.{HasGrown, HasRun, HasStayed, Standing, layers}
 use Rattle.independent_matching.specs.Sides.{is_matched, layers_of, size_of, tableau_of}
+use Rattle.independent_matching.proofs.MadeLaws.{more-made, none-made}
 
 pub size-bound : (p : ℕ) (S : State) (M : Matching) → HasTableau p (layers_of S M) (tableau_of S M) → size_of S M ≤ S.columns
 size-bound p S M tableau = omega (
@@ -88,7 +89,8 @@ looks-last found now next before between after (k, e, h) all some =
     (k + next.looks, omega (arith, e, some), all ∙ h next.looks)
 
 -- while a pair grows: `made` searches, one for each column that it gained and one that comes next
-pub record IsGrowing (A : Type 0) (state : A → State) (p : ℕ) (old now : Standing A) (made before after : ℕ) : Type 0 where
+pub record IsGrowing (A : Type 0) (state : A → State) (count : A → ℕ) (p : ℕ) (old now : Standing A)
+    (made before after : ℕ) : Type 0 where
   pub same : (q : ℕ → ℕ → ℕ) → layers q (state now.tableau) now.matching ≡ layers q (state old.tableau) old.matching
   pub entries : (q : ℕ → ℕ → ℕ) → AreEntries p (state old.tableau) q → AreEntries p (state now.tableau) q
   pub steps : after + (size_of (state old.tableau) old.matching * (state old.tableau).columns
@@ -98,6 +100,7 @@ pub record IsGrowing (A : Type 0) (state : A → State) (p : ℕ) (old now : Sta
   pub told : after + (old.pivots + old.looks) ≡ before + (now.pivots + now.looks)
   pub few_pivots : AreFewPivots (size_of (state old.tableau) old.matching) (size_of (state now.tableau) now.matching)
       old.pivots now.pivots
+  pub pivots : ArePivotsMade (count old.tableau) (count now.tableau) old.pivots now.pivots
   pub few_looks : AreFewLooks (state old.tableau).columns (size_of (state old.tableau) old.matching)
       (size_of (state now.tableau) now.matching) (size_on (vain_of old.found) (state old.tableau).columns)
       (size_on (vain_of now.found) (state old.tableau).columns) old.looks now.looks
@@ -105,7 +108,7 @@ pub record IsGrowing (A : Type 0) (state : A → State) (p : ℕ) (old now : Sta
   pub looked : AreLooksSoFar old.found now.found old.looks now.looks
   pub searched : made + size_of (state old.tableau) old.matching ≡ size_of (state now.tableau) now.matching + 1
 
-module _ (A : Type 0) (state : A → State) (p : ℕ) (old : Standing A) where
+module _ (A : Type 0) (state : A → State) (count : A → ℕ) (p : ℕ) (old : Standing A) where
   abbrev N : ℕ
   N = (state old.tableau).columns
 
@@ -119,13 +122,14 @@ module _ (A : Type 0) (state : A → State) (p : ℕ) (old : Standing A) where
   abbrev vain : Standing A → ℕ
   vain e = size_on (vain_of e.found) N
 
-  pub growing-start : (k : ℕ) → IsGrowing A state p old old 1 k k
+  pub growing-start : (k : ℕ) → IsGrowing A state count p old old 1 k k
   growing-start k = record {
     same = λ q. refl;
     entries = λ q h. h;
     steps = omega arith;
     told = refl;
     few_pivots = omega arith;
+    pivots = none-made (count old.tableau) old.pivots;
     few_looks = omega arith;
     kept = λ j l h. h;
     looked = looks-none old.found old.looks;
@@ -133,7 +137,7 @@ module _ (A : Type 0) (state : A → State) (p : ℕ) (old : Standing A) where
   }
 
   -- an improvement of a pair that has grown
-  module _ (now next : Standing A) (made before between after : ℕ) (G : IsGrowing A state p old now made before between)
+  module _ (now next : Standing A) (made before between after : ℕ) (G : IsGrowing A state count p old now made before between)
       (same : (q : ℕ → ℕ → ℕ) → layers q (state next.tableau) next.matching ≡ layers q (state now.tableau) now.matching)
       (entries : (q : ℕ → ℕ → ℕ) → AreEntries p (state now.tableau) q → AreEntries p (state next.tableau) q) where
     abbrev base : ℕ
@@ -150,7 +154,7 @@ module _ (A : Type 0) (state : A → State) (p : ℕ) (old : Standing A) where
     vain-more kept = size_on-within (vain_of next.found) (vain_of now.found) N
         (λ j l h. kept j (subst (λ n. j < n) (sym columns) l) h)
 
-    pub growing-more : HasGrown A state now next between after → IsGrowing A state p old next (made + 1) before after
+    pub growing-more : HasGrown A state count now next between after → IsGrowing A state count p old next (made + 1) before after
     growing-more H = record {
       same = λ q. same q ∙ G.same q;
       entries = λ q h. entries q (G.entries q h);
@@ -159,6 +163,8 @@ module _ (A : Type 0) (state : A → State) (p : ℕ) (old : Standing A) where
       told = omega (arith, H.told, G.told);
       few_pivots = pivots-going s (size now) (size next) base old.pivots now.pivots next.pivots G.few_pivots
           H.few_pivots (base-bound (state now.tableau) now.matching) H.size;
+      pivots = more-made (count old.tableau) (count now.tableau) (count next.tableau) old.pivots now.pivots next.pivots
+          G.pivots H.made;
       few_looks = looks-going N s (size now) (size next) (vain old) (vain now) (vain next) old.looks now.looks next.looks
           G.few_looks (omega (arith, H.few_looks, columns)) H.size (vain-more H.kept);
       kept = kept-on H.kept;
@@ -167,7 +173,7 @@ module _ (A : Type 0) (state : A → State) (p : ℕ) (old : Standing A) where
     }
 
     pub growing-last : HasStayed A state p now next between after →
-        HasRun A state p old (record next { searches = made }) before after
+        HasRun A state count p old (record next { searches = made }) before after
     growing-last H = record {
       same = λ q. same q ∙ G.same q;
       entries = λ q h. entries q (G.entries q h);
@@ -178,6 +184,8 @@ module _ (A : Type 0) (state : A → State) (p : ℕ) (old : Standing A) where
       told = omega (arith, H.told, H.pivots, G.told);
       few_pivots = subst (λ w. AreFewPivots s w old.pivots next.pivots) (sym stays)
           (subst (λ k. AreFewPivots s (size now) old.pivots k) (sym H.pivots) G.few_pivots);
+      made = subst (λ t. ArePivotsMade (count old.tableau) (count t) old.pivots next.pivots) (sym H.tableau)
+          (subst (λ k. ArePivotsMade (count old.tableau) (count now.tableau) old.pivots k) (sym H.pivots) G.pivots);
       few_looks = subst (λ w. AreFewLooks N s w (vain old) (vain next) old.looks next.looks) (sym stays)
           (omega (arith, looks, G.few_looks));
       looked = looks-last old.found now.found next.found old.looks now.looks next.looks G.looked H.all_looks H.looked;

@@ -1,11 +1,12 @@
 -- What callers see of an engine.
-use Rattle.std.specs.Prelude.{ℕ, ◌+◌, ◌*◌, ◌≤◌, ◌≡◌, ◌⊎◌, ◌↔◌, Bool, false}
+use Rattle.std.specs.Prelude.{ℕ, ◌+◌, ◌*◌, ◌<◌, ◌≤◌, ◌≡◌, ◌⊎◌, ◌↔◌, Bool, false}
 use Rattle.residue_theory.specs.Sets.{IsWithin}
 use Rattle.residue_theory.specs.Sums.{size_on}
 use Rattle.linear_algebra.specs.Products.{Agree}
 use Rattle.bipartite_matching.specs.Matchings.{Matching}
 use Rattle.exchange_graph.specs.Counts.{counted_on}
 use Rattle.exchange_graph.specs.Results.{Found, vain_of}
+use Rattle.row_transform.specs.Bases.{raised}
 use Rattle.row_transform.specs.Tableaus.{State}
 use Rattle.mixed_matrices.specs.Arcs.{HasNoWalk, IsClosedIn, IsReachedFromFree}
 use Rattle.mixed_matrices.specs.LayeredMatrices.{LayeredMatrix}
@@ -33,12 +34,19 @@ layers q S M = record (layers_of S M) { q = q }
 abbrev pub AreEntries : ℕ → State → (ℕ → ℕ → ℕ) → Type 0
 AreEntries p S q = Agree p S.rows S.columns S.q q
 
+-- nothing was looked at, and nothing is left out
+pub record IsFresh (found : Found) : Type 0 where
+  pub looks : found.looks ≡ 0
+  pub all_looks : found.all_looks ≡ 0
+  pub none_left_out : (y : ℕ) → vain_of found y ≡ false
+  pub next : found.next ≡ 0
+
 -- S is a tableau of the matrix q, with m rows and n columns, that has no base column
 pub record IsBareOver (p m n : ℕ) (q : ℕ → ℕ → ℕ) (S : State) : Type 0 where
   pub rows_are : S.rows ≡ m
   pub columns_are : S.columns ≡ n
   pub q_is : Agree p m n S.q q
-  pub no_base : (y : ℕ) → S.base y ≡ false
+  pub no_base : (y : ℕ) → y < n → S.base y ≡ false
 
 -- the pair is best, its size is the structural rank, the minimisers are the closed sets, and what is reached is the
 -- least one
@@ -72,14 +80,20 @@ AreLooksOfSearches found now before after =
 abbrev pub AreFewPivots : ℕ → ℕ → ℕ → ℕ → Type 0
 AreFewPivots s m before after = after + s * s ≤ before + m * m
 
+-- the pivots that were told, from `before` to `after`, are those that the tableau made: its own count rose by them,
+-- from `count` to `now`
+abbrev pub ArePivotsMade : ℕ → ℕ → ℕ → ℕ → Type 0
+ArePivotsMade count now before after = (k : ℕ) × (after ≡ before + k) × (now ≡ raised count k)
+
 -- while a pair grows from s columns to m, over n columns, and what is left out from `left` columns to `now`: the looks,
 -- for each column that the pair gains at most n, and one for each column that is left out
 abbrev pub AreFewLooks : ℕ → ℕ → ℕ → ℕ → ℕ → ℕ → ℕ → Type 0
 AreFewLooks n s m left now before after = after + s * n + left ≤ before + m * n + now
 
--- what a run makes of an engine, over tableaus of type A that tell a state, while it takes the steps from `before` to
--- `after`
-pub record HasRun (A : Type 0) (state : A → State) (p : ℕ) (old now : Standing A) (before after : ℕ) : Type 0 where
+-- what a run makes of an engine, over tableaus of type A that tell a state and a count of their pivots, while it takes
+-- the steps from `before` to `after`
+pub record HasRun (A : Type 0) (state : A → State) (count : A → ℕ) (p : ℕ) (old now : Standing A) (before after : ℕ)
+    : Type 0 where
   -- the layered matrix is as before, and so are the entries that the tableau came from
   pub same : (q : ℕ → ℕ → ℕ) → layers q (state now.tableau) now.matching ≡ layers q (state old.tableau) old.matching
   pub entries : (q : ℕ → ℕ → ℕ) → AreEntries p (state old.tableau) q → AreEntries p (state now.tableau) q
@@ -93,9 +107,10 @@ pub record HasRun (A : Type 0) (state : A → State) (p : ℕ) (old now : Standi
   pub steps : AreFewSteps (state old.tableau).columns (size_of (state old.tableau) old.matching)
       (size_of (state now.tableau) now.matching) before after
   pub told : after + (old.pivots + old.looks) ≡ before + (now.pivots + now.looks)
-  -- the pivots are few
+  -- the pivots are few, and they are all that the tableau made
   pub few_pivots : AreFewPivots (size_of (state old.tableau) old.matching) (size_of (state now.tableau) now.matching)
       old.pivots now.pivots
+  pub made : ArePivotsMade (count old.tableau) (count now.tableau) old.pivots now.pivots
   -- the looks are few, and they are those of all searches
   pub few_looks : AreFewLooks (state old.tableau).columns (size_of (state old.tableau) old.matching)
       (size_of (state now.tableau) now.matching) (size_on (vain_of old.found) (state old.tableau).columns)
@@ -105,13 +120,16 @@ pub record HasRun (A : Type 0) (state : A → State) (p : ℕ) (old now : Standi
   pub searches : now.searches + size_of (state old.tableau) old.matching ≡ size_of (state now.tableau) now.matching + 1
 
 -- the pair has grown by a column, while an improvement took the steps from `before` to `after`
-pub record HasGrown (A : Type 0) (state : A → State) (old now : Standing A) (before after : ℕ) : Type 0 where
+pub record HasGrown (A : Type 0) (state : A → State) (count : A → ℕ) (old now : Standing A) (before after : ℕ)
+    : Type 0 where
   pub size : size_of (state now.tableau) now.matching ≡ size_of (state old.tableau) old.matching + 1
   -- what was left out is left out for good
   pub kept : IsWithin (state old.tableau).columns (vain_of old.found) (vain_of now.found)
   -- the steps are the pivots and the looks that are told
   pub told : after + (old.pivots + old.looks) ≡ before + (now.pivots + now.looks)
+  -- the pivots are few, and they are all that the tableau made
   pub few_pivots : now.pivots ≤ old.pivots + size_on (state old.tableau).base (state old.tableau).columns + 1
+  pub made : ArePivotsMade (count old.tableau) (count now.tableau) old.pivots now.pivots
   pub few_looks : now.looks ≤ old.looks + (state old.tableau).columns
   pub searched : AreLooksOfSearch old.found now.found old.looks now.looks
 

@@ -11,7 +11,7 @@ ghost use Rattle.exchange_graph.specs.Marks.{members_of};
 ghost use Rattle.exchange_graph.specs.Results.{vain_of};
 ghost use Rattle.mixed_matrices.specs.Tableaus.{HasTableau};
 ghost use Rattle.mixed_model.specs.Layers.{layered_matrix_of};
-ghost use Rattle.independent_matching.specs.Engines.{Standing, AreEntries, HasGrown, HasRun, HasStayed, IsBareOver, layers};
+ghost use Rattle.independent_matching.specs.Engines.{Standing, AreEntries, HasGrown, HasRun, HasStayed, IsBareOver, IsFresh, layers};
 ghost use Rattle.independent_matching.specs.Sides.{layers_of, size_of, tableau_of};
 ghost use Rattle.independent_matching.specs.Turns.{turn_of};
 
@@ -64,21 +64,24 @@ impl<F: Field, T: Tableau<F>> Model for Engine<F, T> {
 }
 
 impl<F: Field, T: Tableau<F>> Engine<F, T> {
-    /// The empty pair of a layered matrix, over a tableau that this opens. It takes all the memory that the engine will
-    /// use.
+    /// The empty pair of a layered matrix, over a tableau that this opens. No pivot was made, and nothing was looked at
+    /// or left out. It takes all the memory that the engine will use.
     pub fn open(alloc: Global, l: &Layered<F>) -> Result<Self, NoMemory>
         ensures layers { IfOk result (λ e.
             layers (entry l.now.q) (T.state e.tableau) e.matching ≡ layered_matrix_of l.now) }
         ensures entries { IfOk result (λ e. AreEntries F.modulus (T.state e.tableau) (entry l.now.q)) }
         ensures empty { IfOk result (λ e. size_of (T.state e.tableau) e.matching ≡ 0) }
         ensures none_told { IfOk result (λ e. (e.pivots ≡ 0) × (e.looks ≡ 0) × (e.searches ≡ 0)) }
+        ensures fresh { IfOk result (λ e. IsFresh e.found) }
+        ensures no_pivot { IfOk result (λ e. T.pivots e.tableau ≡ 0) }
     {
         let tableau = T::open(alloc, &l.q)?;
         Engine::open_on(alloc, l, tableau)
     }
 
     /// The empty pair of a layered matrix, over a tableau of its Q that has no base column, whatever row operations it
-    /// has seen. It takes all the memory that the engine will use; where that is refused, the tableau is given up.
+    /// has seen, and which stays as it is. Nothing was looked at or left out. It takes all the memory that the engine will
+    /// use; where that is refused, the tableau is given up.
     pub fn open_on(alloc: Global, l: &Layered<F>, tableau: T) -> Result<Self, NoMemory>
         requires { IsBareOver F.modulus (height l.now.q) l.now.q.width (entry l.now.q) (T.state tableau) }
         ensures layers { IfOk result (λ e.
@@ -86,6 +89,7 @@ impl<F: Field, T: Tableau<F>> Engine<F, T> {
         ensures entries { IfOk result (λ e. AreEntries F.modulus (T.state e.tableau) (entry l.now.q)) }
         ensures empty { IfOk result (λ e. size_of (T.state e.tableau) e.matching ≡ 0) }
         ensures none_told { IfOk result (λ e. (e.pivots ≡ 0) × (e.looks ≡ 0) × (e.searches ≡ 0)) }
+        ensures fresh { IfOk result (λ e. IsFresh e.found) }
         ensures tableau { IfOk result (λ e. e.tableau ≡ tableau) }
     {
         l.are_layers();
@@ -119,7 +123,7 @@ impl<F: Field, T: Tableau<F>> Engine<F, T> {
     ///
     /// A step is a look at a column in the search or a pivot. Where the pair grows there is at most one look for each
     /// column, and there are at most as many pivots as there were base columns, and one; `looks` rises by the looks, and
-    /// `pivots` by the rest of the steps.
+    /// `pivots` by the rest of the steps, which are all pivots that the tableau makes, as its own count tells.
     pub fn improve<L: Ledger, M: Ledger>(
         &mut self,
         searches: &mut Steps<M>,
@@ -129,7 +133,7 @@ impl<F: Field, T: Tableau<F>> Engine<F, T> {
             ≡ layers q (T.state self.old.tableau) self.old.matching }
         ensures entries { (q : ℕ → ℕ → ℕ) → AreEntries F.modulus (T.state self.old.tableau) q →
             AreEntries F.modulus (T.state self.new.tableau) q }
-        ensures grown { IsTrue result → HasGrown T T.state self.old self.new steps.old steps.new }
+        ensures grown { IsTrue result → HasGrown T T.state T.pivots self.old self.new steps.old steps.new }
         ensures best { IsFalse result → HasStayed T T.state F.modulus self.old self.new steps.old steps.new }
         ensures searches { searches.new ≡ searches.old + 1 }
         ensures same_searches { self.new.searches ≡ self.old.searches }
@@ -152,7 +156,7 @@ impl<F: Field, T: Tableau<F>> Engine<F, T> {
             (tableau_of (T.state self.old.tableau) self.old.matching) x ≡ true }
         ensures layers { layers_of (T.state self.new.tableau) self.new.matching
             ≡ layers_of (T.state self.old.tableau) self.old.matching }
-        ensures grown { HasGrown T T.state self.old self.new steps.old steps.new }
+        ensures grown { HasGrown T T.state T.pivots self.old self.new steps.old steps.new }
         ensures searches { self.new.searches ≡ self.old.searches }
     {
         let row = self.mover.marks.free_row(&self.mover.pair, x).unwrap();
@@ -167,7 +171,7 @@ impl<F: Field, T: Tableau<F>> Engine<F, T> {
     fn improve_along<L: Ledger>(&mut self, steps: &mut Steps<L>) -> bool
         ensures layers { layers_of (T.state self.new.tableau) self.new.matching
             ≡ layers_of (T.state self.old.tableau) self.old.matching }
-        ensures grown { IsTrue result → HasGrown T T.state self.old self.new steps.old steps.new }
+        ensures grown { IsTrue result → HasGrown T T.state T.pivots self.old self.new steps.old steps.new }
         ensures best { IsFalse result → HasStayed T T.state F.modulus self.old self.new steps.old steps.new }
         ensures searches { self.new.searches ≡ self.old.searches }
     {
@@ -201,9 +205,9 @@ impl<F: Field, T: Tableau<F>> Engine<F, T> {
     ///
     /// From a pair of s columns to one of m, over n columns, `searches` tells m - s + 1 afterwards, and there are at
     /// most as many steps as `AreFewSteps` says: from the empty pair (m + 1) n + m m. These are the pivots and the
-    /// looks that `pivots` and `looks` rise by.
+    /// looks that `pivots` and `looks` rise by, and all pivots that the tableau makes, as its own count tells.
     pub fn run<L: Ledger>(&mut self, steps: &mut Steps<L>)
-        ensures run { HasRun T T.state F.modulus self.old self.new steps.old steps.new }
+        ensures run { HasRun T T.state T.pivots F.modulus self.old self.new steps.old steps.new }
     {
         self.run_from::<L, Brand>(Blank::new(1), steps);
     }
@@ -213,7 +217,7 @@ impl<F: Field, T: Tableau<F>> Engine<F, T> {
         requires name { blank.name ≡ M.name }
         requires parts { blank.parts ≡ M.parts }
         requires some { 0 < blank.parts }
-        ensures run { HasRun T T.state F.modulus self.old self.new steps.old steps.new }
+        ensures run { HasRun T T.state T.pivots F.modulus self.old self.new steps.old steps.new }
     {
         self.run_counted(&mut Steps::<M>::new(blank), steps);
     }
@@ -224,7 +228,7 @@ impl<F: Field, T: Tableau<F>> Engine<F, T> {
         searches: &mut Steps<M>,
         steps: &mut Steps<L>,
     )
-        ensures run { HasRun T T.state F.modulus self.old self.new steps.old steps.new }
+        ensures run { HasRun T T.state T.pivots F.modulus self.old self.new steps.old steps.new }
         ensures counted { searches.new ≡ searches.old + self.new.searches }
     {
         // there are at most 8,192 columns, so that the count fits

@@ -54,7 +54,8 @@ impl Marks {
         pair: &Pair<F, T>,
     ) -> Result<(Resting, Self), NoMemory>
         requires width { pair.now.mates.pattern.width ≡ (T.state pair.now.tableau).columns }
-        requires free { (x : ℕ) → is_free (tableau_of (T.state pair.now.tableau) pair.now.mates) x ≡ true }
+        requires free { (x : ℕ) → x < (T.state pair.now.tableau).columns →
+            is_free (tableau_of (T.state pair.now.tableau) pair.now.mates) x ≡ true }
         ensures { IfOk result (λ (r, m). AreMarks F.modulus (T.state pair.now.tableau) pair.now.mates r m) }
     {
         let columns = pair.tableau.columns();

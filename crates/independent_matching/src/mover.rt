@@ -3,9 +3,11 @@
 ghost use Rattle.std.specs.Prelude.{◌≡◌, ◌+◌, ◌*◌, ◌<◌, ◌≤◌, true, cond};
 ghost use Rattle.limits.specs.Limits.{column_limit};
 ghost use Rattle.residue_theory.specs.Sums.{size_on};
+ghost use Rattle.row_transform.specs.Bases.{raised};
 ghost use Rattle.exchange_graph.specs.Results.{step_of};
 ghost use Rattle.mixed_matrices.specs.Arcs.{is_free};
 ghost use Rattle.mixed_augmentation.specs.Moves.{IsFreeRow, IsRoute, route};
+ghost use Rattle.independent_matching.specs.Engines.{ArePivotsMade};
 ghost use Rattle.independent_matching.specs.Marks.{AreMarksOfQ, IsInOrder};
 ghost use Rattle.independent_matching.specs.Sides.{CanTake, HasGained, Takes, in_q, layers_of, number, tableau_of};
 
@@ -51,6 +53,8 @@ impl<F: Field, T: Tableau<F>> Mover<F, T> {
         ensures steps { steps.new ≤ steps.old + size_on (T.state self.old.pair.tableau).base
             (T.state self.old.pair.tableau).columns + 1 }
         ensures pivots { steps.new + self.old.pivots ≡ steps.old + self.new.pivots }
+        ensures made { ArePivotsMade (T.pivots self.old.pair.tableau) (T.pivots self.new.pair.tableau) self.old.pivots
+            self.new.pivots }
         ensures narrow { (T.state self.old.pair.tableau).columns ≤ column_limit }
     {
         // there are at most 8,192 columns, so that the sum below fits
@@ -79,6 +83,8 @@ impl<F: Field, T: Tableau<F>> Mover<F, T> {
             self.old.pair.mates self.new.pair.mates x row }
         ensures steps { steps.new ≤ steps.old + 1 }
         ensures pivots { steps.new + self.old.pivots ≡ steps.old + self.new.pivots }
+        ensures made { ArePivotsMade (T.pivots self.old.pair.tableau) (T.pivots self.new.pair.tableau) self.old.pivots
+            self.new.pivots }
         ensures narrow { (T.state self.old.pair.tableau).columns ≤ column_limit }
     {
         // there are at most 8,192 columns, so that the size fits
@@ -103,6 +109,7 @@ impl<F: Field, T: Tableau<F>> Mover<F, T> {
         ensures pattern { self.new.pair.mates.pattern ≡ self.old.pair.mates.pattern }
         ensures steps { steps.new ≡ steps.old + cond (in_q row) 1 0 }
         ensures pivots { self.new.pivots ≡ self.old.pivots + cond (in_q row) 1 0 }
+        ensures made { T.pivots self.new.pair.tableau ≡ raised (T.pivots self.old.pair.tableau) (cond (in_q row) 1 0) }
         ensures marks { AreMarksOfQ F.modulus (T.state self.new.pair.tableau) resting.now self.new.marks }
     {
         match row {

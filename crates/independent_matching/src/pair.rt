@@ -4,6 +4,7 @@ ghost use Rattle.std.specs.Prelude.{◌≡◌, ℕ, ◌+◌, ◌<◌, ◌≤◌,
 ghost use Rattle.std.specs.Prelude.{Option, Some, IfSome, IfNone, IsTrue, IsFalse};
 ghost use Rattle.sparse_t.specs.Incidences.{touches};
 ghost use Rattle.bipartite_matching.specs.Matchings.{HasPair, IsMatching};
+ghost use Rattle.row_transform.specs.Bases.{raised};
 ghost use Rattle.row_transform.specs.Tableaus.{has_entry};
 ghost use Rattle.exchange_graph.specs.Turns.{HaveHadTurns, HasNextTurn};
 ghost use Rattle.limits.specs.Limits.{column_limit};
@@ -165,7 +166,7 @@ impl<F: Field, T: Tableau<F>> Pair<F, T> {
         }
     }
 
-    /// Moves column x to the row, out of the T row that it has.
+    /// Moves column x to the row, out of the T row that it has. For a Q row that is one pivot, and one step.
     pub fn take<L: Ledger>(&mut self, row: Row, x: usize, steps: &mut Steps<L>)
         requires width { self.old.mates.pattern.width ≡ (T.state self.old.tableau).columns }
         requires x { x < (T.state self.old.tableau).columns }
@@ -178,6 +179,7 @@ impl<F: Field, T: Tableau<F>> Pair<F, T> {
             ≡ layers_of (T.state self.old.tableau) self.old.mates }
         ensures pattern { self.new.mates.pattern ≡ self.old.mates.pattern }
         ensures steps { steps.new ≡ steps.old + cond (in_q row) 1 0 }
+        ensures made { T.pivots self.new.tableau ≡ raised (T.pivots self.old.tableau) (cond (in_q row) 1 0) }
     {
         self.leave(x);
         match row {

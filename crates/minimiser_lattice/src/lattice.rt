@@ -28,8 +28,8 @@ pub enum Part {
     Last,
 }
 
-/// The parts of arcs and their order, in memory that is taken once. It can be filled again and again; what it tells
-/// before the first time is of no arcs at all.
+/// The parts of arcs and their order, in memory that is taken once. It can be filled again and again; before the first
+/// time it tells that all places are of the first part, and that there is no block.
 #[derive(Drop)]
 pub struct Lattice {
     components: Components,
@@ -48,9 +48,12 @@ impl Model for Lattice {
 }
 
 impl Lattice {
-    /// Room for the parts of the places below n. It takes all the memory that the lattice will use.
+    /// Room for the parts of the places below n, all of which are of the first part until it is filled. It takes all the
+    /// memory that the lattice will use.
     pub fn open(alloc: Global, n: usize) -> Result<Self, NoMemory>
-        ensures { IfOk result (λ l. l.places ≡ n) }
+        ensures places { IfOk result (λ l. l.places ≡ n) }
+        ensures first { IfOk result (λ l. (x : ℕ) → x < n → part_in (parts_in l) x ≡ Part.First) }
+        ensures blocks { IfOk result (λ l. (parts_in l).blocks ≡ 0) }
     {
         Ok(Lattice {
             components: Components::open(alloc, n)?,

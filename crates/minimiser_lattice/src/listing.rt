@@ -1,7 +1,7 @@
 //! The listing of the components: a topological sort (Kahn 1962) that takes at each step the one with the least place
 //! of those that may come next.
 
-ghost use Rattle.std.specs.Prelude.{◌≡◌, ◌≢◌, ℕ, ◌+◌, ◌<◌, ◌≤◌, Bool, false, length, vec_len, IfOk, IfSome, IfNone, slice_index};
+ghost use Rattle.std.specs.Prelude.{◌≡◌, ◌≢◌, ℕ, ◌+◌, ◌<◌, ◌≤◌, Bool, true, false, length, vec_len, IfOk, IfSome, IfNone, slice_index};
 ghost use Rattle.exchange_graph.specs.Marks.{members_of};
 ghost use Rattle.closed_sets.specs.Tables.{Tells};
 ghost use Rattle.closed_sets.specs.Blocks.{IsListing};
@@ -32,14 +32,15 @@ pub struct Listing {
 }
 
 impl Listing {
-    /// Room for n components.
+    /// Room for n components. All are marked as of the first part, so that there is no block.
     pub fn open(alloc: Global, n: usize) -> Result<Self, NoMemory>
         ensures opened { IfOk result (λ l. IsOpened l n) }
+        ensures first { IfOk result (λ l. (k : ℕ) → k < n → members_of l.first.items k ≡ true) }
         ensures blocks { IfOk result (λ l. l.blocks ≡ 0) }
         ensures none { IfOk result (λ l. (j : ℕ) → slice_index l.listed.items j ≡ 0) }
     {
         Ok(Listing {
-            first: vec![in alloc; false; n]?,
+            first: vec![in alloc; true; n]?,
             last: vec![in alloc; false; n]?,
             standing: vec![in alloc; Standing::Tail; n]?,
             ready: Ready::open(alloc, n)?,

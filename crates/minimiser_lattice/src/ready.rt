@@ -198,7 +198,8 @@ impl Ready {
             (standing_in standing.now) (number_of components.now j) → ⊥) }
         ensures apart { IfSome result (λ x. (more : ℕ → Standing) → more (number_of components.now x) ≡ Listed →
             ((l : ℕ) → l ≢ number_of components.now x → more l ≡ standing_in standing.now l) →
-            AreApartIn components.now more (λ k. bit_in self.new.waits (number_of components.now x) k ≡ true) self.new) }
+            AreApartIn components.now more (λ k. bit_in self.new.waits (number_of components.now x) k ≡ true)
+            self.new) }
         ensures room { HasRoomFor self.new (places components.now) }
     {
         while let Some(key) = self.keys.pop() {

@@ -70,7 +70,7 @@ module _ (p : ℕ) (prime : IsPrime p) (t : State) (tableau : IsTableau p t) (v 
 -- ---- before any pivot
 module _ (p : ℕ) (d : Dense) (q : Table) (rows columns : ℕ) (rows_are : rows ≡ height q)
     (columns_are : columns ≡ q.width) (same : d.table.q ≡ q)
-    (base_is : d.base ≡ record { columns = replicate rows None; rows = replicate columns None }) where
+    (base_is : d.base ≡ record { columns = replicate rows None; rows = replicate columns None; takes = 0 }) where
   empty : (y : ℕ) → is_base d.base y ≡ false
   empty y = no_column columns y d.base.rows (ap (λ (b : BaseLists). b.rows) base_is)
 

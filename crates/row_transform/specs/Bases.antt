@@ -1,10 +1,17 @@
 -- Which column is the base column of which row, kept as two lists, and how a base changes.
-use Rattle.std.specs.Prelude.{ℕ, ◌<◌, ◌≡◌, ◌≢◌, Bool, true, false, List, length, Option, Some, None, is_some, unwrap_or, slice_index_or, slice_set}
+use Rattle.std.specs.Prelude.{ℕ, ◌+◌, ◌-◌, ◌^◌, ◌<◌, ◌≡◌, ◌≢◌, min, Bool, true, false, List, length}
+use Rattle.std.specs.Prelude.{Option, Some, None, is_some, unwrap_or, slice_index_or, slice_set}
 
--- for each row perhaps its base column, and for each column perhaps the row whose base it is
+-- a count after so many more, as far as 64 bits have room for it
+abbrev pub raised : ℕ → ℕ → ℕ
+raised count more = count + min more (2 ^ 64 - 1 - count)
+
+-- for each row perhaps its base column, and for each column perhaps the row whose base it is; and how many columns were
+-- taken into the base since it was empty
 pub record BaseLists : Type 0 where
   pub columns : List (Option ℕ)
   pub rows : List (Option ℕ)
+  pub takes : ℕ
 
 -- column y is a base column
 abbrev pub is_base : BaseLists → ℕ → Bool
@@ -25,11 +32,15 @@ pub record IsConsistent (b : BaseLists) : Type 0 where
 
 -- b without the column that was the base column of a row
 abbrev pub unlinked : BaseLists → ℕ → ℕ → BaseLists
-unlinked b r y = record { columns = slice_set b.columns r None; rows = slice_set b.rows y None }
+unlinked b r y = record b { columns = slice_set b.columns r None; rows = slice_set b.rows y None }
 
--- b with a column as the base column of a row
+-- b with a column taken as the base column of a row
 abbrev pub linked : BaseLists → ℕ → ℕ → BaseLists
-linked b r y = record { columns = slice_set b.columns r (Some y); rows = slice_set b.rows y (Some r) }
+linked b r y = record {
+  columns = slice_set b.columns r (Some y);
+  rows = slice_set b.rows y (Some r);
+  takes = raised b.takes 1;
+}
 
 -- row r has no base column now; all base columns of other rows stay. There are n columns; B and row are the base
 -- before, C and now the base after

@@ -2,18 +2,19 @@
 
 ghost use Rattle.std.specs.Prelude.{◌≡◌, ◌≢◌, ℕ, ◌<◌, ◌≤◌, Bool, true, false, length, replicate, slice_index_or, IfOk, IfSome, IfNone};
 ghost use Rattle.linear_algebra.specs.Bases.{IsBaseTaken};
-ghost use Rattle.row_transform.specs.Bases.{BaseLists, is_base, row_of, unlinked, linked, IsBaseDropped, IsRowCleared};
+ghost use Rattle.row_transform.specs.Bases.{BaseLists, is_base, raised, row_of, unlinked, linked, IsBaseDropped, IsRowCleared};
 
 use out_of_memory::NoMemory;
 use std::alloc::{AllocError, Global};
 use std::marker::Model;
 
 /// Which column is the base column of which row: a row has at most one, and a column at most one row. Rows and columns
-/// are counted from 0. (Murota 2000, chapter 2: bases of the matroid of columns.)
+/// are counted from 0. (Murota 2000, chapter 2: bases of the matroid of columns.) It counts the columns that it takes.
 #[derive(Drop)]
 pub struct Base {
     columns: Vec<Option<usize>>,
     rows: Vec<Option<usize>>,
+    takes: u64,
 }
 
 impl Model for Base {
@@ -21,19 +22,28 @@ impl Model for Base {
 
     ghost Value = { BaseLists };
 
-    ghost view = { λ b. record { columns = b.columns.items; rows = b.rows.items } };
+    ghost view = { λ b. record { columns = b.columns.items; rows = b.rows.items; takes = b.takes } };
 
-    ghost invariant = { λ b. IsConsistent (record { columns = b.columns.items; rows = b.rows.items }) };
+    ghost invariant = { λ b. IsConsistent (record {
+      columns = b.columns.items;
+      rows = b.rows.items;
+      takes = b.takes;
+    }) };
 }
 
 impl Base {
     /// The base of so many rows and columns with no column in it.
     pub fn empty(alloc: Global, rows: usize, columns: usize) -> Result<Base, NoMemory>
-        ensures { IfOk result (λ b. b ≡ record { columns = replicate rows None; rows = replicate columns None }) }
+        ensures { IfOk result (λ b. b ≡ record {
+          columns = replicate rows None;
+          rows = replicate columns None;
+          takes = 0;
+        }) }
     {
         Ok(Base {
             columns: nothing(alloc, rows)?,
             rows: nothing(alloc, columns)?,
+            takes: 0,
         })
     }
 
@@ -67,6 +77,7 @@ impl Base {
         requires free { is_base self.old column ≡ false }
         ensures taken { IsBaseTaken (length self.old.rows) (is_base self.old) (row_of self.old) (is_base self.new)
             (row_of self.new) row column }
+        ensures counted { self.new.takes ≡ raised self.old.takes 1 }
         ensures rows { length self.new.columns ≡ length self.old.columns }
         ensures columns { length self.new.rows ≡ length self.old.rows }
     {
@@ -79,6 +90,7 @@ impl Base {
         requires column { column < length self.old.rows }
         ensures dropped { IsBaseDropped (length self.old.rows) (is_base self.old) (row_of self.old) (is_base self.new)
             (row_of self.new) column }
+        ensures takes { self.new.takes ≡ self.old.takes }
         ensures rows { length self.new.columns ≡ length self.old.columns }
         ensures columns { length self.new.rows ≡ length self.old.rows }
     {
@@ -87,11 +99,19 @@ impl Base {
         }
     }
 
+    /// How many columns were taken since the base was empty. At the greatest `u64` it stays.
+    pub fn takes(&self) -> u64
+        ensures { result ≡ self.now.takes }
+    {
+        self.takes
+    }
+
     // Takes the base column of a row out of the base, if there is one.
     fn clear(&mut self, row: usize)
         requires row { row < length self.old.columns }
         ensures cleared { IsRowCleared (length self.old.rows) (is_base self.old) (row_of self.old) (is_base self.new)
             (row_of self.new) row }
+        ensures takes { self.new.takes ≡ self.old.takes }
         ensures bare { slice_index_or self.new.columns row None ≡ None }
         ensures rows { length self.new.columns ≡ length self.old.columns }
         ensures columns { length self.new.rows ≡ length self.old.rows }
@@ -118,6 +138,7 @@ impl Base {
     {
         self.columns[row] = Some(column);
         self.rows[column] = Some(row);
+        self.takes = self.takes.saturating_add(1);
     }
 }
 

@@ -42,12 +42,18 @@ impl<F: Field> Model for DenseTableau<F> {
 impl<F: Field> Tableau<F> for DenseTableau<F> {
     ghost state = { state_of F.modulus };
 
+    ghost pivots = { λ d. d.base.takes };
+
     fn open(alloc: Global, q: &EntryMat<F>) -> Result<Self, NoMemory> {
         Ok(DenseTableau {
             table: RowTable::open(alloc, q)?,
             entries: Entries::of(alloc, q)?,
             base: Base::empty(alloc, q.rows(), q.cols())?,
         })
+    }
+
+    fn pivots(&self) -> u64 {
+        self.base.takes()
     }
 
     fn rows(&self) -> usize {

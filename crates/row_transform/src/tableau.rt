@@ -4,6 +4,7 @@ ghost use Rattle.std.specs.Prelude.{◌≡◌, ◌≢◌, ℕ, ◌<◌, ◌≤�
 ghost use Rattle.limits.specs.Limits.{column_limit};
 ghost use Rattle.number_ranges.specs.Ranges.{HasNone, IsLeast};
 ghost use Rattle.dense_q.specs.Tables.{height, entry};
+ghost use Rattle.row_transform.specs.Bases.{raised};
 ghost use Rattle.row_transform.specs.Tableaus.{State, IsOpened, IsTableau, IsBare, IsBaseColumn, IsPivot, IsDrop, AreParts, has_entry, has_entry_of, matrix_of, width_of};
 ghost use Rattle.linear_algebra.specs.Columns.{IsCombination};
 
@@ -31,12 +32,22 @@ pub enum Which {
 
 /// Row operations on a matrix Q: P = S * Q for an invertible S. Some columns are base columns, each with a row of
 /// its own; in P it is 1 there and 0 elsewhere. Rows and columns are counted from 0. (Murota 2000, chapter 2.)
+///
+/// It counts its pivots: only `pivot` adds to the count.
 pub trait Tableau<F: Field>: Drop {
     ghost state: { Self → State };
 
+    ghost pivots: { Self → ℕ };
+
     /// The tableau of a matrix before any row operation, with no base column.
     fn open(alloc: Global, q: &EntryMat<F>) -> Result<Self, NoMemory>
-        ensures { IfOk result (λ t. IsOpened F.modulus (height q.now) q.now.width (entry q.now) (state t)) };
+        ensures opened { IfOk result (λ t.
+            IsOpened F.modulus (height q.now) q.now.width (entry q.now) (state t)) }
+        ensures no_pivot { IfOk result (λ t. pivots t ≡ 0) };
+
+    /// How many pivots were made since it was opened. At the greatest `u64` it stays.
+    fn pivots(&self) -> u64
+        ensures { result ≡ pivots self.now };
 
     /// How many rows there are.
     fn rows(&self) -> usize
@@ -89,13 +100,15 @@ pub trait Tableau<F: Field>: Drop {
         requires col { col < (state self.old).columns }
         requires entry { (state self.old).p row col % F.modulus ≢ 0 }
         requires no_base { (state self.old).base col ≡ false }
-        ensures { IsPivot F.modulus (state self.old) (state self.new) row col };
+        ensures pivoted { IsPivot F.modulus (state self.old) (state self.new) row col }
+        ensures counted { pivots self.new ≡ raised (pivots self.old) 1 };
 
     /// Takes a base column out of the base.
     fn drop_base(&mut self, col: usize)
         requires col { col < (state self.old).columns }
         requires base { (state self.old).base col ≡ true }
-        ensures { IsDrop (state self.old) (state self.new) col };
+        ensures dropped { IsDrop (state self.old) (state self.new) col }
+        ensures counted { pivots self.new ≡ pivots self.old };
 
     /// The entry of one of the matrices.
     fn entry_of(&self, which: Which, row: usize, col: usize) -> F

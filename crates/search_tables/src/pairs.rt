@@ -1,6 +1,7 @@
 //! What the engine tells of small matrices.
 
-ghost use Rattle.std.specs.Prelude.{◌≡◌, ◌<◌, IfOk};
+ghost use Rattle.std.specs.Prelude.{◌≡◌, ℕ, ◌<◌, IfOk};
+ghost use Rattle.independent_matching.specs.Engines.{IsBareOver};
 
 use dense_q::Mat;
 use independent_matching::{Engine, Steps};
@@ -61,6 +62,37 @@ fn solved<L: Ledger, T: Tableau<Res>>(
     Ok(engine)
 }
 
+// Makes a column the base column of a row, and takes it out of the base again.
+fn pivot_and_bare<T: Tableau<Res>>(rt: &impl Abort, tableau: &mut T, row: usize, column: usize)
+    ensures { (p m n : ℕ) (q : ℕ → ℕ → ℕ) → IsBareOver p m n q (T.state tableau.old) →
+        IsBareOver p m n q (T.state tableau.new) }
+{
+    assert!(rt; row < tableau.rows() && column < tableau.columns());
+    assert!(rt; !tableau.entry(row, column).is_zero());
+    assert_eq!(rt; tableau.row_of(column), None);
+    tableau.pivot(row, column);
+    tableau.drop_base(column);
+}
+
+// An engine that has run over a tableau of this type that was pivoted there and bared again.
+fn solved_on_bared<L: Ledger, T: Tableau<Res>, R: Abort>(
+    rt: &R,
+    alloc: Global,
+    layered: &Layered<Res>,
+    place: (usize, usize),
+    blank: Blank,
+) -> Result<Engine<Res, T>, Fail>
+    requires name { blank.name ≡ L.name }
+    requires parts { blank.parts ≡ L.parts }
+    requires some { 0 < blank.parts }
+{
+    let mut tableau = T::open(alloc, &layered.q)?;
+    pivot_and_bare(rt, &mut tableau, place.0, place.1);
+    let mut engine = Engine::open_on(alloc, layered, tableau)?;
+    engine.run(&mut Steps::<L>::new(blank));
+    Ok(engine)
+}
+
 // What an engine tells of each column: `q` or `t` where it is in the pair and `.` where it is free, then `-` where it
 // is in the least minimiser and `!` where it is an end.
 fn told<T: Tableau<Res>>(alloc: Global, engine: &Engine<Res, T>) -> Result<String, Fail> {
@@ -87,6 +119,20 @@ fn told<T: Tableau<Res>>(alloc: Global, engine: &Engine<Res, T>) -> Result<Strin
     Ok(text)
 }
 
+fn assert_told<T: Tableau<Res>>(
+    rt: &impl Abort,
+    alloc: Global,
+    engine: &Engine<Res, T>,
+    size: usize,
+    text: &str,
+) -> Result<(), Fail> {
+    assert_eq!(rt; engine.size(), size);
+    assert_eq!(rt; engine.searches(), size.saturating_add(1));
+    let told = told(alloc, engine)?;
+    assert_eq!(rt; told.as_str(), text);
+    Ok(())
+}
+
 fn assert_solved_over<T: Tableau<Res>>(
     rt: &impl Abort,
     alloc: Global,
@@ -95,11 +141,7 @@ fn assert_solved_over<T: Tableau<Res>>(
     text: &str,
 ) -> Result<(), Fail> {
     let engine: Engine<Res, T> = solved::<Brand, T>(alloc, layered, Blank::new(1))?;
-    assert_eq!(rt; engine.size(), size);
-    assert_eq!(rt; engine.searches(), size.saturating_add(1));
-    let told = told(alloc, &engine)?;
-    assert_eq!(rt; told.as_str(), text);
-    Ok(())
+    assert_told(rt, alloc, &engine, size, text)
 }
 
 // Over either tableau.
@@ -233,6 +275,83 @@ fn counts_pivots(rt: HostRuntime) -> Result<(), Fail> {
     t.push_row(&[0])?;
     let q = constants(rt.alloc(), 2, &[])?;
     assert_pivots(&rt, rt.alloc(), q, t, 0)
+}
+
+// How many pivots there were in all, and how many of them the engine made.
+fn assert_counts<T: Tableau<Res>>(rt: &impl Abort, engine: &Engine<Res, T>, all: u64, told: usize) {
+    assert_eq!(rt; engine.tableau().pivots(), all);
+    assert_eq!(rt; engine.pivots(), told);
+}
+
+// A layered matrix, a place where its tableau is pivoted before the engine opens on it, and what the engine then tells:
+// the size of its pair, each column, and how many pivots it made.
+#[derive(Drop)]
+struct Bared<'a> {
+    layered: &'a Layered<Res>,
+    place: (usize, usize),
+    size: usize,
+    text: &'a str,
+    pivots: usize,
+}
+
+fn assert_bared_over<T: Tableau<Res>, R: Abort>(
+    rt: &R,
+    alloc: Global,
+    bared: &Bared,
+) -> Result<(), Fail> {
+    let engine: Engine<Res, T> = solved_on_bared::<Brand, T, R>(
+        rt,
+        alloc,
+        bared.layered,
+        bared.place,
+        Blank::new(1),
+    )?;
+    assert_counts(
+        rt,
+        &engine,
+        (bared.pivots as u64).saturating_add(1),
+        bared.pivots,
+    );
+    assert_told(rt, alloc, &engine, bared.size, bared.text)
+}
+
+// Over either tableau, and over ones that are opened anew.
+fn assert_bared<R: Abort>(rt: &R, alloc: Global, bared: &Bared) -> Result<(), Fail> {
+    assert_bared_over::<DenseTableau<Res>, R>(rt, alloc, bared)?;
+    assert_bared_over::<SparseTableau<Res>, R>(rt, alloc, bared)?;
+    assert_solved_over::<DenseTableau<Res>>(rt, alloc, bared.layered, bared.size, bared.text)?;
+    assert_solved_over::<SparseTableau<Res>>(rt, alloc, bared.layered, bared.size, bared.text)
+}
+
+// Column 1 is twice column 0, so that of these two one is free and both are the least minimiser, and 3 has a T row
+// alone. With one T row, 2 leaves it to 3 for the Q row that is left. With two it keeps its own, and is an end by that
+// Q row.
+#[test]
+fn opens_on_a_tableau_that_was_pivoted_and_bared(rt: HostRuntime) -> Result<(), Fail> {
+    let rows: &[&[u64]] = &[&[1, 2, 0, 0], &[2, 4, 1, 0]];
+    let mut t = Pattern::empty(rt.alloc(), 4)?;
+    t.push_row(&[2, 3])?;
+    let one = layered(rt.alloc(), constants(rt.alloc(), 4, rows)?, t)?;
+    let bared = Bared {
+        layered: &one,
+        place: (1, 1),
+        size: 3,
+        text: "q-.-qt",
+        pivots: 2,
+    };
+    assert_bared(&rt, rt.alloc(), &bared)?;
+    let mut t = Pattern::empty(rt.alloc(), 4)?;
+    t.push_row(&[2, 3])?;
+    t.push_row(&[3])?;
+    let two = layered(rt.alloc(), constants(rt.alloc(), 4, rows)?, t)?;
+    let bared = Bared {
+        layered: &two,
+        place: (1, 1),
+        size: 3,
+        text: "q-.-t!t",
+        pivots: 1,
+    };
+    assert_bared(&rt, rt.alloc(), &bared)
 }
 
 // The looks of a run, and those up to the end of a second one.

@@ -31,7 +31,7 @@ module _ (p : ℕ) (m n : ℕ) (of : Table) (q pp s v : SparseTable) (base : Bas
     (q_size : HasSize of.width (height of) q) (q_is : number_in q ≡ transposed (entry of))
     (s_size : HasSize m m s) (s_is : (i j : ℕ) → i < m → number_in s i j ≡ identity i j) (v_size : HasSize m m v)
     (v_is : (i j : ℕ) → i < m → number_in v i j ≡ identity i j)
-    (base_is : base ≡ record { columns = replicate m None; rows = replicate n None }) where
+    (base_is : base ≡ record { columns = replicate m None; rows = replicate n None; takes = 0 }) where
   start : Sparse
   start = record { q = q; p = pp; s = s; v = v; base = base }
 

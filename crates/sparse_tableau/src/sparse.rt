@@ -53,6 +53,8 @@ impl<F: Field> Model for SparseTableau<F> {
 impl<F: Field> Tableau<F> for SparseTableau<F> {
     ghost state = { state_of };
 
+    ghost pivots = { λ t. t.base.takes };
+
     fn open(alloc: Global, q: &EntryMat<F>) -> Result<Self, NoMemory> {
         let rows = q.rows();
         let columns = q.cols();
@@ -70,6 +72,10 @@ impl<F: Field> Tableau<F> for SparseTableau<F> {
             entries,
             base: Base::empty(alloc, rows, columns)?,
         })
+    }
+
+    fn pivots(&self) -> u64 {
+        self.base.takes()
     }
 
     fn rows(&self) -> usize {

@@ -172,12 +172,13 @@ returns-in-Some-clause-grown g c = λ _.
       looks = e.looks + c.looks.result;
       searches = e.searches;
     } in
-    subst (λ s. HasGrown g.row.T.Denot g.T.Tableau.state s now c.args.steps.now c.augment.new.steps) c.self.view_is
+    subst (λ s. HasGrown g.row.T.Denot g.T.Tableau.state g.T.Tableau.pivots s now c.args.steps.now c.augment.new.steps) c.self.view_is
     (record {
       size = A.gained.size;
       kept = subst (λ m. IsWithin m (vain_of e.search) (vain_of search)) c.self.invariant.search E.grown;
       told = omega (arith, E.told, A.pivots, c.looks.ensures);
       few_pivots = omega (arith, A.pivots, A.steps);
+      made = A.made;
       few_looks = omega (arith, c.looks.ensures, E.few, c.self.invariant.search);
       searched = inr (E.all_looks, ap (λ k. e.looks + k) c.looks.ensures);
     })

@@ -7,12 +7,12 @@ use Rattle.exchange_graph.specs.Results.{vain_of}
 use Rattle.exchange_graph.specs.Sweeps.{IsLeftOut}
 use Rattle.mixed_matrices.specs.Arcs.{is_end, is_free, leads_to}
 use Rattle.independent_matching.specs.Sides.{is_matched, layers_of, tableau_of}
-use Rattle.independent_matching.proofs.OpenLaws.{all-free, empty-unmatched, open-size, open-tableau, over-entries, over-layers, tableau-kernel}
+use Rattle.independent_matching.proofs.OpenLaws.{all-free, empty-unmatched, open-size, open-tableau, over-bare, over-entries, over-layers, tableau-kernel}
 use Rattle.independent_matching.proofs.engine.Engine.open_on.Goals as goal
 
 pub open-requires-2-clause-free : goal.open-requires-2-clause-free
 open-requires-2-clause-free g c =
-    all-free g.F.Field.modulus (g.T.Tableau.state c.args.tableau) c.in_ok-open.field-0 c.requires.no_base
+    all-free g.F.Field.modulus (g.T.Tableau.state c.args.tableau) c.in_ok-open.field-0 (over-bare c.requires)
     (λ y. subst (λ m. is_matched m y ≡ false) (sym c.in_ok-open.ensures.empty) (empty-unmatched c.l.inside.t y))
 
 pub invariant_of-result : goal.invariant_of-result
@@ -23,7 +23,7 @@ invariant_of-result g c =
     let unmatched : (y : ℕ) → is_matched M y ≡ false = λ y.
     subst (λ m. is_matched m y ≡ false) (sym c.in_ok-open.ensures.empty) (empty-unmatched c.l.inside.t y) in
     record {
-      pair = open-tableau p S M c.requires.no_base unmatched (tableau-kernel p S g.met.F.Field.prime c.rows-rows.ensures.tableau);
+      pair = open-tableau p S M (over-bare c.requires) unmatched (tableau-kernel p S g.met.F.Field.prime c.rows-rows.ensures.tableau);
       width = ap (λ (m : Matching). m.pattern.width) c.in_ok-open.ensures.empty
           ∙ (c.l.invariant.same_columns ∙ (ap (λ (l : Layers). l.q.width) c.l.view_is ∙ sym c.requires.columns_are));
       search = c.in_ok-open-2.ensures.places ∙ c.columns-columns.ensures.columns;
@@ -32,7 +32,7 @@ invariant_of-result g c =
           (nothing-left (leads_to p (layers_of S M) (tableau_of S M)) S.columns (is_free (tableau_of S M))
           (is_end p (layers_of S M) (tableau_of S M)) (vain_of c.in_ok-open-2.field-0) c.in_ok-open-2.ensures.vain);
       marks = c.in_ok-resting.ensures;
-      count = open-size p S M c.requires.no_base unmatched;
+      count = open-size p S M (over-bare c.requires) unmatched;
       few = omega arith;
       few_looks = omega arith;
     }
@@ -43,7 +43,7 @@ returns-clause-entries g c =
     over-entries g.F.Field.modulus (height q) q.width (entry q) (g.T.Tableau.state c.args.tableau) c.requires
 
 pub returns-clause-empty : goal.returns-clause-empty
-returns-clause-empty g c = sym (open-size g.F.Field.modulus (g.T.Tableau.state c.args.tableau) c.in_ok-open.field-0 c.requires.no_base
+returns-clause-empty g c = sym (open-size g.F.Field.modulus (g.T.Tableau.state c.args.tableau) c.in_ok-open.field-0 (over-bare c.requires)
     (λ y. subst (λ m. is_matched m y ≡ false) (sym c.in_ok-open.ensures.empty) (empty-unmatched c.l.inside.t y)))
 
 pub returns-clause-layers : goal.returns-clause-layers

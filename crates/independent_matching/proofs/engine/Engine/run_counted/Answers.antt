@@ -7,7 +7,7 @@ use Rattle.independent_matching.proofs.engine.Engine.run_counted.Goals as goal
 
 pub loop-made-init : goal.loop-made-init
 loop-made-init g c = record {
-  growing = growing-start g.row.T.Denot g.T.Tableau.state g.F.Field.modulus c.args.self.now c.args.steps.now;
+  growing = growing-start g.row.T.Denot g.T.Tableau.state g.T.Tableau.pivots g.F.Field.modulus c.args.self.now c.args.steps.now;
   asked = refl;
 }
 
@@ -63,20 +63,20 @@ loop-made-preserved g c =
     c.self.invariant.count ∙ ap (λ (v : _). size_of (state v.tableau) v.matching) c.self.view_is in
     let end : c.self-in-loop-made.inside.size ≡ size_of (state next.tableau) next.matching =
     c.self-in-loop-made.invariant.count ∙ ap (λ (v : _). size_of (state v.tableau) v.matching) c.self-in-loop-made.view_is in
-    let more : IsGrowing g.row.T.Denot state g.F.Field.modulus old next (c.loop-made.made + 1) c.args.steps.now c.improve.new.steps =
-    growing-more g.row.T.Denot state g.F.Field.modulus old c.loop-made.self next c.loop-made.made c.args.steps.now
+    let more : IsGrowing g.row.T.Denot state g.T.Tableau.pivots g.F.Field.modulus old next (c.loop-made.made + 1) c.args.steps.now c.improve.new.steps =
+    growing-more g.row.T.Denot state g.T.Tableau.pivots g.F.Field.modulus old c.loop-made.self next c.loop-made.made c.args.steps.now
     c.loop-made.steps c.improve.new.steps I.growing E.same E.entries (E.grown refl) in
     let made : c.loop-made.made + 1 ≡ c.self-in-loop-made.inside.size - c.self.inside.size + 1 = omega (arith, start, end, more.searched) in
     record {
-      growing = subst (λ k. IsGrowing g.row.T.Denot state g.F.Field.modulus old next k c.args.steps.now c.improve.new.steps) made more;
+      growing = subst (λ k. IsGrowing g.row.T.Denot state g.T.Tableau.pivots g.F.Field.modulus old next k c.args.steps.now c.improve.new.steps) made more;
       asked = omega (arith, E.searches, I.asked, made);
     }
 
 pub returns-clause-run : goal.returns-clause-run
 returns-clause-run g c =
     let E = c.loop-made-test.ensures in
-    subst (λ e. HasRun g.row.T.Denot g.T.Tableau.state g.F.Field.modulus c.args.self.now (record e { searches = c.loop-made.made })
+    subst (λ e. HasRun g.row.T.Denot g.T.Tableau.state g.T.Tableau.pivots g.F.Field.modulus c.args.self.now (record e { searches = c.loop-made.made })
     c.args.steps.now c.improve.new.steps) (sym c.self-2.view_is)
-    (growing-last g.row.T.Denot g.T.Tableau.state g.F.Field.modulus c.args.self.now c.loop-made.self c.improve.new.self
+    (growing-last g.row.T.Denot g.T.Tableau.state g.T.Tableau.pivots g.F.Field.modulus c.args.self.now c.loop-made.self c.improve.new.self
     c.loop-made.made c.args.steps.now c.loop-made.steps c.improve.new.steps c.loop-made.invariant.growing E.same E.entries
     (E.best refl))

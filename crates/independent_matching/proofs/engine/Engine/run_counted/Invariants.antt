@@ -5,7 +5,7 @@ use Rattle.independent_matching.proofs.engine.Engine.run_counted.Given as goal
 
 abbrev pub invariant-loop-made : goal.invariant-loop-made
 invariant-loop-made g l = record {
-  growing : IsGrowing g.row.T.Denot g.T.Tableau.state g.F.Field.modulus l.fn.self l.self l.made l.fn.steps l.steps;
+  growing : IsGrowing g.row.T.Denot g.T.Tableau.state g.T.Tableau.pivots g.F.Field.modulus l.fn.self l.self l.made l.fn.steps l.steps;
   asked : l.searches + 1 ≡ l.fn.searches + l.made;
 }
 

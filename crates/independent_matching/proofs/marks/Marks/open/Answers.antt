@@ -26,7 +26,8 @@ loop-x-preserved g c =
       ];
       by_q = λ y l. elim (nat_cases y c.loop-x.x) [
         | inl e ↦ subst (λ k. IsQMark p S now.by_q.items k) (sym e) Q'.found
-        | inr ne ↦ other-q rest rest between now c.loop-x.x Q'.others y ne p S (subst (λ b. IsQMark p S b.items y) (sym T'.by_q) (I.by_q y (omega (arith, l, ne))))
+        | inr ne ↦ other-q rest rest between now c.loop-x.x Q'.others y ne p S
+            (subst (λ b. IsQMark p S b.items y) (sym T'.by_q) (I.by_q y (omega (arith, l, ne))))
       ];
       ends = λ y l. elim (nat_cases y c.loop-x.x) [
         | inl e ↦ subst (λ k. IsEndMark rest now k) (sym e) Q'.end
@@ -43,5 +44,5 @@ returns g c =
     record {
       of_q = record { sized = I.sized; by_q = λ y l. I.by_q y (all y l); ends = λ y l. I.ends y (all y l) };
       by_t = λ y l. I.by_t y (all y l);
-      free = λ y l. I.free y l ∙ sym (c.requires.free y);
+      free = λ y l. I.free y l ∙ sym (c.requires.free y l);
     }

@@ -1,4 +1,4 @@
-use Rattle.std.proofs.Common.{◌≡◌, ◌+◌, ◌-◌, ◌<◌, ◌≤◌, ◌∙◌, true, ap, sym, subst, refl, arith}
+use Rattle.std.proofs.Common.{◌≡◌, ◌+◌, ◌-◌, ◌<◌, ◌≤◌, ◌∙◌, true, cond, ap, sym, subst, refl, arith}
 use Rattle.residue_theory.specs.Sums.{size_on}
 use Rattle.exchange_graph.specs.Results.{step_of}
 use Rattle.mixed_augmentation.specs.Moves.{route}
@@ -10,6 +10,7 @@ use Rattle.independent_matching.proofs.LeftLaws.{move-rows, moved-rows, moving-r
 use Rattle.independent_matching.proofs.MoveLaws.{can-take, moving-apart, moving-below, moving-count, moving-keeps, moving-next}
 use Rattle.independent_matching.proofs.MoveLaws.{moving-none, moving-pivots, moving-positive, moving-size}
 use Rattle.independent_matching.proofs.MoveLaws.{moving-start, moving-tableau, moving-taken, step-below}
+use Rattle.independent_matching.proofs.MadeLaws.{more-made, none-made, some-made}
 use Rattle.independent_matching.proofs.RunLaws.{base-bound, pivots-bound, pivots-more, size-bound}
 use Rattle.independent_matching.proofs.mover.Mover.augment.Goals as goal
 
@@ -25,6 +26,7 @@ loop-next-init g c =
       marks = c.requires.order.marks;
       count = refl;
       pivots = refl;
+      made = none-made (g.T.Tableau.pivots c.args.self.now.pair.tableau) c.args.self.now.pivots;
     }
 
 pub take-requires-clause-x : goal.take-requires-clause-x
@@ -136,6 +138,9 @@ loop-next-preserved g c =
             c.in-Some.row c.loop-next.left I.moving c.in-Some.is i here,
       );
       pivots = omega (arith, c.take.ensures.steps, c.take.ensures.pivots, I.pivots);
+      made = more-made (g.T.Tableau.pivots c.args.self.now.pair.tableau) (g.T.Tableau.pivots c.loop-next.self.pair.tableau)
+          (g.T.Tableau.pivots c.take.new.self.pair.tableau) c.args.self.now.pivots c.loop-next.self.pivots
+          c.take.new.self.pivots I.made (some-made _ _ _ _ (cond (in_q c.in-Some.row) 1 0) c.take.ensures.pivots c.take.ensures.made);
     }
 
 pub returns-clause-steps : goal.returns-clause-steps
@@ -159,7 +164,12 @@ take-requires-clause-few g c =
     let S₀ = g.T.Tableau.state c.args.self.now.pair.tableau in
     let M₀ = c.args.self.now.pair.mates in
     let at = step_of c.args.search.now in
-    let small : size_of S₀ M₀ ≤ 8192 = omega (arith, size-bound p S₀ M₀ c.requires.order.pair, c.columns-columns.ensures.narrow, c.columns-columns.ensures.columns) in
+    let small : size_of S₀ M₀ ≤ 8192 = omega (
+      arith,
+      size-bound p S₀ M₀ c.requires.order.pair,
+      c.columns-columns.ensures.narrow,
+      c.columns-columns.ensures.columns,
+    ) in
     omega (
       arith,
       small,

@@ -3,6 +3,7 @@ use Rattle.residue_theory.specs.Sums.{size_on}
 use Rattle.exchange_graph.specs.Results.{step_of}
 use Rattle.mixed_augmentation.specs.Moves.{route}
 use Rattle.mixed_augmentation.specs.Sealed.{KeepsSealed}
+use Rattle.independent_matching.specs.Engines.{ArePivotsMade}
 use Rattle.independent_matching.specs.Marks.{AreMarksOfQ}
 use Rattle.independent_matching.specs.Sides.{AreRowsMoving, IsMoving, in_q, layers_of, number, tableau_of}
 use Rattle.independent_matching.proofs.mover.Mover.augment.Given as goal
@@ -20,6 +21,8 @@ invariant-loop-next g l =
       marks : AreMarksOfQ g.F.Field.modulus (g.T.Tableau.state l.self.pair.tableau) l.resting l.self.marks;
       count : l.steps + size_on R.in_q l.left ≡ l.fn.steps + size_on R.in_q (l.last + 1);
       pivots : l.steps + l.fn.self.pivots ≡ l.fn.steps + l.self.pivots;
+      made : ArePivotsMade (g.T.Tableau.pivots l.fn.self.pair.tableau) (g.T.Tableau.pivots l.self.pair.tableau) l.fn.self.pivots
+          l.self.pivots;
     }
 
 abbrev pub decreases-loop-next : goal.decreases-loop-next

@@ -8,7 +8,8 @@ use Rattle.independent_matching.proofs.mover.Mover.give.Goals as goal
 
 pub take-requires-clause-can : goal.take-requires-clause-can
 take-requires-clause-can g c = one-take g.F.Field.modulus
-    (g.T.Tableau.state c.args.self.now.pair.tableau) c.args.self.now.pair.mates c.requires.order.pair c.args.x c.requires.x c.args.row c.requires.free c.requires.row
+    (g.T.Tableau.state c.args.self.now.pair.tableau) c.args.self.now.pair.mates c.requires.order.pair
+    c.args.x c.requires.x c.args.row c.requires.free c.requires.row
 
 pub take-requires-clause-few : goal.take-requires-clause-few
 take-requires-clause-few g c =
@@ -52,7 +53,8 @@ returns-clause-gained g c =
     record {
       layers = E.layers;
       size = one-size p S M c.requires.order.pair c.args.x c.requires.x c.args.row c.requires.free c.requires.row S' M' E.layers E.pattern E.takes;
-      rows = one-rows p S M c.requires.order.pair c.args.x c.requires.x c.args.row c.requires.free c.requires.row S' M' E.layers E.pattern E.takes c.requires.order.width;
+      rows = one-rows p S M c.requires.order.pair c.args.x c.requires.x c.args.row c.requires.free c.requires.row S' M'
+          E.layers E.pattern E.takes c.requires.order.width;
       taken = one-taken p S M c.requires.order.pair c.args.x c.requires.x c.args.row c.requires.free c.requires.row S' M' E.layers E.pattern E.takes;
       sealed = one-keeps p S M c.requires.order.pair c.args.x c.requires.x c.args.row c.requires.free c.requires.row S' M' E.layers E.pattern E.takes;
     }

@@ -15,5 +15,7 @@ index_mut-requires-2 c =
 
 pub invariant_of-self : goal.invariant_of-self
 invariant_of-self c =
-    unlinked-consistent (record { columns = c.self.inside.columns.items; rows = c.self.inside.rows.items }) c.args.row c.args.column c.self.invariant
+    unlinked-consistent
+    (record { columns = c.self.inside.columns.items; rows = c.self.inside.rows.items; takes = c.self.inside.takes })
+    c.args.row c.args.column c.self.invariant
     (subst (λ (b : BaseLists). slice_index_or b.columns c.args.row None ≡ Some c.args.column) (sym c.self.view_is) c.requires)

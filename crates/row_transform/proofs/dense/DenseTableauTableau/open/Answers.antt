@@ -10,8 +10,8 @@ invariant_of-result g c = (
       c.in_ok-open.ensures.p c.in_ok-of.ensures,
 )
 
-pub returns : goal.returns
-returns g c =
+pub returns-clause-opened : goal.returns-clause-opened
+returns-clause-opened g c =
     opened-state g.F.Field.modulus (record { table = c.in_ok-open.field-0; base = c.in_ok-empty.field-0 })
     c.args.q.now c.rows.result c.cols.result c.rows.ensures.rows c.cols.ensures.cols c.in_ok-open.ensures.q
     c.in_ok-empty.ensures c.in_ok-open.ensures.p c.in_ok-open.ensures.s c.in_ok-open.ensures.u

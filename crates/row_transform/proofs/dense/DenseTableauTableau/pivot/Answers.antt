@@ -27,8 +27,8 @@ invariant_of-self g c =
           c.pivot-2.ensures.rest below within c.pivot.ensures.size),
     )
 
-pub returns : goal.returns
-returns g c =
+pub returns-clause-pivoted : goal.returns-clause-pivoted
+returns-clause-pivoted g c =
     rw (← c.self.view_is) (pivoted-state g.F.Field.modulus
     (record { table = c.self.inside.table; base = c.self.inside.base }) c.pivot-2.new.self c.take.new.self
     c.args.row c.args.col c.self.invariant.0 c.pivot-2.ensures.q c.pivot-2.ensures.pivoted c.take.ensures.taken)

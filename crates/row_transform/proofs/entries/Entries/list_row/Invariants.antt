@@ -1,4 +1,4 @@
-use Rattle.std.proofs.Common.{◌≡◌, ◌≢◌, ℕ, ◌%◌, ◌<◌, ◌≤◌, ◌-◌, true}
+use Rattle.std.proofs.Common.{◌≡◌, ◌≢◌, ℕ, ◌%◌, ◌<◌, ◌-◌, true}
 use Rattle.dense_q.specs.Tables.{height, entry}
 use Rattle.bit_table.specs.Bits.{bit_in}
 use Rattle.row_transform.specs.Entries.{HasSizeOf}

@@ -36,8 +36,8 @@ invariant_of-result-2 g c =
       c.in_ok-u_entries.ensures,
     )
 
-pub returns : goal.returns
-returns g c =
+pub returns-clause-opened : goal.returns-clause-opened
+returns-clause-opened g c =
     let m = g.F.Field.modulus in
     let of = c.args.q.now in
     let q = c.args.q.now in

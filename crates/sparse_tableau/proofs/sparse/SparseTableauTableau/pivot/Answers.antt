@@ -48,8 +48,8 @@ invariant_of-self g c =
           c.list_row.ensures.listed c.list_row.ensures.kept,
     )
 
-pub returns : goal.returns
-returns g c =
+pub returns-clause-pivoted : goal.returns-clause-pivoted
+returns-clause-pivoted g c =
     let modulus = g.F.Field.modulus in
     let inside = c.self.inside in
     let rl : c.args.row < row_count inside.transform.p = subst (λ (t : Sparse). c.args.row < row_count t.p)
