@@ -1,6 +1,8 @@
+pub mod EachText
 pub mod ModelLaws
 pub mod Reaching
 pub mod Rooms
+pub mod SheetNames
 pub mod Sound
 pub mod Starting
 pub mod UnitKept

@@ -1,6 +1,6 @@
 //! What a flowsheet gives is one model or one refusal.
 
-ghost use Rattle.std.specs.Prelude.{◌≡◌, ℕ, List};
+ghost use Rattle.std.specs.Prelude.{◌≡◌, ◌<◌, ◌⊎◌, ℕ, List};
 ghost use Rattle.mixed_model.specs.Models.{MixedModel};
 ghost use Rattle.flowsheet_reader.specs.Models.{GivesModel, IsRefusal};
 
@@ -17,4 +17,11 @@ pub fn a_flowsheet_has_one_refusal()
         → GivesModel p text model → ¬ IsRefusal p text (ReadModel.Refused a) }
     ensures one { (p : ℕ) (text : List ℕ) (a b : Refused)
         → IsRefusal p text (ReadModel.Refused a) → IsRefusal p text (ReadModel.Refused b) → a ≡ b }
+{}
+
+/// Modulo a number above 2, each text gives a model or is refused.
+pub fn each_flowsheet_gives_a_model_or_is_refused()
+    ensures { (p : ℕ) → 2 < p → (text : List ℕ)
+        → ((model : MixedModel) × GivesModel p text model)
+        ⊎ ((refused : Refused) × IsRefusal p text (ReadModel.Refused refused)) }
 {}

@@ -1,6 +1,7 @@
 pub mod Blanks
 pub mod Comments
 pub mod Cuts
+pub mod Deciding
 pub mod Faults
 pub mod Kept
 pub mod Remarks

@@ -7,5 +7,7 @@ mod reader;
 mod remark;
 
 pub use format::LineFormat;
-pub use laws::a_text_has_one_first_broken_rule;
+pub use laws::{
+    a_text_has_one_first_broken_rule, each_text_keeps_all_rules_or_has_a_first_broken_one,
+};
 pub use reader::LineReader;

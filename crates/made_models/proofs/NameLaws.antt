@@ -46,7 +46,7 @@ pub numbered_names-more : (letter n : ℕ) → numbered_names letter n ++ (lette
 numbered_names-more letter n = sym (ap (numbered_names letter) (add-one n))
 
 -- a later number is told from those before it
-numbered_names-new : (letter n k : ℕ) → n ≤ k → k + 1 < 2 ^ 64 → has_name (numbered_names letter n) (letter ∷ decimal (k + 1)) ≡ false
+pub numbered_names-new : (letter n k : ℕ) → n ≤ k → k + 1 < 2 ^ 64 → has_name (numbered_names letter n) (letter ∷ decimal (k + 1)) ≡ false
 numbered_names-new letter zero k later small = refl
 numbered_names-new letter (suc n) k later small =
     list_any-append (bytes_eq name) (numbered_names letter n) (last ∷ [])

@@ -1,5 +1,7 @@
+pub mod EachText
 pub mod FirstBroken
 pub mod ItemSteps
+pub mod KeptLines
 pub mod LineForms
 pub mod LineSteps
 pub mod MarkLaws

@@ -1,8 +1,10 @@
 pub mod Apart
 pub mod CircuitSteps
 pub mod DeviceSteps
+pub mod EachText
 pub mod EndSteps
 pub mod Forms
+pub mod KeptLines
 pub mod KeptWords
 pub mod LineSteps
 pub mod ModelLaws

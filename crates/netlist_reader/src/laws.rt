@@ -1,6 +1,7 @@
 //! What a netlist gives is one model or one refusal.
 
-ghost use Rattle.std.specs.Prelude.{◌≡◌, ℕ, List};
+ghost use Rattle.std.specs.Prelude.{◌≡◌, ◌⊎◌, ℕ, List};
+ghost use Rattle.residue_theory.specs.Residues.{IsPrime};
 ghost use Rattle.mixed_model.specs.Models.{MixedModel};
 ghost use Rattle.netlist_reader.specs.Models.{GivesModel, IsRefusal};
 
@@ -17,4 +18,11 @@ pub fn a_netlist_has_one_refusal()
         → GivesModel p text model → ¬ IsRefusal p text (ReadModel.Refused a) }
     ensures one { (p : ℕ) (text : List ℕ) (a b : Refused)
         → IsRefusal p text (ReadModel.Refused a) → IsRefusal p text (ReadModel.Refused b) → a ≡ b }
+{}
+
+/// Modulo a prime, each text gives a model or is refused.
+pub fn each_netlist_gives_a_model_or_is_refused()
+    ensures { (p : ℕ) → IsPrime p → (text : List ℕ)
+        → ((model : MixedModel) × GivesModel p text model)
+        ⊎ ((refused : Refused) × IsRefusal p text (ReadModel.Refused refused)) }
 {}

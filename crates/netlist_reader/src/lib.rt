@@ -20,5 +20,7 @@ pub use examples::{
     rules_at_examples, terms_at_controlled_source, terms_at_examples,
 };
 pub use kind::DeviceKind;
-pub use laws::{a_netlist_gives_one_model, a_netlist_has_one_refusal};
+pub use laws::{
+    a_netlist_gives_one_model, a_netlist_has_one_refusal, each_netlist_gives_a_model_or_is_refused,
+};
 pub use netlist::{NetlistReader, read};

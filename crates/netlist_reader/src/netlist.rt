@@ -59,8 +59,8 @@ impl<F: Field> NetlistReader<F> {
 /// `F` or `H` begins the device's name; `.opamp`, `.transformer` or `.gyrator` stands before it; letters may be of
 /// either case. Then come its nodes P and M, or A, B and the output, or both ends of two pairs; `E` and `G` have two
 /// more, whose voltage controls them; `F` and `H` name a `V` device, whose current does; a transformer has a ratio and a
-/// gyrator a resistance, as numbers. What follows in a line of the nine letters, as a value, is not read: such a value
-/// is a symbol. The node `0` is the ground.
+/// gyrator a resistance, as numbers. What follows in a line of the nine letters, as a value, is not read: the value of
+/// any but `V` and `I`, which give what is given, is a symbol. The node `0` is the ground.
 ///
 /// The unknowns of the model are the voltage `u.NODE` of each node but the ground, in the order in which they first
 /// stand, and then each device's own by its line, as `v.NAME` and `i.NAME`; its equations are the sum of currents

@@ -74,7 +74,8 @@ pub fn are_met(
     requires heads { All (λ head. head < length parts.now) heads.now }
     requires last { last ≡ length heads.now + 2 }
     ensures { IfOk result (λ answer. IsSearched (inner (arc_in arcs.now) (slice_index parts.now)) (length parts.now)
-        (marked starts.now) (marked ends.now) (slice_index parts.now) (length heads.now) (slice_index heads.now) answer) }
+        (marked starts.now) (marked ends.now) (slice_index parts.now) (length heads.now) (slice_index heads.now)
+        answer) }
 {
     let low = seeds_of(alloc, starts, heads)?;
     let from = reached_within(alloc, arcs, parts, &low)?;

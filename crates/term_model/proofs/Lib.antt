@@ -4,6 +4,7 @@ pub mod Clearing
 pub mod DottedNames
 pub mod Growing
 pub mod Labels
+pub mod Making
 pub mod Lists
 pub mod NamesAmong
 pub mod Negatives

@@ -60,7 +60,8 @@ loop-entry-preserved g c =
       can_next = tt;
       is_finite = tt;
       split = split ∙ sym (append_assoc seen (entry ∷ []) rest);
-      filled = fills-same c.args.q.now c.loop-entry.q (height c.args.q.now - 1) (λ j. unwrap_or (constant_in seen j) 0) (λ j. unwrap_or (constant_in (seen ++ entry ∷ []) j) 0)
+      filled = fills-same c.args.q.now c.loop-entry.q (height c.args.q.now - 1)
+          (λ j. unwrap_or (constant_in seen j) 0) (λ j. unwrap_or (constant_in (seen ++ entry ∷ []) j) 0)
           c.loop-entry.invariant.filled
           (λ b low. constant-none g.F.Field.modulus (row_of c.args.model.now c.args.equation) seen entry rest row_is.0 split
           (sym (ap (λ (x : RowEntry). x.constant) c.entry.view_is) ∙ ap (option_map g.F.Field.number) c.in_default.is) b);
