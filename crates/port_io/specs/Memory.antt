@@ -22,6 +22,7 @@ pub record MemorySink : Type 0 where
   pub calls : ℕ
   pub fails : List ℕ
   pub faults : ℕ
+  pub failed : Bool
 
 -- a read fails exactly where its number is listed, and takes what the buffer, `most` and the end allow
 abbrev pub ReadsMemory : {E : Type 0} → MemorySource → ℕ → Result ℕ E → MemorySource → Type 0
@@ -50,7 +51,11 @@ IsFull sink = sink.room ≤ length sink.written
 abbrev pub WritesMemory : {E : Type 0} → MemorySink → List ℕ → Result ℕ E → MemorySink → Type 0
 WritesMemory before piece (Err e) after =
     (Contains before.fails (one_more before.calls) ⊎ ((0 < length piece) × IsFull before))
-    × (after ≡ record before { calls = one_more before.calls; faults = one_more before.faults })
+    × (after ≡ record before {
+      calls = one_more before.calls;
+      faults = one_more before.faults;
+      failed = true;
+    })
 WritesMemory before piece (Ok n) after =
     ¬ Contains before.fails (one_more before.calls)
     × (n ≡ min (length piece) (min before.most (before.room - length before.written)))
@@ -58,6 +63,7 @@ WritesMemory before piece (Ok n) after =
       written = before.written ++ take n piece;
       flushed = cond (n == 0) before.flushed false;
       calls = one_more before.calls;
+      failed = false;
     })
 
 -- a flush fails exactly where its number is listed
@@ -68,10 +74,16 @@ FlushesMemory before (Err e) after =
       flushes = one_more before.flushes;
       calls = one_more before.calls;
       faults = one_more before.faults;
+      failed = true;
     })
 FlushesMemory before (Ok v) after =
     ¬ Contains before.fails (one_more before.calls)
-    × (after ≡ record before { flushed = true; flushes = one_more before.flushes; calls = one_more before.calls })
+    × (after ≡ record before {
+      flushed = true;
+      flushes = one_more before.flushes;
+      calls = one_more before.calls;
+      failed = false;
+    })
 
 -- no call is to fail, and there is room for so many bytes more
 pub record TakesMore (sink : MemorySink) (more : ℕ) : Type 0 where

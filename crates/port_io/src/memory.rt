@@ -1,6 +1,6 @@
 //! A source and a sink in memory, which fail at the calls that they are told.
 
-ghost use Rattle.std.specs.Prelude.{◌≡◌, ℕ, ◌≤◌, [], length, false, Some, IfOk, OnOk, OnErr, Contains};
+ghost use Rattle.std.specs.Prelude.{◌≡◌, ℕ, ◌≤◌, [], length, false, true, not, is_ok, Some, IfOk, OnOk, OnErr, Contains};
 ghost use Rattle.port_io.specs.Causes.{one_more};
 ghost use Rattle.port_io.specs.Asking.{nothing_asked};
 ghost use Rattle.port_io.specs.Memory.{ReadsMemory, WritesMemory, FlushesMemory, TakesMore};
@@ -10,12 +10,13 @@ use crate::ports::{Failed, Sink, Source};
 use std::alloc::{AllocError, Global};
 use std::marker::Model;
 
-/// The calls so far, the numbers of those that fail, and how many failed.
+/// The calls so far, the numbers of those that fail, how many failed, and whether the last one did.
 #[derive(Drop)]
 struct Calls {
     made: u64,
     failing: Vec<u64>,
     faults: u64,
+    failed: bool,
 }
 
 impl Calls {
@@ -23,11 +24,13 @@ impl Calls {
         ensures made { IfOk result (λ calls. calls.made ≡ 0) }
         ensures failing { IfOk result (λ calls. calls.failing.items ≡ failing.now) }
         ensures faults { IfOk result (λ calls. calls.faults ≡ 0) }
+        ensures failed { IfOk result (λ calls. calls.failed ≡ false) }
     {
         Ok(Calls {
             made: 0,
             failing: failing.to_vec(alloc)?,
             faults: 0,
+            failed: false,
         })
     }
 
@@ -37,10 +40,12 @@ impl Calls {
         ensures failing { self.new.failing.items ≡ self.old.failing.items }
         ensures fine { OnOk result ((¬ Contains self.old.failing.items self.new.made)
             × (self.new.faults ≡ self.old.faults)) }
-        ensures failed { OnErr result (Contains self.old.failing.items self.new.made
+        ensures unfine { OnErr result (Contains self.old.failing.items self.new.made
             × (self.new.faults ≡ one_more self.old.faults)) }
+        ensures failed { self.new.failed ≡ not (is_ok result) }
     {
         self.made = self.made.saturating_add(1);
+        self.failed = false;
         if self.failing.contains(&self.made) {
             return Err(self.fail());
         }
@@ -52,8 +57,10 @@ impl Calls {
         ensures made { self.new.made ≡ self.old.made }
         ensures failing { self.new.failing.items ≡ self.old.failing.items }
         ensures faults { self.new.faults ≡ one_more self.old.faults }
+        ensures failed { self.new.failed ≡ true }
     {
         self.faults = self.faults.saturating_add(1);
+        self.failed = true;
         Failed
     }
 }
@@ -169,6 +176,7 @@ impl Model for MemSink {
           s.calls.made;
       fails = s.calls.failing.items;
       faults = s.calls.faults;
+      failed = s.calls.failed;
     } };
 
     ghost invariant = { λ s. (length s.bytes.items ≤ s.room) × (s.room ≤ vec_capacity s.bytes) × (1 ≤ s.most) };
@@ -193,6 +201,7 @@ impl MemSink {
           calls = 0;
           fails = fails.now;
           faults = 0;
+          failed = false;
         }) }
         ensures zero { IfOk result (λ sink. ⟦<MemSink as Sink>⟧.faults sink ≡ 0) }
         ensures written { IfOk result (λ sink. ⟦<MemSink as Sink>⟧.written sink ≡ Some []) }
@@ -226,6 +235,8 @@ impl Sink for MemSink {
     ghost flushes = { λ sink. sink.flushes };
 
     ghost faults = { λ sink. sink.faults };
+
+    ghost failed = { λ sink. sink.failed };
 
     ghost takes = { λ sink more. TakesMore sink more };
 

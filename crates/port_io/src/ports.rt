@@ -1,6 +1,6 @@
 //! The two traits.
 
-ghost use Rattle.std.specs.Prelude.{◌≡◌, ℕ, ◌+◌, ◌≤◌, ◌<◌, List, Bool, false, length, take, Option, Result, IfOk, IsOk, OnOk, OnErr, IsTrue};
+ghost use Rattle.std.specs.Prelude.{◌≡◌, ℕ, ◌+◌, ◌≤◌, ◌<◌, List, Bool, false, length, not, take, Option, Result, IfOk, IsOk, OnOk, OnErr, IsTrue, is_ok};
 ghost use Rattle.std.specs.Io.KnownBytes.{Keeps};
 ghost use Rattle.port_io.specs.Causes.{HasCause, one_more};
 ghost use Rattle.port_io.specs.Asking.{asked_for, given};
@@ -23,7 +23,7 @@ pub trait Source {
     /// How often it has failed: a count of 64 bits that stays at its last value.
     ghost faults: { Self → ℕ };
 
-    /// How much it was asked for so far.
+    /// What it was asked for so far, and how it answered.
     ghost asked: { Self → Asked };
 
     /// Its calls are known never to fail.
@@ -61,6 +61,9 @@ pub trait Sink {
     /// How often it has failed: a count of 64 bits that stays at its last value.
     ghost faults: { Self → ℕ };
 
+    /// Its last call failed.
+    ghost failed: { Self → Bool };
+
     /// It is known to take this many more bytes without a fault.
     ghost takes: { Self → ℕ → Type 0 };
 
@@ -80,6 +83,7 @@ pub trait Sink {
         ensures none { OnErr result (Keeps (written self.old) (written self.new)) }
         ensures no_flush { flushes self.new ≡ flushes self.old }
         ensures cause { HasCause (faults self.old) (faults self.new) result }
+        ensures failed { failed self.new ≡ not (is_ok result) }
         ensures steady { (more : ℕ) → takes self.old (length piece.now + more) → (faults self.new ≡ faults self.old)
             × IsOk result × IfOk result (λ n. (rest : ℕ) → n + rest ≡ length piece.now → takes self.new (rest + more)) }
         ensures gives { write_gives self.old piece.now result self.new };
@@ -90,6 +94,7 @@ pub trait Sink {
         ensures one_flush { flushes self.new ≡ one_more (flushes self.old) }
         ensures flushed { OnOk result (IsTrue (flushed self.new)) }
         ensures cause { HasCause (faults self.old) (faults self.new) result }
+        ensures failed { failed self.new ≡ not (is_ok result) }
         ensures steady { (more : ℕ) → takes self.old more → takes self.new more
             × (faults self.new ≡ faults self.old) × IsOk result }
         ensures gives { flush_gives self.old result self.new };

@@ -2,7 +2,7 @@
 
 ghost use Rattle.std.specs.Prelude.{◌≡◌, ◌≢◌, ◌+◌, ◌-◌, ◌≤◌, ◌<◌, ◌↔◌, [], false, true, length, min, take, IfOk, IfErr, IsOk, OnErr};
 ghost use Rattle.std.specs.Io.KnownBytes.{Keeps};
-ghost use Rattle.port_io.specs.Causes.{HasCause, Rose};
+ghost use Rattle.port_io.specs.Causes.{FailedLast, HasCause, one_more};
 ghost use Rattle.port_io.specs.Asking.{AsksWithin, asked_for, given};
 ghost use Rattle.port_io.specs.Bytes.{Took, Ended, TookExactly};
 ghost use Rattle.port_io.specs.Pumping.{Pumping, nothing_pumped};
@@ -78,11 +78,14 @@ impl Pump {
         ensures untaken { result ≡ Err ReadError.ReadFault → Keeps (S.left source.old) (S.left source.new) }
         ensures same_limit { self.new.limit ≡ self.old.limit }
         ensures memory { result ≢ Err ReadError.NoMemory }
-        ensures fault { result ≡ Err ReadError.ReadFault → Rose (S.faults source.old) (S.faults source.new) }
+        ensures fault { result ≡ Err ReadError.ReadFault →
+            FailedLast (S.faults source.old) (S.faults source.new) (S.asked source.new).failed }
         ensures no_fault { result ≢ Err ReadError.ReadFault → S.faults source.new ≡ S.faults source.old }
         ensures later { S.faults source.old ≤ S.faults source.new }
         ensures asked { AsksWithin 65536 (self.old.limit + 1 - self.old.taken) (S.asked source.old)
             (S.asked source.new) }
+        ensures met { result ≡ Ok 0 → (S.asked source.new).ends ≡ one_more (S.asked source.old).ends }
+        ensures unmet { result ≢ Ok 0 → (S.asked source.new).ends ≡ (S.asked source.old).ends }
         ensures told { IfOk result (λ count. (S.asked source.new).taken ≤ (S.asked source.old).taken + count) }
         ensures steady { S.never_fails source.old → S.never_fails source.new
             × (S.faults source.new ≡ S.faults source.old)

@@ -1,7 +1,7 @@
 //! A whole input.
 
-ghost use Rattle.std.specs.Prelude.{◌≡◌, ◌≢◌, ◌+◌, ◌≤◌, ◌<◌, length, IfOk};
-ghost use Rattle.port_io.specs.Causes.{Rose};
+ghost use Rattle.std.specs.Prelude.{◌≡◌, ◌≢◌, ◌+◌, ◌≤◌, ◌<◌, length, IfOk, OnErr, OnOk};
+ghost use Rattle.port_io.specs.Causes.{FailedLast, one_more};
 ghost use Rattle.port_io.specs.Asking.{AsksWithin};
 ghost use Rattle.port_io.specs.Bytes.{Took, Ended, TookExactly, TookAtMost};
 ghost use Rattle.port_io.specs.Pumping.{nothing_pumped};
@@ -26,8 +26,8 @@ pub enum ReadError {
 }
 
 /// All bytes to the end, where there are no more than `limit`. It asks for at most 65,536 bytes at
-/// once, and never for one beyond the next `limit + 1`. No read is tried again: the answer is a fault
-/// exactly where one failed. After an error the bytes that were taken stay taken: `limit + 1` at
+/// once, and never for one beyond the next `limit + 1`; it meets the end once, and a read that failed is
+/// its last: the answer is a fault exactly where one failed. After an error the bytes that were taken stay taken: `limit + 1` at
 /// `TooLong`, and else at most `limit`.
 pub fn read_all<S: Source>(alloc: Global, source: &mut S, limit: u64) -> Result<Vec<u8>, ReadError>
     requires { limit ≤ 2147483648 }
@@ -38,10 +38,13 @@ pub fn read_all<S: Source>(alloc: Global, source: &mut S, limit: u64) -> Result<
         TookExactly (limit + 1) (S.left source.old) (S.left source.new) }
     ensures fault_taken { result ≡ Err ReadError.ReadFault → TookAtMost limit (S.left source.old) (S.left source.new) }
     ensures memory_taken { result ≡ Err ReadError.NoMemory → TookAtMost limit (S.left source.old) (S.left source.new) }
-    ensures fault { result ≡ Err ReadError.ReadFault → Rose (S.faults source.old) (S.faults source.new) }
+    ensures fault { result ≡ Err ReadError.ReadFault →
+        FailedLast (S.faults source.old) (S.faults source.new) (S.asked source.new).failed }
     ensures no_fault { result ≢ Err ReadError.ReadFault → S.faults source.new ≡ S.faults source.old }
     ensures later { S.faults source.old ≤ S.faults source.new }
     ensures asked { AsksWithin 65536 (limit + 1) (S.asked source.old) (S.asked source.new) }
+    ensures met { OnOk result ((S.asked source.new).ends ≡ one_more (S.asked source.old).ends) }
+    ensures unmet { OnErr result ((S.asked source.new).ends ≡ (S.asked source.old).ends) }
     ensures steady { S.never_fails source.old → S.never_fails source.new × (S.faults source.new ≡ S.faults source.old)
         × (result ≢ Err ReadError.ReadFault) }
 {
@@ -66,10 +69,13 @@ fn pump_all<S: Source>(
         TookExactly (limit + 1) (S.left source.old) (S.left source.new) }
     ensures fault_taken { result ≡ Err ReadError.ReadFault → TookAtMost limit (S.left source.old) (S.left source.new) }
     ensures memory_taken { result ≡ Err ReadError.NoMemory → TookAtMost limit (S.left source.old) (S.left source.new) }
-    ensures fault { result ≡ Err ReadError.ReadFault → Rose (S.faults source.old) (S.faults source.new) }
+    ensures fault { result ≡ Err ReadError.ReadFault →
+        FailedLast (S.faults source.old) (S.faults source.new) (S.asked source.new).failed }
     ensures no_fault { result ≢ Err ReadError.ReadFault → S.faults source.new ≡ S.faults source.old }
     ensures later { S.faults source.old ≤ S.faults source.new }
     ensures asked { AsksWithin 65536 (limit + 1) (S.asked source.old) (S.asked source.new) }
+    ensures met { OnOk result ((S.asked source.new).ends ≡ one_more (S.asked source.old).ends) }
+    ensures unmet { OnErr result ((S.asked source.new).ends ≡ (S.asked source.old).ends) }
     ensures steady { S.never_fails source.old → S.never_fails source.new × (S.faults source.new ≡ S.faults source.old)
         × (result ≢ Err ReadError.ReadFault) }
 {

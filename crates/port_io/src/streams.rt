@@ -61,6 +61,7 @@ pub struct StdSink<W> {
     flushed: bool,
     flushes: u64,
     faults: u64,
+    failed: bool,
 }
 
 impl<W: Write + Drop> StdSink<W> {
@@ -70,12 +71,14 @@ impl<W: Write + Drop> StdSink<W> {
         ensures written { ⟦<StdSink<W> as Sink>⟧.written result ≡ W.contents stream }
         ensures unflushed { ⟦<StdSink<W> as Sink>⟧.flushed result ≡ false }
         ensures no_flush { ⟦<StdSink<W> as Sink>⟧.flushes result ≡ 0 }
+        ensures fine { ⟦<StdSink<W> as Sink>⟧.failed result ≡ false }
     {
         StdSink {
             stream,
             flushed: false,
             flushes: 0,
             faults: 0,
+            failed: false,
         }
     }
 }
@@ -89,6 +92,8 @@ impl<W: Write + Drop> Sink for StdSink<W> {
 
     ghost faults = { λ sink. sink.faults };
 
+    ghost failed = { λ sink. sink.failed };
+
     ghost takes = { λ _ _. ⊥ };
 
     ghost write_gives = { λ _ _ _ _. Unit {0} };
@@ -99,10 +104,12 @@ impl<W: Write + Drop> Sink for StdSink<W> {
         match self.stream.write(piece) {
             Ok(count) if count > 0 || piece.is_empty() => {
                 self.flushed = self.flushed && count == 0;
+                self.failed = false;
                 Ok(count)
             }
             _ => {
                 self.faults = self.faults.saturating_add(1);
+                self.failed = true;
                 Err(Failed)
             }
         }
@@ -112,9 +119,11 @@ impl<W: Write + Drop> Sink for StdSink<W> {
         self.flushes = self.flushes.saturating_add(1);
         if self.stream.flush().is_err() {
             self.faults = self.faults.saturating_add(1);
+            self.failed = true;
             return Err(Failed);
         }
         self.flushed = true;
+        self.failed = false;
         Ok(())
     }
 }

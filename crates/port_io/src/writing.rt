@@ -1,7 +1,7 @@
 //! A whole piece.
 
-ghost use Rattle.std.specs.Prelude.{◌≡◌, ℕ, ◌+◌, ◌≤◌, length, take, IsOk, OnOk, IfErr};
-ghost use Rattle.port_io.specs.Causes.{HasCause};
+ghost use Rattle.std.specs.Prelude.{◌≡◌, ℕ, ◌+◌, ◌≤◌, length, take, IsOk, OnOk, OnErr, IfErr};
+ghost use Rattle.port_io.specs.Causes.{FailedLast, HasCause};
 ghost use Rattle.port_io.specs.Bytes.{Appended};
 
 use crate::ports::Sink;
@@ -14,13 +14,15 @@ pub struct WriteFault {
     pub written: usize,
 }
 
-/// Appends the whole piece, or its first `written` bytes where the sink fails. It does not flush.
+/// Appends the whole piece, or its first `written` bytes where the sink fails: then no further call of it is made. It does
+/// not flush.
 pub fn write_all<K: Sink>(sink: &mut K, piece: &[u8]) -> Result<(), WriteFault>
     ensures all { OnOk result (Appended (K.written sink.old) (K.written sink.new) piece.now) }
     ensures within { IfErr result (λ fault. fault.written ≤ length piece.now) }
     ensures part { IfErr result (λ fault.
         Appended (K.written sink.old) (K.written sink.new) (take fault.written piece.now)) }
     ensures cause { HasCause (K.faults sink.old) (K.faults sink.new) result }
+    ensures last { OnErr result (FailedLast (K.faults sink.old) (K.faults sink.new) (K.failed sink.new)) }
     ensures no_flush { K.flushes sink.new ≡ K.flushes sink.old }
     ensures steady { (more : ℕ) → K.takes sink.old (length piece.now + more) → (K.faults sink.new ≡ K.faults sink.old)
         × IsOk result × K.takes sink.new more }

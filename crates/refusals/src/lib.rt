@@ -34,7 +34,7 @@ pub enum Why {
     BadName,
     /// What should be a number is none.
     BadNumber,
-    /// A number whose residue is zero, or has no meaning, though the number itself is neither.
+    /// A number whose denominator is 0 modulo the prime of the field, or whose numerator is though it is not 0 itself.
     Vanish,
     /// What may stand once stands twice.
     Twice,

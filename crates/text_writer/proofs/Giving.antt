@@ -2,7 +2,7 @@
 use Rattle.std.proofs.Common.{◌≡◌, ℕ, ◌+◌, ◌≤◌, Bool, true, false, List, [], ◌++◌, length, take, drop, append_assoc, append-nil, length-append, Result, Ok, Err, OnOk, IfErr, refl, ap, sym, subst, ◌∙◌, arith}
 use Rattle.std.proofs.lemmas.List.{length-take-le, take-append-drop}
 use Rattle.port_io.specs.Bytes.{Appended}
-use Rattle.port_io.specs.Causes.{HasCause, Rose, shown}
+use Rattle.port_io.specs.Causes.{FailedLast, HasCause, shown}
 use Rattle.port_io.specs.declared.ports.Sink.{Ghosts}
 use Rattle.port_io.specs.declared.writing.WriteFault.{WriteFault}
 use Rattle.port_io.proofs.Chains.{appended_nothing, appended_more, appended_is}
@@ -74,9 +74,10 @@ module _ {S : Type 0} {K : Ghosts S} where
   -- a sink took some bytes, and failed
   pub gives_some : (sink after : S) (progress next : Progress) (bytes : List ℕ) (count : ℕ) → progress.failed ≡ false → next.failed ≡ true →
       count ≤ length bytes → next.handed ≡ shown (progress.handed + count) → Appended (K.written sink) (K.written after) (take count bytes) →
-      HasCause {T = Unit {0}} {E = WriteFault} (K.faults sink) (K.faults after) (Err (record { written = count })) → K.flushes after ≡ K.flushes sink →
+      HasCause {T = Unit {0}} {E = WriteFault} (K.faults sink) (K.faults after) (Err (record { written = count })) →
+      FailedLast (K.faults sink) (K.faults after) (K.failed after) → K.flushes after ≡ K.flushes sink →
       ((more : ℕ) → K.takes sink (length bytes + more) → ⊥) → Gives K sink progress after next bytes
-  gives_some sink after progress next bytes count off on within counted appended cause flushes takes = λ first text given. record {
+  gives_some sink after progress next bytes count off on within counted appended cause last flushes takes = λ first text given. record {
     has = record {
       part = given.has.part ++ take count bytes;
       rest = drop count bytes;
@@ -89,7 +90,7 @@ module _ {S : Type 0} {K : Ghosts S} where
     counted = omega (arith, counted, given.counted, length-append given.has.part (take count bytes), length-take-le count bytes within);
     fine = λ no. absurd (not_both on no);
     later = omega (arith, cause.later, given.later);
-    failed = λ _. subst (λ f. Rose f (K.faults after)) (given.fine off).1 cause.failed;
+    failed = λ _. subst (λ f. FailedLast f (K.faults after) (K.failed after)) (given.fine off).1 last;
     no_flush = flushes ∙ given.no_flush;
     calm = λ more h. absurd (takes more (given.calm (length bytes + more) (takes_on K.takes first text bytes more h)).1);
   }
@@ -102,13 +103,15 @@ module _ {S : Type 0} {K : Ghosts S} where
     whole = appended_is (K.written first) (K.written sink) given.has.part text (sym (has_all first sink progress text off given)) given.has.appended;
     part = tt;
     cause = record { later = given.later; fine = (given.fine off).1; failed = tt };
+    failed = tt;
     no_flush = given.no_flush;
     calm = λ more takes. ((given.fine off).1, refl, (given.calm more takes).1);
   }
   given_written first sink progress text (Err fault) given off on = record {
     whole = tt;
     part = record { has = given.has; counted = on.1 ∙ given.counted };
-    cause = record { later = given.later; fine = tt; failed = given.failed on.0 };
+    cause = record { later = given.later; fine = tt; failed = (given.failed on.0).once };
+    failed = given.failed on.0;
     no_flush = given.no_flush;
     calm = λ more takes. absurd (not_both on.0 (given.calm more takes).0);
   }

@@ -1,7 +1,7 @@
 -- What a sink has of a text.
-use Rattle.std.specs.Prelude.{◌≡◌, ℕ, ◌+◌, ◌≤◌, List, [], ◌++◌, length, true, false, Option, Result, IsOk, OnOk, IfErr}
+use Rattle.std.specs.Prelude.{◌≡◌, ℕ, ◌+◌, ◌≤◌, List, [], ◌++◌, length, true, false, Option, Result, IsOk, OnOk, OnErr, IfErr}
 use Rattle.port_io.specs.Bytes.{Appended}
-use Rattle.port_io.specs.Causes.{HasCause, Rose, shown}
+use Rattle.port_io.specs.Causes.{FailedLast, HasCause, shown}
 use Rattle.port_io.specs.declared.ports.Sink.{Ghosts}
 use Rattle.port_io.specs.declared.writing.WriteFault.{WriteFault}
 use Rattle.text_writer.specs.declared.progress.Progress.{Progress}
@@ -18,13 +18,14 @@ pub record IsCut (written written' : Option (List ℕ)) (text : List ℕ) (fault
   pub has : AppendedPart written written' text
   pub counted : fault.written ≡ shown (length has.part)
 
--- the whole text was appended and no call failed, or a part of it and the count of faults rose; nothing was flushed,
--- and a sink that takes it all meets no fault
+-- the whole text was appended and no call failed, or a part of it and the last call failed; nothing was flushed, and a
+-- sink that takes it all meets no fault
 pub record IsWritten {S : Type 0} (K : Ghosts S) (first last : S) (text : List ℕ)
     (result : Result (Unit {0}) WriteFault) : Type 0 where
   pub whole : OnOk result (Appended (K.written first) (K.written last) text)
   pub part : IfErr result (IsCut (K.written first) (K.written last) text)
   pub cause : HasCause (K.faults first) (K.faults last) result
+  pub failed : OnErr result (FailedLast (K.faults first) (K.faults last) (K.failed last))
   pub no_flush : K.flushes last ≡ K.flushes first
   pub calm : (more : ℕ) → K.takes first (length text + more) →
       (K.faults last ≡ K.faults first) × IsOk result × K.takes last more
@@ -39,7 +40,7 @@ pub record HasGiven {S : Type 0} (K : Ghosts S) (first sink : S) (progress : Pro
   pub counted : progress.handed ≡ shown (length has.part)
   pub fine : progress.failed ≡ false → (has.rest ≡ []) × (K.faults sink ≡ K.faults first)
   pub later : K.faults first ≤ K.faults sink
-  pub failed : progress.failed ≡ true → Rose (K.faults first) (K.faults sink)
+  pub failed : progress.failed ≡ true → FailedLast (K.faults first) (K.faults sink) (K.failed sink)
   pub no_flush : K.flushes sink ≡ K.flushes first
   pub calm : (more : ℕ) → K.takes first (length text + more) → (progress.failed ≡ false) × K.takes sink more
 

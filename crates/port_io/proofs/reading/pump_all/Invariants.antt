@@ -13,6 +13,7 @@ invariant-loop-bytes g l = record {
   no_fault : g.S.Source.faults l.source ≡ g.S.Source.faults l.initial.source;
   steady : g.S.Source.never_fails l.initial.source → g.S.Source.never_fails l.source;
   asked : AsksWithin 65536 (l.limit + 1) (g.S.Source.asked l.initial.source) (g.S.Source.asked l.source);
+  unmet : (g.S.Source.asked l.source).ends ≡ (g.S.Source.asked l.initial.source).ends;
   told : (g.S.Source.asked l.source).taken ≤ (g.S.Source.asked l.initial.source).taken + length l.bytes.items;
 }
 

@@ -13,5 +13,5 @@ returns-in-Ok g c =
 pub returns-in-Err : goal.returns-in-Err
 returns-in-Err g c =
     gives_some c.args.out.now _ c.args.self.now _ c.args.bytes.now c.in-Err.fault.written c.if-self.false refl c.in-Err.ensures.within
-    (omega (arith, c.saturating_add-self-in-Err.ensures)) c.in-Err.ensures.part c.in-Err.ensures.cause c.in-Err.ensures.no_flush
+    (omega (arith, c.saturating_add-self-in-Err.ensures)) c.in-Err.ensures.part c.in-Err.ensures.cause c.in-Err.ensures.last c.in-Err.ensures.no_flush
     (λ more takes. absurd (not_both (c.in-Err.ensures.steady more takes).1 refl))
