@@ -37,7 +37,7 @@ name-short names are k = ⊎_elim
     (λ out. let nothing : name_at names k ≡ [] = get_or-eq_default names [] out in omega (arith, ap length nothing))
     (cases_lt k (length names))
 
-head-short : (letter number : ℕ) → number < 100000 → length (line_head letter number) ≤ 7
+head-short : (letter number : ℕ) → number < 10000 → length (line_head letter number) ≤ 7
 head-short letter number few = omega (arith, length-append (marked letter number) (codes " "), marked-short letter number few)
 
 -- the lines of columns
@@ -74,7 +74,7 @@ columns-short p model is number (origin ∷ origins) few =
 
 -- the lines of rows, each of at most w bytes
 rows-short : (line : ℕ → List ℕ → List ℕ → List ℕ) (names : List (List ℕ)) (origins : List ℕ) (w : ℕ) (P : List ℕ → Type 0) →
-    ((number : ℕ) (name row : List ℕ) → number < 100000 → length name ≤ 96 → P row → length (line number name row) ≤ w) → IsNameList names →
+    ((number : ℕ) (name row : List ℕ) → number < 10000 → length name ≤ 96 → P row → length (line number name row) ≤ w) → IsNameList names →
     (k : ℕ) (rows : List (List ℕ)) → k + length rows ≤ 8192 → All P rows → length (row_lines line names origins k rows) ≤ length rows * w
 rows-short line names origins w P each are k [] few all = omega arith
 rows-short line names origins w P each are k (row ∷ rows) few all =
@@ -90,12 +90,12 @@ rows-short line names origins w P each are k (row ∷ rows) few all =
     ))
 
 -- the entries of a row of numbers of so many digits
-entry-short : (digits column number : ℕ) → column < 100000 → number < 10 ^ digits → length (entry_text column number) ≤ 7 + digits
+entry-short : (digits column number : ℕ) → column < 10000 → number < 10 ^ digits → length (entry_text column number) ≤ 7 + digits
 entry-short digits column number few small = go (number == 0) refl
   where
     go : (b : Bool) → number == 0 ≡ b → length (if b then [] else item column number) ≤ 7 + digits
     go true is = omega arith
-    go false is = item-short digits column number few (let other : number ≢ 0 = eqb-false number 0 is in omega (arith, other)) small
+    go false is = omega (arith, item-short digits column number few (let other : number ≢ 0 = eqb-false number 0 is in omega (arith, other)) small)
 
 entries-short : (digits column : ℕ) (row : List ℕ) → column + length row ≤ 8193 → All (λ number. number < 10 ^ digits) row →
     length (row_entries_text column row) ≤ length row * (7 + digits)
@@ -165,7 +165,7 @@ module _ (p digits : ℕ) (some : 0 < digits) (short : p ≤ 10 ^ digits) (model
       λ j e jl. subst (λ number. number < 10 ^ digits) (get_or_default (row_at layers.q i) j 0 e jl) (entry-small i j il (omega (arith, jl, long))) in
       subst IsSmallRow (sym same) (small, omega (arith, long, low))
 
-  q-line-short : (number : ℕ) (name row : List ℕ) → number < 100000 → length name ≤ 96 →
+  q-line-short : (number : ℕ) (name row : List ℕ) → number < 10000 → length name ≤ 96 →
       IsSmallRow row → length (q_line number name row) ≤ 104 + (7 + digits) * k
   q-line-short number name row small brief row_is =
       let head : List ℕ = line_head 113 number in
@@ -181,7 +181,7 @@ module _ (p digits : ℕ) (some : 0 < digits) (short : p ≤ 10 ^ digits) (model
         length-append (head ++ name ++ row_entries_text 1 row) (codes "\n"),
       )
 
-  t-line-short : (number : ℕ) (name row : List ℕ) → number < 100000 → length name ≤ 96 →
+  t-line-short : (number : ℕ) (name row : List ℕ) → number < 10000 → length name ≤ 96 →
       All (λ column. column < 8192) row × (length row ≤ k) → length (t_line number name row) ≤ 104 + 6 * k
   t-line-short number name row small brief row_is =
       let head : List ℕ = line_head 116 number in

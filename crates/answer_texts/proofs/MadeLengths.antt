@@ -18,11 +18,11 @@ use Rattle.answer_texts.specs.MadeTexts.{made_text, system_line, tail_sizes}
 use Rattle.answer_texts.specs.ReportTexts.{count_line}
 use Rattle.answer_texts.specs.Rooms.{made_room}
 
-line-short : (word : List ℕ) (number k : ℕ) → length word ≤ k → number < 100000 → length (count_line word number) ≤ k + 7
+line-short : (word : List ℕ) (number k : ℕ) → length word ≤ k → number < 10000 → length (count_line word number) ≤ k + 7
 line-short word number k short few =
     omega (arith, short, marked-short 32 number few, length-append word (spaced number), length-append (word ++ spaced number) (codes "\n"))
 
-system-short : (n split : ℕ) → n < 100000 → split < 100000 → length (system_line n split) ≤ 43
+system-short : (n split : ℕ) → n < 10000 → split < 10000 → length (system_line n split) ≤ 43
 system-short n split few less =
     let one : List ℕ = codes "equations" ++ spaced n in
     let two : List ℕ = one ++ codes " unknowns" in

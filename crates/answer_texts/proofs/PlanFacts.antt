@@ -7,8 +7,9 @@ use Rattle.std.proofs.lemmas.List.Elements.{All-append, All-cons, All-from_get_o
 use Rattle.dense_q.specs.Tables.{height}
 use Rattle.form_arcs.proofs.FormLaws.{some-has}
 use Rattle.limits.specs.Limits.{column_limit}
-use Rattle.text_lengths.proofs.Lengths.{rising-few}
-use Rattle.text_lengths.proofs.TextLengths.{blocks-few}
+use Rattle.text_lengths.proofs.Lengths.{rising-few, total}
+use Rattle.text_lengths.proofs.TextLengths.{blocks-few, total-append, columns-total, q_rows-total, t_rows-total}
+use Rattle.answer_texts.proofs.PlanLengths.{summed, sum_count, symbol_count, columns_of, sums_of, symbols_of}
 use Rattle.mixed_model.specs.Layers.{Layers, layered_matrix_of}
 use Rattle.mixed_model.specs.Models.{MixedModel, IsModel, mixed_matrix_of}
 use Rattle.mixed_layering.specs.Layers.{AreLayersOf, origins_of}
@@ -69,6 +70,49 @@ solved-few c = omega (
   length-append (tail_steps Last c.last ++ block_steps 0 c.blocks) (tail_steps First c.first),
 )
 
+-- how many numbers the parts that are solved list in all
+module _ (list_of : CcfPart → List ℕ) where
+  abbrev list_size : StepPart × CcfPart → ℕ
+  list_size of = length (list_of of.1)
+
+  summed-append : (parts more : List (StepPart × CcfPart)) → summed list_size (parts ++ more) ≡ summed list_size parts + summed list_size more
+  summed-append [] more = omega arith
+  summed-append (part ∷ parts) more = omega (arith, summed-append parts more)
+
+  tail-total : (name : StepPart) (part : CcfPart) → summed list_size (tail_steps name part) ≤ length (list_of part)
+  tail-total name part = go (is_bare part)
+    where
+      go : (b : Bool) → summed list_size (cond b [] ((name, part) ∷ [])) ≤ length (list_of part)
+      go true = omega arith
+      go false = omega arith
+
+  blocks-total : (blocks : List CcfBlock) (k : ℕ) → summed list_size (block_steps k blocks) ≡ total (map (λ (block : CcfBlock). list_of block.part) blocks)
+  blocks-total [] k = refl
+  blocks-total (block ∷ blocks) k =
+      omega (arith, blocks-total blocks (k + 1), summed-append (block_steps (k + 1) blocks) ((Block k, block.part) ∷ []))
+
+  solved-total : (c : Contents) → summed list_size (solved_parts c)
+      ≤ total (list_of c.first ∷ (map (λ (block : CcfBlock). list_of block.part) c.blocks ++ list_of c.last ∷ []))
+  solved-total c = omega (
+    arith,
+    tail-total Last c.last,
+    blocks-total c.blocks 0,
+    tail-total First c.first,
+    summed-append (tail_steps Last c.last) (block_steps 0 c.blocks),
+    summed-append (tail_steps Last c.last ++ block_steps 0 c.blocks) (tail_steps First c.first),
+    total-append (map (λ (block : CcfBlock). list_of block.part) c.blocks) (list_of c.last ∷ []),
+  )
+
+-- sums over two lists whose items have the same numbers
+summed-same : {X Y : Type 0} (f : X → ℕ) (g : Y → ℕ) (xs : List X) (ys : List Y) → length xs ≡ length ys →
+    ((k : ℕ) (y : Y) (x : X) → k < length ys → f (get_or xs k x) ≡ g (get_or ys k y)) → summed f xs ≡ summed g ys
+summed-same f g [] [] long same = refl
+summed-same f g [] (y ∷ ys) long same = absurd (omega (arith, long))
+summed-same f g (x ∷ xs) [] long same = absurd (omega (arith, long))
+summed-same f g (x ∷ xs) (y ∷ ys) long same =
+    let here : f x ≡ g y = same 0 y x (omega arith) in
+    omega (arith, here, summed-same f g xs ys (omega (arith, long)) (λ k b a kl. same (suc k) b a (omega (arith, kl))))
+
 -- what holds of the tails and of the blocks
 module _ (P : StepPart × CcfPart → Type 0) where
   tail-each : (name : StepPart) (part : CcfPart) → P (name, part) → All P (tail_steps name part)
@@ -127,6 +171,24 @@ module _ (p n : ℕ) (entries : List (ℕ × ℕ)) (are : AreEntries p n entries
     terms-below m from = All-map (λ (t : ℕ × ℕ). t.1 < m) term entries
         (All-weaker Within (λ entry. slice_index origins entry.0 < m) (λ entry at. from entry.0 at.0) entries are.within)
 
+-- ---- the rows of a part, of each kind
+module _ (layers : Layers) (c : Contents) where
+  symbols-sums : (rows : List ℕ) → summed sum_count (map (symbol_row layers) rows) ≡ 0
+  symbols-sums [] = refl
+  symbols-sums (row ∷ rows) = omega (arith, symbols-sums rows)
+
+  symbols-counted : (rows : List ℕ) → summed symbol_count (map (symbol_row layers) rows) ≡ length rows
+  symbols-counted [] = refl
+  symbols-counted (row ∷ rows) = omega (arith, symbols-counted rows)
+
+  sums-counted : (rows : List ℕ) (more : List (StepRow ℕ)) → summed sum_count (map (combined_row layers c) rows ++ more) ≡ length rows + summed sum_count more
+  sums-counted [] more = omega arith
+  sums-counted (row ∷ rows) more = omega (arith, sums-counted rows more)
+
+  sums-symbols : (rows : List ℕ) (more : List (StepRow ℕ)) → summed symbol_count (map (combined_row layers c) rows ++ more) ≡ summed symbol_count more
+  sums-symbols [] more = refl
+  sums-symbols (row ∷ rows) more = omega (arith, sums-symbols rows more)
+
 -- ---- a row by its numbers
 module _ {T : Type 0} (number : T → ℕ) where
   abbrev numbers : T × ℕ → ℕ × ℕ
@@ -140,6 +202,16 @@ module _ {T : Type 0} (number : T → ℕ) where
   row-short p k (Combined terms) short =
       (omega (arith, short.0, length-map terms numbers), unmapped (λ (t : ℕ × ℕ). t.0 < p) numbers terms short.1)
   row-short p k (Symbols equation) short = tt
+
+  numbers-sums : (rows : List (StepRow T)) → summed sum_count (map (row_numbers number) rows) ≡ summed sum_count rows
+  numbers-sums [] = refl
+  numbers-sums (Combined terms ∷ rows) = omega (arith, numbers-sums rows)
+  numbers-sums (Symbols equation ∷ rows) = omega (arith, numbers-sums rows)
+
+  numbers-symbols : (rows : List (StepRow T)) → summed symbol_count (map (row_numbers number) rows) ≡ summed symbol_count rows
+  numbers-symbols [] = refl
+  numbers-symbols (Combined terms ∷ rows) = omega (arith, numbers-symbols rows)
+  numbers-symbols (Symbols equation ∷ rows) = omega (arith, numbers-symbols rows)
 
   -- ---- the step of a part
   module _ (p : ℕ) (layers : Layers) (c : Contents) (form : IsCcf p c) (of : StepPart × CcfPart) (step : Step T)
@@ -171,26 +243,36 @@ module _ {T : Type 0} (number : T → ℕ) where
         uses-below : All (λ x. x < c.shape.columns) step.uses
         uses-below = members-below c.shape.columns step.uses at.uses
 
-    step-short : (k : ℕ) → c.shape.q_rows + c.shape.t_rows ≤ k → c.shape.columns ≤ k → IsShortStep number p k step
-    step-short k high wide = record {
-      columns = omega (arith, wide, ap length at.columns, rising-few c.shape.columns of.1.columns (part.columns).rising (part.columns).below);
-      rows = omega (
-        arith,
-        high,
-        length-map step.rows (row_numbers number),
-        ap length at.rows,
-        length-append (map (combined_row layers c) of.1.q_rows) (map (symbol_row layers) of.1.t_rows),
-        length-map of.1.q_rows (combined_row layers c),
-        length-map of.1.t_rows (symbol_row layers),
-        rising-few c.shape.q_rows of.1.q_rows (part.q_rows).rising (part.q_rows).below,
-        rising-few c.shape.t_rows of.1.t_rows (part.t_rows).rising (part.t_rows).below,
-      );
+    -- the step has the columns and the rows of its part
+    columns-same : columns_of step ≡ length of.1.columns
+    columns-same = ap length at.columns
+
+    sums-same : sums_of step ≡ length of.1.q_rows
+    sums-same = omega (
+      arith,
+      numbers-sums step.rows,
+      ap (summed sum_count) at.rows,
+      sums-counted layers c of.1.q_rows (map (symbol_row layers) of.1.t_rows),
+      symbols-sums layers c of.1.t_rows,
+    )
+
+    symbols-same : symbols_of step ≡ length of.1.t_rows
+    symbols-same = omega (
+      arith,
+      numbers-symbols step.rows,
+      ap (summed symbol_count) at.rows,
+      sums-symbols layers c of.1.q_rows (map (symbol_row layers) of.1.t_rows),
+      symbols-counted layers c of.1.t_rows,
+    )
+
+    step-short : (m k : ℕ) → c.shape.q_rows ≤ m → c.shape.columns ≤ k → IsShortStep number p m k step
+    step-short m k high wide = record {
       uses = omega (arith, wide, rising-few c.shape.columns step.uses (at.uses).rising (members-below c.shape.columns step.uses at.uses));
-      short = All-weaker (λ row. IsShortRow (λ x. x) p k (row_numbers number row)) (IsShortRow number p k) (row-short p k) step.rows
-          (rows-each (IsShortRow (λ x. x) p k) short-combined (λ t low. tt));
+      short = All-weaker (λ row. IsShortRow (λ x. x) p m (row_numbers number row)) (IsShortRow number p m) (row-short p m) step.rows
+          (rows-each (IsShortRow (λ x. x) p m) short-combined (λ t low. tt));
     }
       where
-        short-combined : (q : ℕ) → q < c.shape.q_rows → IsShortRow (λ x. x) p k (combined_row layers c q)
+        short-combined : (q : ℕ) → q < c.shape.q_rows → IsShortRow (λ x. x) p m (combined_row layers c q)
         short-combined q low = (
           omega (arith, high, terms-few p c.shape.q_rows (slice_index_or c.s q []) (s-row q low) layers.q_origins),
           terms-small p c.shape.q_rows (slice_index_or c.s q []) (s-row q low) layers.q_origins,
@@ -232,7 +314,38 @@ module _ {T : Type 0} (number : T → ℕ) (p : ℕ) (model : MixedModel) (is : 
   steps-few k wide = omega (arith, wide, blocks, solved-few c, (planned.are).count)
 
   -- lists that rise below k have at most k numbers
-  pub steps-short : (k : ℕ) → height layers.q + length layers.t.rows ≤ k → layers.q.width ≤ k → All (IsShortStep number p k) plan.steps
-  steps-short k high wide = each (IsShortStep number p k) (λ of step at part.
-      step-short number p layers c form of step at part.1 k (omega (arith, high, (right.shape).q_rows, (right.shape).t_rows))
-      (omega (arith, wide, (right.shape).columns)))
+  pub steps-short : (m k : ℕ) → height layers.q ≤ m → layers.q.width ≤ k → All (IsShortStep number p m k) plan.steps
+  steps-short m k high wide = each (IsShortStep number p m k) (λ of step at part.
+      step-short number p layers c form of step at part.1 m k (omega (arith, high, (right.shape).q_rows)) (omega (arith, wide, (right.shape).columns)))
+
+  -- what holds of each step and its part
+  steps-same : (f : Step T → ℕ) (g : StepPart × CcfPart → ℕ) →
+      ((of : StepPart × CcfPart) (step : Step T) → IsStepOf number layers c of step → IsPartOf c.shape (length c.blocks) of → f step ≡ g of) →
+      summed f plan.steps ≡ summed g (solved_parts c)
+  steps-same f g same = summed-same f g plan.steps (solved_parts c) (planned.are).count
+      (λ k of step kl. same (get_or (solved_parts c) k of) (get_or plan.steps k step) ((planned.are).each k of step kl) (solved-within p c form k of kl))
+
+  -- each column stands in one step, and each row
+  pub columns-few : summed columns_of plan.steps ≤ layers.q.width
+  columns-few = omega (
+    arith,
+    steps-same columns_of (list_size (λ part. part.columns)) (λ of step at part. columns-same number p layers c form of step at part.1),
+    solved-total (λ part. part.columns) c,
+    columns-total p (layered_matrix_of layers) c form right.block_triangular_form (right.shape).columns,
+  )
+
+  pub sums-few : summed sums_of plan.steps ≤ height layers.q
+  sums-few = omega (
+    arith,
+    steps-same sums_of (list_size (λ part. part.q_rows)) (λ of step at part. sums-same number p layers c form of step at part.1),
+    solved-total (λ part. part.q_rows) c,
+    q_rows-total p (layered_matrix_of layers) c form right.block_triangular_form (right.shape).q_rows,
+  )
+
+  pub symbols-few : summed symbols_of plan.steps ≤ length layers.t.rows
+  symbols-few = omega (
+    arith,
+    steps-same symbols_of (list_size (λ part. part.t_rows)) (λ of step at part. symbols-same number p layers c form of step at part.1),
+    solved-total (λ part. part.t_rows) c,
+    t_rows-total p (layered_matrix_of layers) c form right.block_triangular_form (right.shape).t_rows,
+  )

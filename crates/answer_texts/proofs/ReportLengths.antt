@@ -58,7 +58,7 @@ sizes-short report equations unknowns rank =
 -- the names of a model are short, and a report on it lists few
 module _ (p : ℕ) (model : MixedModel) (is : IsModel p model) (report : Report) (k : ℕ) (few : k ≤ 4096)
     (equations : report.equations ≤ k) (unknowns : report.unknowns ≤ k) (rank : report.rank ≤ k)
-    (surplus : length report.surplus.items ≤ k) (undetermined : length report.undetermined.items ≤ k) where
+    (surplus : length report.surplus ≤ k) (undetermined : length report.undetermined ≤ k) where
   surplus-short : length (surplus_text model report) ≤ 15 + 110 * k
   surplus-short =
       let count : List ℕ = count_line (codes "too many") (report.equations - report.rank) in
@@ -66,8 +66,8 @@ module _ (p : ℕ) (model : MixedModel) (is : IsModel p model) (report : Report)
         arith,
         surplus,
         count-line-short (codes "too many") (report.equations - report.rank) (omega arith) (omega (arith, equations, few)),
-        name-lines-short (codes "surplus") model.equations is.equations (omega arith) report.surplus.items,
-        length-append count (name_lines (codes "surplus") model.equations report.surplus.items),
+        name-lines-short (codes "surplus") model.equations is.equations (omega arith) report.surplus,
+        length-append count (name_lines (codes "surplus") model.equations report.surplus),
       )
 
   undetermined-short : length (undetermined_text model report) ≤ 15 + 110 * k
@@ -77,8 +77,8 @@ module _ (p : ℕ) (model : MixedModel) (is : IsModel p model) (report : Report)
         arith,
         undetermined,
         count-line-short (codes "too few") (report.unknowns - report.rank) (omega arith) (omega (arith, unknowns, few)),
-        name-lines-short (codes "undetermined") model.unknowns is.unknowns (omega arith) report.undetermined.items,
-        length-append count (name_lines (codes "undetermined") model.unknowns report.undetermined.items),
+        name-lines-short (codes "undetermined") model.unknowns is.unknowns (omega arith) report.undetermined,
+        length-append count (name_lines (codes "undetermined") model.unknowns report.undetermined),
       )
 
   pub report-text-short : length (report_text model report) ≤ report_room k

@@ -26,14 +26,12 @@ pub record IsStepIn {T : Type 0} (m n : ℕ) (step : Step T) : Type 0 where
   pub rows : All (IsRowBelow m) step.rows
   pub uses : All (λ column. column < n) step.uses
 
--- a sum has at most k terms, and its coefficients are residues modulo p
+-- a sum has at most m terms, and its coefficients are residues modulo p
 abbrev pub IsShortRow : {T : Type 0} → (T → ℕ) → ℕ → ℕ → StepRow T → Type 0
-IsShortRow number p k (Combined terms) = (length terms ≤ k) × All (λ term. number term.0 < p) terms
-IsShortRow number p k (Symbols equation) = Unit {0}
+IsShortRow number p m (Combined terms) = (length terms ≤ m) × All (λ term. number term.0 < p) terms
+IsShortRow number p m (Symbols equation) = Unit {0}
 
--- a step has at most k columns, rows and columns that it uses, and short rows
-pub record IsShortStep {T : Type 0} (number : T → ℕ) (p k : ℕ) (step : Step T) : Type 0 where
-  pub columns : length step.columns ≤ k
-  pub rows : length step.rows ≤ k
+-- a step uses at most k columns, and has short rows
+pub record IsShortStep {T : Type 0} (number : T → ℕ) (p m k : ℕ) (step : Step T) : Type 0 where
   pub uses : length step.uses ≤ k
-  pub short : All (IsShortRow number p k) step.rows
+  pub short : All (IsShortRow number p m) step.rows

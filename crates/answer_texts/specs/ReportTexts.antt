@@ -26,12 +26,12 @@ sizes_line report = codes "equations" ++ spaced report.equations ++ codes " unkn
 -- how many equations there are above the rank, and the surplus ones
 abbrev pub surplus_text : MixedModel → Report → List ℕ
 surplus_text model report = count_line (codes "too many") (report.equations - report.rank)
-    ++ name_lines (codes "surplus") model.equations report.surplus.items
+    ++ name_lines (codes "surplus") model.equations report.surplus
 
 -- how many unknowns there are above the rank, and the undetermined ones
 abbrev pub undetermined_text : MixedModel → Report → List ℕ
 undetermined_text model report = count_line (codes "too few") (report.unknowns - report.rank)
-    ++ name_lines (codes "undetermined") model.unknowns report.undetermined.items
+    ++ name_lines (codes "undetermined") model.unknowns report.undetermined
 
 -- the text of a report on a model
 abbrev pub report_text : MixedModel → Report → List ℕ

@@ -11,14 +11,12 @@ layer_room digits k = 14 + 313 * k + (13 + digits) * (k * k)
 abbrev pub report_room : ℕ → ℕ
 report_room k = 72 + 220 * k
 
--- room for the lines of a step of at most k columns, k rows of at most k terms, and k columns that it uses: a term has
--- a name of at most 96 bytes, 2 more and the digits of its coefficient, of which there are at most so many
-abbrev pub step_room : ℕ → ℕ → ℕ
-step_room digits k = 33 + 297 * k + (98 + digits) * (k * k)
-
--- room for the text of a plan of at most k + 2 such steps
-abbrev pub plan_room : ℕ → ℕ → ℕ
-plan_room digits k = (k + 2) * step_room digits k
+-- room for the text of a plan of the rows of a form, of each kind at most m, in at most k columns: a name takes at most
+-- 97 bytes behind a space, a term of a row 98 and the digits of its coefficient, of which there are at most so many. Of
+-- at most k + 2 steps each has three lines besides those of its rows, and uses at most k columns; each column stands in
+-- one step, and each row, with at most m terms, in one
+abbrev pub plan_room : ℕ → ℕ → ℕ → ℕ
+plan_room digits m k = 60 + 324 * k + 104 * m + (98 + digits) * (m * m) + 98 * (k * k)
 
 -- room for the text about a made model: 53 bytes besides its ten numbers, each of at most five digits behind a space
 abbrev pub made_room : ℕ

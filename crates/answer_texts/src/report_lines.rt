@@ -17,8 +17,8 @@ use text_writer::TextWriter;
 /// equations there are above the rank, and the names of the surplus ones; and how many unknowns there are above it, and
 /// the names of the undetermined ones. (Murota, chapter 4.)
 pub fn put_report<F: Field, K: Sink>(out: &mut TextWriter<'_, K>, model: &Mixed<F>, report: &Report)
-    requires surplus { All (λ equation. equation < length model.now.equations) report.now.surplus.items }
-    requires undetermined { All (λ unknown. unknown < length model.now.unknowns) report.now.undetermined.items }
+    requires surplus { All (λ equation. equation < length model.now.equations) report.now.surplus }
+    requires undetermined { All (λ unknown. unknown < length model.now.unknowns) report.now.undetermined }
     requires many { report.now.rank ≤ report.now.equations }
     requires few { report.now.rank ≤ report.now.unknowns }
     ensures { Puts K.Sink out.old out.new (report_text model.now report.now) }
@@ -52,12 +52,12 @@ pub(crate) fn put_count<K: Sink>(out: &mut TextWriter<'_, K>, word: &[u8], numbe
 
 // Puts how many equations there are above the rank, and the lines of the surplus ones.
 fn put_surplus<F: Field, K: Sink>(out: &mut TextWriter<'_, K>, model: &Mixed<F>, report: &Report)
-    requires surplus { All (λ equation. equation < length model.now.equations) report.now.surplus.items }
+    requires surplus { All (λ equation. equation < length model.now.equations) report.now.surplus }
     requires many { report.now.rank ≤ report.now.equations }
     ensures { Puts K.Sink out.old out.new (surplus_text model.now report.now) }
 {
     put_count(out, b"too many", report.equations - report.rank);
-    put_equation_lines(out, model, &report.surplus);
+    put_equation_lines(out, model, report.surplus.as_slice());
 }
 
 // Puts the lines of surplus equations.
@@ -95,12 +95,12 @@ fn put_undetermined<F: Field, K: Sink>(
     model: &Mixed<F>,
     report: &Report,
 )
-    requires undetermined { All (λ unknown. unknown < length model.now.unknowns) report.now.undetermined.items }
+    requires undetermined { All (λ unknown. unknown < length model.now.unknowns) report.now.undetermined }
     requires few { report.now.rank ≤ report.now.unknowns }
     ensures { Puts K.Sink out.old out.new (undetermined_text model.now report.now) }
 {
     put_count(out, b"too few", report.unknowns - report.rank);
-    put_unknown_lines(out, model, &report.undetermined);
+    put_unknown_lines(out, model, report.undetermined.as_slice());
 }
 
 // Puts the lines of undetermined unknowns.

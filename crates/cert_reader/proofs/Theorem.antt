@@ -1,5 +1,6 @@
 -- What is read, and what is refused.
-use Rattle.std.proofs.Common.{◌≡◌, ℕ, ◌+◌, ◌^◌, ◌<◌, List, [], ◌∷◌, ◌++◌, length, Result, Ok, Err, refl, sym, ap, subst, ◌∙◌, append_assoc, arith}
+use Rattle.std.proofs.Common.{◌≡◌, ℕ, ◌+◌, ◌^◌, ◌<◌, List, [], ◌∷◌, ◌++◌, length, Result, Ok, Err, ◌⊎◌, inl, inr}
+use Rattle.std.proofs.Common.{refl, sym, ap, subst, ◌∙◌, append_assoc, arith}
 use Rattle.std.specs.Prelude.{codes}
 use Rattle.std.specs.List.{concat}
 use Rattle.std.proofs.lemmas.List.{append-nil}
@@ -14,7 +15,8 @@ use Rattle.cert_text.specs.declared.version.Version.TheVariants.{One, Two}
 use Rattle.cert_reader.specs.declared.fault.ReadCert.{ReadCert}
 use Rattle.cert_reader.specs.declared.fault.ReadCert.TheVariants as errors
 use Rattle.cert_reader.specs.Fronts.{Fails}
-use Rattle.cert_reader.specs.CertLines.{row_lines, contents_lines, version_lines, body_lines, certificate_lines, IsCertificate, IsCause}
+use Rattle.cert_reader.specs.CertLines.{row_lines, contents_lines, version_lines, body_lines, certificate_lines}
+use Rattle.cert_reader.specs.CertLines.{IsCertificate, IsCause, IsOfCertificate, IsNoCertificate}
 use Rattle.cert_text.specs.Ranges.{IsCcf}
 use Rattle.cert_reader.specs.CertReading.{contents_at, certificate_at}
 use Rattle.cert_reader.proofs.Lines.{ok_is}
@@ -150,3 +152,23 @@ no_more a b (byte ∷ more) one two short same =
     let whole : certificate_text b ≡ concat (certificate_lines a) ++ (byte ∷ more) = sym same ∙ ap (λ ws. ws ++ (byte ∷ more)) (sym (certificate-lines a)) in
     let stopped = whole-certificate.reads.stops 1 a (byte ∷ more) (subst Short whole short) one (λ e. (let f : ⊥ = cc in f)) in
     differ (b, []) stopped.0 (sym (read-again (certificate_text b) b short two refl) ∙ ap (certificate_at 1) whole ∙ stopped.1)
+
+-- ---- each text is read or refused
+
+pub read_or_refused : (text : List ℕ) → Short text → IsOfCertificate text ⊎ ((line : ℕ) × IsNoCertificate text line)
+read_or_refused text short = go (certificate_at 1 text) refl
+  where
+    go : (read : Result (Certificate × List ℕ) ℕ) → certificate_at 1 text ≡ read →
+        IsOfCertificate text ⊎ ((line : ℕ) × IsNoCertificate text line)
+    go (Ok x) taken =
+        let found = found_is text x short taken in
+        inl (record { certificate = x.0; is = found.0; text_is = found.1 })
+    go (Err line) failed =
+        let refused = errors.Refused line in
+        inr (
+          line,
+          record {
+            none = λ c is text_is. (let differs : as_one c ≡ Err line = only_err text refused c short failed is text_is in absurd cc);
+            refused = cause_is text refused short failed;
+          },
+        )

@@ -1,23 +1,13 @@
 -- The lines of a certificate, and which of them a text has.
-use Rattle.std.specs.Prelude.{ℕ, ◌≡◌, ◌⊎◌, ◌+◌, ◌≤◌, List, [], ◌∷◌, ◌++◌, length, codes}
-use Rattle.limits.specs.Limits.{input_limit}
+use Rattle.std.specs.Prelude.{ℕ, ◌≡◌, ◌≢◌, ◌+◌, List, [], ◌∷◌, ◌++◌, length, codes}
+pub use Rattle.cert_text.specs.Certificates.{IsCertificate}
 use Rattle.cert_text.specs.Contents.{Certificate, Contents}
-use Rattle.residue_field.specs.Modulus.{modulus_of}
-use Rattle.residue_field.specs.declared.field_name.FieldName.TheVariants.{Large, Small}
-use Rattle.cert_text.specs.Ranges.{IsCcf}
-use Rattle.cert_text.specs.Texts.{spaced, kind_text, shape_text, pairs_text, entries_line, columns_line, tail_line, block_line}
+use Rattle.cert_text.specs.Texts.{spaced, kind_text, shape_text, pairs_text, entries_line, columns_line, tail_line, block_line, certificate_text}
 use Rattle.cert_text.specs.declared.version.Version.{Version}
 use Rattle.cert_text.specs.declared.version.Version.TheVariants.{One, Two}
 use Rattle.cert_reader.specs.declared.fault.ReadCert.{ReadCert}
 use Rattle.cert_reader.specs.declared.fault.ReadCert.TheVariants as errors
 use Rattle.cert_reader.specs.Lines.{HasJust}
-
--- what is a certificate: over one of the two fields, in version 1 over the smaller one, with values of its field
-pub record IsCertificate (c : Certificate) : Type 0 where
-  pub field : (c.modulus ≡ modulus_of Small) ⊎ (c.modulus ≡ modulus_of Large)
-  pub version : c.version ≡ One → c.modulus ≡ modulus_of Small
-  pub echo : length c.echo ≤ input_limit
-  pub ccf : IsCcf c.modulus c.ccf
 
 -- a line for each row, the first of them with this number
 abbrev pub row_lines : {A : Type 0} → (ℕ → A → List ℕ) → ℕ → List A → List (List ℕ)
@@ -58,6 +48,17 @@ certificate_lines c = version_lines c.version c.modulus ++ body_lines c
 -- do not.
 abbrev pub IsRefused : List ℕ → ℕ → Type 0
 IsRefused text line = (before : ℕ) × (line ≡ before + 1) × HasJust IsCertificate certificate_lines before text
+
+-- the text is that of a certificate
+pub record IsOfCertificate (text : List ℕ) : Type 0 where
+  pub certificate : Certificate
+  pub is : IsCertificate certificate
+  pub text_is : text ≡ certificate_text certificate
+
+-- no certificate has the text, and this line of it is the first that is refused
+pub record IsNoCertificate (text : List ℕ) (line : ℕ) : Type 0 where
+  pub none : (certificate : Certificate) → IsCertificate certificate → text ≢ certificate_text certificate
+  pub refused : IsRefused text line
 
 -- why a text was not read: memory ran out, or this line is refused
 abbrev pub IsCause : ReadCert → List ℕ → Type 0

@@ -1,11 +1,11 @@
 //! What the lines of a certificate are, and that a text has one certificate or one line that is refused first.
 
-ghost use Rattle.std.specs.Prelude.{◌≡◌, ◌≤◌, ◌++◌, ℕ, List, [], length};
+ghost use Rattle.std.specs.Prelude.{◌≡◌, ◌≤◌, ◌⊎◌, ◌++◌, ℕ, List, [], length};
 ghost use Rattle.std.specs.List.{concat};
 ghost use Rattle.cert_text.specs.Contents.{Certificate};
 ghost use Rattle.cert_text.specs.Texts.{certificate_text};
 ghost use Rattle.cert_reader.specs.Limits.{certificate_limit};
-ghost use Rattle.cert_reader.specs.CertLines.{IsCertificate, certificate_lines, IsRefused};
+ghost use Rattle.cert_reader.specs.CertLines.{IsCertificate, certificate_lines, IsOfCertificate, IsNoCertificate, IsRefused};
 
 /// The text of a certificate is its lines, one after the other.
 pub fn a_text_is_its_lines()
@@ -28,4 +28,10 @@ pub fn no_text_goes_on_to_another()
     ensures { (a b : Certificate) (more : List ℕ) → IsCertificate a → IsCertificate b →
         length (certificate_text b) ≤ certificate_limit → certificate_text a ++ more ≡ certificate_text b →
         more ≡ [] }
+{}
+
+/// Each text within the limit is that of a certificate, or a line of it is the first refused.
+pub fn each_text_is_read_or_refused()
+    ensures { (text : List ℕ) → length text ≤ certificate_limit →
+        IsOfCertificate text ⊎ ((line : ℕ) × IsNoCertificate text line) }
 {}

@@ -1,5 +1,6 @@
 pub mod Contents
 pub mod Ranges
+pub mod Certificates
 pub mod Texts
 pub mod Readings
 pub mod Right

@@ -1,7 +1,7 @@
 //! A certificate, and how its text is written.
 
-ghost use Rattle.std.specs.Prelude.{◌≡◌, ◌≤◌, length};
-ghost use Rattle.limits.specs.Limits.{input_limit};
+ghost use Rattle.std.specs.Prelude.{◌≡◌};
+ghost use Rattle.cert_text.specs.Certificates.{IsCertificate};
 ghost use Rattle.cert_text.specs.Texts.{certificate_text, echo_text, kind_text, version_text};
 ghost use Rattle.cert_text.specs.declared.version.Version.TheVariants.{Two};
 ghost use Rattle.text_writer.specs.Giving.{IsWritten};
@@ -42,9 +42,10 @@ impl<F: Field> Model for Certificate<F> {
 }
 
 /// Appends the whole text of a certificate to the sink, in pieces of some KiB, and takes no memory. It does not flush.
-/// Where the sink fails, a first part of the text was appended, and `written` counts its bytes.
+/// In version 1 the field is the smaller one, as the text names none. Where the sink fails, a first part of the text was
+/// appended, and `written` counts its bytes.
 pub fn write<F: Field, K: Sink>(cert: &Certificate<F>, out: &mut K) -> Result<(), WriteFault>
-    requires { length cert.now.echo ≤ input_limit }
+    requires { IsCertificate cert.now }
     ensures { IsWritten K.Sink out.old out.new (certificate_text cert.now) result }
 {
     let mut writer = TextWriter::new(out);

@@ -1,5 +1,8 @@
 //! Certificates that read back, and texts that are refused in a line.
 
+ghost use Rattle.cert_text.specs.Certificates.{IsCertificate};
+ghost use Rattle.cert_reader.specs.Certificates.{certificate_in};
+
 use cert_reader::{AnyCertificate, CERTIFICATE_LIMIT, ReadCert, read};
 use cert_text::{Certificate, write};
 use port_io::MemSink;
@@ -32,8 +35,9 @@ fn expect_written<F: Field>(
     alloc: Global,
     certificate: &Certificate<F>,
     text: &str,
-) -> Result<(), Fail> {
-    assert!(rt; certificate.echo.as_slice().len() <= 8_388_608);
+) -> Result<(), Fail>
+    requires { IsCertificate certificate.now }
+{
     let mut sink = MemSink::new(alloc, 512, 512, &[])?;
     assert!(rt; write(certificate, &mut sink).is_ok());
     assert_eq!(rt; sink.bytes(), text.as_bytes());
@@ -47,7 +51,9 @@ fn expect_field(
     certificate: &AnyCertificate,
     text: &str,
     is_large: bool,
-) -> Result<(), Fail> {
+) -> Result<(), Fail>
+    requires { IsCertificate (certificate_in certificate.now) }
+{
     match certificate {
         AnyCertificate::Small(certificate) => {
             assert!(rt; !is_large);
@@ -68,9 +74,9 @@ fn expect_round_trip(
     is_large: bool,
 ) -> Result<(), Fail> {
     assert!(rt; text.len() <= CERTIFICATE_LIMIT);
-    let certificate = read(alloc, text.as_bytes())
-        .ok()
-        .ok_or("it is the text of a certificate")?;
+    let Ok(certificate) = read(alloc, text.as_bytes()) else {
+        return Err(Fail::from("it is the text of a certificate"));
+    };
     expect_field(rt, alloc, &certificate, text, is_large)
 }
 

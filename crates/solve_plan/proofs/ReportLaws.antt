@@ -95,15 +95,15 @@ module _ (p : ℕ) (layers : Layers) (c : Contents) (ok : AreLayers layers) (R :
 -- what is listed is the report
 pub report-made : (p : ℕ) → IsPrime p → 2 < p → (layers : Layers) (c : Contents) → AreLayers layers → IsCcf p c → (told : Report) →
     told.equations ≡ c.shape.equations → told.unknowns ≡ c.shape.unknowns → told.rank ≡ c.rank →
-    AreMembersOf c.shape.equations (IsToldSurplus layers c) told.surplus.items →
-    AreMembersOf c.shape.unknowns (λ j. has c.first.columns j ≡ true) told.undetermined.items → ReportsEach p layers c told
+    AreMembersOf c.shape.equations (IsToldSurplus layers c) told.surplus →
+    AreMembersOf c.shape.unknowns (λ j. has c.first.columns j ≡ true) told.undetermined → ReportsEach p layers c told
 report-made p prime big layers c ok is told equations unknowns rank surplus undetermined model is_model are right = record {
   equations = equations ∙ right.shape.equations;
   unknowns = unknowns ∙ right.shape.unknowns;
   rank = subst (λ r. IsStructuralRank p M r) (sym rank) right.pair_and_rank.rank;
-  surplus = members-as c.shape.equations M.rows (IsToldSurplus layers c) (IsSurplus p M) told.surplus.items right.shape.equations
+  surplus = members-as c.shape.equations M.rows (IsToldSurplus layers c) (IsSurplus p M) told.surplus right.shape.equations
       (surplus-law p prime big M layers ok O (λ e. refl) (λ d. refl) are.layered c is right) surplus;
-  undetermined = members-as c.shape.unknowns M.columns (λ j. has c.first.columns j ≡ true) (IsUndetermined p M) told.undetermined.items right.shape.unknowns
+  undetermined = members-as c.shape.unknowns M.columns (λ j. has c.first.columns j ≡ true) (IsUndetermined p M) told.undetermined right.shape.unknowns
       (λ j jl. let law = undetermined-law p prime big M (layered_matrix_of layers) O are.layered c is right j jl in (law.1, law.0)) undetermined;
 }
   where

@@ -23,8 +23,8 @@ pub record IsReportOf (p : ℕ) (M : MixedMatrix) (told : Report) : Type 0 where
   pub equations : told.equations ≡ M.rows
   pub unknowns : told.unknowns ≡ M.columns
   pub rank : IsStructuralRank p M told.rank
-  pub surplus : AreMembersOf M.rows (IsSurplus p M) told.surplus.items
-  pub undetermined : AreMembersOf M.columns (IsUndetermined p M) told.undetermined.items
+  pub surplus : AreMembersOf M.rows (IsSurplus p M) told.surplus
+  pub undetermined : AreMembersOf M.columns (IsUndetermined p M) told.undetermined
 
 -- it is the report on each model of which these are the layers and for which the form is right
 abbrev pub ReportsEach : ℕ → Layers → Contents → Report → Type 0

@@ -9,7 +9,7 @@ ghost use Rattle.solve_plan.specs.Surplus.{FitsForm, IsToldSurplus, IsUsedLast};
 use crate::equations::{mark_constants, mark_symbols, with_symbols};
 use crate::marking::{listed, mark_numbers, mark_rows};
 use crate::told::Report;
-use cert_text::Ccf;
+use cert_text::{Ccf, Items};
 use mixed_model::Layered;
 use out_of_memory::NoMemory;
 use residue_field::Field;
@@ -75,7 +75,7 @@ pub fn report<F: Field>(
         equations: shape.equations,
         unknowns: shape.unknowns,
         rank: form.rank(),
-        surplus,
-        undetermined,
+        surplus: Items::from_vec(surplus),
+        undetermined: Items::from_vec(undetermined),
     })
 }

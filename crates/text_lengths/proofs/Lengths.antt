@@ -1,16 +1,19 @@
--- The lengths of a certificate's lines, where rows and columns number at most k.
+-- The lengths of a certificate's lines, whose numbers have at most four digits, and how many numbers lists have.
 use Rattle.std.proofs.Common.{◌≡◌, ℕ, zero, suc, ◌+◌, ◌*◌, ◌/◌, ◌%◌, ◌^◌, ◌<◌, ◌≤◌, ◌==◌, Bool, true, false, List, [], ◌∷◌}
-use Rattle.std.proofs.Common.{length, get_or, decimal, if◌then◌else◌, inl, inr, refl, arith, suc-mul}
+use Rattle.std.proofs.Common.{length, get_or, decimal, if◌then◌else◌, inl, inr, refl, arith, suc-mul, ◌||◌}
 use Rattle.std.specs.List.{All}
 use Rattle.std.specs.List.Sorted.{IsStrictlyIncreasing}
 use Rattle.std.specs.Fmt.{digit_glyph, digits as written, digits_onto}
 use Rattle.std.proofs.lemmas.Bool.{eqb-false}
 use Rattle.std.proofs.lemmas.List.{length-append}
 use Rattle.std.proofs.lemmas.List.Elements.{All-head, All-tail}
-use Rattle.std.proofs.lemmas.List.Kept.{AllPairs-from_increasing}
-use Rattle.residue_theory.specs.Sets.{everything}
-use Rattle.residue_theory.proofs.SetLaws.{lt_cases}
-use Rattle.residue_theory.proofs.CountLaws.{size-everything, size-injection}
+use Rattle.residue_theory.specs.Sets.{everything, has}
+use Rattle.residue_theory.specs.Sums.{size_on}
+use Rattle.residue_theory.proofs.SetLaws.{differ, either_cases, not_true}
+use Rattle.residue_theory.proofs.CountLaws.{size-everything, size-either}
+use Rattle.residue_theory.proofs.SumLaws.{size_on-within}
+use Rattle.cert_text.specs.Ranges.{AreRising}
+use Rattle.certificate_laws.proofs.RisingLists.{members-counted}
 use Rattle.cert_text.specs.Texts.{marked, spaced, item, lettered, pairs_text, entries_text, numbers_text, letters_text}
 
 either-short : (b : Bool) (k : ℕ) (xs ys : List ℕ) → length xs ≤ k → (b ≡ false → length ys ≤ k) → length (if b then xs else ys) ≤ k
@@ -40,43 +43,76 @@ pub value-short : (k value : ℕ) → 0 < value → value < 10 ^ k → length (d
 value-short zero value some few = absurd (omega (arith, some, few))
 value-short (suc k) value some few = decimal-short (suc k) value (omega arith) few
 
--- a number of at most five digits
-pub five : (n : ℕ) → n < 100000 → length (decimal n) ≤ 5
-five n few = decimal-short 5 n (omega arith) (omega (arith, few))
+-- a number of at most four digits
+pub four : (n : ℕ) → n < 10000 → length (decimal n) ≤ 4
+four n few = decimal-short 4 n (omega arith) (omega (arith, few))
 
-pub marked-short : (mark n : ℕ) → n < 100000 → length (marked mark n) ≤ 6
-marked-short mark n few = omega (arith, five n few)
+pub marked-short : (mark n : ℕ) → n < 10000 → length (marked mark n) ≤ 5
+marked-short mark n few = omega (arith, four n few)
 
-pub item-short : (k key value : ℕ) → key < 100000 → 0 < value → value < 10 ^ k → length (item key value) ≤ 7 + k
+pub item-short : (k key value : ℕ) → key < 10000 → 0 < value → value < 10 ^ k → length (item key value) ≤ 6 + k
 item-short k key value few some small =
     omega (arith, length-append (spaced key) (marked 61 value), marked-short 32 key few, value-short k value some small)
 
-lettered-short : (letter row : ℕ) → row < 100000 → length (lettered letter row) ≤ 7
+lettered-short : (letter row : ℕ) → row < 10000 → length (lettered letter row) ≤ 6
 lettered-short letter row few = omega (arith, marked-short letter row few)
 
 -- rising numbers below n are at most n
 pub rising-few : (n : ℕ) (numbers : List ℕ) → IsStrictlyIncreasing numbers → All (λ number. number < n) numbers → length numbers ≤ n
 rising-few n numbers rising below = omega (
   arith,
-  size-everything (length numbers),
   size-everything n,
-  size-injection everything (length numbers) (λ k. get_or numbers k 0) n everything (λ k kl _. below k 0 kl) (λ k kl _. refl) one,
+  members-counted n numbers (record { rising = rising; below = below }),
+  size_on-within everything (has numbers) n (λ j jl h. refl),
 )
-  where
-    apart : (k l : ℕ) → k < l → l < length numbers → get_or numbers k 0 < get_or numbers l 0
-    apart k l less ll = AllPairs-from_increasing numbers rising k l 0 less ll
 
-    one : (k l : ℕ) → k < length numbers → l < length numbers → everything k ≡ true → everything l ≡ true → get_or numbers k 0 ≡ get_or numbers l 0 → k ≡ l
-    one k l kl ll _ _ same = elim (lt_cases k l) [
-      | inl less ↦ absurd (omega (arith, apart k l less ll, same))
-      | inr more ↦ elim (lt_cases l k) [
-        | inl less ↦ absurd (omega (arith, apart l k less kl, same))
-        | inr equal ↦ omega arith
-      ]
-    ]
+-- how many numbers some lists have in all
+abbrev pub total : List (List ℕ) → ℕ
+total [] = 0
+total (list ∷ lists) = length list + total lists
+
+-- whether one of the lists holds a number
+abbrev in_some : List (List ℕ) → ℕ → Bool
+in_some [] x = false
+in_some (list ∷ lists) x = has list x || in_some lists x
+
+in-list : (lists : List (List ℕ)) (x : ℕ) → in_some lists x ≡ true → (k : ℕ) × (k < length lists) × (has (get_or lists k []) x ≡ true)
+in-list [] x held = absurd (differ refl held)
+in-list (list ∷ lists) x held = elim (either_cases (has list x) (in_some lists x) held) [
+  | inl here ↦ (0, omega arith, here)
+  | inr later ↦ let at = in-list lists x later in (suc at.0, omega (arith, at.1), at.2)
+]
+
+-- no number below n stands in two lists
+abbrev pub AreApart : ℕ → List (List ℕ) → Type 0
+AreApart n lists = (x k l : ℕ) → x < n → k < length lists → l < length lists → has (get_or lists k []) x ≡ true → has (get_or lists l []) x ≡ true → k ≡ l
+
+totals-held : (n : ℕ) (lists : List (List ℕ)) → All (AreRising n) lists → AreApart n lists → total lists ≤ size_on (in_some lists) n
+totals-held n [] rising apart = omega arith
+totals-held n (list ∷ lists) rising apart =
+    let here : AreRising n list = All-head (AreRising n) list lists rising in
+    let less : AreApart n lists = λ x k l xl kl ll hk hl.
+    let same : suc k ≡ suc l = apart x (suc k) (suc l) xl (omega (arith, kl)) (omega (arith, ll)) hk hl in omega (arith, same) in
+    omega (
+      arith,
+      members-counted n list here,
+      totals-held n lists (All-tail (AreRising n) list lists rising) less,
+      size-either (has list) (in_some lists) n (λ x xl held. not_true (in_some lists x) (λ again.
+          let at = in-list lists x again in
+          let same : 0 ≡ suc at.0 = apart x 0 (suc at.0) xl (omega arith) (omega (arith, at.1)) held at.2 in omega (arith, same))),
+    )
+
+-- rising lists of numbers below n that are apart have at most n numbers in all
+pub totals-few : (n : ℕ) (lists : List (List ℕ)) → All (AreRising n) lists → AreApart n lists → total lists ≤ n
+totals-few n lists rising apart = omega (
+  arith,
+  size-everything n,
+  totals-held n lists rising apart,
+  size_on-within everything (in_some lists) n (λ j jl h. refl),
+)
 
 -- the lists of a line
-pub pairs-short : (pairs : List (ℕ × ℕ)) → All (λ pair. (pair.0 < 8192) × (pair.1 < 8192)) pairs → length (pairs_text pairs) ≤ 12 * length pairs
+pub pairs-short : (pairs : List (ℕ × ℕ)) → All (λ pair. (pair.0 < 8192) × (pair.1 < 8192)) pairs → length (pairs_text pairs) ≤ 10 * length pairs
 pairs-short [] within = omega arith
 pairs-short (pair ∷ pairs) within =
     let here : (pair.0 < 8192) × (pair.1 < 8192) = All-head (λ (pair : ℕ × ℕ). (pair.0 < 8192) × (pair.1 < 8192)) pair pairs within in
@@ -85,31 +121,31 @@ pairs-short (pair ∷ pairs) within =
       arith,
       rest,
       length-append (item (pair.0 + 1) (pair.1 + 1)) (pairs_text pairs),
-      item-short 5 (pair.0 + 1) (pair.1 + 1) (omega (arith, here.0)) (omega arith) (omega (arith, here.1)),
+      item-short 4 (pair.0 + 1) (pair.1 + 1) (omega (arith, here.0)) (omega arith) (omega (arith, here.1)),
     )
 
 pub entries-short : (p digits : ℕ) → p ≤ 10 ^ digits → (entries : List (ℕ × ℕ)) →
-    All (λ entry. (entry.0 < 8192) × (0 < entry.1) × (entry.1 < p)) entries → length (entries_text entries) ≤ length entries * (7 + digits)
+    All (λ entry. (entry.0 < 8192) × (0 < entry.1) × (entry.1 < p)) entries → length (entries_text entries) ≤ length entries * (6 + digits)
 entries-short p digits short [] within = omega arith
 entries-short p digits short (entry ∷ entries) within =
     let P : ℕ × ℕ → Type 0 = λ entry. (entry.0 < 8192) × (0 < entry.1) × (entry.1 < p) in
     let here : (entry.0 < 8192) × (0 < entry.1) × (entry.1 < p) = All-head P entry entries within in
     let rest = entries-short p digits short entries (All-tail P entry entries within) in
-    rw (suc-mul (length entries) (7 + digits)) (omega (
+    rw (suc-mul (length entries) (6 + digits)) (omega (
       arith,
       rest,
       length-append (item (entry.0 + 1) entry.1) (entries_text entries),
       item-short digits (entry.0 + 1) entry.1 (omega (arith, here.0)) here.1 (omega (arith, here.2, short)),
     ))
 
-pub numbers-short : (numbers : List ℕ) → All (λ number. number < 8192) numbers → length (numbers_text numbers) ≤ 6 * length numbers
+pub numbers-short : (numbers : List ℕ) → All (λ number. number < 8192) numbers → length (numbers_text numbers) ≤ 5 * length numbers
 numbers-short [] within = omega arith
 numbers-short (number ∷ numbers) within =
     let here : number < 8192 = All-head (λ number. number < 8192) number numbers within in
     let rest = numbers-short numbers (All-tail (λ number. number < 8192) number numbers within) in
     omega (arith, rest, length-append (spaced (number + 1)) (numbers_text numbers), marked-short 32 (number + 1) (omega (arith, here)))
 
-pub letters-short : (letter : ℕ) (rows : List ℕ) → All (λ row. row < 8192) rows → length (letters_text letter rows) ≤ 7 * length rows
+pub letters-short : (letter : ℕ) (rows : List ℕ) → All (λ row. row < 8192) rows → length (letters_text letter rows) ≤ 6 * length rows
 letters-short letter [] within = omega arith
 letters-short letter (row ∷ rows) within =
     let here : row < 8192 = All-head (λ row. row < 8192) row rows within in

@@ -3,4 +3,7 @@
 
 mod laws;
 
-pub use laws::{certificate_texts_are_short, netlists_have_few_names, texts_have_few_names};
+pub use laws::{
+    certificate_texts_are_short, each_certificate_is_below, netlists_have_few_names,
+    texts_have_few_names,
+};

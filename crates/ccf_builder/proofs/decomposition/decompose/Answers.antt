@@ -16,7 +16,7 @@ returns g c =
     let starts = members_of c.free_columns.result.now in
     let ends = members_of c.end_columns.result.now in
     let v = parts_in c.fill.new.self in
-    let places = c.in_ok-lattice.ensures ∙ c.columns.ensures.columns ∙ ap (λ d. (g.T.Tableau.state d).columns) c.tableau.ensures in
+    let places = c.in_ok-lattice.ensures.places ∙ c.columns.ensures.columns ∙ ap (λ d. (g.T.Tableau.state d).columns) c.tableau.ensures in
     record {
       starts = starts;
       ends = ends;
