@@ -1,1 +1,2 @@
 pub mod OneVerdict
+pub mod OneStatus

@@ -5,25 +5,25 @@ use Rattle.residue_theory.proofs.Primes.{prime_65521, prime_2147483647}
 use Rattle.mixed_model.specs.Models.{mixed_matrix_of}
 use Rattle.cert_text.specs.Contents.{Certificate}
 use Rattle.cert_text.specs.Texts.{certificate_text}
-use Rattle.cert_reader.specs.CertLines.{IsCertificate, certificate_lines}
+use Rattle.cert_reader.specs.CertLines.{IsCertificate, IsNoCertificate, certificate_lines}
 use Rattle.cert_reader.specs.Limits.{certificate_limit}
 use Rattle.cert_reader.proofs.Lines.{one_refused}
 use Rattle.cert_reader.proofs.Theorem.{one_certificate}
 use Rattle.cert_checker.specs.Answers.{IsRejected, IsRightFor}
 use Rattle.cert_checker.proofs.OneVerdict.{not-both, one-rule}
 use Rattle.input_kinds.proofs.ByKind.{given-unrefused, gives-one}
-use Rattle.cert_verdict.specs.Verdicts.{BreaksFirst, IsAccepted, IsNoCertificate, IsRejectedBy, IsVerdict, KeepsRules}
+use Rattle.cert_verdict.specs.Verdicts.{BreaksFirst, IsAccepted, IsRejectedBy, IsVerdict, KeepsRules}
 use Rattle.cert_verdict.specs.declared.judging.NotAccepted.{NotAccepted}
 use Rattle.cert_verdict.specs.declared.judging.NotAccepted.TheVariants.{NoMemory, Refused as Unread, Rejected}
 
 -- the modulus of a certificate
-prime-modulus : (c : Certificate) → IsCertificate c → IsPrime c.modulus
+pub prime-modulus : (c : Certificate) → IsCertificate c → IsPrime c.modulus
 prime-modulus c is = elim is.field [
   | inl small ↦ subst IsPrime (sym small) prime_65521
   | inr large ↦ subst IsPrime (sym large) prime_2147483647
 ]
 
-big-modulus : (c : Certificate) → IsCertificate c → 2 < c.modulus
+pub big-modulus : (c : Certificate) → IsCertificate c → 2 < c.modulus
 big-modulus c is = elim is.field [
   | inl small ↦ omega (arith, small)
   | inr large ↦ omega (arith, large)

@@ -4,7 +4,7 @@ use Rattle.refusals.specs.declared.Refused.{Refused}
 use Rattle.mixed_model.specs.Models.{MixedModel, mixed_matrix_of}
 use Rattle.cert_text.specs.Contents.{Certificate}
 use Rattle.cert_text.specs.Texts.{certificate_text}
-use Rattle.cert_reader.specs.CertLines.{IsCertificate, IsRefused as IsRefusedLine}
+use Rattle.cert_reader.specs.CertLines.{IsCertificate, IsNoCertificate}
 use Rattle.cert_reader.specs.Limits.{certificate_limit}
 use Rattle.cert_checker.specs.Answers.{IsRejected, IsRightFor}
 use Rattle.input_kinds.specs.Kinds.{GivesModel, IsRefused}
@@ -43,11 +43,6 @@ pub record IsRejectedBy (text : List ℕ) (rule : ℕ) : Type 0 where
   pub is : IsCertificate certificate
   pub text_is : text ≡ certificate_text certificate
   pub broken : BreaksFirst certificate rule
-
--- no certificate has the text, and this line of it is the first that is refused
-pub record IsNoCertificate (text : List ℕ) (line : ℕ) : Type 0 where
-  pub none : (certificate : Certificate) → IsCertificate certificate → text ≢ certificate_text certificate
-  pub refused : IsRefusedLine text line
 
 -- why a text is not accepted: no certificate has it, or it breaks a rule, or memory ran out
 abbrev pub IsWhyNotAccepted : List ℕ → NotAccepted → Type 0

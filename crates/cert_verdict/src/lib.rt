@@ -3,5 +3,6 @@
 
 mod judging;
 pub mod laws;
+mod status;
 
 pub use judging::{Accepted, AnyAccepted, NotAccepted, accept, judge};

@@ -1,13 +1,17 @@
 -- What holds of texts of each kind.
-use Rattle.std.proofs.Common.{◌≡◌, ℕ, ◌+◌, List, ap, sym, ◌∙◌}
+use Rattle.std.proofs.Common.{◌≡◌, ℕ, ◌+◌, ◌<◌, List, ap, sym, ◌∙◌, ◌⊎◌}
 use Rattle.refusals.specs.declared.Refused.{Refused}
 use Rattle.refusals.specs.declared.Place.TheVariants.{Line}
 use Rattle.refusals.specs.declared.Why.{Why}
+use Rattle.residue_theory.specs.Residues.{IsPrime}
 use Rattle.mixed_model.specs.Models.{MixedModel, IsModel}
+use Rattle.matrix_reader.proofs.EachText.{text_answered}
 use Rattle.matrix_reader.proofs.FirstBroken.{gives-unbroken, first_broken-one}
 use Rattle.matrix_reader.proofs.ModelLaws.{text_gives_one}
+use Rattle.netlist_reader.proofs.EachText.{netlist_answered}
 use Rattle.netlist_reader.proofs.ModelLaws as netlists
 use Rattle.netlist_reader.proofs.ModelLaws.{gives-unrefused, one_refusal}
+use Rattle.flowsheet_reader.proofs.EachText.{flowsheet_answered}
 use Rattle.flowsheet_reader.proofs.ModelLaws as flowsheets
 use Rattle.cert_text.specs.declared.kind.Kind.{Kind}
 use Rattle.cert_text.specs.declared.kind.Kind.TheVariants.{Flowsheet, Matrix, Netlist}
@@ -43,3 +47,10 @@ module _ (p : ℕ) where
       is ∙ ap (λ k. at k v) same.0 ∙ ap (λ why. at n why) same.1 ∙ sym is_other
   refused-alone Netlist text refused other is is_other = one_refusal p text refused other is is_other
   refused-alone Flowsheet text refused other is is_other = flowsheets.one_refusal p text refused other is is_other
+
+  -- each text gives a model or is refused
+  pub answered : IsPrime p → 2 < p → (kind : Kind) (text : List ℕ) →
+      ((model : MixedModel) × GivesModel p kind text model) ⊎ ((refused : Refused) × IsRefused p kind text refused)
+  answered prime odd Matrix text = text_answered p prime text
+  answered prime odd Netlist text = netlist_answered p prime text
+  answered prime odd Flowsheet text = flowsheet_answered p odd text

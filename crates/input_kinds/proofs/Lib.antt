@@ -1,1 +1,4 @@
 pub mod ByKind
+pub mod OneStatus
+pub mod Pumped
+pub mod Unread

@@ -1,3 +1,1 @@
-mod Noting
 mod Runs
-mod Ends

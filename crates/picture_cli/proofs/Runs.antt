@@ -1,33 +1,21 @@
--- A run has one answer to a whole input.
-use Rattle.std.proofs.Common.{◌≡◌, ◌≢◌, ℕ, ◌+◌, ◌≤◌, ◌<◌, ◌⊎◌, List, ◌++◌, length, Option, Some, None, Result, Ok, Err}
-use Rattle.std.proofs.Common.{refl, sym, ◌∙◌, ap, subst, arith, inl, inr, append-nil}
-use Rattle.std.proofs.lemmas.List.{length-append}
-use Rattle.port_io.specs.Bytes.{Ended, Took}
+-- All answers to an input have one status.
+use Rattle.std.proofs.Common.{◌≡◌, ℕ, ◌≤◌, ◌<◌, ◌⊎◌, List, length}
+use Rattle.std.proofs.Common.{refl, sym, ◌∙◌, ap, arith, inl, inr, subst}
+use Rattle.cert_text.specs.Contents.{Certificate}
 use Rattle.cert_reader.specs.Limits.{certificate_limit}
-use Rattle.cert_verdict.specs.Verdicts.{IsAccepted, IsVerdict}
-use Rattle.cert_verdict.specs.declared.judging.NotAccepted.{NotAccepted}
-use Rattle.cert_verdict.specs.declared.judging.NotAccepted.TheVariants.{NoMemory, Refused as Unread, Rejected as BreaksRule}
-use Rattle.cert_verdict.proofs.OneVerdict.{one-verdict}
+use Rattle.cert_verdict.specs.Statuses.{IsUnaccepted}
+use Rattle.cert_verdict.specs.Verdicts.{IsAccepted, IsAcceptedAs}
+use Rattle.cert_verdict.specs.declared.judging.Accepted.{Accepted}
+use Rattle.cert_verdict.proofs.OneStatus.{accepted-no-fault, one-unaccepted}
+use Rattle.matrix_picture.specs.Orders.{order_of}
 use Rattle.matrix_picture.specs.Texts.{picture_text}
-use Rattle.picture_cli.specs.Answer.{Answered, IsAnswer, IsDrawnFor, IsPictureOf, ReadsAll, Tells}
-use Rattle.picture_cli.specs.Drawings.{drawing_text}
-use Rattle.picture_cli.specs.Statuses.{status_of_verdict}
+use Rattle.mixed_layering.specs.Layers.{AreLayersOf}
+use Rattle.picture_cli.specs.Answer.{IsDrawnFor, IsPictureAnswer, IsPictureOf}
+use Rattle.picture_cli.specs.Drawings.{IsLaidOut, drawing_text}
 use Rattle.picture_cli.specs.declared.drawing.Drawing.{Drawing}
-use Rattle.picture_cli.specs.declared.status.Status.{Status}
-use Rattle.picture_cli.specs.declared.status.Status.TheVariants.{BadCertificate, Done, Memory, ReadFault, Rejected, TooLong, WriteFault}
-
--- what was taken of a known input is no longer than it
-took_prefix : (input : List ℕ) (after : Option (List ℕ)) (read : List ℕ) → Took (Some input) after read → length read ≤ length input
-took_prefix input None read took = absurd took
-took_prefix input (Some rest) read took = let long : length input ≡ length read + length rest = ap length took ∙ length-append read rest in omega (arith, long)
-
--- what was taken of a known input, to its end, is that input
-took_whole : (input : List ℕ) (after : Option (List ℕ)) (read : List ℕ) → Took (Some input) after read → Ended after → read ≡ input
-took_whole input None read took ended = absurd took
-took_whole input (Some rest) read took ended = sym (took ∙ ap (λ r. read ++ r) ended ∙ append-nil read)
-
-at_input : (left after : Option (List ℕ)) (input read : List ℕ) → left ≡ Some input → Took left after read → Took (Some input) after read
-at_input left after input read is took = let P : Option (List ℕ) → Type 0 = λ l. Took l after read in subst P is took
+use Rattle.run_ends.specs.declared.status.Status.{Status}
+use Rattle.run_ends.specs.declared.status.Status.TheVariants.{BadCertificate, Done, Memory, NotRegular, ReadFault}
+use Rattle.run_ends.specs.declared.status.Status.TheVariants.{Refused, Rejected, TooLong, Usage, WriteFault}
 
 -- the picture of what is drawn for an input
 pub picture-of : (input : List ℕ) (drawing : Drawing ℕ) → IsDrawnFor input drawing → IsPictureOf input (drawing_text drawing)
@@ -40,19 +28,14 @@ picture-of input drawing drawn = record {
   text_is = ap (picture_text drawing.model drawing.layered drawing.certificate.ccf) drawn.placed;
 }
 
--- the status of a verdict
-abbrev status_of : Result (Unit {0}) NotAccepted → Status
-status_of (Ok accepted) = Done
-status_of (Err why) = status_of_verdict why
-
--- the input is too long, or a certificate that is judged
-abbrev IsLong : List ℕ → Status → Type 0
-IsLong input status = (status ≡ TooLong certificate_limit) × (certificate_limit < length input)
-
-abbrev IsJudged : List ℕ → Status → Type 0
-IsJudged input status =
-    (length input ≤ certificate_limit) × ((verdict : Result (Unit {0}) NotAccepted) × (status ≡ status_of verdict)
-    × IsVerdict input verdict × (verdict ≢ Err NoMemory))
+-- what is placed of an accepted certificate is drawn for its text
+pub drawn-for : (text : List ℕ) (accepted : Accepted ℕ) (drawing : Drawing ℕ) → IsAcceptedAs text accepted.certificate accepted.model →
+    IsLaidOut accepted drawing → IsDrawnFor text drawing
+drawn-for text accepted drawing is laid = record {
+  accepted = subst (λ c. IsAcceptedAs text c drawing.model) (sym laid.certificate) (subst (λ m. IsAcceptedAs text accepted.certificate m) (sym laid.model) is);
+  are = subst (λ m. AreLayersOf m drawing.layered) (sym laid.model) laid.are;
+  placed = laid.placed ∙ ap (λ (c : Certificate). order_of c.ccf) (sym laid.certificate);
+}
 
 accepted-of : (input text : List ℕ) → IsPictureOf input text → IsAccepted input
 accepted-of input text is = record {
@@ -62,47 +45,44 @@ accepted-of input text is = record {
   keeps = record { model = is.model; gives = is.accepted.gives; right = is.accepted.right };
 }
 
-ends : (input : List ℕ) (status : Status) (text : List ℕ) → IsAnswer input status text → IsLong input status ⊎ IsJudged input status
-ends input Done text (short, is) = inr (short, (Ok tt, refl, accepted-of input text is, λ e. absurd cc))
+-- the input is too long, or it is not accepted, or it is
+abbrev IsLong : List ℕ → Status → Type 0
+IsLong input status = (status ≡ TooLong certificate_limit) × (certificate_limit < length input)
+
+abbrev IsFaulty : List ℕ → Status → Type 0
+IsFaulty input status = (length input ≤ certificate_limit) × IsUnaccepted input status
+
+abbrev IsDrawn : List ℕ → Status → Type 0
+IsDrawn input status = (length input ≤ certificate_limit) × IsAccepted input × (status ≡ Done)
+
+abbrev Ends : List ℕ → Status → Type 0
+Ends input status = IsLong input status ⊎ (IsFaulty input status ⊎ IsDrawn input status)
+
+ends : (input : List ℕ) (status : Status) (text : List ℕ) → IsPictureAnswer input status text → Ends input status
+ends input Done text (short, (is, picture)) = inr (inr (short, accepted-of input text picture, refl))
+ends input NotRegular text (short, (is, picture)) = absurd cc
+ends input Usage text answer = absurd answer
+ends input (Refused refused) text (short, fault, empty) = absurd fault
 ends input (TooLong limit) text (is, long, empty) = inl (ap TooLong is, long)
-ends input (BadCertificate line) text (short, fault, empty) = inr (short, (Err (Unread line), refl, fault, λ e. absurd cc))
+ends input (BadCertificate line) text (short, fault, empty) = inr (inl (short, fault))
 ends input ReadFault text answer = absurd answer
 ends input WriteFault text answer = absurd answer
 ends input Memory text answer = absurd answer
-ends input (Rejected rule) text (short, fault, empty) = inr (short, (Err (BreaksRule rule), refl, fault, λ e. absurd cc))
+ends input (Rejected rule) text (short, fault, empty) = inr (inl (short, fault))
 
-one-answer : (input : List ℕ) (a b : Status) → IsLong input a ⊎ IsJudged input a → IsLong input b ⊎ IsJudged input b → a ≡ b
-one-answer input a b (inl (is, long)) (inl (are, longer)) = is ∙ sym are
-one-answer input a b (inl (is, long)) (inr (short, other)) = absurd (omega (arith, long, short))
-one-answer input a b (inr (short, other)) (inl (are, long)) = absurd (omega (arith, long, short))
-one-answer input a b (inr (short, (verdict, is, said, some))) (inr (shorter, (other, are, others, another))) =
-    is ∙ ap status_of (one-verdict input short verdict other said others some another) ∙ sym are
+not-long : {A : Type 0} (input : List ℕ) → certificate_limit < length input → length input ≤ certificate_limit → A
+not-long input long short = absurd (omega (arith, long, short))
 
-module _ (left after written written' : Option (List ℕ)) where
-  -- where no fault came, no other answer than the one given is one
-  module _ (input : List ℕ) (is : left ≡ Some input) where
-    whole-end : (status : Status) (text read : List ℕ) → Took left after read → Ended after → IsAnswer read status text →
-        IsLong input status ⊎ IsJudged input status
-    whole-end status text read took ended answer =
-        ends input status text (subst (λ r. IsAnswer r status text) (took_whole input after read (at_input left after input read is took) ended) answer)
+one-end : (input : List ℕ) (a b : Status) → Ends input a → Ends input b → a ≡ b
+one-end input a b (inl (is, long)) (inl (are, longer)) = is ∙ sym are
+one-end input a b (inl (is, long)) (inr (inl (short, fault))) = not-long input long short
+one-end input a b (inl (is, long)) (inr (inr (short, accepted, are))) = not-long input long short
+one-end input a b (inr (inl (short, fault))) (inl (are, long)) = not-long input long short
+one-end input a b (inr (inr (short, accepted, is))) (inl (are, long)) = not-long input long short
+one-end input a b (inr (inl (short, one))) (inr (inl (shorter, two))) = one-unaccepted input a b short one two
+one-end input a b (inr (inl (short, fault))) (inr (inr (shorter, accepted, are))) = accepted-no-fault input a short accepted fault
+one-end input a b (inr (inr (short, accepted, is))) (inr (inl (shorter, fault))) = accepted-no-fault input b short accepted fault
+one-end input a b (inr (inr (short, accepted, is))) (inr (inr (shorter, other, are))) = is ∙ sym are
 
-    told : (status : Status) → Tells status (Answered left after written written' status) → ReadsAll status (Ended after) →
-        (status ≡ ReadFault → ⊥) → (status ≡ WriteFault → ⊥) → (IsLong input status ⊎ IsJudged input status) ⊎ (status ≡ Memory)
-    told Done a ended no_read no_write = inl (whole-end Done a.text a.read a.took ended a.answer)
-    told (TooLong limit) a ended no_read no_write =
-        let short : length a.read ≤ length input = took_prefix input after a.read (at_input left after input a.read is a.took) in
-        let long : certificate_limit < length a.read = a.answer.1 in
-        inl (inl (ap TooLong a.answer.0, omega (arith, short, long)))
-    told (BadCertificate line) a ended no_read no_write = inl (whole-end (BadCertificate line) a.text a.read a.took ended a.answer)
-    told ReadFault a ended no_read no_write = absurd (no_read refl)
-    told WriteFault a ended no_read no_write = absurd (no_write refl)
-    told Memory a ended no_read no_write = inr refl
-    told (Rejected rule) a ended no_read no_write = inl (whole-end (Rejected rule) a.text a.read a.took ended a.answer)
-
-    pub only : (status : Status) → Tells status (Answered left after written written' status) → ReadsAll status (Ended after) →
-        (status ≡ ReadFault → ⊥) → (status ≡ WriteFault → ⊥) → (answer : Status) (text : List ℕ) → IsAnswer input answer text →
-        (status ≡ answer) ⊎ (status ≡ Memory)
-    only status tells ended no_read no_write answer text given = elim (told status tells ended no_read no_write) [
-      | inl own ↦ inl (one-answer input status answer own (ends input answer text given))
-      | inr memory ↦ inr memory
-    ]
+pub one-answer : (input : List ℕ) (a b : Status) (text other : List ℕ) → IsPictureAnswer input a text → IsPictureAnswer input b other → a ≡ b
+one-answer input a b text other one two = one-end input a b (ends input a text one) (ends input b other two)

@@ -18,7 +18,7 @@ abbrev pub drawing_text : {T : Type 0} → Drawing T → List ℕ
 drawing_text drawing = picture_text drawing.model drawing.layered drawing.certificate.ccf drawing.layout
 
 -- the certificate and the model that were accepted, with the layered matrix of the model and the order of the form
-pub record IsPlaced {T : Type 0} (accepted : Accepted T) (drawing : Drawing T) : Type 0 where
+pub record IsLaidOut {T : Type 0} (accepted : Accepted T) (drawing : Drawing T) : Type 0 where
   pub certificate : drawing.certificate ≡ accepted.certificate
   pub model : drawing.model ≡ accepted.model
   pub are : AreLayersOf accepted.model drawing.layered

@@ -1,16 +1,15 @@
 //! What is drawn of an input.
 
-ghost use Rattle.std.specs.Prelude.{◌≡◌, ◌≢◌, ◌≤◌, IfErr, IfOk, Err, length};
-ghost use Rattle.port_io.specs.Causes.{Rose};
+ghost use Rattle.std.specs.Prelude.{IfErr, IfOk};
 ghost use Rattle.text_writer.specs.Giving.{IsWritten};
 ghost use Rattle.cert_reader.specs.Limits.{certificate_limit};
 ghost use Rattle.cert_verdict.specs.Accepted.{accepted_in};
 ghost use Rattle.text_writer.specs.Texts.{Puts};
-ghost use Rattle.picture_cli.specs.declared.status.Status.{Status};
-ghost use Rattle.picture_cli.specs.Answer.{IsDrawnFor, IsUnread, IsWhyUndrawn, ReadsWhole};
-ghost use Rattle.picture_cli.specs.Drawings.{IsPlaced, drawing_in, drawing_text};
+ghost use Rattle.run_ends.specs.Reading.{IsUnread, ReadsWhole, TellsOfSource};
+ghost use Rattle.cert_verdict.specs.Statuses.{IsUnaccepted};
+ghost use Rattle.picture_cli.specs.Answer.{IsDrawnFor};
+ghost use Rattle.picture_cli.specs.Drawings.{IsLaidOut, drawing_in, drawing_text};
 
-use crate::status::Status;
 use cert_reader::CERTIFICATE_LIMIT;
 use cert_text::Certificate;
 use cert_verdict::{Accepted, AnyAccepted, accept};
@@ -18,8 +17,9 @@ use matrix_picture::{Layout, put_picture};
 use mixed_layering::layer;
 use mixed_model::{Layered, Mixed};
 use out_of_memory::NoMemory;
-use port_io::{Sink, Source, WriteFault, read_all};
+use port_io::{Sink, Source, WriteFault};
 use residue_field::{Field, Res, Res31};
+use run_ends::{Status, read_text};
 use std::alloc::Global;
 use text_writer::TextWriter;
 
@@ -43,37 +43,20 @@ pub enum AnyDrawing {
 
 /// What is drawn of the input that the source gives, or how the run ends without it.
 pub fn read_drawing<S: Source>(alloc: Global, source: &mut S) -> Result<AnyDrawing, Status>
-    ensures right { IfOk result (λ any. ReadsWhole (S.left source.old) (S.left source.new) (λ input.
-        IsDrawnFor input (drawing_in any))) }
-    ensures unread { IfErr result (λ status. IsUnread status (S.left source.old) (S.left source.new)) }
-    ensures fault { result ≡ Err Status.ReadFault → Rose (S.faults source.old) (S.faults source.new) }
-    ensures told { result ≢ Err Status.ReadFault → S.faults source.new ≡ S.faults source.old }
-    ensures later { S.faults source.old ≤ S.faults source.new }
+    ensures right { IfOk result (λ any. ReadsWhole certificate_limit (S.left source.old) (S.left source.new)
+        (λ input. IsDrawnFor input (drawing_in any))) }
+    ensures unread { IfErr result (λ status.
+        IsUnread certificate_limit IsUnaccepted status (S.left source.old) (S.left source.new)) }
+    ensures source { TellsOfSource S.Source certificate_limit source.old source.new result }
 {
-    match read_all(alloc, source, CERTIFICATE_LIMIT as u64) {
-        Ok(text) => draw(alloc, text),
-        Err(error) => Err(Status::unread(error, CERTIFICATE_LIMIT as u64)),
-    }
-}
-
-// What is drawn of a text, or why it is not.
-fn draw(alloc: Global, text: Vec<u8>) -> Result<AnyDrawing, Status>
-    requires { length text.items ≤ certificate_limit }
-    ensures right { IfOk result (λ any. IsDrawnFor text.items (drawing_in any)) }
-    ensures why { IfErr result (IsWhyUndrawn text.items) }
-{
-    match accept(alloc, text) {
-        Ok(accepted) => match place_any(alloc, accepted) {
-            Ok(drawing) => Ok(drawing),
-            Err(_) => Err(Status::Memory),
-        },
-        Err(why) => Err(Status::of_verdict(why)),
-    }
+    let text = read_text(alloc, source, CERTIFICATE_LIMIT as u64)?;
+    let accepted = accept(alloc, text)?;
+    Ok(place_any(alloc, accepted)?)
 }
 
 // What is drawn of an accepted certificate, of whichever field.
 fn place_any(alloc: Global, any: AnyAccepted) -> Result<AnyDrawing, NoMemory>
-    ensures { IfOk result (λ drawing. IsPlaced (accepted_in any) (drawing_in drawing)) }
+    ensures { IfOk result (λ drawing. IsLaidOut (accepted_in any) (drawing_in drawing)) }
 {
     match any {
         AnyAccepted::Small(accepted) => Ok(AnyDrawing::Small(place(alloc, accepted)?)),
@@ -83,7 +66,7 @@ fn place_any(alloc: Global, any: AnyAccepted) -> Result<AnyDrawing, NoMemory>
 
 // What is drawn of an accepted certificate.
 fn place<F: Field>(alloc: Global, accepted: Accepted<F>) -> Result<Drawing<F>, NoMemory>
-    ensures { IfOk result (IsPlaced accepted) }
+    ensures { IfOk result (IsLaidOut accepted) }
 {
     let layered = layer(alloc, &accepted.model)?;
     let layout = Layout::of(alloc, &accepted.certificate.ccf)?;

@@ -3,8 +3,6 @@
 
 mod drawing;
 mod running;
-mod status;
-mod telling;
 
+pub use run_ends::Status;
 pub use running::run;
-pub use status::Status;

@@ -1,14 +1,10 @@
-pub mod Noting
 pub mod ByKind
 pub mod FieldFacts
 pub mod Outputs
 pub mod ReportFacts
 pub mod Ends
-pub mod Delivered
 pub mod Runs
 pub mod RunWords
 pub mod Making
 pub mod Certified
 pub mod TextRooms
-pub mod Pumped
-pub mod Unread

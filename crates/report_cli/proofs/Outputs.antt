@@ -14,23 +14,28 @@ use Rattle.residue_field.specs.declared.field_name.FieldName.{FieldName}
 use Rattle.command_line.specs.declared.command.Task.TheVariants as Task
 use Rattle.report_cli.specs.declared.output.Output.{Output}
 use Rattle.report_cli.specs.declared.output.Output.TheVariants.{Accepted, Certificate, Layers, Made, Plan, Report}
-use Rattle.report_cli.specs.declared.status.Status.TheVariants.{Done, NotRegular}
-use Rattle.report_cli.specs.Answer.{HasText}
+use Rattle.run_ends.specs.declared.status.Status.TheVariants.{Done, NotRegular}
+use Rattle.run_ends.specs.Ways.{HasText}
 use Rattle.report_cli.specs.Formats.{KeepsRules}
 use Rattle.input_kinds.specs.Kinds.{GivesModel}
 use Rattle.command_line.specs.Words.{format_of}
+use Rattle.report_cli.specs.Fields.{command_modulus, version_of}
+use Rattle.report_cli.specs.RightFor.{IsRightFor}
+use Rattle.report_cli.proofs.Certified.{is-certificate}
 use Rattle.report_cli.specs.Outputs.{IsOutputFor, IsWritable, end_of, end_of_rank}
 
 -- an output on an input can be written
-pub writable : {T : Type 0} (number : T → ℕ) (p : ℕ) (command : Command) (input : List ℕ) (output : Output T) →
+pub writable : {T : Type 0} (number : T → ℕ) (p : ℕ) (command : Command) (input : List ℕ) (output : Output T) → p ≡ command_modulus command →
     IsOutputFor number p command input output → IsWritable p output
-writable number p command input (Certificate certificate) (kind, field, is, right) = right.short
-writable number p command input (Layers model layers) (kind, field, is, gives, are, whole) = are
-writable number p command input (Report model told) (kind, field, is, gives, reports) = reports
-writable number p command input (Plan model layers plan) (kind, field, is, right) =
+writable number p command input (Certificate certificate) over_field (kind, field, is, right) =
+    is-certificate field kind input certificate (subst (λ m. IsRightFor m (version_of field) kind input certificate)
+    (over_field ∙ ap command_modulus is) right)
+writable number p command input (Layers model layers) over_field (kind, field, is, gives, are, whole) = are
+writable number p command input (Report model told) over_field (kind, field, is, gives, reports) = reports
+writable number p command input (Plan model layers plan) over_field (kind, field, is, right) =
     (right.are, steps-in number p model (is-model p kind input model right.gives) layers right.are right.whole right.ccf right.form right.right plan right.is)
-writable number p command input Accepted (is, accepted) = tt
-writable number p command input (Made size split ccf) right = tt
+writable number p command input Accepted over_field (is, accepted) = tt
+writable number p command input (Made size split ccf) over_field right = tt
 
 -- an input that has an output keeps each rule
 pub keeps-rules : {T : Type 0} (number : T → ℕ) (p : ℕ) (command : Command) (input : List ℕ) (output : Output T) →

@@ -18,17 +18,17 @@ members-few : (n : ℕ) (A : ℕ → Type 0) (list : List ℕ) → AreMembersOf 
 members-few n A list are = rising-few n list are.rising (members-within n A list are)
 
 module _ (p : ℕ) (M : MixedMatrix) (told : Report) (reports : IsReportOf p M told) where
-  pub surplus-within : All (λ equation. equation < M.rows) told.surplus.items
-  surplus-within = members-within M.rows _ told.surplus.items reports.surplus
+  pub surplus-within : All (λ equation. equation < M.rows) told.surplus
+  surplus-within = members-within M.rows _ told.surplus reports.surplus
 
-  pub undetermined-within : All (λ unknown. unknown < M.columns) told.undetermined.items
-  undetermined-within = members-within M.columns _ told.undetermined.items reports.undetermined
+  pub undetermined-within : All (λ unknown. unknown < M.columns) told.undetermined
+  undetermined-within = members-within M.columns _ told.undetermined reports.undetermined
 
-  pub surplus-few : length told.surplus.items ≤ M.rows
-  surplus-few = members-few M.rows _ told.surplus.items reports.surplus
+  pub surplus-few : length told.surplus ≤ M.rows
+  surplus-few = members-few M.rows _ told.surplus reports.surplus
 
-  pub undetermined-few : length told.undetermined.items ≤ M.columns
-  undetermined-few = members-few M.columns _ told.undetermined.items reports.undetermined
+  pub undetermined-few : length told.undetermined ≤ M.columns
+  undetermined-few = members-few M.columns _ told.undetermined reports.undetermined
 
   module _ (prime : IsPrime p) where
     rank-low : (told.rank ≤ M.rows) × (told.rank ≤ M.columns)

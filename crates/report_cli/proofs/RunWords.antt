@@ -1,17 +1,20 @@
 -- The answers of a run, by its words.
 use Rattle.std.proofs.Common.{◌≡◌, ◌≤◌, ◌⊎◌, ℕ, length, List, [], Option, Some, None, refl, sym, subst, append-nil, arith, inl, inr}
 use Rattle.port_io.specs.Bytes.{Appended, Took, TookAtMost}
-use Rattle.report_cli.specs.Answer.{Answered, CutShort, HasText, IsAnswer, IsAnswerOf, IsCommandAnswer, IsComplete, IsMakeAnswer, OnlyAnswer, TakesBy, Tells}
+use Rattle.run_ends.specs.Answers.{Answered, CutShort, OnlyAnswer}
+use Rattle.run_ends.specs.Ways.{HasText, TakesBy, TellsAnswer}
+use Rattle.report_cli.specs.Answer.{IsAnswer, IsAnswerOf, IsCommandAnswer, IsComplete, IsMakeAnswer}
 use Rattle.report_cli.specs.Fields.{command_modulus}
 use Rattle.report_cli.specs.Formats.{KeepsRules, limit_of}
 use Rattle.report_cli.specs.Statuses.{status_of_words}
+use Rattle.run_ends.proofs.Taking.{appended_nothing, took_none, took_nothing}
 use Rattle.command_line.specs.Words.{AsksFor, AsksForNothing, IsWhy, format_of}
 use Rattle.command_line.specs.declared.command.Command.{Command}
 use Rattle.command_line.specs.declared.command.WordsError.{WordsError}
 use Rattle.command_line.specs.declared.command.WordsError.TheVariants.{Told, UnknownWord, NoMemory}
-use Rattle.report_cli.specs.declared.status.Status.{Status}
-use Rattle.report_cli.specs.declared.status.Status.TheVariants.{BadCertificate, Done, Memory, NotRegular, ReadFault}
-use Rattle.report_cli.specs.declared.status.Status.TheVariants.{Refused, Rejected, TooLong, Usage, WriteFault}
+use Rattle.run_ends.specs.declared.status.Status.{Status}
+use Rattle.run_ends.specs.declared.status.Status.TheVariants.{BadCertificate, Done, Memory, NotRegular, ReadFault}
+use Rattle.run_ends.specs.declared.status.Status.TheVariants.{Refused, Rejected, TooLong, Usage, WriteFault}
 use Rattle.command_line.specs.declared.command.Request.TheVariants.{Make, OfInput}
 use Rattle.command_line.proofs.Asking.{asks-one, not-both}
 
@@ -41,7 +44,7 @@ of_command words command input (Rejected rule) text asks given = asked words com
 
 pub only_for : (words : List (List ℕ)) (command : Command) (left : Option (List ℕ)) (status : Status) → AsksFor words command →
     ((input : List ℕ) (answer : Status) (text : List ℕ) → left ≡ Some input → IsAnswerOf command input answer text → (status ≡ answer) ⊎ (status ≡ Memory)) →
-    OnlyAnswer words left status
+    OnlyAnswer (IsAnswer words) left status
 only_for words command left status asks only = λ input answer text is given. only input answer text is (of_command words command input answer text asks given)
 
 pub complete_for : (words : List (List ℕ)) (command : Command) (left : Option (List ℕ)) (status : Status) → AsksFor words command →
@@ -53,7 +56,7 @@ complete_for words command left status asks done = λ input other is asks_other 
     done input is (subst (λ c. length input ≤ limit_of (format_of c)) same short) (subst (λ c. KeepsRules (command_modulus c) (format_of c) input) same keeps)
 
 -- a text that is written by the command is one by the words
-written-for : (words : List (List ℕ)) (command : Command) (input : List ℕ) (status : Status) (text : List ℕ) → AsksFor words command → HasText status →
+pub written-for : (words : List (List ℕ)) (command : Command) (input : List ℕ) (status : Status) (text : List ℕ) → AsksFor words command → HasText status →
     IsAnswerOf command input status text → IsAnswer words input status text
 written-for words command input status text asks (inl done) answer =
     subst (λ s. IsAnswer words input s text) (sym done) (inl (command, asks, subst (λ s. IsAnswerOf command input s text) done answer))
@@ -78,17 +81,6 @@ pub of_each_asked : (P : Command → Type 0) (words : List (List ℕ)) (command 
 of_each_asked P words command asks holds other asks_other = subst P (asks-one words command other asks asks_other) holds
 
 -- nothing is read and written for words that ask for nothing
-pub took_nothing : (left : Option (List ℕ)) → Took left left []
-took_nothing None = tt
-took_nothing (Some bytes) = refl
-
-pub appended_nothing : (written : Option (List ℕ)) → Appended written written []
-appended_nothing None = tt
-appended_nothing (Some bytes) = sym (append-nil bytes)
-
-took_none : (most : ℕ) (left : Option (List ℕ)) → TookAtMost most left left
-took_none most left = ([], omega arith, took_nothing left)
-
 pub untaken : (why : WordsError) (most : ℕ) (left : Option (List ℕ)) → TakesBy most (status_of_words why) left left
 untaken (Told text) most left = took_none most left
 untaken UnknownWord most left = took_none most left
@@ -104,13 +96,13 @@ usage_answered words left written never = record {
 }
 
 pub unasked_answered : (words : List (List ℕ)) (why : WordsError) (left written : Option (List ℕ)) → IsWhy words why →
-    Tells (status_of_words why) (Answered (IsAnswer words) left left written written (status_of_words why))
+    TellsAnswer (status_of_words why) (Answered (IsAnswer words) left left written written (status_of_words why))
 unasked_answered words (Told text) left written is = usage_answered words left written (λ request asks. is asks.0)
 unasked_answered words UnknownWord left written is = usage_answered words left written is.1
 unasked_answered words NoMemory left written is = tt
 
 -- words that ask for nothing have that answer alone
-usage-only : (words : List (List ℕ)) (input : List ℕ) (answer : Status) (text : List ℕ) → AsksForNothing words → IsAnswer words input answer text →
+pub usage-only : (words : List (List ℕ)) (input : List ℕ) (answer : Status) (text : List ℕ) → AsksForNothing words → IsAnswer words input answer text →
     Usage ≡ answer
 usage-only words input Done text never (inl (command, asks, given)) = absurd (never (OfInput command) asks)
 usage-only words input Done text never (inr (n, field, makes, told)) = absurd (never (Make n field) makes)
@@ -125,7 +117,7 @@ usage-only words input Memory text never (command, asks, given) = absurd (never 
 usage-only words input (Rejected rule) text never (command, asks, given) = absurd (never (OfInput command) asks)
 
 pub unasked-only : (words : List (List ℕ)) (why : WordsError) (left : Option (List ℕ)) → IsWhy words why →
-    OnlyAnswer words left (status_of_words why)
+    OnlyAnswer (IsAnswer words) left (status_of_words why)
 unasked-only words (Told told) left is = λ input answer text there given. inl (usage-only words input answer text (λ request asks. is asks.0) given)
 unasked-only words UnknownWord left is = λ input answer text there given. inl (usage-only words input answer text is.1 given)
 unasked-only words NoMemory left is = λ input answer text there given. inr refl

@@ -27,7 +27,6 @@ use Rattle.command_line.specs.Words.{format_of}
 use Rattle.command_line.specs.declared.command.Task.TheVariants as Task
 use Rattle.solve_plan.specs.Reports.{IsReportOf}
 use Rattle.solve_plan.specs.declared.told.Report.{Report as Told}
-use Rattle.dense_q.specs.Tables.{height}
 use Rattle.solve_plan.specs.declared.steps.Plan.{Plan}
 use Rattle.answer_texts.specs.LayerTexts.{layer_text}
 use Rattle.answer_texts.specs.MadeTexts.{made_text}
@@ -37,7 +36,7 @@ use Rattle.cert_text.specs.Texts.{certificate_text}
 use Rattle.residue_theory.specs.Residues.{IsPrime}
 use Rattle.answer_texts.specs.Rooms.{made_room}
 use Rattle.answer_texts.proofs.MadeLengths.{right-made-text-short}
-use Rattle.answer_texts.proofs.PlanFacts.{steps-few, steps-in, steps-short}
+use Rattle.answer_texts.proofs.PlanFacts.{columns-few, steps-few, steps-in, steps-short, sums-few, symbols-few}
 use Rattle.answer_texts.proofs.PlanLengths.{plan-text-short}
 use Rattle.answer_texts.proofs.ReportLengths.{report-text-short}
 use Rattle.report_cli.specs.PlanFor.{IsPlanFor}
@@ -57,10 +56,9 @@ members-few A n at m are = omega (arith, are.count, size-everything n, size_on-w
 
 -- the layered matrix of a model that a text gives has no more rows and columns than the text has room for
 pub record IsNarrow (kind : Kind) (n : ℕ) (L : LayeredMatrix) : Type 0 where
-  pub q_rows : L.q_rows ≤ columns_within kind n
-  pub t_rows : L.t_rows ≤ columns_within kind n
+  pub q_rows : L.q_rows ≤ places_within kind n
+  pub t_rows : L.t_rows ≤ places_within kind n
   pub columns : L.columns ≤ columns_within kind n
-  pub rows : L.q_rows + L.t_rows ≤ columns_within kind n
 
 narrow : (p : ℕ) (kind : Kind) (text : List ℕ) (model : MixedModel) (L : LayeredMatrix) (O : Origins) → GivesModel p kind text model →
     IsLayeredMatrixOf (mixed_matrix_of model) L O → IsNarrow kind (length text) L
@@ -77,11 +75,13 @@ narrow p kind text model L O gives are =
       q_rows = omega (arith, few.0, e, q);
       t_rows = omega (arith, few.0, e, t);
       columns = omega (arith, few.0, few.1, e, u, s, n);
-      rows = omega (arith, few.0, e, q, t);
     }
 
 few_columns : (kind : Kind) (n : ℕ) → columns_within kind n ≤ 8192
 few_columns kind n = omega arith
+
+few_places : (kind : Kind) (n : ℕ) → places_within kind n ≤ columns_within kind n
+few_places kind n = omega arith
 
 -- a number of no digits is 0
 pub some_digits : (p most : ℕ) → 0 < p → p < 10 ^ most → 0 < most
@@ -97,16 +97,17 @@ module _ {T : Type 0} (number : T → ℕ) (p most : ℕ) (some : 0 < most) (bel
   certificate-fits version kind input c right short =
       let low = narrow p kind input right.model right.layered right.origins right.gives right.layers in
       let shape = (right.right).shape in
-      let within : IsShapeWithin (columns_within kind (length input)) c.ccf.shape = record {
+      let within : IsShapeWithin (places_within kind (length input)) (columns_within kind (length input)) c.ccf.shape = record {
         q_rows = omega (arith, shape.q_rows, low.q_rows);
         t_rows = omega (arith, shape.t_rows, low.t_rows);
         columns = omega (arith, shape.columns, low.columns);
       } in
       let echo : length c.echo ≡ length input = ap length right.echo in
-      subst (λ v. length (certificate_text c) ≤ certificate_room v most (length input) (columns_within kind (length input))) right.version_is
+      subst (λ v. length (certificate_text c) ≤ certificate_room v most (length input) (places_within kind (length input)) (columns_within kind (length input)))
+      right.version_is
       (certificate-short p most some below (mixed_matrix_of right.model) right.layered right.origins c
-      (length input) (columns_within kind (length input)) right.modulus_is
-      (omega (arith, echo)) short (few_columns kind (length input)) right.form right.right within)
+      (length input) (places_within kind (length input)) (columns_within kind (length input)) right.modulus_is
+      (omega (arith, echo)) short right.form right.right within)
 
   layers-fit : (kind : Kind) (input : List ℕ) (model : MixedModel) (layers : Layers) → GivesModel p kind input model → AreLayersOf model layers →
       AreWholeLayers layers → length (layer_text model layers) ≤ task_room most One Task.Layer kind (length input)
@@ -115,7 +116,8 @@ module _ {T : Type 0} (number : T → ℕ) (p most : ℕ) (some : 0 < most) (bel
       omega (
         arith,
         layer-text-short p most some low_p model (is-model p kind input model gives) layers are whole
-            (columns_within kind (length input)) (few_columns kind (length input)) low.q_rows low.t_rows low.columns,
+            (columns_within kind (length input)) (few_columns kind (length input))
+            (omega (arith, few_places kind (length input), low.q_rows)) (omega (arith, few_places kind (length input), low.t_rows)) low.columns,
       )
 
   reports-fit : IsPrime p → (kind : Kind) (input : List ℕ) (model : MixedModel) (told : Told) → GivesModel p kind input model →
@@ -140,12 +142,15 @@ module _ {T : Type 0} (number : T → ℕ) (p most : ℕ) (some : 0 < most) (bel
   plans-fit kind input model layers plan right =
       let low = narrow p kind input model (layered_matrix_of layers) (origins_of layers (right.are).split) right.gives (right.are).layered in
       let is : IsModel p model = is-model p kind input model right.gives in
+      let m : ℕ = places_within kind (length input) in
       let k : ℕ = columns_within kind (length input) in
-      let rows : height layers.q + length layers.t.rows ≤ k = low.rows in
-      plan-text-short number p most some low_p model is layers k (few_columns kind (length input)) (length model.equations) layers.q.width plan
+      plan-text-short number p most some low_p model is layers m k (few_columns kind (length input)) (length model.equations) layers.q.width plan
       (steps-few number p model is layers right.are right.whole right.ccf right.form right.right plan right.is k low.columns)
       (steps-in number p model is layers right.are right.whole right.ccf right.form right.right plan right.is)
-      (steps-short number p model is layers right.are right.whole right.ccf right.form right.right plan right.is k rows low.columns)
+      (steps-short number p model is layers right.are right.whole right.ccf right.form right.right plan right.is m k low.q_rows low.columns)
+      (omega (arith, low.columns, columns-few number p model is layers right.are right.whole right.ccf right.form right.right plan right.is))
+      (omega (arith, low.q_rows, sums-few number p model is layers right.are right.whole right.ccf right.form right.right plan right.is))
+      (omega (arith, low.t_rows, symbols-few number p model is layers right.are right.whole right.ccf right.form right.right plan right.is))
 
   pub output_fits : IsPrime p → (command : Command) (input : List ℕ) (output : Output T) → IsOutputFor number p command input output →
       length input ≤ limit_of (format_of command) → length (output_text number output) ≤ text_room most command (length input)

@@ -1,15 +1,16 @@
 -- What an input is to be, what keeps that, and how a run ends on what does not.
-use Rattle.std.specs.Prelude.{ℕ, List}
+use Rattle.std.specs.Prelude.{ℕ, List, Option}
 use Rattle.limits.specs.Limits.{input_limit}
 use Rattle.cert_reader.specs.Limits.{certificate_limit}
-use Rattle.cert_text.specs.declared.kind.Kind.{Kind}
-use Rattle.cert_verdict.specs.Verdicts.{IsAccepted, IsNoCertificate, IsRejectedBy}
+use Rattle.cert_verdict.specs.Statuses.{IsUnaccepted}
+use Rattle.cert_verdict.specs.Verdicts.{IsAccepted}
 use Rattle.mixed_model.specs.Models.{MixedModel}
-use Rattle.input_kinds.specs.Kinds.{GivesModel, IsRefused}
+use Rattle.input_kinds.specs.Kinds.{GivesModel}
+use Rattle.input_kinds.specs.Refusals.{IsRefusedAs}
 use Rattle.command_line.specs.declared.command.Format.{Format}
 use Rattle.command_line.specs.declared.command.Format.TheVariants.{Certificate, Model}
-use Rattle.report_cli.specs.declared.status.Status.{Status}
-use Rattle.report_cli.specs.declared.status.Status.TheVariants.{BadCertificate, Done, Refused, Rejected}
+use Rattle.run_ends.specs.Reading.{IsUnread}
+use Rattle.run_ends.specs.declared.status.Status.{Status}
 
 -- how many bytes an input has at most
 abbrev pub limit_of : Format → ℕ
@@ -22,24 +23,11 @@ abbrev pub KeepsRules : ℕ → Format → List ℕ → Type 0
 KeepsRules p (Model kind) input = (model : MixedModel) × GivesModel p kind input model
 KeepsRules p Certificate input = IsAccepted input
 
--- it is a model of a kind of which this holds
-abbrev pub OfModel : Format → (Kind → Type 0) → Type 0
-OfModel (Model kind) Of = Of kind
-OfModel Certificate Of = ⊥
-
--- it is a certificate, and this holds
-abbrev pub OfCertificate : Format → Type 0 → Type 0
-OfCertificate (Model kind) holds = ⊥
-OfCertificate Certificate holds = holds
-
 -- the status tells the first rule that the input breaks
 abbrev pub IsFault : ℕ → Format → List ℕ → Status → Type 0
-IsFault p format input (Refused refused) = OfModel format (λ kind. IsRefused p kind input refused)
-IsFault p format input (BadCertificate line) = OfCertificate format (IsNoCertificate input line)
-IsFault p format input (Rejected rule) = OfCertificate format (IsRejectedBy input rule)
-IsFault p format input _ = ⊥
+IsFault p (Model kind) = IsRefusedAs p kind
+IsFault p Certificate = IsUnaccepted
 
--- how a run ends on an input that is not too long
-abbrev pub IsEnd : ℕ → Format → List ℕ → Status → Type 0
-IsEnd p format input Done = KeepsRules p format input
-IsEnd p format input status = IsFault p format input status
+-- why an input that is to be one of these gives no output
+abbrev pub GivesNothing : ℕ → Format → Status → Option (List ℕ) → Option (List ℕ) → Type 0
+GivesNothing p format status left left' = IsUnread (limit_of format) (IsFault p format) status left left'

@@ -1,4 +1,3 @@
-pub mod Numbers
 pub mod Fields
 pub mod Formats
 pub mod MadeFor
@@ -7,6 +6,6 @@ pub mod RightFor
 pub mod PlanFor
 pub mod Rooms
 pub mod Outputs
-pub mod Reading
 pub mod Statuses
 pub mod Answer
+pub mod Makes

@@ -1,9 +1,9 @@
 -- What a command writes of an input.
-use Rattle.std.specs.Prelude.{ℕ, ◌≡◌, ◌≤◌, ◌&&◌, List, Option, codes, if◌then◌else◌, leb, length}
+use Rattle.std.specs.Prelude.{ℕ, ◌≡◌, ◌&&◌, List, Option, codes, if◌then◌else◌, leb, length}
+use Rattle.cert_text.specs.Certificates.{IsCertificate}
 use Rattle.cert_text.specs.Texts.{certificate_text}
 use Rattle.cert_text.specs.declared.kind.Kind.{Kind}
 use Rattle.cert_verdict.specs.Verdicts.{IsAccepted}
-use Rattle.limits.specs.Limits.{input_limit}
 use Rattle.mixed_layering.specs.Layers.{AreLayersOf}
 use Rattle.mixed_model.specs.Models.{mixed_matrix_of}
 use Rattle.solve_plan.specs.Reports.{IsReportOf}
@@ -24,8 +24,8 @@ use Rattle.command_line.specs.declared.command.Command.TheVariants.{Check, OfMod
 use Rattle.residue_field.specs.declared.field_name.FieldName.{FieldName}
 use Rattle.command_line.specs.declared.command.Task.TheVariants as Task
 use Rattle.command_line.specs.declared.command.Task.TheVariants.{Analyse, Layer}
-use Rattle.report_cli.specs.declared.status.Status.{Status}
-use Rattle.report_cli.specs.declared.status.Status.TheVariants.{Done, NotRegular}
+use Rattle.run_ends.specs.declared.status.Status.{Status}
+use Rattle.run_ends.specs.declared.status.Status.TheVariants.{Done, NotRegular}
 use Rattle.report_cli.specs.declared.output.Output.{Output}
 use Rattle.report_cli.specs.declared.output.Output.TheVariants.{Accepted, Certificate, Layers, Made, Plan, Report}
 
@@ -75,10 +75,10 @@ abbrev pub IsMadeOutput : {T : Type 0} → ℕ → ℕ → Output T → Type 0
 IsMadeOutput p n (Made size split ccf) = (size ≡ n) × IsMadeFor p n split ccf
 IsMadeOutput p n output = ⊥
 
--- the echo is no longer than an input may be, the layers are those of the model, the report is one on the model, and
--- the steps of the plan name its columns and equations
+-- the certificate is one that may be read, the layers are those of the model, the report is one on the model, and the
+-- steps of the plan name its columns and equations
 abbrev pub IsWritable : {T : Type 0} → ℕ → Output T → Type 0
-IsWritable p (Certificate certificate) = length certificate.echo ≤ input_limit
+IsWritable p (Certificate certificate) = IsCertificate certificate
 IsWritable p (Layers model layers) = AreLayersOf model layers
 IsWritable p (Report model told) = IsReportOf p (mixed_matrix_of model) told
 IsWritable p (Plan model layers plan) =

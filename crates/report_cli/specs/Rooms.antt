@@ -26,17 +26,18 @@ names_within Flowsheet n = equation_limit
 abbrev pub columns_within : Kind → ℕ → ℕ
 columns_within kind n = min (2 * names_within kind n) column_limit
 
--- how many equations, and how many unknowns, its model has at most
+-- how many equations, and how many unknowns, its model has at most, and its layered matrix rows of each kind
 abbrev pub places_within : Kind → ℕ → ℕ
 places_within kind n = min (names_within kind n) equation_limit
 
 -- room for what is written of the model of an input of this kind and of n bytes, over a field whose modulus has at most
 -- so many digits; a certificate has this version
 abbrev pub task_room : ℕ → Version → Task → Kind → ℕ → ℕ
-task_room most version Analyse kind n = certificate_room version most n (columns_within kind n)
+task_room most version Analyse kind n =
+    certificate_room version most n (places_within kind n) (columns_within kind n)
 task_room most version Layer kind n = layer_room most (columns_within kind n)
 task_room most version Report kind n = report_room (places_within kind n)
-task_room most version Plan kind n = plan_room most (columns_within kind n)
+task_room most version Plan kind n = plan_room most (places_within kind n) (columns_within kind n)
 
 -- room for each text that may be written for an input of n bytes by this command, over such a field
 abbrev pub text_room : ℕ → Command → ℕ → ℕ

@@ -2,10 +2,8 @@
 #![tactic(auto)]
 
 mod output;
-mod reading;
 mod running;
-mod status;
 mod telling;
 
+pub use run_ends::Status;
 pub use running::run;
-pub use status::Status;

@@ -7,7 +7,7 @@ ghost use Rattle.mixed_layering.specs.Layers.{AreLayersOf};
 ghost use Rattle.answer_texts.specs.LayerTexts.{layer_text};
 ghost use Rattle.limits.specs.Limits.{input_limit};
 ghost use Rattle.input_kinds.specs.Kinds.{GivesModel, IsWhyUnread};
-ghost use Rattle.report_cli.specs.Reading.{IsUnread, ReadsWhole, TellsOfSource};
+ghost use Rattle.run_ends.specs.Reading.{ReadsWhole, TellsOfSource};
 ghost use Rattle.report_cli.specs.Outputs.{IsMadeOutput, IsOutputFor, IsWritable, end_of, end_of_rank, output_text};
 ghost use Rattle.std.specs.List.{All};
 ghost use Rattle.answer_texts.specs.PlanRanges.{IsStepIn};
@@ -15,34 +15,31 @@ ghost use Rattle.answer_texts.specs.MadeTexts.{made_text};
 ghost use Rattle.made_models.specs.MadeModels.{IsSize};
 ghost use Rattle.answer_texts.specs.PlanTexts.{plan_text};
 ghost use Rattle.answer_texts.specs.ReportTexts.{report_text};
-ghost use Rattle.mixed_model.specs.Models.{mixed_matrix_of};
+ghost use Rattle.mixed_model.specs.Models.{IsModel, mixed_matrix_of};
 ghost use Rattle.solve_plan.specs.Reports.{IsReportOf};
 ghost use Rattle.answer_texts.specs.WholeLayers.{AreWholeLayers};
 ghost use Rattle.cert_reader.specs.Limits.{certificate_limit};
 ghost use Rattle.report_cli.specs.Fields.{version_of};
-ghost use Rattle.report_cli.specs.Formats.{limit_of};
+ghost use Rattle.report_cli.specs.Formats.{GivesNothing, limit_of};
 ghost use Rattle.command_line.specs.Words.{format_of};
 ghost use Rattle.text_writer.specs.Giving.{IsWritten};
 
-use crate::reading::{ModelReader, read_model, read_text, read_whole};
-use crate::status::Status;
 use answer_texts::{put_layers, put_made, put_plan, put_report};
 use ccf_builder::build;
 use cert_reader::CERTIFICATE_LIMIT;
 use cert_text::{Ccf, Certificate, Items, Kind, Version};
 use cert_verdict::judge;
 use command_line::{Command, Format, Task};
-use flowsheet_reader::FlowsheetReader;
+use input_kinds::{read_input, read_model};
 use limits::INPUT_LIMIT;
 use made_models::made_model;
-use matrix_reader::MatrixReader;
 use mixed_layering::layer;
 use mixed_model::{Layered, Mixed};
-use netlist_reader::NetlistReader;
 use out_of_memory::NoMemory;
 use port_io::{Sink, Source, WriteFault};
 use refusals::ReadModel;
 use residue_field::{Field, FieldName};
+use run_ends::{Status, read_text};
 use solve_plan::{Plan, Report, plan, report};
 use std::alloc::Global;
 use text_writer::TextWriter;
@@ -74,52 +71,47 @@ impl<F: Field> Output<F> {
         ensures right { IfOk result (λ output. ReadsWhole (limit_of (format_of command)) (S.left source.old)
             (S.left source.new) (λ input. IsOutputFor F.number F.modulus command input output)) }
         ensures unread { IfErr result (λ status.
-            IsUnread F.modulus (format_of command) status (S.left source.old) (S.left source.new)) }
+            GivesNothing F.modulus (format_of command) status (S.left source.old) (S.left source.new)) }
         ensures source { TellsOfSource S.Source (limit_of (format_of command)) source.old source.new result }
     {
         match command {
-            Command::OfModel(task, Kind::Matrix, named) => {
-                Output::of_model::<S, MatrixReader<F>>(alloc, task, named, source)
-            }
-            Command::OfModel(task, Kind::Netlist, named) => {
-                Output::of_model::<S, NetlistReader<F>>(alloc, task, named, source)
-            }
-            Command::OfModel(task, Kind::Flowsheet, named) => {
-                Output::of_model::<S, FlowsheetReader>(alloc, task, named, source)
-            }
+            Command::OfModel(task, kind, named) => Output::of_model(
+                alloc, task, kind, named, source,
+            ),
             Command::Check => Output::verdict(alloc, source),
         }
     }
 
-    // What is written of a model over the field of this name, by a reader of inputs of its kind.
-    fn of_model<S: Source, R: ModelReader<F>>(
+    // What is written of the model of an input of this kind, over the field of this name.
+    fn of_model<S: Source>(
         alloc: Global,
         task: Task,
+        kind: Kind,
         named: Option<FieldName>,
         source: &mut S,
     ) -> Result<Output<F>, Status>
         ensures right { IfOk result (λ output. ReadsWhole input_limit (S.left source.old) (S.left source.new)
-            (λ input. IsOutputFor F.number F.modulus (Command.OfModel task R.KIND named) input output)) }
+            (λ input. IsOutputFor F.number F.modulus (Command.OfModel task kind named) input output)) }
         ensures unread { IfErr result (λ status.
-            IsUnread F.modulus (Format.Model R.KIND) status (S.left source.old) (S.left source.new)) }
+            GivesNothing F.modulus (Format.Model kind) status (S.left source.old) (S.left source.new)) }
         ensures source { TellsOfSource S.Source input_limit source.old source.new result }
     {
         match task {
             Task::Layer => {
-                let model = read_model::<F, S, R>(alloc, source)?;
+                let model = read_input(alloc, kind, source)?;
                 Ok(Output::layers(alloc, model)?)
             }
             Task::Report => {
-                let model = read_model::<F, S, R>(alloc, source)?;
+                let model = read_input(alloc, kind, source)?;
                 Ok(Output::report(alloc, model)?)
             }
             Task::Plan => {
-                let model = read_model::<F, S, R>(alloc, source)?;
+                let model = read_input(alloc, kind, source)?;
                 Ok(Output::plan(alloc, model)?)
             }
             Task::Analyse => {
                 let text = read_text(alloc, source, INPUT_LIMIT as u64)?;
-                Ok(Output::certificate::<R>(alloc, named, text)?)
+                Ok(Output::certificate(alloc, kind, named, text)?)
             }
         }
     }
@@ -129,7 +121,7 @@ impl<F: Field> Output<F> {
         ensures right { IfOk result (λ output. ReadsWhole certificate_limit (S.left source.old) (S.left source.new)
             (λ input. IsOutputFor F.number F.modulus Command.Check input output)) }
         ensures unread { IfErr result (λ status.
-            IsUnread F.modulus Format.Certificate status (S.left source.old) (S.left source.new)) }
+            GivesNothing F.modulus Format.Certificate status (S.left source.old) (S.left source.new)) }
         ensures source { TellsOfSource S.Source certificate_limit source.old source.new result }
     {
         let text = read_text(alloc, source, CERTIFICATE_LIMIT as u64)?;
@@ -155,8 +147,7 @@ impl<F: Field> Output<F> {
             IsOutputFor F.number F.modulus (Command.OfModel Task.Report kind named) input output) }
     {
         let layered = layer(alloc, &model)?;
-        // it tells what the type of a model keeps
-        let _ = model.equations();
+        is_model(&model);
         let ccf = build(alloc, &layered)?;
         let told = report(alloc, &layered, &ccf)?;
         Ok(Output::Report(model, told))
@@ -170,26 +161,27 @@ impl<F: Field> Output<F> {
     {
         let layered = layer(alloc, &model)?;
         is_whole(&layered);
-        // it tells what the type of a model keeps
-        let _ = model.equations();
+        is_model(&model);
         let ccf = build(alloc, &layered)?;
         is_in_form(&ccf);
         let plan = plan(alloc, &layered, &ccf)?;
         Ok(Output::Plan(model, layered, plan))
     }
 
-    // The certificate of a text of at most 8,388,608 bytes, where this field is named, or why the text is refused.
-    fn certificate<R: ModelReader<F>>(
+    // The certificate of a text of this kind, of at most 8,388,608 bytes, where this field is named, or why the text is
+    // refused.
+    fn certificate(
         alloc: Global,
+        kind: Kind,
         named: Option<FieldName>,
         text: Vec<u8>,
     ) -> Result<Output<F>, ReadModel>
         requires { length text.items ≤ input_limit }
         ensures right { IfOk result
-            (IsOutputFor F.number F.modulus (Command.OfModel Task.Analyse R.KIND named) text.items) }
-        ensures refused { IfErr result (IsWhyUnread F.modulus R.KIND text.items) }
+            (IsOutputFor F.number F.modulus (Command.OfModel Task.Analyse kind named) text.items) }
+        ensures refused { IfErr result (IsWhyUnread F.modulus kind text.items) }
     {
-        let model = read_whole::<F, R>(alloc, &text)?;
+        let model = read_model::<F>(alloc, kind, &text)?;
         let Ok(layered) = layer(alloc, &model) else {
             return Err(ReadModel::NoMemory);
         };
@@ -199,7 +191,7 @@ impl<F: Field> Output<F> {
         is_in_form(&ccf);
         Ok(Output::Certificate(Certificate {
             version: version_of(named),
-            kind: R::KIND,
+            kind,
             echo: Items::from_vec(text),
             ccf,
         }))
@@ -267,14 +259,21 @@ fn version_of(named: Option<FieldName>) -> Version
     }
 }
 
-// Tells a proof what the type of a layered matrix keeps.
+// TellsAnswer a proof what the type of a model keeps.
+fn is_model<F: Field>(model: &Mixed<F>)
+    ensures { IsModel F.modulus model.now }
+{
+    let _ = model.equations();
+}
+
+// TellsAnswer a proof what the type of a layered matrix keeps.
 fn is_whole<F: Field>(layered: &Layered<F>)
     ensures { AreWholeLayers layered.now }
 {
     let _ = (layered.split(), layered.q.rows(), layered.t.rows());
 }
 
-// Tells a proof what the type of a printed form keeps.
+// TellsAnswer a proof what the type of a printed form keeps.
 fn is_in_form<F: Field>(ccf: &Ccf<F>)
     ensures { IsCcf F.modulus ccf.now }
 {

@@ -1,6 +1,5 @@
-use Rattle.std.proofs.Common.{List, ℕ, refl, subst, sym}
+use Rattle.std.proofs.Common.{List, ℕ, refl, subst}
 use Rattle.cert_text.specs.Contents.{Certificate}
-use Rattle.cert_text.specs.declared.kind.Kind.{Kind}
 use Rattle.input_kinds.specs.Kinds.{GivesModel}
 use Rattle.report_cli.specs.RightFor.{IsRightFor}
 use Rattle.report_cli.proofs.Certified.{right_for}
@@ -9,11 +8,11 @@ use Rattle.report_cli.proofs.output.Output.certificate.Goals as goal
 pub returns-clause-right : goal.returns-clause-right
 returns-clause-right g c =
     let p = g.F.Field.modulus in
-    let kind = g.R.ModelReader.KIND in
+    let kind = c.args.kind in
     let text : List ℕ = c.args.text.items in
     let version = c.version_of.result in
-    let of_kind : Kind → Certificate =
-    λ kind. record { version = version; modulus = p; kind = kind; echo = c.from_vec.result; ccf = c.in-Ok-build.ccf } in
+    let certificate : Certificate =
+    record { version = version; modulus = p; kind = kind; echo = c.from_vec.result; ccf = c.in-Ok-build.ccf } in
     let of_input = subst (λ text. GivesModel p kind text c.in_ok-model.model) c.deref.ensures.value c.in_ok-model.ensures.model in
     let promise = c.in-Ok-build.ensures in
     let right = right_for p version kind text c.in_ok-model.model c.in-Ok.layered c.from_vec.result c.in-Ok-build.ccf of_input c.in-Ok.ensures
@@ -22,6 +21,5 @@ returns-clause-right g c =
       kind,
       c.args.named,
       refl,
-      subst (λ v. IsRightFor p v kind text (of_kind c.KIND.result)) c.version_of.ensures
-          (subst (λ k. IsRightFor p version kind text (of_kind k)) (sym c.KIND.ensures) right),
+      subst (λ v. IsRightFor p v kind text certificate) c.version_of.ensures right,
     )

@@ -1,5 +1,0 @@
-use Rattle.text_writer.proofs.Putting.{puts_then}
-use Rattle.report_cli.proofs.telling.put_limit.Goals as goal
-
-pub returns : goal.returns
-returns g c = puts_then (puts_then c.piece.ensures c.number.ensures) c.piece-2.ensures

@@ -1,7 +1,0 @@
-use Rattle.std.proofs.Common.{ap}
-use Rattle.text_writer.specs.Numbers.{spaced}
-use Rattle.text_writer.proofs.Putting.{puts_is, puts_then}
-use Rattle.report_cli.proofs.telling.put_refused_line.Goals as goal
-
-pub returns : goal.returns
-returns g c = puts_then (puts_then c.piece.ensures (puts_is (ap spaced c.from.ensures) c.number.ensures)) c.piece-2.ensures
