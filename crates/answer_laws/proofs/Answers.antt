@@ -11,7 +11,8 @@ use Rattle.cert_text.specs.Contents.{Certificate}
 use Rattle.cert_text.specs.declared.kind.Kind.{Kind}
 use Rattle.certificate_laws.proofs.AgreedForms.{agreed}
 use Rattle.report_cli.specs.Formats.{limit_of}
-use Rattle.report_cli.specs.Answer.{HasText, IsAnswer, IsAnswerOf, IsOutputText}
+use Rattle.run_ends.specs.Ways.{HasText}
+use Rattle.report_cli.specs.Answer.{IsAnswer, IsAnswerOf, IsOutputText}
 use Rattle.answer_texts.specs.LayerTexts.{layer_text}
 use Rattle.report_cli.specs.Outputs.{IsOutputFor, output_text}
 use Rattle.report_cli.specs.RightFor.{IsRightFor}
@@ -32,8 +33,8 @@ use Rattle.report_cli.specs.declared.output.Output.{Output}
 use Rattle.report_cli.specs.declared.output.Output.TheVariants.{Accepted, Certificate as Certified}
 use Rattle.report_cli.specs.declared.output.Output.TheVariants.{Layers as Layering, Made, Plan as Planning}
 use Rattle.report_cli.specs.declared.output.Output.TheVariants.{Report as Reporting}
-use Rattle.report_cli.specs.declared.status.Status.{Status}
-use Rattle.report_cli.specs.declared.status.Status.TheVariants.{Done}
+use Rattle.run_ends.specs.declared.status.Status.{Status}
+use Rattle.run_ends.specs.declared.status.Status.TheVariants.{Done}
 use Rattle.report_cli.proofs.RunWords.{of_command}
 use Rattle.input_kinds.proofs.ByKind.{gives-one}
 use Rattle.report_cli.proofs.TextRooms.{output_fits}
@@ -42,13 +43,13 @@ use Rattle.answer_laws.specs.Agreement.{AreAgreed}
 use Rattle.answer_laws.proofs.OneLayerText.{one-layers}
 
 -- values are numbers in an answer
-abbrev IsNumbersText : Command → List ℕ → Status → List ℕ → Type 0
+abbrev pub IsNumbersText : Command → List ℕ → Status → List ℕ → Type 0
 IsNumbersText command = IsOutputText {T = ℕ} (λ value. value) (command_modulus command) command
 
-abbrev IsRightOutput : Command → List ℕ → Output ℕ → Type 0
+abbrev pub IsRightOutput : Command → List ℕ → Output ℕ → Type 0
 IsRightOutput command = IsOutputFor {T = ℕ} (λ value. value) (command_modulus command) command
 
-abbrev text_of : Output ℕ → List ℕ
+abbrev pub text_of : Output ℕ → List ℕ
 text_of = output_text (λ value. value)
 
 -- what a command reports in an answer
@@ -161,10 +162,10 @@ one-answer words kind field input text other asks first second =
     ∙ sym (two.text_is ∙ ap (λ m. layer_text m two.layers) same)
 
 -- a text that is written is that of an output for an input that is not too long
-abbrev IsWritten : Command → List ℕ → Status → List ℕ → Type 0
+abbrev pub IsWritten : Command → List ℕ → Status → List ℕ → Type 0
 IsWritten command input status text = (length input ≤ limit_of (format_of command)) × IsNumbersText command input status text
 
-is-written : (command : Command) (input : List ℕ) (status : Status) (text : List ℕ) → HasText status → IsAnswerOf command input status text →
+pub is-written : (command : Command) (input : List ℕ) (status : Status) (text : List ℕ) → HasText status → IsAnswerOf command input status text →
     IsWritten command input status text
 is-written command input status text (inl done) answer =
     subst (λ s. IsWritten command input s text) (sym done) (subst (λ s. IsAnswerOf command input s text) done answer)

@@ -20,14 +20,14 @@ use Rattle.residue_field.specs.declared.field_name.FieldName.{FieldName}
 use Rattle.residue_field.specs.declared.field_name.FieldName.TheVariants.{Large, Small}
 use Rattle.command_line.specs.declared.command.Command.TheVariants.{OfModel}
 use Rattle.command_line.specs.declared.command.Task.TheVariants.{Analyse}
-use Rattle.report_cli.specs.declared.status.Status.TheVariants.{Done}
+use Rattle.run_ends.specs.declared.status.Status.TheVariants.{Done}
 use Rattle.report_cli.proofs.ByKind.{no-names}
 use Rattle.report_cli.proofs.TextRooms.{members-few}
 use Rattle.answer_laws.specs.NoAnswers.{empty_text}
 use Rattle.answer_laws.proofs.Answers.{analysed}
 
 -- lists in an empty range
-empty-list : {A : Type 0} (xs : List A) → length xs ≡ 0 → xs ≡ []
+pub empty-list : {A : Type 0} (xs : List A) → length xs ≡ 0 → xs ≡ []
 empty-list [] none = refl
 empty-list (x ∷ xs) none = absurd (omega (arith, none))
 
@@ -40,17 +40,17 @@ empty-pairs m n [] none are = refl
 empty-pairs m n (pair ∷ pairs) none are =
     let within = All-head (λ (pair : ℕ × ℕ). (pair.0 < m) × (pair.1 < n)) pair pairs are.within in absurd (omega (arith, within.0, none))
 
-abbrev part : List ℕ → List ℕ → List ℕ → CcfPart
+abbrev pub part : List ℕ → List ℕ → List ℕ → CcfPart
 part columns q_rows t_rows = record { columns = columns; q_rows = q_rows; t_rows = t_rows }
 
-empty-part : (shape : Shape) (p : CcfPart) → shape.q_rows ≡ 0 → shape.t_rows ≡ 0 → shape.columns ≡ 0 → IsPart shape p →
+pub empty-part : (shape : Shape) (p : CcfPart) → shape.q_rows ≡ 0 → shape.t_rows ≡ 0 → shape.columns ≡ 0 → IsPart shape p →
     p ≡ record { columns = []; q_rows = []; t_rows = [] }
 empty-part shape p q t n is =
     ap (λ x. part x p.q_rows p.t_rows) (empty-rising shape.columns p.columns n is.columns)
     ∙ ap (λ x. part [] x p.t_rows) (empty-rising shape.q_rows p.q_rows q is.q_rows)
     ∙ ap (λ x. part [] [] x) (empty-rising shape.t_rows p.t_rows t is.t_rows)
 
-empty-blocks : (shape : Shape) (blocks : List CcfBlock) → shape.columns ≡ 0 →
+pub empty-blocks : (shape : Shape) (blocks : List CcfBlock) → shape.columns ≡ 0 →
     ((k : ℕ) (d : CcfBlock) → k < length blocks → IsBlock shape k (get_or blocks k d)) → blocks ≡ []
 empty-blocks shape [] none are = refl
 empty-blocks shape (block ∷ blocks) none are =
@@ -96,7 +96,7 @@ empty-matrices p c is q t =
     ∙ ap (λ x. matrices_text [] [] x c.t) (empty-list c.p ((is.p).count ∙ q))
     ∙ ap (λ x. matrices_text [] [] [] x) (empty-list c.t ((is.t).count ∙ t))
 
-abbrev nothing : CcfPart
+abbrev pub nothing : CcfPart
 nothing = part [] [] []
 
 empty-parts : (p : ℕ) (c : Contents) → IsCcf p c → c.shape.q_rows ≡ 0 → c.shape.t_rows ≡ 0 → c.shape.columns ≡ 0 →
@@ -124,7 +124,7 @@ nothing-text (Some Large) Matrix = refl
 nothing-text (Some Large) Netlist = refl
 nothing-text (Some Large) Flowsheet = refl
 
-empty-certificate : (field : Option FieldName) (kind : Kind) (c : Certificate) →
+pub empty-certificate : (field : Option FieldName) (kind : Kind) (c : Certificate) →
     IsRightFor (modulus_of (over field)) (version_of field) kind [] c → certificate_text c ≡ empty_text field kind
 empty-certificate field kind c right =
     let p : ℕ = modulus_of (over field) in

@@ -5,11 +5,12 @@ use Rattle.port_io.specs.Causes.{Rose}
 use Rattle.port_io.specs.Memory.{MemorySink, MemorySource, TakesMore}
 use Rattle.command_line.specs.Words.{AsksFor}
 use Rattle.command_line.specs.declared.command.Command.{Command}
-use Rattle.report_cli.specs.Answer.{Answered, IsAnswer, ReadsAll, Tells}
-use Rattle.report_cli.specs.Rooms.{HasTextRoom}
-use Rattle.report_cli.specs.declared.status.Status.{Status}
-use Rattle.report_cli.specs.declared.status.Status.TheVariants.{BadCertificate, Done, Memory, NotRegular, ReadFault}
-use Rattle.report_cli.specs.declared.status.Status.TheVariants.{Refused, Rejected, TooLong, Usage, WriteFault}
+use Rattle.run_ends.specs.Answers.{Answered, EachTextFits}
+use Rattle.run_ends.specs.Ways.{ReadsAll, TellsAnswer}
+use Rattle.report_cli.specs.Answer.{IsAnswer}
+use Rattle.run_ends.specs.declared.status.Status.{Status}
+use Rattle.run_ends.specs.declared.status.Status.TheVariants.{BadCertificate, Done, Memory, NotRegular, ReadFault}
+use Rattle.run_ends.specs.declared.status.Status.TheVariants.{Refused, Rejected, TooLong, Usage, WriteFault}
 use Rattle.answer_laws.specs.InMemory.{Answers, IsAnswered, IsAnsweredBy}
 
 pub answered_by : (words : List (List ℕ)) (input : List ℕ) (source source' : MemorySource) (out out' : MemorySink) (status : Status) →
@@ -31,9 +32,9 @@ pub unrisen : (before now : ℕ) → before < 2 ^ 64 - 1 → now ≡ before → 
 unrisen before now small same rose = omega (arith, small, same, rose)
 
 -- room in the sink is room that it takes
-pub room-taken : (out : MemorySink) (words : List (List ℕ)) (n : ℕ) → out.fails ≡ [] →
-    HasTextRoom (λ size. length out.written + size ≤ out.room) words n → HasTextRoom (TakesMore out) words n
-room-taken out words n never room = λ request asks. record { none = never; room = room request asks }
+pub room-taken : (out : MemorySink) (words : List (List ℕ)) (input : List ℕ) → out.fails ≡ [] →
+    EachTextFits (IsAnswer words) (λ size. length out.written + size ≤ out.room) input → EachTextFits (IsAnswer words) (TakesMore out) input
+room-taken out words input never room = λ status text has answer. record { none = never; room = room status text has answer }
 
 -- what a run over memory answers, where no call failed
 module _ (words : List (List ℕ)) (source source' : MemorySource) (out out' : MemorySink) where
@@ -49,7 +50,7 @@ module _ (words : List (List ℕ)) (source source' : MemorySource) (out out' : M
   }
 
   pub in-memory : (status : Status) →
-      Tells status (Answered (IsAnswer words) (Some source.left) (Some source'.left) (Some out.written) (Some out'.written) status) →
+      TellsAnswer status (Answered (IsAnswer words) (Some source.left) (Some source'.left) (Some out.written) (Some out'.written) status) →
       ((command : Command) → AsksFor words command → ReadsAll status (Ended (Some source'.left))) →
       (status ≡ ReadFault → ⊥) → (status ≡ WriteFault → ⊥) → Answers words source source' out out' status
   in-memory Done a ended no_read no_write = inl (answered-so Done a ended)

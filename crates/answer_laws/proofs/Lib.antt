@@ -4,4 +4,10 @@ pub mod InMemory
 pub mod OneEquation
 pub mod OneLayerText
 pub mod OneMakeText
+pub mod OneReport
+pub mod OneStatus
+pub mod EachInput
 pub mod Rooms
+pub mod Fitting
+pub mod Accepting
+pub mod EmptyRooms

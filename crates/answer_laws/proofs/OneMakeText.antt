@@ -19,10 +19,11 @@ use Rattle.residue_field.specs.declared.field_name.FieldName.{FieldName}
 use Rattle.residue_field.specs.Modulus.{modulus_of}
 use Rattle.report_cli.proofs.FieldFacts.{odd-of, prime-of}
 use Rattle.command_line.proofs.Asking.{makes-one, not-both}
-use Rattle.report_cli.specs.Answer.{HasText, IsAnswer, IsCommandAnswer, IsMakeAnswer}
+use Rattle.run_ends.specs.Ways.{HasText}
+use Rattle.report_cli.specs.Answer.{IsAnswer, IsCommandAnswer, IsMakeAnswer}
 use Rattle.report_cli.specs.MadeFor.{IsMakeText}
-use Rattle.report_cli.specs.declared.status.Status.{Status}
-use Rattle.report_cli.specs.declared.status.Status.TheVariants.{Done, NotRegular}
+use Rattle.run_ends.specs.declared.status.Status.{Status}
+use Rattle.run_ends.specs.declared.status.Status.TheVariants.{Done, NotRegular}
 use Rattle.report_cli.proofs.TextRooms.{made-fits}
 
 -- the last one of some lists, and its length

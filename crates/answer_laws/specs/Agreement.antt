@@ -13,7 +13,7 @@ use Rattle.residue_field.specs.declared.field_name.FieldName.{FieldName}
 use Rattle.command_line.specs.declared.command.Request.{Request}
 use Rattle.command_line.specs.declared.command.Command.TheVariants.{OfModel}
 use Rattle.command_line.specs.declared.command.Task.TheVariants.{Analyse, Layer}
-use Rattle.report_cli.specs.declared.status.Status.TheVariants.{Done}
+use Rattle.run_ends.specs.declared.status.Status.TheVariants.{Done}
 
 -- the texts are those of two certificates over the field that is named, both right for the input of this kind, that
 -- agree

@@ -3,19 +3,20 @@ use Rattle.std.specs.Prelude.{◌≡◌, ◌⊎◌, ℕ, ◌+◌, ◌-◌, ◌^�
 use Rattle.port_io.specs.Memory.{MemorySink, MemorySource}
 use Rattle.command_line.specs.Words.{AsksFor}
 use Rattle.command_line.specs.declared.command.Command.{Command}
-use Rattle.report_cli.specs.Answer.{IsAnswer, ReadsAll}
-use Rattle.report_cli.specs.Rooms.{HasTextRoom}
-use Rattle.report_cli.specs.declared.status.Status.{Status}
-use Rattle.report_cli.specs.declared.status.Status.TheVariants.{Memory}
+use Rattle.run_ends.specs.Answers.{EachTextFits}
+use Rattle.run_ends.specs.Ways.{ReadsAll}
+use Rattle.report_cli.specs.Answer.{IsAnswer}
+use Rattle.run_ends.specs.declared.status.Status.{Status}
+use Rattle.run_ends.specs.declared.status.Status.TheVariants.{Memory}
 
--- no call is to fail, no count of faults stands at its last value, and the sink has room for each text that may answer
--- the input by these words
+-- no call is to fail, no count of faults stands at its last value, and the sink has room for each text that answers the
+-- input by these words
 pub record IsCalm (words : List (List ℕ)) (source : MemorySource) (out : MemorySink) : Type 0 where
   pub source_fails : source.fails ≡ []
   pub out_fails : out.fails ≡ []
   pub source_count : source.faults < 2 ^ 64 - 1
   pub out_count : out.faults < 2 ^ 64 - 1
-  pub room : HasTextRoom (λ size. length out.written + size ≤ out.room) words (length source.left)
+  pub room : EachTextFits (IsAnswer words) (λ size. length out.written + size ≤ out.room) source.left
 
 -- a run took the bytes `read` from the source, all of them where a command tells of the whole input, and this status
 -- and the appended text answer them

@@ -3,3 +3,6 @@ pub mod Agreement
 pub mod Rooms
 pub mod InMemory
 pub mod NoAnswers
+pub mod OneAnswer
+pub mod Accepting
+pub mod EmptyRooms

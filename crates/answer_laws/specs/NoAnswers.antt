@@ -10,7 +10,7 @@ use Rattle.command_line.specs.declared.command.Command.TheVariants.{OfModel}
 use Rattle.residue_field.specs.declared.field_name.FieldName.{FieldName}
 use Rattle.residue_field.specs.declared.field_name.FieldName.TheVariants.{Large, Small}
 use Rattle.command_line.specs.declared.command.Task.TheVariants.{Analyse, Layer}
-use Rattle.report_cli.specs.declared.status.Status.TheVariants.{Done}
+use Rattle.run_ends.specs.declared.status.Status.TheVariants.{Done}
 
 -- the command never answers this input by this text
 abbrev pub NeverAnswers : Command → List ℕ → List ℕ → Type 0

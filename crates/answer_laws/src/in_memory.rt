@@ -1,9 +1,9 @@
 //! Runs over memory.
 
-ghost use Rattle.std.specs.Prelude.{◌≡◌, ◌≤◌, length, map, Some, IfOk};
+ghost use Rattle.std.specs.Prelude.{◌≡◌, ◌≤◌, map, Some, IfOk};
 ghost use Rattle.std.specs.String.{string_bytes};
-ghost use Rattle.report_cli.specs.Answer.{IsComplete, IsMakeComplete, OnlyAnswer};
-ghost use Rattle.report_cli.specs.Rooms.{HasTextRoom};
+ghost use Rattle.run_ends.specs.Answers.{EachTextFits, OnlyAnswer};
+ghost use Rattle.report_cli.specs.Answer.{IsAnswer, IsComplete, IsMakeComplete};
 ghost use Rattle.answer_laws.specs.InMemory.{Answers, IsAnsweredBy, IsCalm};
 
 use port_io::{MemSink, MemSource, Sink};
@@ -23,25 +23,26 @@ pub fn run_in_memory<N: Sink>(
     ensures source { source.new.faults ≡ source.old.faults }
     ensures out { out.new.faults ≡ out.old.faults }
     ensures answers { Answers (map string_bytes words.now) source.old source.new out.old out.new result }
-    ensures only_answer { OnlyAnswer (map string_bytes words.now) (Some source.old.left) result }
+    ensures only_answer { OnlyAnswer (IsAnswer (map string_bytes words.now)) (Some source.old.left) result }
     ensures complete { IsComplete (map string_bytes words.now) (Some source.old.left) result }
     ensures complete_make { IsMakeComplete (map string_bytes words.now) result }
 {
     run(alloc, words, source, out, notes)
 }
 
-/// How a run on this input ends, where the room is enough for each answer, and the sink, which holds the answer's text. It
-/// is an error that there is no memory for the streams.
+/// How a run on this input ends, where the room is enough for each text that answers it, and the sink, which holds the
+/// answer's text. It is an error that there is no memory for the streams.
 pub fn answer(
     alloc: Global,
     words: &[String],
     input: &[u8],
     room: usize,
 ) -> Result<(Status, MemSink), AllocError>
-    requires { HasTextRoom (λ size. size ≤ room) (map string_bytes words.now) (length input.now) }
+    requires { EachTextFits (IsAnswer (map string_bytes words.now)) (λ size. size ≤ room) input.now }
     ensures answered { IfOk result (λ answer.
         IsAnsweredBy (map string_bytes words.now) input.now answer.0 answer.1.written) }
-    ensures only_answer { IfOk result (λ answer. OnlyAnswer (map string_bytes words.now) (Some input.now) answer.0) }
+    ensures only_answer { IfOk result (λ answer.
+        OnlyAnswer (IsAnswer (map string_bytes words.now)) (Some input.now) answer.0) }
     ensures complete { IfOk result (λ answer. IsComplete (map string_bytes words.now) (Some input.now) answer.0) }
     ensures complete_make { IfOk result (λ answer. IsMakeComplete (map string_bytes words.now) answer.0) }
 {

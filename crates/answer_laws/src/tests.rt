@@ -22,16 +22,18 @@ fn words(alloc: Global) -> Result<Vec<String>, AllocError>
 }
 
 #[test]
-#[tactic(auto, using(crate::proofs::Rooms::matrix_room))]
+#[tactic(auto, using(crate::proofs::Rooms::matrix_fits))]
 fn an_equation_is_answered_in_its_room(rt: HostRuntime) -> Result<(), Fail> {
     let alloc = rt.alloc();
     let words = words(alloc)?;
-    // 9 bytes, and so at most 18 rows and columns
-    let (status, out) = answer(alloc, &words, b"eq a x=1\n", 35_756)?;
+    // 9 bytes, and so at most 9 rows of each kind and 18 columns
+    let (status, out) = answer(alloc, &words, b"eq a x=1\n", 6_432)?;
     assert_eq!(rt; status.number(), 0);
     assert_eq!(rt;
         out.bytes(),
-        b"mixed-certificate 1\nkind matrix\nlength 9\neq a x=1\n\nshape 1 1 1 0 1\nrank 1\nbase 1=1\nmatch\nS 1: 1=1\nU 1: 1=1\nP 1: 1=1\nfirst |\nblock 1: 1 | q1 |\nlast |\nend\n".as_slice()
+        b"mixed-certificate 1\nkind matrix\nlength 9\neq a x=1\n\nshape 1 1 1 0 1\nrank 1\nbase 1=1\nmatch\n\
+          S 1: 1=1\nU 1: 1=1\nP 1: 1=1\nfirst |\nblock 1: 1 | q1 |\nlast |\nend\n"
+            .as_slice()
     );
     Ok(())
 }

@@ -1,0 +1,15 @@
+pub mod Lists
+pub mod PlacedLists
+pub mod Reduced
+pub mod Printed
+pub mod RightForms
+pub mod Layering
+pub mod Decided
+pub mod Reporting
+pub mod Planning
+pub mod MadeModels
+pub mod Deciding
+pub mod ListsDecided
+pub mod RulesDecided
+pub mod FormVerdicts
+pub mod TextVerdicts

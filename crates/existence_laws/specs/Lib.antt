@@ -1,0 +1,5 @@
+pub mod Forms
+pub mod Layerings
+pub mod Telling
+pub mod Making
+pub mod Verdicts
