@@ -1,0 +1,21 @@
+#!/usr/bin/env bash
+# All checks of the pages and of the style. Each says what it found, and the last line counts those that failed.
+# Usage: tools/check.sh   (MIXED: the program whose outputs the pages show, or crates/mixed/out/mixed, built as bench/program.sh says)
+set -u
+cd "$(dirname "$0")/.." || exit 1
+checks=(
+    "house_style.py"
+    "crate_groups.py --check"
+    "clauses.py --check"
+    "example_inputs.py --check"
+    "picture_inputs.py --check"
+    "refusal_rows.py --check"
+    "page_outputs.py"
+)
+failed=0
+for check in "${checks[@]}"; do
+    # shellcheck disable=SC2086
+    python3 tools/$check || { echo "tools/$check: failed"; failed=$((failed + 1)); }
+done
+echo "${#checks[@]} checks, $failed failed"
+test "$failed" = 0
