@@ -8,7 +8,7 @@ It looks for four things, and judges nothing else:
   head     a file of src/ begins with `//!` and its subject, a file of specs/ or proofs/*.antt with `--` and its subject
   private  a private function has its comment as `//`, a public one as `///`
   long     a clause of src/, or a line of specs/, is at most 120 characters wide, and a line of proofs/ 160
-  table    docs/architecture.md has the groups of crates.txt, with the same crates in the same order; README.md names each crate
+  table    docs/architecture.md has the groups of crates.txt, with the same crates in the same order; docs/claims.md names each crate
 """
 import collections
 import pathlib
@@ -94,7 +94,7 @@ def groups_of_page(text):
 
 
 def tables():
-    """Where the groups of docs/architecture.md are not those of crates.txt, and crates whose claims README.md leaves out."""
+    """Where the groups of docs/architecture.md are not those of crates.txt, and crates whose claims docs/claims.md leaves out."""
     groups = groups_of(pathlib.Path("crates.txt").read_text(encoding="utf-8"))
     page = pathlib.Path("docs/architecture.md")
     shown = groups_of_page(page.read_text(encoding="utf-8"))
@@ -103,11 +103,11 @@ def tables():
     for name, crates in groups.items():
         if list(crates) != shown.get(name, []):
             yield page, 1, "table", f"the crates of '{name}' are not those of crates.txt, in that order"
-    readme = pathlib.Path("README.md")
-    rows = re.findall(r"^\| (`\w+`(?:, `\w+`)*) \|", readme.read_text(encoding="utf-8"), re.MULTILINE)
+    claims = pathlib.Path("docs/claims.md")
+    rows = re.findall(r"^\| (`\w+`(?:, `\w+`)*) \|", claims.read_text(encoding="utf-8"), re.MULTILINE)
     named = {name for row in rows for name in re.findall(r"\w+", row)}
     wanted = (crate for crates in groups.values() for crate in crates if not is_program(crate))
-    yield from ((readme, 1, "table", f"has no crate `{name}`") for name in wanted if name not in named)
+    yield from ((claims, 1, "table", f"has no crate `{name}`") for name in wanted if name not in named)
 
 
 def is_program(name):
