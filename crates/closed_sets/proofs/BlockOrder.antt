@@ -4,7 +4,7 @@ use Rattle.closed_sets.specs.Walks.{Reaches, ReachesOn, FromSome, ToSome}
 use Rattle.closed_sets.specs.Closed.{NoEndReached, IsMiddle, IsReachedSet}
 use Rattle.closed_sets.specs.Blocks.{IsListing, IsBelow}
 use Rattle.closed_sets.specs.Orders.{IsOrder, IsCover}
-use Rattle.closed_sets.specs.Rules.{InBlock, KeepsRules}
+use Rattle.closed_sets.specs.Rules.{InBlock, KeepsPlaceRules}
 use Rattle.residue_theory.proofs.SumLaws.{nat_cases}
 use Rattle.residue_theory.proofs.SetLaws.{differ}
 use Rattle.closed_sets.proofs.WalkLaws.{reaches-self, reaches-arc, reaches-join, reaches-to, from-arc}
@@ -79,16 +79,20 @@ module _ (arc : ℕ → ℕ → Bool) (n : ℕ) (starts ends : ℕ → Bool) (bl
             at (inl q) = inl q
             at (inr ne) = inr (below-chain below b below-order covers C (block y) (block x) (S.below_b y my) (S.below_b x mx) (W.made x y mx my r ne))
 
-    pub parts-keep : KeepsRules arc n starts ends F L block b covers
+    pub parts-keep : KeepsPlaceRules arc n starts ends F L block b covers
     parts-keep = record {
       apart = λ x l f t. meets x ((first x l).0 f) (last_from x l t);
-      starts_first = λ x l h. (first x l).1 (x, l, h, reaches-self arc n x);
-      ends_last = λ x l h. last_to x l (x, l, h, reaches-self arc n x);
-      first_leads = λ x y xl yl f a. (first y yl).1 (from-arc arc n starts x y ((first x xl).0 f) xl a);
-      block_leads = leads;
-      first_from = λ x l. (first x l).0;
-      last_to = last_from;
-      block_mutual = λ x y i j e. S.shared x y (in_middle x i) (in_middle y j) e;
+      down = record {
+        starts_first = λ x l h. (first x l).1 (x, l, h, reaches-self arc n x);
+        ends_last = λ x l h. last_to x l (x, l, h, reaches-self arc n x);
+        first_leads = λ x y xl yl f a. (first y yl).1 (from-arc arc n starts x y ((first x xl).0 f) xl a);
+        block_leads = leads;
+      };
+      reasons = record {
+        first_from = λ x l. (first x l).0;
+        last_to = last_from;
+        block_mutual = λ x y i j e. S.shared x y (in_middle x i) (in_middle y j) e;
+      };
       number = λ x i. S.below_b x (in_middle x i);
       member = λ k l. let e = S.each k l in (e.0, from_middle e.0 e.1, e.2);
       falling = λ k l h. let p = in_range k l h in below-before k l p.0 p.1 (C.is_below k l p.0 p.1 h);

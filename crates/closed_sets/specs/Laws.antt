@@ -5,7 +5,7 @@ use Rattle.closed_sets.specs.Walks.{Reaches, ReachesOn, FromSome, ToSome, Mutual
 use Rattle.closed_sets.specs.Closed.{IsClosed, NoEndReached, IsReachedSet, IsMiddle}
 use Rattle.closed_sets.specs.Blocks.{IsListing, IsIdeal, IsBelow, AreParts}
 use Rattle.closed_sets.specs.Orders.{IsOrder, IsCover}
-use Rattle.closed_sets.specs.Rules.{KeepsRules}
+use Rattle.closed_sets.specs.Rules.{KeepsPlaceRules}
 use Rattle.closed_sets.specs.Examples.{example_arc, example_pair, example_block}
 
 abbrev pub EveryClosedSetHolds : (ℕ → ℕ → Bool) → ℕ → (ℕ → Bool) → (ℕ → Bool) → ℕ → Type 0
@@ -65,7 +65,7 @@ CoversGenerate = (below : ℕ → ℕ → Bool) (b : ℕ) (covers : ℕ → ℕ 
 abbrev pub RulesMakeParts : Type 0
 RulesMakeParts = (arc : ℕ → ℕ → Bool) (n : ℕ) (starts ends F L : ℕ → Bool) (block : ℕ → ℕ) (b : ℕ)
     (lower : ℕ → ℕ → Bool) →
-    KeepsRules arc n starts ends F L block b lower → NoEndReached arc n starts ends
+    KeepsPlaceRules arc n starts ends F L block b lower → NoEndReached arc n starts ends
     × AreParts arc n starts ends F L block b
 
 -- the parts of the arcs, with the covers of their order, keep the rules
@@ -74,7 +74,7 @@ PartsKeepRules = (arc : ℕ → ℕ → Bool) (n : ℕ) (starts ends F L : ℕ �
     (below covers : ℕ → ℕ → Bool) →
     NoEndReached arc n starts ends → AreParts arc n starts ends F L block b → IsBelow arc n starts ends block b below →
     IsCover below b covers → ((k l : ℕ) → covers l k ≡ true → (k < b) × (l < b)) →
-    KeepsRules arc n starts ends F L block b covers
+    KeepsPlaceRules arc n starts ends F L block b covers
 
 -- of the three places, 0 and 1 are a closed set and 2 is none
 abbrev pub ExampleOfClosed : Type 0

@@ -1,4 +1,4 @@
--- Row operations on S and their opposites on the transpose V of U keep S * U = 1; and a product follows the row operations on its left factor.
+-- Row operations on S and their opposites on the transpose V of U keep S * U = 1.
 use Rattle.std.proofs.Common.{◌≡◌, ℕ, ◌+◌, ◌*◌, ◌%◌, ◌<◌, ◌≢◌, ◌⊎◌, inl, inr, ap, sym, subst, ◌∙◌, arith}
 use Rattle.std.proofs.Math.Nat.{mod-eq_of_lt}
 use Rattle.residue_theory.specs.Sets.{everything}
@@ -11,27 +11,9 @@ use Rattle.linear_algebra.specs.RowOperations.{IsRowAdded, IsRowScaled}
 use Rattle.linear_algebra_laws.proofs.Kernels.{row_added-other, row_added-changed, row_scaled-other, row_scaled-changed}
 use Rattle.linear_algebra_laws.proofs.Entries.{identity-same, identity-other}
 
--- ---- products
 -- an entry of a product with the factors of its terms exchanged
 commuted : (k : ℕ) (x y : ℕ → ℕ) → sum_below k (λ u. x u * y u) ≡ sum_below k (λ u. y u * x u)
 commuted k x y = sum_on-ext everything k (λ u. x u * y u) (λ u. y u * x u) (λ u _ _. omega arith)
-
-pub product-row_added : (p m k n : ℕ) (S T a : ℕ → ℕ → ℕ) (t s f : ℕ) → IsRowAdded p m k S T t s f → IsRowAdded p m n (product k S a) (product k T a) t s f
-product-row_added p m k n S T a t s f added = record {
-  changed = λ j jl. ap (λ y. y % p) (commuted k (T t) (λ u. a u j)) ∙ row_added-changed p m k S T t s f added everything (λ u. a u j)
-      ∙ ap (λ y. (y + f * sum_below k (λ u. a u j * S s u)) % p) (commuted k (λ u. a u j) (S t))
-      ∙ ap (λ y. (product k S a t j + f * y) % p) (commuted k (λ u. a u j) (S s));
-  others = λ i j il jl ne. ap (λ y. y % p) (commuted k (T i) (λ u. a u j)) ∙ row_added-other p m k S T t s f added everything (λ u. a u j) i il ne
-      ∙ ap (λ y. y % p) (commuted k (λ u. a u j) (S i));
-}
-
-pub product-row_scaled : (p m k n : ℕ) (S T a : ℕ → ℕ → ℕ) (t f : ℕ) → IsRowScaled p m k S T t f → IsRowScaled p m n (product k S a) (product k T a) t f
-product-row_scaled p m k n S T a t f scaled = record {
-  changed = λ j jl. ap (λ y. y % p) (commuted k (T t) (λ u. a u j)) ∙ row_scaled-changed p m k S T t f scaled everything (λ u. a u j)
-      ∙ ap (λ y. f * y % p) (commuted k (λ u. a u j) (S t));
-  others = λ i j il jl ne. ap (λ y. y % p) (commuted k (T i) (λ u. a u j)) ∙ row_scaled-other p m k S T t f scaled everything (λ u. a u j) i il ne
-      ∙ ap (λ y. y % p) (commuted k (λ u. a u j) (S i));
-}
 
 -- the same operation on entries that agree
 pub agree-row_added : (p m n : ℕ) (a b c d : ℕ → ℕ → ℕ) (t s f : ℕ) → t < m → s < m → Agree p m n a b →

@@ -165,11 +165,3 @@ module _ (p : ℕ) (prime : IsPrime p) (m n : ℕ) (a : ℕ → ℕ → ℕ) (r 
 pub one_of_two : (p : ℕ) → IsPrime p → (m n : ℕ) (a : ℕ → ℕ → ℕ) (r v : ℕ) (Y : ℕ → Bool) → r < m → IsIndependent p a m n Y →
     IsIndependent p (with_entry a r v 1) m n Y ⊎ IsIndependent p (with_entry a r v 2) m n Y
 one_of_two p prime m n a r v Y rl ind = one_of_next p prime m n a r v Y 1 rl ind
-
--- modulo a prime above 2 neither is zero
-pub zero_may_become : (p : ℕ) → IsPrime p → 2 < p → (m n : ℕ) (a : ℕ → ℕ → ℕ) (r v : ℕ) (Y : ℕ → Bool) → r < m → a r v % p ≡ 0 → IsIndependent p a m n Y →
-    (x : ℕ) × ((x ≡ 1) ⊎ (x ≡ 2)) × (x % p ≡ x) × IsIndependent p (with_entry a r v x) m n Y
-zero_may_become p prime big m n a r v Y rl z ind = elim (one_of_two p prime m n a r v Y rl ind) [
-  | inl one ↦ (suc zero, inl refl, mod-eq_of_lt prime.above_one, one)
-  | inr two ↦ (suc (suc zero), inr refl, mod-eq_of_lt big, two)
-]

@@ -1,5 +1,5 @@
 -- Laws of a matrix with one entry changed.
-use Rattle.std.specs.Prelude.{ℕ, ◌+◌, ◌%◌, ◌<◌, ◌≡◌, ◌⊎◌, Bool}
+use Rattle.std.specs.Prelude.{ℕ, ◌+◌, ◌<◌, ◌⊎◌, Bool}
 use Rattle.residue_theory.specs.Residues.{IsPrime}
 use Rattle.linear_algebra.specs.Columns.{IsIndependent}
 use Rattle.linear_algebra.specs.Parts.{with_entry}
@@ -10,11 +10,3 @@ OneOfTwoNeighboursKeepsIndependence =
     (p : ℕ) → IsPrime p → (m n : ℕ) (a : ℕ → ℕ → ℕ) (r v : ℕ) (Y : ℕ → Bool) (x : ℕ) → r < m →
     IsIndependent p a m n Y →
     IsIndependent p (with_entry a r v x) m n Y ⊎ IsIndependent p (with_entry a r v (x + 1)) m n Y
-
--- modulo a prime above 2 an entry that is 0 may be made 1 or 2, neither of which is zero,
--- and columns stay independent
-abbrev pub ZeroMayBecomeOneOrTwo : Type 0
-ZeroMayBecomeOneOrTwo =
-    (p : ℕ) → IsPrime p → 2 < p → (m n : ℕ) (a : ℕ → ℕ → ℕ) (r v : ℕ) (Y : ℕ → Bool) → r < m →
-    a r v % p ≡ 0 → IsIndependent p a m n Y →
-    (x : ℕ) × ((x ≡ 1) ⊎ (x ≡ 2)) × (x % p ≡ x) × IsIndependent p (with_entry a r v x) m n Y

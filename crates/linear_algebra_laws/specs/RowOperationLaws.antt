@@ -47,24 +47,6 @@ SameKernelHasTheRank =
 abbrev pub EntriesDecideTheKernel : Type 0
 EntriesDecideTheKernel = (p m n : ℕ) (a b : ℕ → ℕ → ℕ) → Agree p m n a b → SameKernel p m n a b
 
--- the pivot's column joins a base as the base column of its row r, where row r had none
-abbrev pub PivotsAddToTheBase : Type 0
-PivotsAddToTheBase =
-    (p : ℕ) (a b : ℕ → ℕ → ℕ) (m n : ℕ) (B : ℕ → Bool) (row : ℕ → ℕ) (r v : ℕ) → v < n → r < m →
-    IsBase p a m n B row → IsPivoted p m n a b r v → HasNoBase n B row r →
-    IsBase p b m n (with_one B v) (λ j. cond (eqb j v) r (row j))
-
--- a product follows the row operations on its left factor
-abbrev pub ProductsFollowAddedRows : Type 0
-ProductsFollowAddedRows =
-    (p m k n : ℕ) (S T a : ℕ → ℕ → ℕ) (t s f : ℕ) →
-    IsRowAdded p m k S T t s f → IsRowAdded p m n (product k S a) (product k T a) t s f
-
-abbrev pub ProductsFollowScaledRows : Type 0
-ProductsFollowScaledRows =
-    (p m k n : ℕ) (S T a : ℕ → ℕ → ℕ) (t f : ℕ) →
-    IsRowScaled p m k S T t f → IsRowScaled p m n (product k S a) (product k T a) t f
-
 -- with f times row s added to row t of S, and the opposite on the transpose V of its inverse,
 -- -f times row t added to row s, they are inverse again
 abbrev pub AddedRowsKeepTheInverse : Type 0

@@ -1,5 +1,5 @@
 //! Row operations, and products with an invertible matrix.
-ghost use Rattle.linear_algebra_laws.specs.RowOperationLaws.{InverseOnOneSideIsInverse, InvertibleProductsKeepIndependence, InvertibleProductsKeepTheRank, AddedRowsKeepTheKernel, ScaledRowsKeepTheKernel, SameKernelHasTheRank, EntriesDecideTheKernel, PivotsAddToTheBase, ProductsFollowAddedRows, ProductsFollowScaledRows, AddedRowsKeepTheInverse, ScaledRowsKeepTheInverse};
+ghost use Rattle.linear_algebra_laws.specs.RowOperationLaws.{InverseOnOneSideIsInverse, InvertibleProductsKeepIndependence, InvertibleProductsKeepTheRank, AddedRowsKeepTheKernel, ScaledRowsKeepTheKernel, SameKernelHasTheRank, EntriesDecideTheKernel, AddedRowsKeepTheInverse, ScaledRowsKeepTheInverse};
 
 /// For square matrices, `S * U = 1` alone shows that `U * S = 1`.
 pub fn inverse_on_one_side_is_inverse()
@@ -34,21 +34,6 @@ pub fn same_kernel_has_the_rank()
 /// Matrices whose entries agree have the same kernel.
 pub fn entries_decide_the_kernel()
     ensures { EntriesDecideTheKernel }
-{}
-
-/// A pivot at a row without base adds its column to the base.
-pub fn pivots_add_to_the_base()
-    ensures { PivotsAddToTheBase }
-{}
-
-/// A product follows a multiple of a row added to another in its left factor.
-pub fn products_follow_added_rows()
-    ensures { ProductsFollowAddedRows }
-{}
-
-/// A product follows a row multiplied in its left factor.
-pub fn products_follow_scaled_rows()
-    ensures { ProductsFollowScaledRows }
 {}
 
 /// A row added in a matrix, and its opposite in the transpose of the inverse, leave inverses.

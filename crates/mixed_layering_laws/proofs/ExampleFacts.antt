@@ -8,7 +8,7 @@ use Rattle.linear_algebra.specs.Columns.{IsIndependent, IsRank}
 use Rattle.linear_algebra_laws.proofs.Ranks.{none_independent}
 use Rattle.mixed_matrices.specs.Examples.{split_model}
 use Rattle.mixed_matrices.specs.Models.{value}
-use Rattle.mixed_pairs.proofs.ExampleFacts.{below_one}
+use Rattle.mixed_pair_laws.proofs.ExampleFacts.{below_one}
 
 one_column : (Y : ℕ → Bool) → IsIndependent 65521 (value split_model (λ i j. 65520)) 1 1 Y → (j : ℕ) → j < 1 → Y j ≡ false
 one_column Y ind = below_one (λ j. Y j ≡ false) (not_true (Y 0)

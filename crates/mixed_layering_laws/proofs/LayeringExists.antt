@@ -8,7 +8,7 @@ use Rattle.residue_theory.specs.Sums.{size_on}
 use Rattle.mixed_matrices.specs.LayeredMatrices.{LayeredMatrix}
 use Rattle.mixed_matrices.specs.Layerings.{AreMembers, IsLayeredMatrixOf, IsLayering, Origins, gives_q, has_constant, has_symbol}
 use Rattle.mixed_matrices.specs.Models.{MixedMatrix}
-use Rattle.mixed_pairs.proofs.DroppedSymbols.{symbols}
+use Rattle.mixed_pair_laws.proofs.DroppedSymbols.{symbols}
 use Rattle.mixed_layering_laws.proofs.LayeredKernels.{ltb-first, ltb-next}
 
 -- ---- the members of a set, listed

@@ -14,8 +14,8 @@ use Rattle.mixed_matrices.specs.LayeredMatrices.{LayeredMatrix, layered_value}
 use Rattle.mixed_matrices.specs.Layerings.{IsLayeredMatrixOf, IsLayering, Origins, gives_q, has_symbol}
 use Rattle.mixed_matrices.specs.Models.{MixedMatrix, numbers, value}
 use Rattle.mixed_matrices.specs.StructuralRanks.{IsLayeredRank, IsStructuralRank}
-use Rattle.mixed_pairs.proofs.GreatestRanks.{mixed-rank_exists}
-use Rattle.mixed_pairs.proofs.PairRank.{greatest-unique}
+use Rattle.mixed_pair_laws.proofs.GreatestRanks.{mixed-rank_exists}
+use Rattle.mixed_pair_laws.proofs.PairRank.{greatest-unique}
 use Rattle.mixed_layering_laws.proofs.ChangedValues.{layered-ones_and_twos}
 use Rattle.mixed_layering_laws.proofs.LayeredKernels.{layered_values, layering-rank, ltb-first, ltb-next}
 use Rattle.mixed_layering_laws.proofs.ScaledRows.{minus_ones, scaled-kernel, small}

@@ -3,7 +3,7 @@ use Rattle.std.specs.Prelude.{ℕ, ◌+◌, ◌-◌, ◌<◌, ◌≤◌, ◌≡�
 use Rattle.linear_algebra.specs.Parts.{in_part}
 use Rattle.closed_sets.specs.Blocks.{IsListing, IsBelow}
 use Rattle.closed_sets.specs.Orders.{IsCover}
-use Rattle.closed_sets.specs.Rules.{KeepsRules}
+use Rattle.closed_sets.specs.Rules.{KeepsPlaceRules}
 use Rattle.mixed_matrices.specs.LayeredMatrices.{LayeredMatrix}
 use Rattle.mixed_matrices.specs.Tableaus.{Tableau}
 use Rattle.mixed_matrices.specs.Arcs.{has_base, has_match, is_free, is_end, leads_to}
@@ -35,7 +35,7 @@ IsListingIn p L F G = IsListing (leads_to p L F) L.columns (is_free F) (is_end p
 pub record KeepsPartRules (p : ℕ) (L : LayeredMatrix) (F : Tableau) (G : Parts)
     (below lower : ℕ → ℕ → Bool) : Type 0 where
   pub rows : HasRows L F G
-  pub rules : KeepsRules (leads_to p L F) L.columns (is_free F) (is_end p L F) (in_first G) (in_last G)
+  pub rules : KeepsPlaceRules (leads_to p L F) L.columns (is_free F) (is_end p L F) (in_first G) (in_last G)
       (block_of G) G.blocks lower
   pub order : IsBelow (leads_to p L F) L.columns (is_free F) (is_end p L F) (block_of G) G.blocks below
   pub lists : IsCover below G.blocks lower

@@ -11,12 +11,12 @@ abbrev pub IsRho : ℕ → LayeredMatrix → (ℕ → Bool) → ℕ → Type 0
 IsRho p L X r = IsRank p L.q L.q_rows L.columns X r
 
 -- T row i has a symbol in X
-abbrev pub touches : LayeredMatrix → (ℕ → Bool) → ℕ → Bool
-touches L X i = some_below L.columns (both X (L.t i))
+abbrev pub touches_set : LayeredMatrix → (ℕ → Bool) → ℕ → Bool
+touches_set L X i = some_below L.columns (both X (L.t i))
 
 -- the number of T rows with a symbol in X
 abbrev pub gamma : LayeredMatrix → (ℕ → Bool) → ℕ
-gamma L X = size_on (touches L X) L.t_rows
+gamma L X = size_on (touches_set L X) L.t_rows
 
 -- p(X) is at most p(Y), as sums: rho(X) + gamma(X) + |Y| is at most rho(Y) + gamma(Y) + |X|
 abbrev pub IsNoGreater : ℕ → LayeredMatrix → (ℕ → Bool) → (ℕ → Bool) → Type 0

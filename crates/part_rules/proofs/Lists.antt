@@ -6,11 +6,10 @@ use Rattle.closed_sets.specs.Walks.{Walk, Reaches, ReachesOn, Mutual}
 use Rattle.closed_sets.specs.Blocks.{IsBelow}
 use Rattle.closed_sets.specs.Closed.{IsMiddle}
 use Rattle.closed_sets.specs.Orders.{IsCover}
-use Rattle.closed_sets.specs.Rules.{InBlock, KeepsRules}
+use Rattle.closed_sets.specs.Rules.{InBlock, KeepsPlaceRules, PlacesLeadDown, PlacesHaveReasons, PlacesHaveLowerLists}
 use Rattle.closed_sets.proofs.RuleLaws.{block-middle, middle-block}
 use Rattle.closed_sets.proofs.WalkLaws.{reaches-join, reaches-arc}
 use Rattle.part_rules.specs.Parts.{AreNumbered}
-use Rattle.part_rules.specs.Rules.{LeadsDown, HasReasons, HasLowerLists}
 use Rattle.part_rules.specs.Tests.{ArcsAreDown, AreCovers, AreFirstPlaces, IsLeastFirst, TellsChains}
 use Rattle.part_rules.specs.Laws.{AreFalling}
 use Rattle.part_rules.proofs.Chains.{one-step, chain-join, first-step, chain-falls}
@@ -23,8 +22,8 @@ HasLess n F L block x k = (z : ℕ) × (z < x) × InBlock n F L z × (block z �
 
 module _ (arc : ℕ → ℕ → Bool) (n : ℕ) (starts ends F L : ℕ → Bool) (block part : ℕ → ℕ) (b : ℕ) (lower : ℕ → ℕ → Bool)
     (N : AreNumbered n b F L block part) (falling : AreFalling lower) (A : ArcsAreDown arc n starts ends part b lower)
-    (G : HasReasons arc n starts ends F L block) where
-  down : LeadsDown arc n starts ends F L block b lower
+    (G : PlacesHaveReasons arc n starts ends F L block) where
+  down : PlacesLeadDown arc n starts ends F L block b lower
   down = numbers-down n b F L block part N arc starts ends lower A
 
   -- the places on a walk between places of blocks stand in blocks
@@ -75,16 +74,11 @@ module _ (arc : ℕ → ℕ → Bool) (n : ℕ) (starts ends F L : ℕ → Bool)
   -- parts whose listing puts the least first keep the rules
   kept : ((x k : ℕ) → InBlock n F L x → k < block x →
       ((y : ℕ) → InBlock n F L y → Reaches arc n x y → (block y < k) ⊎ (block y ≡ block x)) → HasLess n F L block x k) →
-      KeepsRules arc n starts ends F L block b lower
+      KeepsPlaceRules arc n starts ends F L block b lower
   kept least = record {
     apart = λ x xl f l. let one : part x ≡ 1 = (N.first x xl).0 f in let last : part x ≡ b + 2 = (N.last x xl).0 l in omega (arith, one, last);
-    starts_first = down.starts_first;
-    ends_last = down.ends_last;
-    first_leads = down.first_leads;
-    block_leads = down.block_leads;
-    first_from = G.first_from;
-    last_to = G.last_to;
-    block_mutual = G.block_mutual;
+    down = down;
+    reasons = G;
     number = number-below n b F L block part N;
     member = λ k kb. found k kb (N.member k kb);
     falling = falling;
@@ -146,7 +140,7 @@ module _ (arc : ℕ → ℕ → Bool) (n : ℕ) (starts ends F L : ℕ → Bool)
               ]
 
       module _ (below : ℕ → ℕ → Bool) (B : TellsChains lower b below) where
-        K : KeepsRules arc n starts ends F L block b lower
+        K : KeepsPlaceRules arc n starts ends F L block b lower
         K = kept least-kept
 
         block-of : (x : ℕ) → IsMiddle arc n starts ends x → InBlock n F L x
@@ -194,11 +188,11 @@ module _ (arc : ℕ → ℕ → Bool) (n : ℕ) (starts ends F L : ℕ → Bool)
                 go (z, zb, lz, inl same) = subst (λ v. lower l v ≡ true) same lz
                 go (z, zb, lz, inr chain) = absurd (none z zb ((B z k zb kb).1 chain) ((B l z lb zb).1 (one-step lower b l z lb lz)))
 
-        pub covers-lists : HasLowerLists arc n starts ends F L block b lower
+        pub covers-lists : PlacesHaveLowerLists arc n starts ends F L block b lower
         covers-lists = record { below = λ k l. below l k; order = covers-order; lists = covers-are; least = least-kept }
 
-  module _ (R : HasLowerLists arc n starts ends F L block b lower) where
-    listed : KeepsRules arc n starts ends F L block b lower
+  module _ (R : PlacesHaveLowerLists arc n starts ends F L block b lower) where
+    listed : KeepsPlaceRules arc n starts ends F L block b lower
     listed = kept R.least
 
     middle-of : (x : ℕ) → InBlock n F L x → IsMiddle arc n starts ends x

@@ -1,10 +1,9 @@
 -- Parts by their numbers: where a place stands, and where arcs lead.
 use Rattle.std.proofs.Common.{◌≡◌, ℕ, ◌+◌, ◌<◌, ◌⊎◌, Bool, true, inl, inr, sym, subst, arith}
 use Rattle.residue_theory.proofs.SetLaws.{differ, not_true, le_cases}
-use Rattle.closed_sets.specs.Rules.{InBlock}
+use Rattle.closed_sets.specs.Rules.{InBlock, PlacesLeadDown}
 use Rattle.closed_sets.specs.Walks.{ReachesOn}
 use Rattle.part_rules.specs.Parts.{AreNumbered}
-use Rattle.part_rules.specs.Rules.{LeadsDown}
 use Rattle.part_rules.specs.Tests.{MayLead, ArcsAreDown}
 
 module _ (n b : ℕ) (F L : ℕ → Bool) (block part : ℕ → ℕ) (N : AreNumbered n b F L block part) where
@@ -52,7 +51,7 @@ module _ (n b : ℕ) (F L : ℕ → Bool) (block part : ℕ → ℕ) (N : AreNum
   same-part x y ix iy same = let px : block x + 2 ≡ part x = number-is x ix in let py : block y + 2 ≡ part y = number-is y iy in omega (arith, px, py, same)
 
   module _ (arc : ℕ → ℕ → Bool) (starts ends : ℕ → Bool) (lower : ℕ → ℕ → Bool) where
-    pub down-numbers : LeadsDown arc n starts ends F L block b lower → ArcsAreDown arc n starts ends part b lower
+    pub down-numbers : PlacesLeadDown arc n starts ends F L block b lower → ArcsAreDown arc n starts ends part b lower
     down-numbers D = record {
       starts_first = λ x xl h. (N.first x xl).0 (D.starts_first x xl h);
       ends_last = λ x xl h. (N.last x xl).0 (D.ends_last x xl h);
@@ -84,7 +83,7 @@ module _ (n b : ℕ) (F L : ℕ → Bool) (block part : ℕ → ℕ) (N : AreNum
           ]
         ]
 
-    pub numbers-down : ArcsAreDown arc n starts ends part b lower → LeadsDown arc n starts ends F L block b lower
+    pub numbers-down : ArcsAreDown arc n starts ends part b lower → PlacesLeadDown arc n starts ends F L block b lower
     numbers-down A = record {
       starts_first = λ x xl h. (N.first x xl).1 (A.starts_first x xl h);
       ends_last = λ x xl h. (N.last x xl).1 (A.ends_last x xl h);

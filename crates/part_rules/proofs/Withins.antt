@@ -2,10 +2,9 @@
 use Rattle.std.proofs.Common.{◌≡◌, ℕ, zero, suc, ◌+◌, ◌<◌, ◌≤◌, ◌⊎◌, ◌↔◌, Bool, true, inl, inr, refl, sym, subst, ◌∙◌, arith}
 use Rattle.residue_theory.proofs.SetLaws.{le_cases}
 use Rattle.closed_sets.specs.Walks.{Walk, Reaches, FromSome, ToSome, Mutual}
-use Rattle.closed_sets.specs.Rules.{InBlock}
+use Rattle.closed_sets.specs.Rules.{InBlock, PlacesHaveReasons}
 use Rattle.closed_sets.proofs.WalkLaws.{reaches-join}
 use Rattle.part_rules.specs.Parts.{AreNumbered}
-use Rattle.part_rules.specs.Rules.{HasReasons}
 use Rattle.part_rules.specs.Tests.{MayLead, ArcsAreDown, AreHeads, AreSeeds, AreMet}
 use Rattle.part_rules.specs.Laws.{AreFalling}
 use Rattle.part_rules.proofs.Chains.{chain-falls}
@@ -53,7 +52,7 @@ module _ (arc : ℕ → ℕ → Bool) (n : ℕ) (starts ends F L : ℕ → Bool)
     module _ (head : ℕ → ℕ) (low high from to : ℕ → Bool) (H : AreHeads n part b head) (S : AreSeeds n starts b head low) (E : AreSeeds n ends b head high)
         (R : (y : ℕ) → y < n → (from y ≡ true) ↔ FromSome within n low y) (T : (x : ℕ) → x < n → (to x ≡ true) ↔ ToSome within n high x) where
       -- from the head of its block a place of a block is met, and its head from it
-      head-from : HasReasons arc n starts ends F L block → (x k : ℕ) → InBlock n F L x → k < b → part x ≡ k + 2 → (from x ≡ true) × (to x ≡ true)
+      head-from : PlacesHaveReasons arc n starts ends F L block → (x k : ℕ) → InBlock n F L x → k < b → part x ≡ k + 2 → (from x ≡ true) × (to x ≡ true)
       head-from G x k ix kb same =
           let at : part (head k) ≡ k + 2 = (H k kb).1 in
           let hl : head k < n = (H k kb).0 in
@@ -66,19 +65,19 @@ module _ (arc : ℕ → ℕ → Bool) (n : ℕ) (starts ends F L : ℕ → Bool)
             (T x ix.below).1 (head k, hl, (E (head k) hl).1 (inr (k, kb, refl)), inner-reaches x (head k) ix.below hl (sym equal) both.1),
           )
 
-      first-met : HasReasons arc n starts ends F L block → (x : ℕ) → x < n → part x ≡ 1 → from x ≡ true
+      first-met : PlacesHaveReasons arc n starts ends F L block → (x : ℕ) → x < n → part x ≡ 1 → from x ≡ true
       first-met G x xl one = go (G.first_from x xl ((N.first x xl).1 one))
         where
           go : FromSome arc n starts x → from x ≡ true
           go (s, sl, h, r) = (R x xl).1 (s, sl, (S s sl).1 (inl h), inner-reaches s x sl xl (A.starts_first s sl h ∙ sym one) r)
 
-      last-met : HasReasons arc n starts ends F L block → (x : ℕ) → x < n → part x ≡ b + 2 → to x ≡ true
+      last-met : PlacesHaveReasons arc n starts ends F L block → (x : ℕ) → x < n → part x ≡ b + 2 → to x ≡ true
       last-met G x xl last = go (G.last_to x xl ((N.last x xl).1 last))
         where
           go : ToSome arc n ends x → to x ≡ true
           go (e, el, h, r) = (T x xl).1 (e, el, (E e el).1 (inl h), inner-reaches x e xl el (last ∙ sym (A.ends_last e el h)) r)
 
-      pub reasons-met : HasReasons arc n starts ends F L block → AreMet n b part from to
+      pub reasons-met : PlacesHaveReasons arc n starts ends F L block → AreMet n b part from to
       reasons-met G x xl = elim (le_cases 1 (part x) (N.from x xl)) [
         | inl one ↦ (inr (first-met G x xl (sym one)), inl (sym one))
         | inr more ↦ elim (le_cases (part x) (b + 2) (N.to x xl)) [
@@ -152,7 +151,7 @@ module _ (arc : ℕ → ℕ → Bool) (n : ℕ) (starts ends F L : ℕ → Bool)
       met-reaches G x y ix iy same = reaches-join arc n x (head (block x)) y (met-above G x ix)
           (subst (λ v. Reaches arc n (head v) y) (sym same) (met-below G y iy))
 
-      pub met-reasons : AreMet n b part from to → HasReasons arc n starts ends F L block
+      pub met-reasons : AreMet n b part from to → PlacesHaveReasons arc n starts ends F L block
       met-reasons G = record {
         first_from = λ x xl f. met-first G x xl ((N.first x xl).0 f);
         last_to = λ x xl l. met-last G x xl ((N.last x xl).0 l);

@@ -1,5 +1,4 @@
 pub mod Listed
 pub mod Parts
-pub mod Rules
 pub mod Tests
 pub mod Laws

@@ -5,7 +5,7 @@ use Rattle.residue_theory.proofs.CountLaws.{size-zero}
 use Rattle.residue_theory.proofs.SumLaws.{nat_cases, sum_on-same}
 use Rattle.closed_sets.specs.Walks.{Walk, FromSome}
 use Rattle.closed_sets.specs.Closed.{Follows, IsClosed, IsReachedSet}
-use Rattle.search_laws.specs.Searches.{IsShortest, State, IsLed, IsSearch, HasStarts, NoEndBefore, IsGrown, IsPut, IsTrace}
+use Rattle.search_laws.specs.Searches.{IsShortest, SearchState, IsLed, IsSearch, HasStarts, NoEndBefore, IsGrown, IsPut, IsTrace}
 use Rattle.residue_theory.proofs.SetLaws.{differ, lt_cases}
 use Rattle.closed_sets.proofs.Hulls.{follows-from}
 
@@ -20,7 +20,8 @@ size_on-put X Y (suc n) v l xv yv same = go (nat_cases v n) (λ less. size_on-pu
 
 module _ (arc : ℕ → ℕ → Bool) (n : ℕ) where
   -- where a place stands in the order
-  position : (s : State) (head filled : ℕ) → IsSearch arc n s head filled → (y : ℕ) → y < n → s.reached y ≡ true → (i : ℕ) × (i < filled) × (s.order i ≡ y)
+  position : (s : SearchState) (head filled : ℕ) → IsSearch arc n s head filled → (y : ℕ) → y < n → s.reached y ≡ true → (i : ℕ) × (i < filled) ×
+      (s.order i ≡ y)
   position s head filled S y yl h = go (S.each y yl)
     where
       go : ((i : ℕ) × (i < n) × (s.order i ≡ y)) → (i : ℕ) × (i < filled) × (s.order i ≡ y)
@@ -31,7 +32,7 @@ module _ (arc : ℕ → ℕ → Bool) (n : ℕ) where
           at (inr g) = absurd (differ (subst (λ v. s.reached v ≡ false) e (S.waiting i g il)) h)
 
   -- a place is put at the end of the reached ones
-  module _ (s t : State) (head filled i x d : ℕ) (S : IsSearch arc n s head filled) (P : IsPut s t i filled x d) (ge : filled ≤ i) (il : i < n)
+  module _ (s t : SearchState) (head filled i x d : ℕ) (S : IsSearch arc n s head filled) (P : IsPut s t i filled x d) (ge : filled ≤ i) (il : i < n)
       (above : (j : ℕ) → j < filled → s.depth (s.order j) ≤ d) (close : head < filled → d ≤ s.depth (s.order head) + 1) (small : d ≤ filled)
       (why : (d ≡ 0) ⊎ ((x < n) × (s.reached x ≡ true) × (arc x (s.order i) ≡ true) × (d ≡ s.depth x + 1))) where
     waits : s.reached (s.order i) ≡ false
@@ -196,10 +197,10 @@ module _ (arc : ℕ → ℕ → Bool) (n : ℕ) where
       | inr old ↦ let o = f y yl old in (P.depth_same y (other y old) ∙ o.0, o.1)
     ]
 
-  pub grown-same : (s : State) (filled : ℕ) → IsGrown n s s filled
+  pub grown-same : (s : SearchState) (filled : ℕ) → IsGrown n s s filled
   grown-same s filled = record { order = λ j l. refl; reached = λ y h. h; depth = λ y h. refl; deeper = λ y h z. h }
 
-  pub grown-join : (s t u : State) (f g : ℕ) → f ≤ g → IsGrown n s t f → IsGrown n t u g → IsGrown n s u f
+  pub grown-join : (s t u : SearchState) (f g : ℕ) → f ≤ g → IsGrown n s t f → IsGrown n t u g → IsGrown n s u f
   grown-join s t u f g le A B = record {
     order = λ j l. B.order j (omega arith) ∙ A.order j l;
     reached = λ y h. B.reached y (A.reached y h);
@@ -207,22 +208,22 @@ module _ (arc : ℕ → ℕ → Bool) (n : ℕ) where
     deeper = λ y h z. let r = B.deeper y h z in A.deeper y r (sym (B.depth y r) ∙ z);
   }
 
-  pub grown-starts : (s t : State) (f : ℕ) (starts : ℕ → Bool) → IsGrown n s t f → HasStarts n starts s → HasStarts n starts t
+  pub grown-starts : (s t : SearchState) (f : ℕ) (starts : ℕ → Bool) → IsGrown n s t f → HasStarts n starts s → HasStarts n starts t
   grown-starts s t f starts G H = record {
     reached = λ y l h. G.reached y (H.reached y l h);
     depth = λ y l h. G.depth y (H.reached y l h) ∙ H.depth y l h;
     only = λ y l h z. let r = G.deeper y h z in H.only y l r (sym (G.depth y r) ∙ z);
   }
 
-  pub grown-ends : (s t : State) (f head : ℕ) (ends : ℕ → Bool) → head ≤ f → IsGrown n s t f → NoEndBefore ends s head → NoEndBefore ends t head
+  pub grown-ends : (s t : SearchState) (f head : ℕ) (ends : ℕ → Bool) → head ≤ f → IsGrown n s t f → NoEndBefore ends s head → NoEndBefore ends t head
   grown-ends s t f head ends le G N j l e = N j l (subst (λ v. ends v ≡ true) (G.order j (omega arith)) e)
 
-  pub ends-next : (s : State) (head : ℕ) (ends : ℕ → Bool) → NoEndBefore ends s head → ends (s.order head) ≡ false → NoEndBefore ends s (head + 1)
+  pub ends-next : (s : SearchState) (head : ℕ) (ends : ℕ → Bool) → NoEndBefore ends s head → ends (s.order head) ≡ false → NoEndBefore ends s (head + 1)
   ends-next s head ends N misses j l e = elim (nat_cases j head)
       [ inl q ↦ differ misses (subst (λ v. ends (s.order v) ≡ true) q e) | inr ne ↦ N j (omega arith) e ]
 
   -- the next place is looked at
-  pub search-next : (s : State) (head filled : ℕ) → IsSearch arc n s head filled → head < filled →
+  pub search-next : (s : SearchState) (head filled : ℕ) → IsSearch arc n s head filled → head < filled →
       ((i : ℕ) → filled ≤ i → i < n → arc (s.order head) (s.order i) ≡ false) → IsSearch arc n s (head + 1) filled
   search-next s head filled S more scanned = record {
     head_le = omega arith;
@@ -255,7 +256,7 @@ module _ (arc : ℕ → ℕ → Bool) (n : ℕ) where
         | inr ne ↦ S.looked j y (omega arith) yl a
       ]
 
-  module _ (starts ends : ℕ → Bool) (s : State) (head filled : ℕ) (S : IsSearch arc n s head filled)
+  module _ (starts ends : ℕ → Bool) (s : SearchState) (head filled : ℕ) (S : IsSearch arc n s head filled)
       (F : HasStarts n starts s) (N : NoEndBefore ends s head) where
     -- what a walk no longer than the next place's depth leads to is reached, and no deeper
     seen : (s₀ : ℕ) → s₀ < n → starts s₀ ≡ true → (m y : ℕ) → y < n → ((j : ℕ) → j < filled → s.depth (s.order j) < m → j < head) → Walk arc n s₀ y m →
@@ -377,7 +378,7 @@ module _ (arc : ℕ → ℕ → Bool) (n : ℕ) where
     }
 
 -- at the start no place is reached, and each stands at a position of its own
-pub search-start : (arc : ℕ → ℕ → Bool) (n : ℕ) (s : State) (position : ℕ → ℕ) → ((i : ℕ) → i < n → s.order i < n) → ((y : ℕ) → y < n → position y < n) →
+pub search-start : (arc : ℕ → ℕ → Bool) (n : ℕ) (s : SearchState) (position : ℕ → ℕ) → ((i : ℕ) → i < n → s.order i < n) → ((y : ℕ) → y < n → position y < n) →
     ((i : ℕ) → i < n → position (s.order i) ≡ i) → ((y : ℕ) → y < n → s.order (position y) ≡ y) → ((y : ℕ) → y < n → s.reached y ≡ false) → IsSearch arc n s 0 0
 search-start arc n s position order_below position_below position_order order_position none = record {
   head_le = omega arith;
@@ -396,7 +397,7 @@ search-start arc n s position order_below position_below position_order order_po
 }
 
 -- each place of the walk is where the walk to the next one comes from
-pub trace-all : (arc : ℕ → ℕ → Bool) (n : ℕ) (starts ends : ℕ → Bool) (s : State) (head filled : ℕ) →
+pub trace-all : (arc : ℕ → ℕ → Bool) (n : ℕ) (starts ends : ℕ → Bool) (s : SearchState) (head filled : ℕ) →
     IsSearch arc n s head filled → HasStarts n starts s → NoEndBefore ends s head →
     head < filled → ends (s.order head) ≡ true → (at : ℕ → ℕ) (d : ℕ) → s.depth (s.order head) ≡ d →
     at d ≡ s.order head → ((i : ℕ) → i < d → at i ≡ s.before (at (i + 1))) → IsShortest arc n starts ends at d

@@ -13,21 +13,21 @@ pub record IsShortest (arc : ℕ → ℕ → Bool) (n : ℕ) (starts ends : ℕ 
   pub least : (s e m : ℕ) → s < n → e < n → starts s ≡ true → ends e ≡ true → Walk arc n s e m → k ≤ m
 
 -- what a search knows: order lists the places, the reached ones first; before is where the walk to a place comes from
-pub record State : Type 0 where
+pub record SearchState : Type 0 where
   pub order : ℕ → ℕ
   pub reached : ℕ → Bool
   pub depth : ℕ → ℕ
   pub before : ℕ → ℕ
 
 -- a reached place of some depth: an arc of a reached place leads to it
-pub record IsLed (arc : ℕ → ℕ → Bool) (n : ℕ) (s : State) (y : ℕ) : Type 0 where
+pub record IsLed (arc : ℕ → ℕ → Bool) (n : ℕ) (s : SearchState) (y : ℕ) : Type 0 where
   pub below : s.before y < n
   pub reached : s.reached (s.before y) ≡ true
   pub along : arc (s.before y) y ≡ true
   pub deeper : s.depth y ≡ s.depth (s.before y) + 1
 
 -- the first `filled` places of the order are reached, and the first `head` of these have been looked at
-pub record IsSearch (arc : ℕ → ℕ → Bool) (n : ℕ) (s : State) (head filled : ℕ) : Type 0 where
+pub record IsSearch (arc : ℕ → ℕ → Bool) (n : ℕ) (s : SearchState) (head filled : ℕ) : Type 0 where
   pub head_le : head ≤ filled
   pub filled_le : filled ≤ n
   pub below : (i : ℕ) → i < n → s.order i < n
@@ -44,24 +44,24 @@ pub record IsSearch (arc : ℕ → ℕ → Bool) (n : ℕ) (s : State) (head fil
       × (s.depth y ≤ s.depth (s.order j) + 1)
 
 -- the reached places of depth 0 are the starts
-pub record HasStarts (n : ℕ) (starts : ℕ → Bool) (s : State) : Type 0 where
+pub record HasStarts (n : ℕ) (starts : ℕ → Bool) (s : SearchState) : Type 0 where
   pub reached : (y : ℕ) → y < n → starts y ≡ true → s.reached y ≡ true
   pub depth : (y : ℕ) → y < n → starts y ≡ true → s.depth y ≡ 0
   pub only : (y : ℕ) → y < n → s.reached y ≡ true → s.depth y ≡ 0 → starts y ≡ true
 
 -- none of the first `head` places is an end
-abbrev pub NoEndBefore : (ℕ → Bool) → State → ℕ → Type 0
+abbrev pub NoEndBefore : (ℕ → Bool) → SearchState → ℕ → Type 0
 NoEndBefore ends s head = (j : ℕ) → j < head → ends (s.order j) ≡ true → ⊥
 
 -- t has what s had reached, in its order and as deep, and more that is deeper than 0
-pub record IsGrown (n : ℕ) (s t : State) (filled : ℕ) : Type 0 where
+pub record IsGrown (n : ℕ) (s t : SearchState) (filled : ℕ) : Type 0 where
   pub order : (j : ℕ) → j < filled → t.order j ≡ s.order j
   pub reached : (y : ℕ) → s.reached y ≡ true → t.reached y ≡ true
   pub depth : (y : ℕ) → s.reached y ≡ true → t.depth y ≡ s.depth y
   pub deeper : (y : ℕ) → t.reached y ≡ true → t.depth y ≡ 0 → s.reached y ≡ true
 
 -- t is s with the place at i of the order put at the end of the reached ones, d deep and led to by x
-pub record IsPut (s t : State) (i filled x d : ℕ) : Type 0 where
+pub record IsPut (s t : SearchState) (i filled x d : ℕ) : Type 0 where
   pub order_new : t.order filled ≡ s.order i
   pub order_moved : t.order i ≡ s.order filled
   pub order_same : (j : ℕ) → j ≢ i → j ≢ filled → t.order j ≡ s.order j
@@ -73,7 +73,7 @@ pub record IsPut (s t : State) (i filled x d : ℕ) : Type 0 where
   pub before_same : (y : ℕ) → y ≢ s.order i → t.before y ≡ s.before y
 
 -- at holds the last arcs of the walk to e: from the k-th place on
-pub record IsTrace (arc : ℕ → ℕ → Bool) (n : ℕ) (s : State) (at : ℕ → ℕ) (k d e : ℕ) : Type 0 where
+pub record IsTrace (arc : ℕ → ℕ → Bool) (n : ℕ) (s : SearchState) (at : ℕ → ℕ) (k d e : ℕ) : Type 0 where
   pub le : k ≤ d
   pub last : at d ≡ e
   pub below : (i : ℕ) → k ≤ i → i ≤ d → at i < n

@@ -6,7 +6,7 @@ returns c arc n starts ends F L block b lower K = (
   rules-clear arc n starts ends F L block b lower K,
   record {
     first = first-reached arc n starts ends F L block b lower K;
-    last = λ x l. (K.last_to x l, last-reaches arc n starts ends F L block b lower K x l);
+    last = λ x l. (K.reasons.last_to x l, last-reaches arc n starts ends F L block b lower K x l);
     listing = rules-listing arc n starts ends F L block b lower K;
   },
 )

@@ -2,7 +2,7 @@ use Rattle.std.proofs.Common.{refl, arith}
 use Rattle.residue_theory.proofs.Primes.{prime_65521}
 use Rattle.mixed_matrices.specs.Examples.{split_matrix, split_model, split_origins}
 use Rattle.mixed_matrices.specs.Layerings.{gives_q, has_symbol}
-use Rattle.mixed_pairs.proofs.ExampleFacts.{split-layered, split_model-rank}
+use Rattle.mixed_pair_laws.proofs.ExampleFacts.{split-layered, split_model-rank}
 use Rattle.mixed_layering_laws.proofs.ExampleFacts.{zero_entry-rank}
 use Rattle.mixed_layering_laws.proofs.LayeringRank.{layering-law, values-rank}
 use Rattle.mixed_layering_laws.proofs.examples.layering_at_examples.Goals as goal

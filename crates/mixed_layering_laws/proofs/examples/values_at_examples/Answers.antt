@@ -1,5 +1,5 @@
 use Rattle.std.proofs.Common.{◌≡◌, ◌+◌, ◌%◌, ℕ, zero, suc, cond, eqb, inl, inr, refl, arith}
-use Rattle.mixed_pairs.proofs.ExampleFacts.{below_one}
+use Rattle.mixed_pair_laws.proofs.ExampleFacts.{below_one}
 use Rattle.mixed_layering_laws.proofs.examples.values_at_examples.Goals as goal
 
 above_zero : (x : ℕ) → suc x ≡ zero → ⊥

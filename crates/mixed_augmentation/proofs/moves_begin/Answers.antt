@@ -1,5 +1,0 @@
-use Rattle.mixed_augmentation.proofs.Moves.{stage-start}
-use Rattle.mixed_augmentation.proofs.moves_begin.Goals as goal
-
-pub returns : goal.returns
-returns c p L F R T W = stage-start p L F R T W

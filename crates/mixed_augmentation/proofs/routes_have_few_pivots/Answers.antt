@@ -1,5 +1,0 @@
-use Rattle.mixed_augmentation.proofs.Counting.{route-pivots}
-use Rattle.mixed_augmentation.proofs.routes_have_few_pivots.Goals as goal
-
-pub returns : goal.returns
-returns c p L F R W = route-pivots p L F R W

@@ -1,0 +1,4 @@
+pub mod Moves
+pub mod Routes
+pub mod Counting
+pub mod Sealed

@@ -1,5 +1,0 @@
-use Rattle.mixed_forms.proofs.CanonicalForm.{canonical-one}
-use Rattle.mixed_forms.proofs.canonical_laws.canonical_parts_are_one.Goals as goal
-
-pub returns : goal.returns
-returns c = canonical-one

@@ -1,6 +1,0 @@
-use Rattle.mixed_forms.proofs.Canonical.{below-block, block-below}
-use Rattle.mixed_forms.proofs.canonical_laws.checked_order_is_canonical.Goals as goal
-
-pub returns : goal.returns
-returns c p prime L F tab G below lower K k l kl ll =
-    (below-block p prime L F tab G below lower K k l kl ll, block-below p prime L F tab G below lower K k l kl ll)

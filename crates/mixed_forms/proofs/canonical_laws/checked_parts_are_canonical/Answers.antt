@@ -1,5 +1,0 @@
-use Rattle.mixed_forms.proofs.Canonical.{checked-canonical}
-use Rattle.mixed_forms.proofs.canonical_laws.checked_parts_are_canonical.Goals as goal
-
-pub returns : goal.returns
-returns c = checked-canonical

@@ -1,5 +1,0 @@
-use Rattle.mixed_forms.proofs.CanonicalForm.{canonical_form}
-use Rattle.mixed_forms.proofs.canonical_laws.each_layered_matrix_has_a_canonical_form.Goals as goal
-
-pub returns : goal.returns
-returns c = canonical_form

@@ -1,5 +1,0 @@
-use Rattle.mixed_forms.proofs.ExampleFacts.{triangle-ordered}
-use Rattle.mixed_forms.proofs.examples.orders_at_examples.Goals as goal
-
-pub returns-clause-holds : goal.returns-clause-holds
-returns-clause-holds c = triangle-ordered

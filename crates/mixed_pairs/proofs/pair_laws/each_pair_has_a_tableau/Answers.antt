@@ -1,5 +1,0 @@
-use Rattle.mixed_pairs.proofs.PairTableaus.{pair_tableau}
-use Rattle.mixed_pairs.proofs.pair_laws.each_pair_has_a_tableau.Goals as goal
-
-pub returns : goal.returns
-returns c = pair_tableau

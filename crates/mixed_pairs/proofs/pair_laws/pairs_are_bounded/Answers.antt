@@ -1,5 +1,0 @@
-use Rattle.mixed_pairs.proofs.PairBounds.{bound}
-use Rattle.mixed_pairs.proofs.pair_laws.pairs_are_bounded.Goals as goal
-
-pub returns : goal.returns
-returns c p L I J mate pair X r R = bound p L I J mate X r pair R

@@ -1,5 +1,0 @@
-use Rattle.mixed_pairs.proofs.BestPairs.{Optimal, optimal}
-use Rattle.mixed_pairs.proofs.pair_laws.some_pair_reaches_the_bound.Goals as goal
-
-pub returns : goal.returns
-returns c p prime L = let O : Optimal p L = optimal p prime L in (O.I, O.J, O.mate, O.X, O.r, O.pair, O.rank, O.equal)

@@ -1,5 +1,0 @@
-use Rattle.mixed_pairs.proofs.Minimisers.{tableau-pair}
-use Rattle.mixed_pairs.proofs.pair_laws.tableaus_hold_pairs.Goals as goal
-
-pub returns : goal.returns
-returns c = tableau-pair

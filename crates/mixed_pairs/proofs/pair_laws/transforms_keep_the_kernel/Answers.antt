@@ -1,5 +1,0 @@
-use Rattle.mixed_pairs.proofs.TableauParts.{tableau}
-use Rattle.mixed_pairs.proofs.pair_laws.transforms_keep_the_kernel.Goals as goal
-
-pub returns : goal.returns
-returns c = tableau

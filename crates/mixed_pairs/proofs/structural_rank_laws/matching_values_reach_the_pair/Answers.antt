@@ -1,5 +1,0 @@
-use Rattle.mixed_pairs.proofs.PairRank.{pair-reached}
-use Rattle.mixed_pairs.proofs.structural_rank_laws.matching_values_reach_the_pair.Goals as goal
-
-pub returns : goal.returns
-returns c p prime L I J mate pair s R = pair-reached p prime L I J mate pair s R

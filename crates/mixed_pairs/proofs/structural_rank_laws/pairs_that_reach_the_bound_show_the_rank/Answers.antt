@@ -1,5 +1,0 @@
-use Rattle.mixed_pairs.proofs.PairRank.{reached-rank}
-use Rattle.mixed_pairs.proofs.structural_rank_laws.pairs_that_reach_the_bound_show_the_rank.Goals as goal
-
-pub returns : goal.returns
-returns c p prime L I J mate pair X r R e = reached-rank p prime L I J mate X r pair R e

@@ -1,6 +1,0 @@
-use Rattle.mixed_pairs.proofs.Minimisers.{least_set, least_set-closed}
-use Rattle.mixed_pairs.proofs.PairRank.{closed-rank}
-use Rattle.mixed_pairs.proofs.structural_rank_laws.pairs_without_walk_show_the_rank.Goals as goal
-
-pub returns : goal.returns
-returns c p prime L F tab clear = closed-rank p prime L F tab (least_set p L F) (least_set-closed p L F clear)

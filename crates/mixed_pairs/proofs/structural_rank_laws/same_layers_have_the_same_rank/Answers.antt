@@ -1,5 +1,0 @@
-use Rattle.mixed_pairs.proofs.SameEntries.{same-layers}
-use Rattle.mixed_pairs.proofs.structural_rank_laws.same_layers_have_the_same_rank.Goals as goal
-
-pub returns : goal.returns
-returns c = same-layers

@@ -1,5 +1,0 @@
-use Rattle.mixed_pairs.proofs.SameEntries.{same-model}
-use Rattle.mixed_pairs.proofs.structural_rank_laws.same_models_have_the_same_rank.Goals as goal
-
-pub returns : goal.returns
-returns c = same-model

@@ -1,5 +1,0 @@
-use Rattle.mixed_report.proofs.Removals.{equation_rows}
-use Rattle.mixed_report.proofs.removal_laws.each_equation_has_a_row.Goals as goal
-
-pub returns : goal.returns
-returns c M L O lay i il = equation_rows M L O lay i il
