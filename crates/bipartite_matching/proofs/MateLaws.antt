@@ -1,8 +1,8 @@
 -- A matching as a test of columns, is_some (mate_at m col), with the row of each matched one, unwrap_or (mate_at m col) 0.
 use Rattle.std.proofs.Common.{◌≡◌, ◌≢◌, ℕ, ◌<◌, true, false, Option, Some, None, is_some, unwrap_or, refl, sym, ap, subst, arith}
 use Rattle.std.proofs.lemmas.List.{get_or-set_same, get_or-set_other}
-use Rattle.sparse_t.specs.Incidences.{row_count, touches}
-use Rattle.bipartite_matching.specs.Matchings.{Matching, IsMatching, HasPair, IsRowFree, mate_at, with_pair, without_column}
+use Rattle.sparse_t.specs.Incidences.{incidence_rows, touches}
+use Rattle.bipartite_matching.specs.Matchings.{Matching, IsMatching, HasPair, IsRowFree, mate_at, with_pair, matching_without}
 
 pub pair-matched : (m : Matching) (row col : ℕ) → HasPair m row col → (is_some (mate_at m col) ≡ true) × (unwrap_or (mate_at m col) 0 ≡ row)
 pair-matched m row col h = (ap is_some h, ap (λ (mate : Option ℕ). unwrap_or mate 0) h)
@@ -32,7 +32,7 @@ pub free-row : (m : Matching) (row col : ℕ) → IsRowFree m row → is_some (m
 free-row m row col free h q = free col (subst (λ r. HasPair m r col) q (matched-pair m col h))
 
 -- the three facts of a matching in these words
-pub mate-below : (m : Matching) → IsMatching m → (col : ℕ) → is_some (mate_at m col) ≡ true → unwrap_or (mate_at m col) 0 < row_count m.pattern
+pub mate-below : (m : Matching) → IsMatching m → (col : ℕ) → is_some (mate_at m col) ≡ true → unwrap_or (mate_at m col) 0 < incidence_rows m.pattern
 mate-below m M col h = M.row (unwrap_or (mate_at m col) 0) col (matched-pair m col h)
 
 pub mate-touches : (m : Matching) → IsMatching m → (col : ℕ) → is_some (mate_at m col) ≡ true → touches m.pattern (unwrap_or (mate_at m col) 0) col ≡ true
@@ -50,8 +50,8 @@ linked-here m M row col l = get_or-set_same m.mates col (Some row) None (omega (
 pub linked-other : (m : Matching) (row col other : ℕ) → other ≢ col → mate_at (with_pair m row col) other ≡ mate_at m other
 linked-other m row col other ne = get_or-set_other m.mates col other (Some row) None ne
 
-pub parted-here : (m : Matching) → IsMatching m → (col : ℕ) → col < m.pattern.width → mate_at (without_column m col) col ≡ None
+pub parted-here : (m : Matching) → IsMatching m → (col : ℕ) → col < m.pattern.width → mate_at (matching_without m col) col ≡ None
 parted-here m M col l = get_or-set_same m.mates col None None (omega (arith, M.count))
 
-pub parted-other : (m : Matching) (col other : ℕ) → other ≢ col → mate_at (without_column m col) other ≡ mate_at m other
+pub parted-other : (m : Matching) (col other : ℕ) → other ≢ col → mate_at (matching_without m col) other ≡ mate_at m other
 parted-other m col other ne = get_or-set_other m.mates col other None None ne

@@ -1,6 +1,7 @@
 -- Matchings of rows with columns.
 use Rattle.std.specs.Prelude.{ℕ, ◌<◌, ◌≡◌, true, List, length, replicate, Option, Some, None, slice_index_or, slice_set}
-use Rattle.sparse_t.specs.Incidences.{Incidence, row_count, touches}
+use Rattle.number_pairs.specs.Pairs.{PairLists}
+use Rattle.sparse_t.specs.Incidences.{Incidence, incidence_rows, touches}
 
 -- for each column of the pattern the row that it is matched with, if there is one; so a column has one row at most
 pub record Matching : Type 0 where
@@ -23,7 +24,7 @@ IsRowFree m row = (col : ℕ) → HasPair m row col → ⊥
 -- pairs are symbol places, and no two of them have a row in common
 pub record IsMatching (m : Matching) : Type 0 where
   pub count : length m.mates ≡ m.pattern.width
-  pub row : (row col : ℕ) → HasPair m row col → row < row_count m.pattern
+  pub row : (row col : ℕ) → HasPair m row col → row < incidence_rows m.pattern
   pub column : (row col : ℕ) → HasPair m row col → col < m.pattern.width
   pub symbol : (row col : ℕ) → HasPair m row col → touches m.pattern row col ≡ true
   pub one_column : (row col other : ℕ) → HasPair m row col → HasPair m row other → col ≡ other
@@ -34,14 +35,10 @@ empty_matching p = record { pattern = p; mates = replicate p.width None }
 abbrev pub with_pair : Matching → ℕ → ℕ → Matching
 with_pair m row col = record m { mates = slice_set m.mates col (Some row) }
 
-abbrev pub without_column : Matching → ℕ → Matching
-without_column m col = record m { mates = slice_set m.mates col None }
+abbrev pub matching_without : Matching → ℕ → Matching
+matching_without m col = record m { mates = slice_set m.mates col None }
 
--- a matching, with the column of each row beside the row of each column
-pub record IsStored (p : Incidence) (columns mates : List (Option ℕ)) : Type 0 where
-  pub matching : IsMatching (record { pattern = p; mates = mates })
-  pub rows : length columns ≡ row_count p
-  pub column : (row col : ℕ) → HasPair (record { pattern = p; mates = mates }) row col →
-      slice_index_or columns row None ≡ Some col
-  pub pair : (row col : ℕ) → slice_index_or columns row None ≡ Some col →
-      HasPair (record { pattern = p; mates = mates }) row col
+-- the pairs of rows with columns are a matching of the pattern
+pub record IsTwoSided (p : Incidence) (pairs : PairLists) : Type 0 where
+  pub matching : IsMatching (record { pattern = p; mates = pairs.lefts })
+  pub rows : length pairs.rights ≡ incidence_rows p

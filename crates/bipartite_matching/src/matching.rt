@@ -1,9 +1,10 @@
 //! Matchings of a bipartite graph: rows, columns and the symbol places that join them.
 
 ghost use Rattle.std.specs.Prelude.{◌≡◌, ◌<◌, ℕ, true, None, IfOk, IfSome, IfNone};
-ghost use Rattle.sparse_t.specs.Incidences.{row_count, touches};
-ghost use Rattle.bipartite_matching.specs.Matchings.{Matching, IsMatching, HasPair, IsRowMatched, IsRowFree, mate_at, empty_matching, with_pair, without_column};
+ghost use Rattle.sparse_t.specs.Incidences.{incidence_rows, touches};
+ghost use Rattle.bipartite_matching.specs.Matchings.{Matching, IsMatching, HasPair, IsRowMatched, IsRowFree, mate_at, empty_matching, with_pair, matching_without};
 
+use number_pairs::NumberPairs;
 use out_of_memory::NoMemory;
 use sparse_t::Pattern;
 use std::alloc::Global;
@@ -14,18 +15,17 @@ use std::marker::Model;
 #[derive(Drop)]
 pub struct Match {
     pattern: Pattern,
-    column_of: Vec<Option<usize>>,
-    row_of: Vec<Option<usize>>,
+    pairs: NumberPairs,
 }
 
 impl Model for Match {
-    ghost use Rattle.bipartite_matching.specs.Matchings.{Matching, IsStored};
+    ghost use Rattle.bipartite_matching.specs.Matchings.{Matching, IsTwoSided};
 
     ghost Value = { Matching };
 
-    ghost view = { λ m. record { pattern = m.pattern; mates = m.row_of.items } };
+    ghost view = { λ m. record { pattern = m.pattern; mates = m.pairs.lefts } };
 
-    ghost invariant = { λ m. IsStored m.pattern m.column_of.items m.row_of.items };
+    ghost invariant = { λ m. IsTwoSided m.pattern m.pairs };
 }
 
 impl Match {
@@ -35,13 +35,8 @@ impl Match {
         ensures matching { IfOk result (λ m. IsMatching m) }
     {
         let pattern = t.copy()?;
-        let column_of = vec![in alloc; None; t.rows()]?;
-        let row_of = vec![in alloc; None; t.cols()]?;
-        Ok(Match {
-            pattern,
-            column_of,
-            row_of,
-        })
+        let pairs = NumberPairs::open(alloc, t.rows(), t.cols())?;
+        Ok(Match { pattern, pairs })
     }
 
     /// The pattern of which this is a matching.
@@ -54,12 +49,12 @@ impl Match {
 
     /// The column that the row is matched with, if there is one.
     pub fn mate_of_row(&self, row: usize) -> Option<usize>
-        requires { row < row_count self.now.pattern }
+        requires { row < incidence_rows self.now.pattern }
         ensures some { IfSome result (λ col. HasPair self.now row col) }
         ensures none { IfNone result (IsRowFree self.now row) }
         ensures matching { IsMatching self.now }
     {
-        self.column_of[row]
+        self.pairs.right_of(row)
     }
 
     /// The row that the column is matched with, if there is one.
@@ -68,12 +63,12 @@ impl Match {
         ensures mate { result ≡ mate_at self.now col }
         ensures matching { IsMatching self.now }
     {
-        self.row_of[col]
+        self.pairs.left_of(col)
     }
 
     /// Matches a row with a column that it touches, where neither is matched.
     pub fn link(&mut self, row: usize, col: usize)
-        requires row { row < row_count self.old.pattern }
+        requires row { row < incidence_rows self.old.pattern }
         requires col { col < self.old.pattern.width }
         requires touches { touches self.old.pattern row col ≡ true }
         requires row_free { IsRowFree self.old row }
@@ -81,18 +76,17 @@ impl Match {
         ensures pair { self.new ≡ with_pair self.old row col }
         ensures matching { IsMatching self.new }
     {
-        self.column_of[row] = Some(col);
-        self.row_of[col] = Some(row);
+        self.pairs.are_one_to_one();
+        self.pairs.link(row, col);
     }
 
     /// Parts a row, which is matched, from its column.
     pub fn unlink(&mut self, row: usize)
         requires { IsRowMatched self.old row }
-        ensures pair { (col : ℕ) → HasPair self.old row col → self.new ≡ without_column self.old col }
+        ensures pair { (col : ℕ) → HasPair self.old row col → self.new ≡ matching_without self.old col }
         ensures matching { IsMatching self.new }
     {
-        let col = self.column_of[row].unwrap();
-        self.column_of[row] = None;
-        self.row_of[col] = None;
+        let col = self.pairs.right_of(row).unwrap();
+        self.pairs.unlink(row, col);
     }
 }

@@ -10,8 +10,8 @@ use Rattle.std.proofs.lemmas.Nat.{same_from_place, shr-shr, shr_le}
 use Rattle.std.proofs.lemmas.Nat.Bits.{shr_and_one, bit_at_or, bit_at-lt, bit_at-zero, bit_at_set_same, bit_at_set_other, bit_at_above, bit_at-trailing_zeros}
 use Rattle.residue_theory.proofs.SumLaws.{nat_cases}
 use Rattle.residue_theory.proofs.SetLaws.{lt_cases}
-use Rattle.number_ranges.specs.Ranges.{HasNone, IsLeast}
-use Rattle.bit_table.specs.Bits.{bit_of, IsBitSet, IsJoined, IsKept, IsRowCleared, IsRowEmptied}
+use Rattle.residue_theory.specs.Ranges.{HasNone, IsLeast}
+use Rattle.bit_table.specs.Bits.{bit_of, IsBitSet, IsJoined, AreKeptBits, IsRowCleared, IsRowEmptied}
 
 pub item_is : (xs : List ℕ) (k v : ℕ) → k < length xs → v ≡ get_or xs k v → get_or xs k 0 ≡ v
 item_is xs k v l e = grind (arith, common_steps)
@@ -108,9 +108,9 @@ pub record ClearedTo (xs ys : List ℕ) (first i : ℕ) : Type 0 where
   pub rest : (k : ℕ) → (k < first) ⊎ (first + i ≤ k) → get_or ys k 0 ≡ get_or xs k 0
 
 -- row x is changed, and then uses its first v words
-pub keep_row : (rows size w room : ℕ) (xs us ys : List ℕ) (x v : ℕ) → IsKept rows size w room xs us → x < rows → length ys ≡ length xs →
+pub keep_row : (rows size w room : ℕ) (xs us ys : List ℕ) (x v : ℕ) → AreKeptBits rows size w room xs us → x < rows → length ys ≡ length xs →
     v ≤ w → (0 < v → x * w + w ≤ length xs) → ((k : ℕ) → (k < x * w) ⊎ (x * w + w ≤ k) → get_or ys k 0 ≡ get_or xs k 0) →
-    ((i : ℕ) → v ≤ i → i < w → get_or ys (x * w + i) 0 ≡ 0) → IsKept rows size w room ys (set us x v)
+    ((i : ℕ) → v ≤ i → i < w → get_or ys (x * w + i) 0 ≡ 0) → AreKeptBits rows size w room ys (set us x v)
 keep_row rows size w room xs us ys x v K xl len vl made rest zeros = record {
   room_is = K.room_is;
   words_are = omega (arith, len, K.words_are);
@@ -147,24 +147,24 @@ joined_row xs ys zs into from w u J none i il = elim (lt_cases i u) [
 ]
 
 -- the table after row x is joined with one that uses u words; v are those that it uses then
-pub keep_joined : (rows size w room : ℕ) (xs us ys zs : List ℕ) (from x u v : ℕ) → IsKept rows size w room xs us → x < rows →
+pub keep_joined : (rows size w room : ℕ) (xs us ys zs : List ℕ) (from x u v : ℕ) → AreKeptBits rows size w room xs us → x < rows →
     x * w + w ≤ length xs → length ys ≡ length xs → JoinedTo xs ys zs (x * w) from u → u ≤ v → get_or us x 0 ≤ v → v ≤ w →
-    IsKept rows size w room ys (set us x v)
+    AreKeptBits rows size w room ys (set us x v)
 keep_joined rows size w room xs us ys zs from x u v K xl made len J ul ol vl = keep_row rows size w room xs us ys x v K xl len vl (λ _. made)
     (λ k out. J.rest k (elim out [ inl a ↦ inl a | inr b ↦ inr (omega arith) ]))
     (λ i vi il. J.rest (x * w + i) (inr (omega arith)) ∙ K.behind x i xl (omega arith) il)
 
 -- the table after a bit of row x is set
-pub keep_set : (rows size w room : ℕ) (xs us : List ℕ) (x y v b : ℕ) → IsKept rows size w room xs us → x < rows → y < size →
+pub keep_set : (rows size w room : ℕ) (xs us : List ℕ) (x y v b : ℕ) → AreKeptBits rows size w room xs us → x < rows → y < size →
     x * w + w ≤ length xs → y / 64 + 1 ≤ v → get_or us x 0 ≤ v → v ≤ w →
-    IsKept rows size w room (set xs (x * w + y / 64) b) (set us x v)
+    AreKeptBits rows size w room (set xs (x * w + y / 64) b) (set us x v)
 keep_set rows size w room xs us x y v b K xl yl made fits ol vl = keep_row rows size w room xs us (set xs (x * w + y / 64) b) x v K xl
     (length-set xs (x * w + y / 64) b) vl (λ _. made)
     (λ k out. get_or-set_other xs (x * w + y / 64) k b 0 (λ q. elim out [ inl a ↦ omega arith | inr c ↦ omega arith ]))
     (λ i vi il. get_or-set_other xs (x * w + y / 64) (x * w + i) b 0 (λ q. omega arith) ∙ K.behind x i xl (omega arith) il)
 
 -- where the words of row x that are used are cleared, all are
-pub emptied_row : (rows size w room : ℕ) (xs us ys : List ℕ) (x : ℕ) → IsKept rows size w room xs us → x < rows →
+pub emptied_row : (rows size w room : ℕ) (xs us ys : List ℕ) (x : ℕ) → AreKeptBits rows size w room xs us → x < rows →
     ClearedTo xs ys (x * w) (get_or us x 0) → IsRowEmptied xs ys w x
 emptied_row rows size w room xs us ys x K xl C = record {
   here = λ i il. elim (lt_cases i (get_or us x 0)) [
@@ -175,8 +175,8 @@ emptied_row rows size w room xs us ys x K xl C = record {
 }
 
 -- the table after all words of row x are cleared
-pub keep_emptied : (rows size w room : ℕ) (xs us ys : List ℕ) (x : ℕ) → IsKept rows size w room xs us → x < rows → length ys ≡ length xs →
-    IsRowEmptied xs ys w x → IsKept rows size w room ys (set us x 0)
+pub keep_emptied : (rows size w room : ℕ) (xs us ys : List ℕ) (x : ℕ) → AreKeptBits rows size w room xs us → x < rows → length ys ≡ length xs →
+    IsRowEmptied xs ys w x → AreKeptBits rows size w room ys (set us x 0)
 keep_emptied rows size w room xs us ys x K xl len E = keep_row rows size w room xs us ys x 0 K xl len (omega arith) (λ some. absurd (omega (arith, some)))
     E.others (λ i _ il. E.here i il)
 
@@ -265,7 +265,7 @@ none_in_word xs w x from at next v before fits e zero le y yf yl = by (lt_cases 
         ∙ zero_bit (y % 64 - at % 64))
 
 -- a word before the end of the words that are used is there; `u` is how many these are, and `all` how many bits they have
-pub used_word : (rows size w room : ℕ) (xs us : List ℕ) (x at u all end behind : ℕ) → IsKept rows size w room xs us → x < rows →
+pub used_word : (rows size w room : ℕ) (xs us : List ℕ) (x at u all end behind : ℕ) → AreKeptBits rows size w room xs us → x < rows →
     u ≡ get_or us x u → all ≡ Prim.Native.Nat.min (u * 64) 18446744073709551615 → behind ≡ Prim.Native.Nat.min end all →
     at < behind → x * w + at / 64 < length xs
 used_word rows size w room xs us x at u all end behind K xl is alls behinds al =
@@ -274,7 +274,7 @@ used_word rows size w room xs us x at u all end behind K xl is alls behinds al =
     omega (arith, K.made x xl (omega (arith, used, below)), K.within x xl, used, below)
 
 -- no bit is set behind the words that are used
-pub none_behind : (rows size w room : ℕ) (xs us : List ℕ) (x from top end : ℕ) → IsKept rows size w room xs us → x < rows → end ≤ size →
+pub none_behind : (rows size w room : ℕ) (xs us : List ℕ) (x from top end : ℕ) → AreKeptBits rows size w room xs us → x < rows → end ≤ size →
     ((y : ℕ) → top ≤ y → y < end → get_or us x 0 ≤ y / 64) → HasNone (bit_of xs w x) from top → HasNone (bit_of xs w x) from end
 none_behind rows size w room xs us x from top end K xl el used none y yf yl = elim (lt_cases y top) [
   | inl l ↦ none y yf l

@@ -19,7 +19,7 @@ bit_in t = bit_of t.words t.width
 
 -- there is room for so many rows of so many bits, kept in words, of which row x uses the first ones alone, and none
 -- where it is not made
-pub record IsKept (rows size width room : ℕ) (words used : List ℕ) : Type 0 where
+pub record AreKeptBits (rows size width room : ℕ) (words used : List ℕ) : Type 0 where
   pub room_is : rows * width ≤ room
   pub words_are : length words ≤ rows * width
   pub width_is : width ≡ size / 64 + 1

@@ -1,7 +1,7 @@
 //! A table of bits in words of 64, so that a row is looked through a word at a time.
 
 ghost use Rattle.std.specs.Prelude.{◌≡◌, ℕ, ◌<◌, ◌≤◌, ◌+◌, ◌*◌, ◌/◌, Bool, true, false, length, IfOk, IfSome, IfNone};
-ghost use Rattle.number_ranges.specs.Ranges.{HasNone, IsLeast};
+ghost use Rattle.residue_theory.specs.Ranges.{HasNone, IsLeast};
 ghost use Rattle.bit_table.specs.Bits.{bit_in, IsBitSet, IsJoined, IsRowCleared, IsRowEmptied};
 
 use out_of_memory::NoMemory;
@@ -22,13 +22,13 @@ pub struct BitTable {
 
 impl Model for BitTable {
     ghost use Rattle.std.specs.Prelude.{vec_capacity};
-    ghost use Rattle.bit_table.specs.Bits.{Bits, IsKept};
+    ghost use Rattle.bit_table.specs.Bits.{Bits, AreKeptBits};
 
     ghost Value = { Bits };
 
     ghost view = { λ t. record { rows = t.rows; size = t.size; width = t.width; words = t.words.items } };
 
-    ghost invariant = { λ t. IsKept t.rows t.size t.width (vec_capacity t.words) t.words.items t.used.items };
+    ghost invariant = { λ t. AreKeptBits t.rows t.size t.width (vec_capacity t.words) t.words.items t.used.items };
 }
 
 impl BitTable {

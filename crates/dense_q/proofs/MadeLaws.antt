@@ -13,7 +13,7 @@ use Rattle.residue_theory.proofs.SumLaws.{nat_cases}
 use Rattle.linear_algebra.specs.Products.{identity, product}
 use Rattle.residue_field.specs.Rows.{plus_multiple}
 use Rattle.residue_field.proofs.RowLaws.{plus_multiple-at}
-use Rattle.dense_q.specs.Rows.{IsCombined}
+use Rattle.dense_q.specs.Rows.{IsRowSum}
 use Rattle.dense_q.specs.Storage.{IsStored}
 use Rattle.dense_q.specs.Tables.{Table, IsTableOf, IsProduct, height, entry}
 use Rattle.dense_q.proofs.TableLaws.{numbers, numbers-row}
@@ -132,7 +132,7 @@ identity-at n i j il jl = elim (nat_cases i j) [
 -- the rows of a product, each a combination of the rows of b
 pub made_product : {A Z : Type 0} (number : A → ℕ) (p : ℕ) (a b : Table) (i : ℕ) (first : List (List ℕ))
     (all : List (Vec A Z)) → first ≡ a.rows → a.width ≡ height b → length all ≡ i → height a ≡ i →
-    ((k : ℕ) → k < i → IsCombined p (slice_index_or first k []) b.rows b.width
+    ((k : ℕ) → k < i → IsRowSum p (slice_index_or first k []) b.rows b.width
     (slice_index_or (numbers number all) k [])) →
     IsProduct p a b (record { width = b.width; rows = numbers number all })
 made_product number p a b i first all same match count last done =

@@ -8,7 +8,7 @@ multiple p k (x ∷ xs) = k * x % p ∷ multiple p k xs
 multiple p k [] = []
 
 -- `row` has w entries and is the sum of the rows, each times its coefficient
-pub record IsCombined (p : ℕ) (coefficients : List ℕ) (rows : List (List ℕ)) (w : ℕ) (row : List ℕ) : Type 0 where
+pub record IsRowSum (p : ℕ) (coefficients : List ℕ) (rows : List (List ℕ)) (w : ℕ) (row : List ℕ) : Type 0 where
   pub length_is : length row ≡ w
   pub sums : (j : ℕ) → j < w → slice_index row j ≡ sum_below (length rows) (λ t.
       slice_index coefficients t * slice_index (slice_index_or rows t []) j) % p

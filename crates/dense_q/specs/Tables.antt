@@ -45,8 +45,8 @@ abbrev pub with_row : Table → ℕ → List ℕ → Table
 with_row m i row = record m { rows = slice_set m.rows i row }
 
 -- m with x at row i and column j
-abbrev pub with_entry : Table → ℕ → ℕ → ℕ → Table
-with_entry m i j x = with_row m i (slice_set (row_at m i) j x)
+abbrev pub table_with_entry : Table → ℕ → ℕ → ℕ → Table
+table_with_entry m i j x = with_row m i (slice_set (row_at m i) j x)
 
 -- m with rows i and j in each other's place
 abbrev pub with_rows_swapped : Table → ℕ → ℕ → Table

@@ -6,7 +6,7 @@ ghost use Rattle.linear_algebra.specs.Products.{identity};
 ghost use Rattle.linear_algebra.specs.RowOperations.{IsRowAdded, IsRowScaled};
 ghost use Rattle.residue_field.specs.Rows.{plus_multiple};
 ghost use Rattle.dense_q.specs.Rows.{multiple};
-ghost use Rattle.dense_q.specs.Tables.{Table, IsMatrix, AreResidues, HasSameSize, IsTableOf, IsProduct, height, row_at, entry, zero_table, with_row, with_entry, with_rows_swapped, with_last_row};
+ghost use Rattle.dense_q.specs.Tables.{Table, IsMatrix, AreResidues, HasSameSize, IsTableOf, IsProduct, height, row_at, entry, zero_table, with_row, table_with_entry, with_rows_swapped, with_last_row};
 
 use crate::rows;
 use out_of_memory::NoMemory;
@@ -113,6 +113,15 @@ impl<F: Field> Mat<F> {
         })
     }
 
+    /// Tells a proof what a matrix keeps: its rows are as long as it is wide, and it has at most 8,192 rows and columns. It
+    /// does nothing when it runs.
+    pub fn is_matrix(&self)
+        ensures { IsMatrix self.now }
+    {
+        // a proof knows what the type keeps once a field is read
+        let _ = &self.rows;
+    }
+
     /// How many rows there are.
     pub fn rows(&self) -> usize
         ensures rows { result ≡ height self.now }
@@ -151,7 +160,7 @@ impl<F: Field> Mat<F> {
     pub fn set(&mut self, i: usize, j: usize, v: F)
         requires row { i < height self.old }
         requires col { j < self.old.width }
-        ensures { self.new ≡ with_entry self.old i j (F.number v) }
+        ensures { self.new ≡ table_with_entry self.old i j (F.number v) }
     {
         self.rows[i][j] = v;
     }

@@ -2,7 +2,7 @@
 
 ghost use Rattle.std.specs.Prelude.{◌≡◌, ℕ, ◌<◌, ◌≤◌, map, length, replicate, vec_len, slice_index, slice_index_or, IfOk};
 ghost use Rattle.std.specs.List.{All};
-ghost use Rattle.dense_q.specs.Rows.{multiple, IsCombined};
+ghost use Rattle.dense_q.specs.Rows.{multiple, IsRowSum};
 
 use residue_field::Field;
 use std::alloc::{AllocError, Global};
@@ -34,7 +34,7 @@ pub(crate) fn combination<F: Field>(
 ) -> Result<Vec<F>, AllocError>
     requires coefficients { length coefficients.now ≡ length rows.now }
     requires full { All (λ row. vec_len row ≡ columns) rows.now }
-    ensures { IfOk result (λ row. IsCombined F.modulus (map F.number coefficients.now)
+    ensures { IfOk result (λ row. IsRowSum F.modulus (map F.number coefficients.now)
         (map (λ row. map F.number row.items) rows.now) columns (map F.number row.items)) }
 {
     let mut sum = zero_row(alloc, columns)?;

@@ -19,8 +19,8 @@ abbrev pub is_taken : MixedModel → ℕ → ℕ → Bool
 is_taken model i j = is_some (constant_of model i j) || symbol_of model i j
 
 -- nothing stands in any equation
-abbrev pub IsBlank : MixedModel → Type 0
-IsBlank model = (i : ℕ) → row_of model i ≡ []
+abbrev pub IsWithoutEntries : MixedModel → Type 0
+IsWithoutEntries model = (i : ℕ) → row_of model i ≡ []
 
 -- the model of size n after so many tries
 pub record IsTried (n tries : ℕ) (model : MixedModel) : Type 0 where

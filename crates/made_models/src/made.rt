@@ -28,7 +28,6 @@ pub fn made_model<F: Field>(alloc: Global, size: usize) -> Result<Mixed<F>, NoMe
     for i in 0..size {
         try_entries(&mut model, &mut draws, size, i)?;
     }
-    // a proof knows what the type keeps once it is asked
-    let _ = model.equations();
+    model.is_model();
     Ok(model)
 }

@@ -3,7 +3,7 @@
 ghost use Rattle.std.specs.Prelude.{◌≡◌, [], IfOk, OnOk};
 ghost use Rattle.mixed_model.specs.Models.{empty_model};
 ghost use Rattle.made_models.specs.MadeModels.{IsSize, numbered_names};
-ghost use Rattle.made_models.specs.Tries.{IsBlank, IsTried};
+ghost use Rattle.made_models.specs.Tries.{IsWithoutEntries, IsTried};
 
 use mixed_model::{AddError, Mixed};
 use out_of_memory::NoMemory;
@@ -27,7 +27,7 @@ fn add_equations<F: Field>(alloc: Global, model: &mut Mixed<F>, size: usize) -> 
     requires empty { model.old ≡ empty_model }
     ensures equations { OnOk result (model.new.equations ≡ numbered_names 101 size) }
     ensures unknowns { OnOk result (model.new.unknowns ≡ []) }
-    ensures blank { OnOk result (IsBlank model.new) }
+    ensures blank { OnOk result (IsWithoutEntries model.new) }
 {
     for place in 0..size {
         let name = format!(in alloc; "e{}", place + 1)?;

@@ -4,7 +4,7 @@ use Rattle.std.proofs.Common.{get_or-set_same, get_or-set_other, length-set, ref
 use Rattle.std.proofs.lemmas.Bool.{eqb-false}
 use Rattle.std.proofs.Common.{eqb-true}
 use Rattle.std.proofs.lemmas.List.Elements.{All-get_or}
-use Rattle.dense_q.specs.Tables.{Table, IsMatrix, height, row_at, entry, with_entry}
+use Rattle.dense_q.specs.Tables.{Table, IsMatrix, height, row_at, entry, table_with_entry}
 use Rattle.mixed_layering.specs.Places.{FillsRow}
 
 -- a row of a matrix has an entry for each column
@@ -31,7 +31,7 @@ fills-same old now i at told fills same = record {
 
 -- one entry of the row is put
 pub fills-next : (old now next : Table) (i j x : ℕ) (at told : ℕ → ℕ) → i < height old → j < length (row_at old i) →
-    FillsRow old now i at → next ≡ with_entry now i j x →
+    FillsRow old now i at → next ≡ table_with_entry now i j x →
     ((b : ℕ) → b < old.width → told b ≡ cond (eqb j b) x (at b)) → FillsRow old next i told
 fills-next old now next i j x at told within inside fills is value = subst (λ t. FillsRow old t i told) (sym is) (record {
   size = record { height_same = length-set now.rows i (set (row_at now i) j x) ∙ fills.size.height_same; width_same = fills.size.width_same };
@@ -44,10 +44,10 @@ fills-next old now next i j x at told within inside fills is value = subst (λ t
     here : i < height now
     here = subst (λ k. i < k) (sym fills.size.height_same) within
 
-    row_is : row_at (with_entry now i j x) i ≡ set (row_at now i) j x
+    row_is : row_at (table_with_entry now i j x) i ≡ set (row_at now i) j x
     row_is = get_or-set_same now.rows i (set (row_at now i) j x) [] here
 
-    by : (b : ℕ) (c : Bool) → eqb j b ≡ c → entry now i b ≡ at b → entry (with_entry now i j x) i b ≡ cond c x (at b)
+    by : (b : ℕ) (c : Bool) → eqb j b ≡ c → entry now i b ≡ at b → entry (table_with_entry now i j x) i b ≡ cond c x (at b)
     by b true e old_entry =
         ap (λ row. get_or row b 0) row_is
         ∙ subst (λ k. get_or (set (row_at now i) j x) k 0 ≡ x) (eqb-true j b e)

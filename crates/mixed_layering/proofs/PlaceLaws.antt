@@ -9,7 +9,7 @@ use Rattle.std.proofs.lemmas.List.{get_or-replicate, get_or_append_left}
 use Rattle.std.proofs.Math.Seq.{get_or-append_seam}
 use Rattle.dense_q.specs.Tables.{entry, zero_table}
 use Rattle.residue_theory.specs.Sets.{has}
-use Rattle.sparse_t.specs.Incidences.{Incidence, with_last_row}
+use Rattle.sparse_t.specs.Incidences.{Incidence, incidence_with_row}
 use Rattle.sparse_t.proofs.ListLaws.{has-append, has-none, rising-append, below-append}
 use Rattle.mixed_matrices.specs.Models.{MixedMatrix}
 use Rattle.mixed_model.specs.Models.{MixedModel, IsModel, row_of, constant_at, mixed_matrix_of}
@@ -92,7 +92,7 @@ module _ (M : MixedMatrix) (equation : ℕ) (split list : List ℕ) (touched : A
 pub rows-next : (M : MixedMatrix) (split equations : List ℕ) (n : ℕ) (t : Incidence) (list : List ℕ) →
     AreRowsOfSymbols M split equations n t → AreTouched (M.columns + length split)
     (symbol_place M split (slice_index equations n)) list → AreRowsOfSymbols M split equations (n + 1)
-    (with_last_row t list)
+    (incidence_with_row t list)
 rows-next M split equations n t list are touched = record {
   width = are.width;
   count = length-append t.rows (list ∷ []) ∙ omega (arith, are.count);

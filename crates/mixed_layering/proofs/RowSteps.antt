@@ -6,10 +6,10 @@ use Rattle.std.specs.Option.{unwrap_or}
 use Rattle.std.proofs.lemmas.Bool.{cases_lt}
 use Rattle.std.proofs.Math.Seq.{get_or-append_seam}
 use Rattle.residue_theory.specs.Sets.{has}
-use Rattle.sparse_t.specs.Lists.{IsBelow}
+use Rattle.sparse_t.specs.Lists.{AreAllBelow}
 use Rattle.sparse_t.proofs.ListLaws.{has-at, has-append}
 use Rattle.mixed_model.specs.Entries.{RowEntry}
-use Rattle.mixed_model.specs.Rows.{entry_in, constant_at_place, symbol_at_place, constant_in, symbol_in, IsRow, IsWithin}
+use Rattle.mixed_model.specs.Rows.{entry_in, constant_at_place, symbol_at_place, constant_in, symbol_in, IsRow, AreColumnsBelow}
 use Rattle.mixed_model.proofs.RowLaws.{entry_in-next, entry_in-lower}
 
 module _ (p : ℕ) (row : List RowEntry) (seen : List RowEntry) (entry : RowEntry) (rest : List RowEntry)
@@ -18,9 +18,9 @@ module _ (p : ℕ) (row : List RowEntry) (seen : List RowEntry) (entry : RowEntr
   rises = subst (IsRow p) split is_row
 
   -- the entry is one of the row
-  pub entry_within : (columns : ℕ) → IsWithin columns row → entry.column < columns
+  pub entry_within : (columns : ℕ) → AreColumnsBelow columns row → entry.column < columns
   entry_within columns within =
-      let at = subst (IsWithin columns) split within (length seen) entry (omega (arith, length-append seen (entry ∷ rest))) in
+      let at = subst (AreColumnsBelow columns) split within (length seen) entry (omega (arith, length-append seen (entry ∷ rest))) in
       subst (λ (x : RowEntry). x.column < columns) (get_or-append_seam seen entry rest entry) at
 
   next_place : (b : ℕ) → entry_in (seen ++ entry ∷ []) b ≡ cond (eqb entry.column b) (Some entry) (entry_in seen b)
@@ -67,8 +67,8 @@ module _ (p : ℕ) (row : List RowEntry) (seen : List RowEntry) (entry : RowEntr
       by false e = refl
 
   -- the columns of the symbols seen, and then this one
-  module _ (columns : ℕ) (within : IsWithin columns row) (list : List ℕ) (exact : (j : ℕ) → has list j ≡ symbol_in seen j) where
-    pub list-lower : IsBelow entry.column list
+  module _ (columns : ℕ) (within : AreColumnsBelow columns row) (list : List ℕ) (exact : (j : ℕ) → has list j ≡ symbol_in seen j) where
+    pub list-lower : AreAllBelow entry.column list
     list-lower k at = ⊎_elim
         (λ low. low)
         (λ high.

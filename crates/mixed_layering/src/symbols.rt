@@ -1,7 +1,7 @@
 //! The symbols of a layered matrix.
 
 ghost use Rattle.std.specs.Prelude.{◌≡◌, ◌<◌, ◌≤◌, ◌+◌, ℕ, length, IfOk, slice_index};
-ghost use Rattle.sparse_t.specs.Incidences.{row_count, touches};
+ghost use Rattle.sparse_t.specs.Incidences.{incidence_rows, touches};
 ghost use Rattle.mixed_model.specs.Models.{mixed_matrix_of, symbol_of};
 ghost use Rattle.mixed_layering.specs.Members.{AreEquations, AreSplit};
 ghost use Rattle.mixed_layering.specs.Places.{symbol_place, AreTouched, AreRowsOfSymbols};

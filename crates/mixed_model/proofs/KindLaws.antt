@@ -8,7 +8,7 @@ use Rattle.mixed_matrices.specs.Layerings.{has_constant, has_symbol}
 use Rattle.residue_theory.specs.Sets.{some_below}
 use Rattle.residue_theory.proofs.SetLaws.{some_below-found, some_below-holds}
 use Rattle.mixed_model.specs.Entries.{RowEntry}
-use Rattle.mixed_model.specs.Rows.{entry_in, constant_at_place, symbol_at_place, constant_in, symbol_in, IsRow, IsWithin}
+use Rattle.mixed_model.specs.Rows.{entry_in, constant_at_place, symbol_at_place, constant_in, symbol_in, IsRow, AreColumnsBelow}
 use Rattle.mixed_model.specs.Models.{MixedModel, IsModel, row_of, mixed_matrix_of}
 use Rattle.mixed_model.proofs.RowLaws.{entry_in-place, entry_in-filled}
 
@@ -37,7 +37,7 @@ passing P (next ∷ row) any = by (P next) refl any (passing P row)
 
 -- a test of the places below the columns, and of the entries
 some_place : (p : ℕ) (P : RowEntry → Bool) (told : ℕ → Bool) (row : List RowEntry) (columns : ℕ) → IsRow p row →
-    IsWithin columns row → ((j : ℕ) (entry : RowEntry) → entry_in row j ≡ Some entry → told j ≡ P entry) →
+    AreColumnsBelow columns row → ((j : ℕ) (entry : RowEntry) → entry_in row j ≡ Some entry → told j ≡ P entry) →
     ((j : ℕ) → entry_in row j ≡ None → told j ≡ false) → some_below columns told ≡ list_any P row
 some_place p P told row columns rises within at_entry at_none = by (some_below columns told) refl (list_any P row) refl
   where
@@ -69,7 +69,7 @@ some_place p P told row columns rises within at_entry at_none = by (some_below c
     by false p false q = p ∙ sym q
 
 -- constants, of which none is 0
-some_constant : (p : ℕ) (row : List RowEntry) (columns : ℕ) → IsRow p row → IsWithin columns row →
+some_constant : (p : ℕ) (row : List RowEntry) (columns : ℕ) → IsRow p row → AreColumnsBelow columns row →
     some_below columns (λ j. not (eqb (unwrap_or (constant_in row j) 0) 0)) ≡ list_any
     (λ entry. is_some entry.constant) row
 some_constant p row columns rises within =
@@ -83,7 +83,7 @@ some_constant p row columns rises within =
     by (Some c) positive = let some = positive c refl in rw (ne_eqb c 0 (λ e. omega (arith, some, e))) refl
 
 -- symbols
-some_symbol : (p : ℕ) (row : List RowEntry) (columns : ℕ) → IsRow p row → IsWithin columns row →
+some_symbol : (p : ℕ) (row : List RowEntry) (columns : ℕ) → IsRow p row → AreColumnsBelow columns row →
     some_below columns (symbol_in row) ≡ list_any (λ entry. entry.symbol) row
 some_symbol p row columns rises within =
     some_place p (λ entry. entry.symbol) (symbol_in row) row columns rises within
@@ -91,7 +91,7 @@ some_symbol p row columns rises within =
 
 -- an equation's row within a model
 module _ (p : ℕ) (model : MixedModel) (is : IsModel p model) (i : ℕ) (equation : i < length model.equations) where
-  row_is : IsRow p (row_of model i) × IsWithin (length model.unknowns) (row_of model i)
+  row_is : IsRow p (row_of model i) × AreColumnsBelow (length model.unknowns) (row_of model i)
   row_is = is.rows i [] (omega (arith, is.one_row_each))
 
   pub model_has_constant : list_any (λ entry. is_some entry.constant) (row_of model i) ≡ has_constant (mixed_matrix_of model) i

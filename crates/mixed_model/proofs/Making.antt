@@ -8,7 +8,7 @@ use Rattle.std.proofs.lemmas.List.FromFn.{get_or-map-range_with_len, length-map-
 use Rattle.std.proofs.lemmas.List.Elements.{All-cons}
 use Rattle.mixed_model.specs.Entries.{RowEntry}
 use Rattle.mixed_model.specs.Names.{IsNameList}
-use Rattle.mixed_model.specs.Rows.{IsFilled, IsRow, IsWithin, RisesFrom, constant_in, constant_at_place, entry_in}
+use Rattle.mixed_model.specs.Rows.{IsNotEmpty, IsRow, AreColumnsBelow, RisesFrom, constant_in, constant_at_place, entry_in}
 use Rattle.mixed_model.specs.Rows.{symbol_in, symbol_at_place}
 use Rattle.mixed_model.specs.Models.{MixedModel, IsModel, constant_at, symbol_of}
 
@@ -35,14 +35,14 @@ none-before p first column (entry ∷ row) rises before =
     rw (ne_eqb entry.column column (λ same. omega (arith, rises.0, same)))
     (none-before p (entry.column + 1) column row rises.2 (omega (arith, rises.0)))
 
-filled-symbol : (p column : ℕ) → IsFilled p (record { column = column; constant = None; symbol = true })
+filled-symbol : (p column : ℕ) → IsNotEmpty p (record { column = column; constant = None; symbol = true })
 filled-symbol p column = record {
   some = refl;
   positive = λ c e. let f : None ≡ Some c = e in absurd cc;
   residue = λ c e. let f : None ≡ Some c = e in absurd cc;
 }
 
-filled-constant : (p column n : ℕ) (symbol : Bool) → suc n < p → IsFilled p (record { column = column; constant = Some (suc n); symbol = symbol })
+filled-constant : (p column n : ℕ) (symbol : Bool) → suc n < p → IsNotEmpty p (record { column = column; constant = Some (suc n); symbol = symbol })
 filled-constant p column n symbol small = record {
   some = refl;
   positive = λ c e. let same : suc n ≡ c = ap (λ o. unwrap_or o 0) e in omega (arith, same);
@@ -52,47 +52,48 @@ filled-constant p column n symbol small = record {
 -- a row that rises, within columns, with these constants and symbols from a column on
 record IsPlaced (p first columns : ℕ) (constant : ℕ → ℕ) (symbol : ℕ → Bool) (row : List RowEntry) : Type 0 where
   pub rises : RisesFrom p first row
-  pub within : IsWithin columns row
+  pub within : AreColumnsBelow columns row
   pub constants : (j : ℕ) → first ≤ j → j < columns → unwrap_or (constant_in row j) 0 ≡ constant j
   pub symbols : (j : ℕ) → first ≤ j → j < columns → symbol_in row j ≡ symbol j
 
 -- one place more
-module _ (p column columns : ℕ) (row : List RowEntry) (rises : RisesFrom p (column + 1) row) (within : IsWithin columns row) (room : column < columns) where
-  -- the row with this place
-  record IsPut (c : ℕ) (s : Bool) (new : List RowEntry) : Type 0 where
-    pub rises_now : RisesFrom p column new
-    pub within_now : IsWithin columns new
-    pub constant_here : unwrap_or (constant_in new column) 0 ≡ c
-    pub symbol_here : symbol_in new column ≡ s
-    pub others : (j : ℕ) → column < j → entry_in new j ≡ entry_in row j
+module _ (p column columns : ℕ) (row : List RowEntry) (rises : RisesFrom p (column + 1) row) (within : AreColumnsBelow columns row) (room : column < columns)
+  where
+    -- the row with this place
+    record IsPut (c : ℕ) (s : Bool) (new : List RowEntry) : Type 0 where
+      pub rises_now : RisesFrom p column new
+      pub within_now : AreColumnsBelow columns new
+      pub constant_here : unwrap_or (constant_in new column) 0 ≡ c
+      pub symbol_here : symbol_in new column ≡ s
+      pub others : (j : ℕ) → column < j → entry_in new j ≡ entry_in row j
 
-  entry_put : (c : ℕ) (s : Bool) (entry : RowEntry) → entry.column ≡ column → IsFilled p entry →
-      unwrap_or entry.constant 0 ≡ c → entry.symbol ≡ s → IsPut c s (entry ∷ row)
-  entry_put c s entry at filled constant symbol = record {
-    rises_now = (omega (arith, at), filled, subst (λ k. RisesFrom p (k + 1) row) (sym at) rises);
-    within_now = All-cons (λ entry. entry.column < columns) entry row (omega (arith, at, room)) within;
-    constant_here = ap (λ o. unwrap_or (constant_at_place o) 0) here ∙ constant;
-    symbol_here = ap symbol_at_place here ∙ symbol;
-    others = λ j later. rw (ne_eqb entry.column j (λ same. omega (arith, same, at, later))) refl;
-  }
-    where
-      here : entry_in (entry ∷ row) column ≡ Some entry
-      here = rw (eq-eqb entry.column column at) refl
+    entry_put : (c : ℕ) (s : Bool) (entry : RowEntry) → entry.column ≡ column → IsNotEmpty p entry →
+        unwrap_or entry.constant 0 ≡ c → entry.symbol ≡ s → IsPut c s (entry ∷ row)
+    entry_put c s entry at filled constant symbol = record {
+      rises_now = (omega (arith, at), filled, subst (λ k. RisesFrom p (k + 1) row) (sym at) rises);
+      within_now = All-cons (λ entry. entry.column < columns) entry row (omega (arith, at, room)) within;
+      constant_here = ap (λ o. unwrap_or (constant_at_place o) 0) here ∙ constant;
+      symbol_here = ap symbol_at_place here ∙ symbol;
+      others = λ j later. rw (ne_eqb entry.column j (λ same. omega (arith, same, at, later))) refl;
+    }
+      where
+        here : entry_in (entry ∷ row) column ≡ Some entry
+        here = rw (eq-eqb entry.column column at) refl
 
-  place_put : (c : ℕ) (s : Bool) → c < p → IsPut c s (place column c s row)
-  unfolding place
-  place_put zero false small =
-      let none = none-before p (column + 1) column row rises (omega arith) in
-      record {
-        rises_now = rises-earlier p column (column + 1) row (omega arith) rises;
-        within_now = within;
-        constant_here = ap (λ o. unwrap_or (constant_at_place o) 0) none;
-        symbol_here = ap symbol_at_place none;
-        others = λ j later. refl;
-      }
-  place_put zero true small = entry_put 0 true (record { column = column; constant = None; symbol = true }) refl (filled-symbol p column) refl refl
-  place_put (suc n) s small =
-      entry_put (suc n) s (record { column = column; constant = Some (suc n); symbol = s }) refl (filled-constant p column n s small) refl refl
+    place_put : (c : ℕ) (s : Bool) → c < p → IsPut c s (place column c s row)
+    unfolding place
+    place_put zero false small =
+        let none = none-before p (column + 1) column row rises (omega arith) in
+        record {
+          rises_now = rises-earlier p column (column + 1) row (omega arith) rises;
+          within_now = within;
+          constant_here = ap (λ o. unwrap_or (constant_at_place o) 0) none;
+          symbol_here = ap symbol_at_place none;
+          others = λ j later. refl;
+        }
+    place_put zero true small = entry_put 0 true (record { column = column; constant = None; symbol = true }) refl (filled-symbol p column) refl refl
+    place_put (suc n) s small =
+        entry_put (suc n) s (record { column = column; constant = Some (suc n); symbol = s }) refl (filled-constant p column n s small) refl refl
 
 places_placed : (p columns : ℕ) (constant : ℕ → ℕ) (symbol : ℕ → Bool) → ((j : ℕ) → j < columns → constant j < p) →
     (first n : ℕ) → first + n ≡ columns → IsPlaced p first columns constant symbol (places constant symbol first n)
@@ -162,7 +163,7 @@ module _ (p : ℕ) (equations unknowns : List (List ℕ)) (constant : ℕ → �
         rows = λ i d at.
             let here : i < length equations = omega (arith, at, counted) in
             let placed = row_placed i here in
-            subst (λ row. IsRow p row × IsWithin (length unknowns) row) (sym (row_at i d here)) (placed.rises, placed.within);
+            subst (λ row. IsRow p row × AreColumnsBelow (length unknowns) row) (sym (row_at i d here)) (placed.rises, placed.within);
       };
       equations_are = refl;
       unknowns_are = refl;

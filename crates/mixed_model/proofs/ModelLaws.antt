@@ -11,13 +11,13 @@ use Rattle.std.proofs.lemmas.List.Elements.{All-push, All-set}
 use Rattle.mixed_model.proofs.RowLaws.{entry_in-None, entry_in-filled, same_rows}
 use Rattle.mixed_model.specs.Entries.{RowEntry}
 use Rattle.mixed_model.specs.Names.{IsNameList}
-use Rattle.mixed_model.specs.Rows.{IsFilled, IsRow, IsWithin, entry_in, PutsConstant, PutsSymbol, ChangesRow}
+use Rattle.mixed_model.specs.Rows.{IsNotEmpty, IsRow, AreColumnsBelow, entry_in, PutsConstant, PutsSymbol, ChangesRow}
 use Rattle.mixed_model.specs.Rows.{constant_in, symbol_in, constant_at_place, symbol_at_place}
 use Rattle.mixed_model.specs.Models.{MixedModel, IsModel, PutsAt, PutsSymbolAt, constant_at, constant_of, row_of, symbol_of}
 
 -- rows that are vectors
 pub rows_are_rows : {A : Type 0} (p : ℕ) (rows : List (Vec RowEntry A)) (columns : ℕ) →
-    All (λ row. IsRow p row × IsWithin columns row) (map (λ row. row.items) rows) →
+    All (λ row. IsRow p row × AreColumnsBelow columns row) (map (λ row. row.items) rows) →
     All (λ row. IsRow p row.items) rows
 rows_are_rows p rows columns all k d at =
     let within : k < length (map (λ row. row.items) rows) = omega (arith, length-map rows (λ row. row.items)) in
@@ -27,7 +27,7 @@ rows_are_rows p rows columns all k d at =
 IsModel-changed : (p : ℕ) (model : MixedModel) (rows : List (List RowEntry)) (i : ℕ) (Change : List RowEntry →
     List RowEntry → Type 0) → IsModel p model → i < length model.equations →
     (changes : ChangesRow Change i model.rows rows) → IsRow p changes.row →
-    (IsWithin (length model.unknowns) (get_or model.rows i []) → IsWithin (length model.unknowns) changes.row) →
+    (AreColumnsBelow (length model.unknowns) (get_or model.rows i []) → AreColumnsBelow (length model.unknowns) changes.row) →
     IsModel p (record { equations = model.equations; unknowns = model.unknowns; rows = rows })
 IsModel-changed p model rows i Change is equation changes row within =
     let at = is.rows i [] (omega (arith, is.one_row_each)) in
@@ -35,8 +35,8 @@ IsModel-changed p model rows i Change is equation changes row within =
       equations = is.equations;
       unknowns = is.unknowns;
       one_row_each = ap length changes.rows ∙ length-set model.rows i changes.row ∙ is.one_row_each;
-      rows = subst (All (λ row. IsRow p row × IsWithin (length model.unknowns) row)) (sym changes.rows)
-          (All-set (λ row. IsRow p row × IsWithin (length model.unknowns) row) model.rows i changes.row (row, within at.1) is.rows);
+      rows = subst (All (λ row. IsRow p row × AreColumnsBelow (length model.unknowns) row)) (sym changes.rows)
+          (All-set (λ row. IsRow p row × AreColumnsBelow (length model.unknowns) row) model.rows i changes.row (row, within at.1) is.rows);
     }
 
 -- a model with one more equation, and nothing in its row
@@ -48,8 +48,8 @@ IsModel-with_row {A} p equations more_equations unknowns rows more row is names 
   equations = names;
   unknowns = is.unknowns;
   one_row_each = ap length whole ∙ length-append (map (λ row. row.items) rows) ([] ∷ []) ∙ ap (λ n. n + 1) is.one_row_each ∙ sym count;
-  rows = subst (All (λ row. IsRow p row × IsWithin (length unknowns) row)) (sym whole)
-      (All-push (λ row. IsRow p row × IsWithin (length unknowns) row) (map (λ row. row.items) rows) [] is.rows (tt, λ k d short. absurd (omega arith)));
+  rows = subst (All (λ row. IsRow p row × AreColumnsBelow (length unknowns) row)) (sym whole)
+      (All-push (λ row. IsRow p row × AreColumnsBelow (length unknowns) row) (map (λ row. row.items) rows) [] is.rows (tt, λ k d short. absurd (omega arith)));
 }
   where
     whole : map (λ (row : Vec RowEntry A). row.items) more ≡ map (λ (row : Vec RowEntry A). row.items) rows ++ [] ∷ []
@@ -148,7 +148,8 @@ pub rows_kept : {A : Type 0} (rows : List (Vec RowEntry A)) (i : ℕ) (old new :
 rows_kept rows i old new is same = map-set_same (λ row. row.items) rows i new old (same ∙ ap (λ row. row.items) is)
 
 -- nothing stands at a column past the unknowns
-pub beyond_unknowns : (columns : ℕ) (row : List RowEntry) (j : ℕ) → IsWithin columns row → columns ≤ j → (constant_in row j ≡ None) × (symbol_in row j ≡ false)
+pub beyond_unknowns : (columns : ℕ) (row : List RowEntry) (j : ℕ) → AreColumnsBelow columns row → columns ≤ j → (constant_in row j ≡ None) ×
+    (symbol_in row j ≡ false)
 beyond_unknowns columns row j within beyond =
     let none = entry_in-None row j (λ k d at same. omega (arith, within k d at, same)) in
     (ap constant_at_place none, ap symbol_at_place none)
@@ -181,7 +182,7 @@ same_models p a b is_a is_b equations unknowns constants symbols = λ i. record 
         (cases_lt j (length a.unknowns))))
 
 -- a constant that is 0 is none
-no_zero : (p : ℕ) (entry : RowEntry) → IsFilled p entry → unwrap_or entry.constant 0 ≡ 0 → entry.constant ≡ None
+no_zero : (p : ℕ) (entry : RowEntry) → IsNotEmpty p entry → unwrap_or entry.constant 0 ≡ 0 → entry.constant ≡ None
 no_zero p entry filled zero_there = by entry.constant refl
   where
     by : (found : Option ℕ) → entry.constant ≡ found → entry.constant ≡ None

@@ -12,8 +12,8 @@ use Rattle.std.proofs.lemmas.Bool.Decides.{nat_tests}
 use Rattle.std.proofs.lemmas.List.Elements.{All-set}
 use Rattle.std.proofs.Math.Seq.{get_or-append_seam}
 use Rattle.mixed_model.specs.Entries.{RowEntry}
-use Rattle.mixed_model.specs.Rows.{entry_in, constant_at_place, symbol_at_place, constant_in, symbol_in, IsFilled}
-use Rattle.mixed_model.specs.Rows.{RisesFrom, IsRow, IsWithin, FitsBetween, StandsAt, PutsEntry, PutsConstant}
+use Rattle.mixed_model.specs.Rows.{entry_in, constant_at_place, symbol_at_place, constant_in, symbol_in, IsNotEmpty}
+use Rattle.mixed_model.specs.Rows.{RisesFrom, IsRow, AreColumnsBelow, FitsBetween, StandsAt, PutsEntry, PutsConstant}
 use Rattle.mixed_model.specs.Rows.{PutsSymbol, putting, putting_symbol}
 use Rattle.mixed_model.specs.declared.errors.AddError.TheVariants.{Twice}
 
@@ -47,8 +47,8 @@ entry_in-insert (first ∷ row) (suc place) entry column within before =
     past_first first entry column (insert row place entry) row (before 0 first (omega arith) (omega arith))
     (entry_in-insert row place entry column (omega arith) (λ k d low high. before (suc k) d (omega arith) (omega arith)))
 
-IsWithin-insert : (columns : ℕ) (row : List RowEntry) (place : ℕ) (entry : RowEntry) → IsWithin columns row →
-    entry.column < columns → IsWithin columns (insert row place entry)
+IsWithin-insert : (columns : ℕ) (row : List RowEntry) (place : ℕ) (entry : RowEntry) → AreColumnsBelow columns row →
+    entry.column < columns → AreColumnsBelow columns (insert row place entry)
 IsWithin-insert columns row zero entry within at = λ k d short. by k d short
   where
     by : (k : ℕ) (d : RowEntry) → k < length (entry ∷ row) → (get_or (entry ∷ row) k d).column < columns
@@ -63,7 +63,7 @@ IsWithin-insert columns (next ∷ row) (suc place) entry within at = λ k d shor
     (IsWithin-insert columns row place entry (λ k d short. within (suc k) d (omega arith)) at)
   where
     by : (k : ℕ) (d : RowEntry) → k < length (next ∷ insert row place entry) →
-        IsWithin columns (insert row place entry) → (get_or (next ∷ insert row place entry) k d).column < columns
+        AreColumnsBelow columns (insert row place entry) → (get_or (next ∷ insert row place entry) k d).column < columns
     by zero d short rest = within 0 d (omega arith)
     by (suc k) d short rest = rest k d (omega arith)
 
@@ -176,7 +176,7 @@ module _ (p : ℕ) where
 
   -- and before higher ones
   RisesFrom-insert : (first : ℕ) (row : List RowEntry) (place : ℕ) (entry : RowEntry) → RisesFrom p first row →
-      first ≤ entry.column → IsFilled p entry → place ≤ length row →
+      first ≤ entry.column → IsNotEmpty p entry → place ≤ length row →
       AllWithin (λ other. other.column < entry.column) row 0 place →
       AllWithin (λ other. entry.column < other.column) row place (length row) →
       RisesFrom p first (insert row place entry)
@@ -195,7 +195,7 @@ module _ (p : ℕ) where
       )
 
   RisesFrom-set : (first : ℕ) (row : List RowEntry) (place : ℕ) (entry : RowEntry) → RisesFrom p first row →
-      IsFilled p entry → place < length row → (get_or row place entry).column ≡ entry.column →
+      IsNotEmpty p entry → place < length row → (get_or row place entry).column ≡ entry.column →
       RisesFrom p first (set row place entry)
   RisesFrom-set first [] place entry rises filled within same = absurd (omega arith)
   RisesFrom-set first (next ∷ row) zero entry rises filled within same =
@@ -204,7 +204,7 @@ module _ (p : ℕ) where
       (rises.0, rises.1, RisesFrom-set (next.column + 1) row place entry rises.2 filled (omega arith) same)
 
   -- an entry put where it belongs
-  PutsEntry-insert : (row : List RowEntry) (place : ℕ) (entry : RowEntry) → IsRow p row → IsFilled p entry →
+  PutsEntry-insert : (row : List RowEntry) (place : ℕ) (entry : RowEntry) → IsRow p row → IsNotEmpty p entry →
       FitsBetween row place entry.column → PutsEntry p row (insert row place entry) entry
   PutsEntry-insert row place entry rises filled fits = record {
     entries = λ column. entry_in-insert row place entry column fits.within fits.before;
@@ -213,7 +213,7 @@ module _ (p : ℕ) where
   }
 
   -- an entry put where one stands
-  PutsEntry-set : (row : List RowEntry) (place : ℕ) (entry : RowEntry) → IsRow p row → IsFilled p entry →
+  PutsEntry-set : (row : List RowEntry) (place : ℕ) (entry : RowEntry) → IsRow p row → IsNotEmpty p entry →
       StandsAt row place entry.column → PutsEntry p row (set row place entry) entry
   PutsEntry-set row place entry rises filled stands = record {
     entries = λ column. entry_in-set 0 row rises place entry column stands.within (stands.column_is entry);
@@ -313,13 +313,13 @@ module _ (p : ℕ) where
 
   -- what stands in a row is filled
   pub entry_in-filled : (first : ℕ) (row : List RowEntry) → RisesFrom p first row → (column : ℕ) (entry : RowEntry) →
-      entry_in row column ≡ Some entry → IsFilled p entry
+      entry_in row column ≡ Some entry → IsNotEmpty p entry
   entry_in-filled first [] rises column entry at = let f : ⊥ = cc in absurd f
   entry_in-filled first (next ∷ row) rises column entry at =
       by (eqb next.column column) at (λ rest. entry_in-filled (next.column + 1) row rises.2 column entry rest)
     where
-      by : (b : Bool) → cond b (Some next) (entry_in row column) ≡ Some entry → (entry_in row column ≡ Some entry → IsFilled p entry) → IsFilled p entry
-      by true here rest = let same : next ≡ entry = cc in subst (IsFilled p) same rises.1
+      by : (b : Bool) → cond b (Some next) (entry_in row column) ≡ Some entry → (entry_in row column ≡ Some entry → IsNotEmpty p entry) → IsNotEmpty p entry
+      by true here rest = let same : next ≡ entry = cc in subst (IsNotEmpty p) same rises.1
       by false there rest = rest there
 
   -- a constant in a row is a residue other than 0
@@ -378,7 +378,7 @@ module _ (p : ℕ) where
           (λ i. entry i ∷ others i)
 
   -- an entry that is filled does not look like none
-  unlike_none : (entry : RowEntry) → IsFilled p entry → None ≡ entry.constant → false ≡ entry.symbol → ⊥
+  unlike_none : (entry : RowEntry) → IsNotEmpty p entry → None ≡ entry.constant → false ≡ entry.symbol → ⊥
   unlike_none entry filled constant symbol =
       let there : false ≡ true = symbol ∙ ap (λ c. is_some c || entry.symbol) constant ∙ filled.some in
       cc
@@ -402,7 +402,7 @@ module _ (p : ℕ) where
 
   -- an entry with a residue other than 0, and one with a symbol
   filled_by_constant : (column constant : ℕ) (symbol : Bool) → 0 < constant → constant < p →
-      IsFilled p (record { column = column; constant = Some constant; symbol = symbol })
+      IsNotEmpty p (record { column = column; constant = Some constant; symbol = symbol })
   filled_by_constant column constant symbol some small = record {
     some = refl;
     positive = λ c e. let same : constant ≡ c = cc in subst (λ x. 0 < x) same some;
@@ -410,7 +410,7 @@ module _ (p : ℕ) where
   }
 
   filled_by_symbol : (column : ℕ) (constant : Option ℕ) → ((c : ℕ) → constant ≡ Some c → (0 < c) × (c < p)) →
-      IsFilled p (record { column = column; constant = constant; symbol = true })
+      IsNotEmpty p (record { column = column; constant = constant; symbol = true })
   filled_by_symbol column constant residue = record {
     some = by constant;
     positive = λ c e. (residue c e).0;

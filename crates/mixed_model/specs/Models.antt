@@ -3,7 +3,7 @@ use Rattle.std.specs.Prelude.{◌≡◌, ℕ, ◌&&◌, ◌||◌, Bool, List, []
 use Rattle.mixed_matrices.specs.Models.{MixedMatrix}
 use Rattle.mixed_model.specs.Entries.{RowEntry}
 use Rattle.mixed_model.specs.Names.{IsNameList, see}
-use Rattle.mixed_model.specs.Rows.{IsRow, IsWithin, constant_in, symbol_in}
+use Rattle.mixed_model.specs.Rows.{IsRow, AreColumnsBelow, constant_in, symbol_in}
 
 -- A model: the names of its equations and of its unknowns, in order, and for each equation its entries by rising
 -- column.
@@ -43,7 +43,7 @@ pub record IsModel (p : ℕ) (model : MixedModel) : Type 0 where
   pub equations : IsNameList model.equations
   pub unknowns : IsNameList model.unknowns
   pub one_row_each : length model.rows ≡ length model.equations
-  pub rows : All (λ row. IsRow p row × IsWithin (length model.unknowns) row) model.rows
+  pub rows : All (λ row. IsRow p row × AreColumnsBelow (length model.unknowns) row) model.rows
 
 -- a model without equations and unknowns
 abbrev pub empty_model : MixedModel

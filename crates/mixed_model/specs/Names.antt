@@ -1,5 +1,5 @@
 -- Lists of names, and a name that is added to one.
-use Rattle.std.specs.Prelude.{◌≡◌, ℕ, ◌≤◌, All, Bool, not, ◌&&◌, ◌||◌, IsTrue, List, [], ◌∷◌, ◌++◌, length, nat_eq, nat_le, nat_lt, position, if◌then◌else◌, Option, Some, None, Result, Ok, Err}
+use Rattle.std.specs.Prelude.{◌≡◌, ℕ, ◌≤◌, All, Bool, not, ◌&&◌, ◌||◌, IsTrue, List, [], ◌∷◌, ◌++◌, length, nat_eq, nat_le, nat_lt, position, slice_index_or, if◌then◌else◌, Option, Some, None, Result, Ok, Err}
 use Rattle.std.specs.List.{IsDistinct, list_all, list_any}
 use Rattle.std.specs.Str.{bytes_eq}
 use Rattle.limits.specs.Limits.{equation_limit}
@@ -17,6 +17,10 @@ pub record IsNameList (names : List (List ℕ)) : Type 0 where
   pub labels : All (λ name. IsTrue (is_label name)) names
   pub few : length names ≤ equation_limit
   pub distinct : IsDistinct bytes_eq names
+
+-- name k of some names, and past the last one the empty text
+abbrev pub name_at : List (List ℕ) → ℕ → List ℕ
+name_at names k = slice_index_or names k []
 
 -- whether a name is among these
 abbrev pub has_name : List (List ℕ) → List ℕ → Bool

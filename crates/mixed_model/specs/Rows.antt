@@ -30,7 +30,7 @@ abbrev pub symbol_in : List RowEntry → ℕ → Bool
 symbol_in row column = symbol_at_place (entry_in row column)
 
 -- an entry has a constant, which is a residue modulo p other than 0, or a symbol, or both
-pub record IsFilled (p : ℕ) (entry : RowEntry) : Type 0 where
+pub record IsNotEmpty (p : ℕ) (entry : RowEntry) : Type 0 where
   pub some : (is_some entry.constant || entry.symbol) ≡ true
   pub positive : (constant : ℕ) → entry.constant ≡ Some constant → 0 < constant
   pub residue : (constant : ℕ) → entry.constant ≡ Some constant → constant < p
@@ -38,15 +38,15 @@ pub record IsFilled (p : ℕ) (entry : RowEntry) : Type 0 where
 -- columns rise from the first one on, and no entry is empty
 abbrev pub RisesFrom : ℕ → ℕ → List RowEntry → Type 0
 RisesFrom p first [] = Unit {0}
-RisesFrom p first (entry ∷ row) = (first ≤ entry.column) × IsFilled p entry × RisesFrom p (entry.column + 1) row
+RisesFrom p first (entry ∷ row) = (first ≤ entry.column) × IsNotEmpty p entry × RisesFrom p (entry.column + 1) row
 
 -- A row: entries by rising column, none of them empty.
 abbrev pub IsRow : ℕ → List RowEntry → Type 0
 IsRow p row = RisesFrom p 0 row
 
 -- each column is below so many
-abbrev pub IsWithin : ℕ → List RowEntry → Type 0
-IsWithin columns row = All (λ entry. entry.column < columns) row
+abbrev pub AreColumnsBelow : ℕ → List RowEntry → Type 0
+AreColumnsBelow columns row = All (λ entry. entry.column < columns) row
 
 -- What putting a constant at a column answers while there is memory.
 abbrev pub putting : List RowEntry → ℕ → Result (Unit {0}) AddError
@@ -73,7 +73,7 @@ pub record PutsEntry (p : ℕ) (old new : List RowEntry) (entry : RowEntry) : Ty
   pub entries : (other : ℕ) → entry_in new other
       ≡ (if nat_eq entry.column other then Some entry else entry_in old other)
   pub row : IsRow p new
-  pub within : (columns : ℕ) → entry.column < columns → IsWithin columns old → IsWithin columns new
+  pub within : (columns : ℕ) → entry.column < columns → AreColumnsBelow columns old → AreColumnsBelow columns new
 
 -- The row after a constant is put at a column: it stands there, and all else stays as it was.
 pub record PutsConstant (p column constant : ℕ) (old new : List RowEntry) : Type 0 where
@@ -81,22 +81,22 @@ pub record PutsConstant (p column constant : ℕ) (old new : List RowEntry) : Ty
       ≡ (if nat_eq column other then Some constant else constant_in old other)
   pub symbols : (other : ℕ) → symbol_in new other ≡ symbol_in old other
   pub row : IsRow p new
-  pub within : (columns : ℕ) → column < columns → IsWithin columns old → IsWithin columns new
+  pub within : (columns : ℕ) → column < columns → AreColumnsBelow columns old → AreColumnsBelow columns new
 
 -- The row after a symbol is put at a column: it stands there, and all else stays as it was.
 pub record PutsSymbol (p column : ℕ) (old new : List RowEntry) : Type 0 where
   pub constants : (other : ℕ) → constant_in new other ≡ constant_in old other
   pub symbols : (other : ℕ) → symbol_in new other ≡ (nat_eq column other || symbol_in old other)
   pub row : IsRow p new
-  pub within : (columns : ℕ) → column < columns → IsWithin columns old → IsWithin columns new
+  pub within : (columns : ℕ) → column < columns → AreColumnsBelow columns old → AreColumnsBelow columns new
 
 -- the rows in a vector of vectors
 abbrev pub rows_of : {A B : Type 0} → Vec (Vec RowEntry A) B → List (List RowEntry)
 rows_of rows = map (λ row. row.items) rows.items
 
 -- one of some rows that are vectors
-abbrev pub row_at : {A : Type 0} → List (Vec RowEntry A) → ℕ → List RowEntry
-row_at rows i = slice_index_or (map (λ row. row.items) rows) i []
+abbrev pub row_entries_at : {A : Type 0} → List (Vec RowEntry A) → ℕ → List RowEntry
+row_entries_at rows i = slice_index_or (map (λ row. row.items) rows) i []
 
 -- One row is changed so, and the others stay.
 pub record ChangesRow

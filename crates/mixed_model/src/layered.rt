@@ -75,6 +75,27 @@ impl<F: Field> Layered<F> {
         }
     }
 
+    /// How many Q rows there are.
+    pub fn q_rows(&self) -> usize
+        ensures { result ≡ height self.now.q }
+    {
+        self.q.rows()
+    }
+
+    /// How many T rows there are.
+    pub fn t_rows(&self) -> usize
+        ensures { result ≡ length self.now.t.rows }
+    {
+        self.t.rows()
+    }
+
+    /// How many columns there are: one for each unknown, and one for each split equation.
+    pub fn columns(&self) -> usize
+        ensures { result ≡ self.now.q.width }
+    {
+        self.q.cols()
+    }
+
     /// The equation from which Q row `row` comes.
     pub fn q_origin(&self, row: usize) -> usize
         requires { row < height self.now.q }

@@ -62,6 +62,14 @@ impl<F: Field> Mixed<F> {
         })
     }
 
+    /// Tells a proof what a model keeps. It does nothing when it runs.
+    pub fn is_model(&self)
+        ensures { IsModel F.modulus self.now }
+    {
+        // a proof knows what the type keeps once a field is read
+        let _ = &self.equations;
+    }
+
     /// How many equations there are.
     pub fn equations(&self) -> usize
         ensures count { result ≡ length self.now.equations }

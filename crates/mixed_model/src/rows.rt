@@ -4,7 +4,7 @@ ghost use Rattle.std.specs.Prelude.{◌≡◌, ◌≢◌, ◌<◌, ◌≤◌, �
 ghost use Rattle.std.specs.Prelude.{is_some};
 ghost use Rattle.std.specs.List.{insert, list_any};
 ghost use Rattle.mixed_model.specs.Names.{AnswersAdd};
-ghost use Rattle.mixed_model.specs.Rows.{IsRow, PutsConstant, PutsSymbol, FitsBetween, StandsAt, ChangesRow, row_at, rows_of, entry_in, constant_in, symbol_in, putting, putting_symbol};
+ghost use Rattle.mixed_model.specs.Rows.{IsRow, PutsConstant, PutsSymbol, FitsBetween, StandsAt, ChangesRow, row_entries_at, rows_of, entry_in, constant_in, symbol_in, putting, putting_symbol};
 
 use crate::entry::Entry;
 use crate::errors::AddError;
@@ -19,7 +19,7 @@ pub(crate) fn entry_in_row<F: Field>(
 ) -> Option<Entry<F>>
     requires within { i < length rows.now }
     requires rows { All (λ row. IsRow F.modulus row.items) rows.now }
-    ensures { result ≡ entry_in (row_at rows.now i) column }
+    ensures { result ≡ entry_in (row_entries_at rows.now i) column }
 {
     entry(&rows[i], column)
 }
@@ -38,7 +38,7 @@ fn entry<F: Field>(row: &[Entry<F>], column: usize) -> Option<Entry<F>>
 // Whether row `i` has a constant.
 pub(crate) fn any_constant<F: Field>(rows: &[Vec<Entry<F>>], i: usize) -> bool
     requires { i < length rows.now }
-    ensures { result ≡ list_any (λ entry. is_some entry.constant) (row_at rows.now i) }
+    ensures { result ≡ list_any (λ entry. is_some entry.constant) (row_entries_at rows.now i) }
 {
     holds_constant(&rows[i])
 }
@@ -46,7 +46,7 @@ pub(crate) fn any_constant<F: Field>(rows: &[Vec<Entry<F>>], i: usize) -> bool
 // Whether row `i` has a symbol.
 pub(crate) fn any_symbol<F: Field>(rows: &[Vec<Entry<F>>], i: usize) -> bool
     requires { i < length rows.now }
-    ensures { result ≡ list_any (λ entry. entry.symbol) (row_at rows.now i) }
+    ensures { result ≡ list_any (λ entry. entry.symbol) (row_entries_at rows.now i) }
 {
     holds_symbol(&rows[i])
 }
@@ -77,7 +77,7 @@ pub(crate) fn put_constant_in_row<F: Field>(
     requires constant { F.number constant ≢ 0 }
     ensures put { OnOk result
         (ChangesRow (PutsConstant F.modulus column (F.number constant)) i (rows_of rows.old) (rows_of rows.new)) }
-    ensures answer { AnswersAdd result (putting (row_at rows.old.items i) column) }
+    ensures answer { AnswersAdd result (putting (row_entries_at rows.old.items i) column) }
     ensures kept { OnErr result (rows_of rows.new ≡ rows_of rows.old) }
 {
     let row = &mut rows[i];
@@ -94,7 +94,7 @@ pub(crate) fn put_symbol_in_row<F: Field>(
     requires within { i < vec_len rows.old }
     requires rows { All (λ row. IsRow F.modulus row.items) rows.old.items }
     ensures put { OnOk result (ChangesRow (PutsSymbol F.modulus column) i (rows_of rows.old) (rows_of rows.new)) }
-    ensures answer { AnswersAdd result (putting_symbol (row_at rows.old.items i) column) }
+    ensures answer { AnswersAdd result (putting_symbol (row_entries_at rows.old.items i) column) }
     ensures kept { OnErr result (rows_of rows.new ≡ rows_of rows.old) }
 {
     let row = &mut rows[i];

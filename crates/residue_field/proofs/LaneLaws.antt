@@ -8,7 +8,7 @@ use Rattle.std.proofs.Math.Nat.{mod-lt}
 use Rattle.std.proofs.lemmas.Nat.{and_mask, mul-le}
 use Rattle.std.proofs.lemmas.Simd.{get_or-zip2, get_or-replicate, length-zip2, tops_compared, length-sel_l, get_or-sel_l}
 use lib.Lanes.{sel_l, top, zip2}
-use Rattle.residue_field.specs.Lanes.{AreBelow, HasLanes, IsAdded, IsStored, folded}
+use Rattle.residue_field.specs.Lanes.{AreBelow, HasLanes, IsAddedLane, AreLanesStored, folded}
 use Rattle.residue_field.specs.Rows.{plus_multiple}
 use Rattle.residue_field.proofs.RowLaws.{plus_multiple-at, plus_multiple-length}
 
@@ -150,8 +150,8 @@ loaded-next values row at i value long below is before k l = elim (cases_lt k i)
 -- sixteen places of a row with the lanes of a sum put there
 pub block_added : (p c at : ℕ) (old src now values others sums : List ℕ) → at + 16 ≤ length old →
     HasLanes values (λ i. slice_index old (at + i)) → HasLanes others (λ i. slice_index src (at + i)) →
-    HasLanes sums (λ i. (slice_index values i + c * slice_index others i) % p) → IsStored 16 at sums old now →
-    IsAdded p c at (at + 16) old src now
+    HasLanes sums (λ i. (slice_index values i + c * slice_index others i) % p) → AreLanesStored 16 at sums old now →
+    IsAddedLane p c at (at + 16) old src now
 block_added p c at old src now values others sums room values_are others_are sums_are stored = record {
   len = stored.len;
   here = λ j from to. subst (λ j. slice_index now j ≡ (slice_index old j + c * slice_index src j) % p) (back from)
@@ -169,7 +169,7 @@ block_added p c at old src now values others sums room values_are others_are sum
         ∙ ap (λ y. (slice_index old (at + i) + c * y) % p) (others_are.lanes i l)
 
 -- a row with the multiple of another added at each place
-pub all_added : (p c : ℕ) (old src now : List ℕ) → length old ≡ length src → IsAdded p c 0 (length old) old src now →
+pub all_added : (p c : ℕ) (old src now : List ℕ) → length old ≡ length src → IsAddedLane p c 0 (length old) old src now →
     now ≡ plus_multiple p c old src
 all_added p c old src now same added =
     ext_get_or 0 now (plus_multiple p c old src) (added.len ∙ sym (plus_multiple-length p c old src same))

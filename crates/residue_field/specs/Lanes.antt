@@ -15,13 +15,13 @@ abbrev pub folded : ℕ → ℕ
 folded s = s / 65536 * 15 + s % 65536
 
 -- `now` is `old` with the first n lanes from this place on
-pub record IsStored (n at : ℕ) (lanes old now : List ℕ) : Type 0 where
+pub record AreLanesStored (n at : ℕ) (lanes old now : List ℕ) : Type 0 where
   pub len : length now ≡ length old
   pub here : (i : ℕ) → i < n → slice_index now (at + i) ≡ slice_index lanes i
   pub others : (j : ℕ) → (j < at) ⊎ (at + n ≤ j) → slice_index now j ≡ slice_index old j
 
 -- `now` is `old` with k times `src` added modulo p at the places from one on and before another
-pub record IsAdded (p k from to : ℕ) (old src now : List ℕ) : Type 0 where
+pub record IsAddedLane (p k from to : ℕ) (old src now : List ℕ) : Type 0 where
   pub len : length now ≡ length old
   pub here : (j : ℕ) → from ≤ j → j < to → slice_index now j ≡ (slice_index old j + k * slice_index src j) % p
   pub others : (j : ℕ) → (j < from) ⊎ (to ≤ j) → slice_index now j ≡ slice_index old j

@@ -1,7 +1,7 @@
 //! Rows of residues modulo 65,521, sixteen places at a time in lanes of 32 bits.
 
 ghost use Rattle.std.specs.Prelude.{◌≡◌, ℕ, ◌+◌, ◌*◌, ◌%◌, ◌<◌, ◌≤◌, length, slice_index};
-ghost use Rattle.residue_field.specs.Lanes.{AreBelow, HasLanes, IsAdded, IsStored, folded};
+ghost use Rattle.residue_field.specs.Lanes.{AreBelow, HasLanes, IsAddedLane, AreLanesStored, folded};
 
 use crate::field::Field;
 use crate::res::{MODULUS, Res};
@@ -13,7 +13,7 @@ const LANES: usize = 16;
 /// Adds c times the value at the same place of `src` to each value of `dst`.
 pub(crate) fn add_scaled(dst: &mut [Res], src: &[Res], c: Res)
     requires { length dst.old ≡ length src.now }
-    ensures { IsAdded 65521 c 0 (length dst.old) dst.old src.now dst.new }
+    ensures { IsAddedLane 65521 c 0 (length dst.old) dst.old src.now dst.new }
 {
     let blocks = dst.len() / LANES;
     for block in 0..blocks {
@@ -27,7 +27,7 @@ pub(crate) fn add_scaled(dst: &mut [Res], src: &[Res], c: Res)
 fn add_block(dst: &mut [Res], src: &[Res], c: Res, at: usize)
     requires equal { length dst.old ≡ length src.now }
     requires room { at + 16 ≤ length dst.old }
-    ensures { IsAdded 65521 c at (at + 16) dst.old src.now dst.new }
+    ensures { IsAddedLane 65521 c at (at + 16) dst.old src.now dst.new }
 {
     let values = load(dst, at);
     let others = load(src, at);
@@ -38,7 +38,7 @@ fn add_block(dst: &mut [Res], src: &[Res], c: Res, at: usize)
 fn add_rest(dst: &mut [Res], src: &[Res], c: Res, from: usize)
     requires equal { length dst.old ≡ length src.now }
     requires room { from ≤ length dst.old }
-    ensures { IsAdded 65521 c from (length dst.old) dst.old src.now dst.new }
+    ensures { IsAddedLane 65521 c from (length dst.old) dst.old src.now dst.new }
 {
     for i in from..dst.len() {
         dst[i] = dst[i].plus_multiple(c, src[i]);
@@ -65,7 +65,7 @@ fn load(row: &[Res], at: usize) -> u32x16
 fn store(row: &mut [Res], at: usize, lanes: u32x16)
     requires room { at + 16 ≤ length row.old }
     requires below { AreBelow 65521 lanes }
-    ensures { IsStored 16 at lanes row.old row.new }
+    ensures { AreLanesStored 16 at lanes row.old row.new }
 {
     let values = lanes.to_array();
     for i in 0..LANES {

@@ -3,10 +3,10 @@ use Rattle.std.proofs.Common.{◌≡◌, ℕ, suc, zero, ◌+◌, ◌-◌, ◌<�
 use Rattle.std.proofs.lemmas.List.{get_or_append_left, get_or_at, take_more, get_or_default, get_or_past, length-map, get_or-map}
 use Rattle.std.proofs.lemmas.Bool.Decides.{nat_tests}
 use Rattle.residue_theory.proofs.SumLaws.{nat_cases}
-use Rattle.row_entries.specs.Rows.{Item, number_at, item_or, EndsBefore, IsRising, IsRow, with_last, IsPlaceFrom, has_number}
+use Rattle.row_entries.specs.Rows.{Item, number_at, item_or, EndsBefore, IsRising, IsEntryRow, with_last, IsPlaceFrom, has_number}
 use Rattle.std.specs.List.{AllWithin}
 use Rattle.std.specs.List.Sorted.{IsNonDecreasingBy, IsPartitionPoint}
-use Rattle.number_ranges.specs.Ranges.{HasNone, IsLeast}
+use Rattle.residue_theory.specs.Ranges.{HasNone, IsLeast}
 
 abbrev pub item : ℕ → ℕ → Item
 item c n = record { column = c; number = n }
@@ -134,8 +134,8 @@ pushed-rising xs c n rising before i j l jl = elim (nat_cases j (length xs)) [
       (sym (get_or_append_left xs (item c n ∷ []) (item 0 0) i (omega arith))) (rising i j l less))
 ]
 
-pub pushed-row : (p w : ℕ) (xs : List Item) (c n : ℕ) → IsRow p w xs → EndsBefore xs c → c < w → n ≢ 0 → n < p →
-    IsRow p w (xs ++ item c n ∷ [])
+pub pushed-row : (p w : ℕ) (xs : List Item) (c n : ℕ) → IsEntryRow p w xs → EndsBefore xs c → c < w → n ≢ 0 → n < p →
+    IsEntryRow p w (xs ++ item c n ∷ [])
 pushed-row p w xs c n row before less ne below = record {
   rising = pushed-rising xs c n row.rising before;
   narrow = pushed (λ x. x.column < w) xs (item c n) row.narrow less;
@@ -160,7 +160,7 @@ few_before xs c rising before = elim (nat_cases (length xs) 0) [
 
 -- ---- the next item
 -- the column of the next item is above that of this one
-pub next-above : (p w : ℕ) (xs : List Item) (i : ℕ) → IsRow p w xs → i < length xs → (item_or w xs i).column
+pub next-above : (p w : ℕ) (xs : List Item) (i : ℕ) → IsEntryRow p w xs → i < length xs → (item_or w xs i).column
     < (item_or w xs (i + 1)).column
 next-above p w xs i row l =
     subst (λ x. x.column < (item_or w xs (i + 1)).column) (get_or_default xs i (item 0 0) (item w 0) l)
@@ -183,14 +183,14 @@ place-within w xs i less = elim (lt_or_past i (length xs)) [
 ]
 
 -- an item within the list stands below the width, and its number is a residue
-pub column-narrow : (p w : ℕ) (xs : List Item) (i : ℕ) → IsRow p w xs → (item_or w xs i).column ≤ w
+pub column-narrow : (p w : ℕ) (xs : List Item) (i : ℕ) → IsEntryRow p w xs → (item_or w xs i).column ≤ w
 column-narrow p w xs i row = elim (lt_or_past i (length xs)) [
   | inl l ↦ subst (λ x. x.column ≤ w) (get_or_default xs i (item 0 0) (item w 0) l)
       (let h : (item_or 0 xs i).column < w = row.narrow i l in omega arith)
   | inr le ↦ subst (λ x. x.column ≤ w) (sym (get_or_past xs i (item w 0) le)) (omega arith)
 ]
 
-pub number-narrow : (p w : ℕ) (xs : List Item) (i : ℕ) → IsRow p w xs → i < length xs → (item_or w xs i).number < p
+pub number-narrow : (p w : ℕ) (xs : List Item) (i : ℕ) → IsEntryRow p w xs → i < length xs → (item_or w xs i).number < p
 number-narrow p w xs i row l = subst (λ x. x.number < p) (get_or_default xs i (item 0 0) (item w 0) l) (row.below i l)
 
 pub number-taken : (w : ℕ) (xs : List Item) (i j : ℕ) → i < length xs → number_at (take (i + 1) xs) j ≡ number_at
@@ -259,7 +259,7 @@ at-here w xs c i n rising l at_c is =
     is ∙ ap (λ (x : Item). x.number) (get_or_default xs i (item w 0) (item 0 0) l) ∙ sym (number-here xs i rising l)
     ∙ ap (λ j. number_at xs j) (ap (λ (x : Item). x.column) (get_or_default xs i (item 0 0) (item w 0) l) ∙ at_c)
 
-module _ (p w : ℕ) (xs : List Item) (c i : ℕ) (row : IsRow p w xs) (place : IsPlaceFrom xs c i) where
+module _ (p w : ℕ) (xs : List Item) (c i : ℕ) (row : IsEntryRow p w xs) (place : IsPlaceFrom xs c i) where
   no-number : (j : ℕ) → number_at xs j ≡ 0 → has_number xs j ≡ false
   no-number j z = grind (arith, nat_tests)
 

@@ -8,10 +8,10 @@ use Rattle.std.proofs.lemmas.List.{map-append, map-set, set-get_or, get_or_appen
 use Rattle.std.proofs.lemmas.Bool.{cases_lt}
 use Rattle.std.proofs.lemmas.Bool.Decides.{nat_tests}
 use Rattle.residue_theory.proofs.SumLaws.{nat_cases}
-use Rattle.dense_q.specs.Tables.{Table, IsMatrix, IsTableOf, AreResidues, entry, height, row_at, with_entry, with_last_row}
-use Rattle.number_ranges.specs.Ranges.{HasNone, IsLeast}
-use Rattle.row_entries.specs.Rows.{Item, has_number, number_at, item_or, EndsBefore, IsRow, with_last}
-use Rattle.row_entries.specs.Tables.{IsFilled, IsStored, numbers_of, table_of}
+use Rattle.dense_q.specs.Tables.{Table, IsMatrix, IsTableOf, AreResidues, entry, height, row_at, table_with_entry, with_last_row}
+use Rattle.residue_theory.specs.Ranges.{HasNone, IsLeast}
+use Rattle.row_entries.specs.Rows.{Item, has_number, number_at, item_or, EndsBefore, IsEntryRow, with_last}
+use Rattle.row_entries.specs.Tables.{IsFilled, AreEntryRows, numbers_of, table_of}
 use Rattle.row_entries.proofs.RowLaws.{number-before, number-last, number-here, number-below, item, pushed-row}
 
 range-length : (a n : ℕ) → length (range_with_len a n) ≡ n
@@ -74,11 +74,11 @@ numbers-last w xs c n less none =
         miss ne m = grind (arith, nat_tests)
 
 -- ---- the table
-module _ (p w : ℕ) (rows : List (List Item)) (stored : IsStored p w rows) where
+module _ (p w : ℕ) (rows : List (List Item)) (stored : AreEntryRows p w rows) where
   pub row-is : (i : ℕ) → i < length rows → row_at (table_of w rows) i ≡ numbers_of w (slice_index_or rows i [])
   row-is i l = get_or-map (numbers_of w) rows i [] [] l
 
-  pub row-stored : (i : ℕ) → i < length rows → IsRow p w (slice_index_or rows i [])
+  pub row-stored : (i : ℕ) → i < length rows → IsEntryRow p w (slice_index_or rows i [])
   row-stored i l = stored.full i [] l
 
   pub entry-is : (i j : ℕ) → i < length rows → entry (table_of w rows) i j ≡ number_at (slice_index_or rows i []) j
@@ -108,7 +108,7 @@ module _ (p w : ℕ) (rows : List (List Item)) (stored : IsStored p w rows) wher
       within : i < length rows
       within = omega (arith, length-map rows (numbers_of w))
 
-      row : IsRow p w xs
+      row : IsEntryRow p w xs
       row = row-stored i within
 
       there : get_or (map (numbers_of w) rows) i d ≡ numbers_of w xs
@@ -129,12 +129,12 @@ module _ (p w : ℕ) (rows : List (List Item)) (stored : IsStored p w rows) wher
       xs : List Item
       xs = slice_index_or rows i []
 
-      row : IsRow p w xs
+      row : IsEntryRow p w xs
       row = row-stored i l
 
   -- one entry more
   pub put-stored : (i c n : ℕ) → i < length rows → EndsBefore (slice_index_or rows i []) c → c < w → n ≢ 0 → n < p →
-      IsStored p w (slice_set rows i (slice_index_or rows i [] ++ item c n ∷ []))
+      AreEntryRows p w (slice_set rows i (slice_index_or rows i [] ++ item c n ∷ []))
   put-stored i c n l before less ne below = record {
     full = λ k d kl. here k d (omega (arith, length-set rows i more));
     few = omega (arith, stored.few, length-set rows i more);
@@ -144,16 +144,16 @@ module _ (p w : ℕ) (rows : List (List Item)) (stored : IsStored p w rows) wher
       more : List Item
       more = slice_index_or rows i [] ++ item c n ∷ []
 
-      here : (k : ℕ) (d : List Item) → k < length rows → IsRow p w (get_or (slice_set rows i more) k d)
+      here : (k : ℕ) (d : List Item) → k < length rows → IsEntryRow p w (get_or (slice_set rows i more) k d)
       here k d kl = elim (nat_cases k i) [
-        | inl same ↦ subst (λ t. IsRow p w (get_or (slice_set rows i more) t d)) (sym same)
-            (subst (IsRow p w) (sym (get_or-set_same rows i more d l))
+        | inl same ↦ subst (λ t. IsEntryRow p w (get_or (slice_set rows i more) t d)) (sym same)
+            (subst (IsEntryRow p w) (sym (get_or-set_same rows i more d l))
             (pushed-row p w (slice_index_or rows i []) c n (row-stored i l) before less ne below))
-        | inr ne_i ↦ subst (IsRow p w) (sym (get_or-set_other rows i k more d ne_i)) (stored.full k d kl)
+        | inr ne_i ↦ subst (IsEntryRow p w) (sym (get_or-set_other rows i k more d ne_i)) (stored.full k d kl)
       ]
 
   pub put-table : (i c n : ℕ) → i < length rows → EndsBefore (slice_index_or rows i []) c → c < w → n ≢ 0 →
-      table_of w (slice_set rows i (slice_index_or rows i [] ++ item c n ∷ [])) ≡ with_entry (table_of w rows) i c n
+      table_of w (slice_set rows i (slice_index_or rows i [] ++ item c n ∷ [])) ≡ table_with_entry (table_of w rows) i c n
   put-table i c n l before less ne =
       ap (λ rs. record { width = w; rows = rs })
       (map-set (numbers_of w) rows i (xs ++ item c n ∷ [])
@@ -169,7 +169,7 @@ module _ (p w : ℕ) (rows : List (List Item)) (stored : IsStored p w rows) wher
 
   -- a zero more is no change
   pub put-zero : (i c : ℕ) → i < length rows → EndsBefore (slice_index_or rows i []) c → c < w →
-      table_of w rows ≡ with_entry (table_of w rows) i c 0
+      table_of w rows ≡ table_with_entry (table_of w rows) i c 0
   put-zero i c l before less =
       ap (λ rs. record { width = w; rows = rs })
       (sym (set-get_or (map (numbers_of w) rows) i [])
@@ -186,19 +186,19 @@ pub added-table : (w : ℕ) (rows : List (List Item)) →
 added-table w rows = ap (λ rs. record { width = w; rows = rs })
     (map-append (numbers_of w) rows ([] ∷ []) ∙ ap (λ row. map (numbers_of w) rows ++ row ∷ []) (numbers-none w))
 
-pub added-stored : (p w : ℕ) (rows : List (List Item)) → IsStored p w rows → length rows < 8192 →
-    IsStored p w (rows ++ [] ∷ [])
+pub added-stored : (p w : ℕ) (rows : List (List Item)) → AreEntryRows p w rows → length rows < 8192 →
+    AreEntryRows p w (rows ++ [] ∷ [])
 added-stored p w rows stored room = record {
   full = λ i d l. elim (nat_cases i (length rows)) [
-    | inl last ↦ subst (IsRow p w) (sym (get_or_at rows [] [] d i (sym last))) none
-    | inr ne ↦ subst (IsRow p w) (sym (get_or_append_left rows ([] ∷ []) d i (omega (arith, length-append rows ([] ∷ [])))))
+    | inl last ↦ subst (IsEntryRow p w) (sym (get_or_at rows [] [] d i (sym last))) none
+    | inr ne ↦ subst (IsEntryRow p w) (sym (get_or_append_left rows ([] ∷ []) d i (omega (arith, length-append rows ([] ∷ [])))))
         (stored.full i d (omega (arith, length-append rows ([] ∷ []))))
   ];
   few = omega (arith, length-append rows ([] ∷ []));
   narrow = stored.narrow;
 }
   where
-    none : IsRow p w []
+    none : IsEntryRow p w []
     none = record {
       rising = λ i j l jl. absurd (omega arith);
       narrow = λ i l. absurd (omega arith);
@@ -254,15 +254,15 @@ table-room f w k all m l so_far =
     ap height so_far ∙ length-map (take k (map f all)) (numbers_of w)
     ∙ length-take-le k (map f all) (omega (arith, length-map all f))
 
-pub row-kept : {V : Type 0} (f : V → List Item) (p w : ℕ) (rows all : List V) (k : ℕ) (v : V) → IsStored p w (map f rows) →
-    all ≡ rows → k < length all → v ≡ get_or all k v → IsRow p w (f v)
+pub row-kept : {V : Type 0} (f : V → List Item) (p w : ℕ) (rows all : List V) (k : ℕ) (v : V) → AreEntryRows p w (map f rows) →
+    all ≡ rows → k < length all → v ≡ get_or all k v → IsEntryRow p w (f v)
 row-kept f p w rows all k v stored is l at =
-    subst (IsRow p w) (get_or-map f rows k v [] (omega (arith, ap length is)) ∙ ap f (sym (at ∙ ap (λ vs. get_or vs k v) is)))
+    subst (IsEntryRow p w) (get_or-map f rows k v [] (omega (arith, ap length is)) ∙ ap f (sym (at ∙ ap (λ vs. get_or vs k v) is)))
     (row-stored p w (map f rows) stored k (omega (arith, ap length is, length-map rows f)))
 
 -- ---- a table whose rows are those of values of another type
 module _ {V : Type 0} (f : V → List Item) (p w : ℕ) (rows : List V) (table : Table) (is : table_of w (map f rows) ≡ table)
-    (stored : IsStored p w (map f rows)) where
+    (stored : AreEntryRows p w (map f rows)) where
   pub height-is : height table ≡ length rows
   height-is = ap height (sym is) ∙ length-map (map f rows) (numbers_of w) ∙ length-map rows f
 
@@ -275,8 +275,8 @@ module _ {V : Type 0} (f : V → List Item) (p w : ℕ) (rows : List V) (table :
   within : (i : ℕ) → i < height table → i < length (map f rows)
   within i l = omega (arith, height-is, length-map rows f)
 
-  pub row-of : (i : ℕ) (v : V) → i < height table → v ≡ get_or rows i v → IsRow p w (f v)
-  row-of i v l at = subst (IsRow p w) (there i v l at) (row-stored p w (map f rows) stored i (within i l))
+  pub row-of : (i : ℕ) (v : V) → i < height table → v ≡ get_or rows i v → IsEntryRow p w (f v)
+  row-of i v l at = subst (IsEntryRow p w) (there i v l at) (row-stored p w (map f rows) stored i (within i l))
 
   pub entry-of : (i j : ℕ) (v : V) → i < height table → v ≡ get_or rows i v → entry table i j ≡ number_at (f v) j
   entry-of i j v l at = ap (λ t. entry t i j) (sym is) ∙ entry-is p w (map f rows) stored i j (within i l)
@@ -291,21 +291,21 @@ module _ {V : Type 0} (f : V → List Item) (p w : ℕ) (rows : List V) (table :
     less : c < w
     less = omega (arith, width-is)
 
-    pub table-zero : table ≡ with_entry table i c 0
-    table-zero = sym is ∙ put-zero p w (map f rows) stored i c (within i l) before less ∙ ap (λ t. with_entry t i c 0) is
+    pub table-zero : table ≡ table_with_entry table i c 0
+    table-zero = sym is ∙ put-zero p w (map f rows) stored i c (within i l) before less ∙ ap (λ t. table_with_entry t i c 0) is
 
     module _ (v now : V) (at : v ≡ get_or rows i v) (n : ℕ) (ne : n ≢ 0) (e : f now ≡ f v ++ item c n ∷ []) where
       replaced : map f (slice_set rows i now) ≡ slice_set (map f rows) i (get_or (map f rows) i [] ++ item c n ∷ [])
       replaced = map-set f rows i now
           ∙ ap (slice_set (map f rows) i) (e ∙ ap (λ xs. xs ++ item c n ∷ []) (sym (there i v l at)))
 
-      pub stored-with : n < p → IsStored p w (map f (slice_set rows i now))
-      stored-with below = subst (IsStored p w) (sym replaced)
+      pub stored-with : n < p → AreEntryRows p w (map f (slice_set rows i now))
+      stored-with below = subst (AreEntryRows p w) (sym replaced)
           (put-stored p w (map f rows) stored i c n (within i l) before less ne below)
 
-      pub table-with : table_of w (map f (slice_set rows i now)) ≡ with_entry table i c n
+      pub table-with : table_of w (map f (slice_set rows i now)) ≡ table_with_entry table i c n
       table-with = ap (table_of w) replaced ∙ put-table p w (map f rows) stored i c n (within i l) before less ne
-          ∙ ap (λ t. with_entry t i c n) is
+          ∙ ap (λ t. table_with_entry t i c n) is
 
   -- a value that tells the same row
   pub rows-same : (i : ℕ) (v now : V) → i < height table → v ≡ get_or rows i v → f now ≡ f v →
@@ -319,7 +319,7 @@ module _ {V : Type 0} (f : V → List Item) (p w : ℕ) (rows : List V) (table :
     has-same v l at j = ap (λ n. not (eqb n 0)) (entry-of i j v l at)
 
     pub least-told : (y : ℕ) (v : V) → i < height table → v ≡ get_or rows i v →
-        ((q u : ℕ) → IsRow q u (f v) → IsLeast (has_number (f v)) from u y) →
+        ((q u : ℕ) → IsEntryRow q u (f v) → IsLeast (has_number (f v)) from u y) →
         IsLeast (λ j. not (eqb (entry table i j) 0)) from table.width y
     least-told y v l at told = (let it = told p w (row-of i v l at) in record {
       from_on = it.from_on;
@@ -329,13 +329,13 @@ module _ {V : Type 0} (f : V → List Item) (p w : ℕ) (rows : List V) (table :
     })
 
     pub none-told : (v : V) → i < height table → v ≡ get_or rows i v →
-        ((q u : ℕ) → IsRow q u (f v) → HasNone (has_number (f v)) from u) →
+        ((q u : ℕ) → IsEntryRow q u (f v) → HasNone (has_number (f v)) from u) →
         HasNone (λ j. not (eqb (entry table i j) 0)) from table.width
     none-told v l at told j le less = has-same v l at j ∙ told p w (row-of i v l at) j le (omega (arith, width-is))
 
 -- ---- a table that is filled place by place
 pub filled-put : (old m now : Table) (i c v : ℕ) (numbers : ℕ → ℕ) → IsFilled old m i c numbers →
-    i < height old → c < old.width → now ≡ with_entry m i c v → v ≡ numbers c → IsFilled old now i (c + 1) numbers
+    i < height old → c < old.width → now ≡ table_with_entry m i c v → v ≡ numbers c → IsFilled old now i (c + 1) numbers
 filled-put old m now i c v numbers so_far l cl is same = subst (λ t. IsFilled old t i (c + 1) numbers) (sym is) (record {
   size = record {
     height_same = length-set m.rows i (slice_set (row_at m i) c v) ∙ so_far.size.height_same;
@@ -343,7 +343,7 @@ filled-put old m now i c v numbers so_far l cl is same = subst (λ t. IsFilled o
   };
   long = ap length row ∙ length-set (row_at m i) c v ∙ so_far.long;
   here = λ j jl. elim (nat_cases j c) [
-    | inl q ↦ ap (λ k. entry (with_entry m i c v) i k) q ∙ hit ∙ same ∙ ap numbers (sym q)
+    | inl q ↦ ap (λ k. entry (table_with_entry m i c v) i k) q ∙ hit ∙ same ∙ ap numbers (sym q)
     | inr ne ↦ miss j ne ∙ so_far.here j (omega arith)
   ];
   rest = λ j le. miss j (λ q. omega arith) ∙ so_far.rest j (omega arith);
@@ -351,13 +351,13 @@ filled-put old m now i c v numbers so_far l cl is same = subst (λ t. IsFilled o
       ∙ so_far.others k j ne;
 })
   where
-    row : row_at (with_entry m i c v) i ≡ slice_set (row_at m i) c v
+    row : row_at (table_with_entry m i c v) i ≡ slice_set (row_at m i) c v
     row = get_or-set_same m.rows i (slice_set (row_at m i) c v) [] (omega (arith, so_far.size.height_same))
 
-    miss : (j : ℕ) → j ≢ c → entry (with_entry m i c v) i j ≡ entry m i j
+    miss : (j : ℕ) → j ≢ c → entry (table_with_entry m i c v) i j ≡ entry m i j
     miss j ne = ap (λ r. slice_index r j) row ∙ get_or-set_other (row_at m i) c j v 0 ne
 
-    hit : entry (with_entry m i c v) i c ≡ v
+    hit : entry (table_with_entry m i c v) i c ≡ v
     hit = ap (λ r. slice_index r c) row ∙ get_or-set_same (row_at m i) c v 0 (omega (arith, so_far.long))
 
 pub filled-none : (m : Table) (i : ℕ) (numbers : ℕ → ℕ) → IsMatrix m → i < height m → ((j : ℕ) → entry m i j ≡ 0) →

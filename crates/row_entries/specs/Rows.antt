@@ -25,7 +25,7 @@ abbrev pub IsRising : List Item → Type 0
 IsRising xs = (i j : ℕ) → i < j → j < length xs → (item_or 0 xs i).column < (item_or 0 xs j).column
 
 -- the list of a row of w columns, with numbers below p
-pub record IsRow (p w : ℕ) (xs : List Item) : Type 0 where
+pub record IsEntryRow (p w : ℕ) (xs : List Item) : Type 0 where
   pub rising : IsRising xs
   pub narrow : EndsBefore xs w
   pub some : (i : ℕ) → i < length xs → (item_or 0 xs i).number ≢ 0

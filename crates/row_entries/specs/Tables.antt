@@ -3,7 +3,7 @@ use Rattle.std.specs.Prelude.{ℕ, ◌<◌, ◌≤◌, ◌≡◌, ◌≢◌, Lis
 use Rattle.std.specs.List.{All, range_with_len}
 use Rattle.limits.specs.Limits.{column_limit}
 use Rattle.dense_q.specs.Tables.{HasSameSize, Table, entry, row_at}
-use Rattle.row_entries.specs.Rows.{Item, IsRow, number_at}
+use Rattle.row_entries.specs.Rows.{Item, IsEntryRow, number_at}
 
 -- the numbers of a row of w columns, its zeros too
 abbrev pub numbers_of : ℕ → List Item → List ℕ
@@ -14,8 +14,8 @@ abbrev pub table_of : ℕ → List (List Item) → Table
 table_of w rows = record { width = w; rows = map (numbers_of w) rows }
 
 -- each row has w columns and numbers below p, and there are at most 8,192 rows and columns
-pub record IsStored (p w : ℕ) (rows : List (List Item)) : Type 0 where
-  pub full : All (IsRow p w) rows
+pub record AreEntryRows (p w : ℕ) (rows : List (List Item)) : Type 0 where
+  pub full : All (IsEntryRow p w) rows
   pub few : length rows ≤ column_limit
   pub narrow : w ≤ column_limit
 

@@ -1,8 +1,8 @@
 //! The entries of a row by rising column, and the first one from a column on.
 
 ghost use Rattle.std.specs.Prelude.{◌≡◌, ℕ, IfNone, IfSome};
-ghost use Rattle.number_ranges.specs.Ranges.{HasNone, IsLeast};
-ghost use Rattle.row_entries.specs.Rows.{IsPlaceFrom, IsRising, IsRow, has_number, items, number_at};
+ghost use Rattle.residue_theory.specs.Ranges.{HasNone, IsLeast};
+ghost use Rattle.row_entries.specs.Rows.{IsPlaceFrom, IsRising, IsEntryRow, has_number, items, number_at};
 
 use residue_field::Field;
 
@@ -37,9 +37,9 @@ pub fn value_at<F: Field>(entries: &[Entry<F>], column: usize) -> F
 /// The first entry from a column on: its column and its value.
 pub fn first_from<F: Field>(entries: &[Entry<F>], column: usize) -> Option<(usize, F)>
     requires { IsRising (items F.number entries.now) }
-    ensures none { IfNone result ((p w : ℕ) → IsRow p w (items F.number entries.now) →
+    ensures none { IfNone result ((p w : ℕ) → IsEntryRow p w (items F.number entries.now) →
         HasNone (has_number (items F.number entries.now)) column w) }
-    ensures least { IfSome result (λ e. (p w : ℕ) → IsRow p w (items F.number entries.now) →
+    ensures least { IfSome result (λ e. (p w : ℕ) → IsEntryRow p w (items F.number entries.now) →
         IsLeast (has_number (items F.number entries.now)) column w e.0) }
     ensures value { IfSome result (λ e. number_at (items F.number entries.now) e.0 ≡ F.number e.1) }
 {

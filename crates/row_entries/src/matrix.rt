@@ -2,8 +2,8 @@
 
 ghost use Rattle.std.specs.Prelude.{◌≡◌, ◌≢◌, ℕ, ◌+◌, ◌-◌, ◌<◌, ◌≤◌, map, replicate, not, eqb, IfOk, OnOk, OnErr, IfNone, IfSome};
 ghost use Rattle.limits.specs.Limits.{column_limit};
-ghost use Rattle.number_ranges.specs.Ranges.{HasNone, IsLeast};
-ghost use Rattle.dense_q.specs.Tables.{AreResidues, IsMatrix, IsTableOf, entry, height, with_entry, with_last_row, zero_table};
+ghost use Rattle.residue_theory.specs.Ranges.{HasNone, IsLeast};
+ghost use Rattle.dense_q.specs.Tables.{AreResidues, IsMatrix, IsTableOf, entry, height, table_with_entry, with_last_row, zero_table};
 ghost use Rattle.row_entries.specs.Rows.{IsRising, items};
 ghost use Rattle.row_entries.specs.Tables.{IsFilled, numbers_of};
 
@@ -27,13 +27,13 @@ impl<F: Field> Model for EntryMat<F> {
     ghost use Rattle.std.specs.Prelude.{map};
     ghost use Rattle.dense_q.specs.Tables.{Table};
     ghost use Rattle.row_entries.specs.Rows.{items};
-    ghost use Rattle.row_entries.specs.Tables.{IsStored, table_of};
+    ghost use Rattle.row_entries.specs.Tables.{AreEntryRows, table_of};
 
     ghost Value = { Table };
 
     ghost view = { λ m. table_of m.width (map (λ row. items F.number row.items) m.rows.items) };
 
-    ghost invariant = { λ m. IsStored F.modulus m.width (map (λ row. items F.number row.items) m.rows.items) };
+    ghost invariant = { λ m. AreEntryRows F.modulus m.width (map (λ row. items F.number row.items) m.rows.items) };
 }
 
 impl<F: Field> EntryMat<F> {
@@ -90,7 +90,7 @@ impl<F: Field> EntryMat<F> {
         requires some { 0 < height self.old }
         requires col { col < self.old.width }
         requires zero { (j : ℕ) → col ≤ j → j < self.old.width → entry self.old (height self.old - 1) j ≡ 0 }
-        ensures ok { OnOk result (self.new ≡ with_entry self.old (height self.old - 1) col (F.number value)) }
+        ensures ok { OnOk result (self.new ≡ table_with_entry self.old (height self.old - 1) col (F.number value)) }
         ensures err { OnErr result (self.new ≡ self.old) }
     {
         if !value.is_zero() {
@@ -137,6 +137,15 @@ impl<F: Field> EntryMat<F> {
     {
         let (col, value) = first_from(&self.rows[i], from)?;
         Some((col, value))
+    }
+
+    /// Tells a proof what a matrix keeps: its rows are as long as it is wide, and it has at most 8,192 rows and columns. It
+    /// does nothing when it runs.
+    pub fn is_matrix(&self)
+        ensures { IsMatrix self.now }
+    {
+        // a proof knows what the type keeps once a field is read
+        let _ = &self.rows;
     }
 
     /// Tells a proof that the number of each entry is below the modulus. It does nothing when it runs.

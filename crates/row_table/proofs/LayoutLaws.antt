@@ -5,8 +5,8 @@ use Rattle.std.proofs.lemmas.List.{get_or-set_same, get_or-set_other, length-set
 use Rattle.std.proofs.lemmas.Bool.Decides.{nat_tests}
 use Rattle.residue_theory.proofs.SumLaws.{nat_cases}
 use Rattle.limits.specs.Limits.{column_limit}
-use Rattle.row_table.specs.Places.{Places, ArePlaced, exchanged}
-use Rattle.row_table.specs.Layouts.{Layout, IsLaidOut, IsFirst, places, moved, all, row_count}
+use Rattle.row_table.specs.Places.{Places, HaveSlots, exchanged}
+use Rattle.row_table.specs.Layouts.{Layout, IsLayout, IsFirst, layout_places, moved, all, rows_of_layout}
 use Rattle.row_table.proofs.PlaceLaws.{if_same, if_other, exchanged-placed}
 
 set-at : {A : Type 0} (xs : List A) (r : ℕ) (v d : A) → r < length xs →
@@ -17,7 +17,7 @@ set-at xs r v d rl = fun_ext (λ i. elim (nat_cases i r) [
   | inr ne ↦ get_or-set_other xs r i v d ne ∙ sym (if_other i r v (slice_index_or xs i d) ne)
 ])
 
-module _ (l : Layout) (r v : ℕ) (laid : IsLaidOut l) (rl : r < row_count l) (vl : v < all l) where
+module _ (l : Layout) (r v : ℕ) (laid : IsLayout l) (rl : r < rows_of_layout l) (vl : v < all l) where
   abbrev gone : ℕ
   gone = slice_index l.basic r
 
@@ -50,29 +50,29 @@ module _ (l : Layout) (r v : ℕ) (laid : IsLaidOut l) (rl : r < row_count l) (v
   abbrev made : (ℕ → ℕ) → (ℕ → Bool) → (ℕ → ℕ) → (ℕ → ℕ) → Places
   made basic is_unit row slot = record { basic = basic; is_unit = is_unit; row = row; slot = slot }
 
-  pub moved-places : places (moved l r v) ≡ exchanged (places l) r v
+  pub moved-places : layout_places (moved l r v) ≡ exchanged (layout_places l) r v
   moved-places =
-      let now : Places = places (moved l r v) in
-      let new : Places = exchanged (places l) r v in
+      let now : Places = layout_places (moved l r v) in
+      let new : Places = exchanged (layout_places l) r v in
       ap (λ (f : ℕ → ℕ). made f now.is_unit now.row now.slot) basic-is
       ∙ ap (λ (f : ℕ → Bool). made new.basic f now.row now.slot) units-is
       ∙ ap (λ (f : ℕ → ℕ). made new.basic new.is_unit f now.slot) rows-is
       ∙ ap (λ (f : ℕ → ℕ). made new.basic new.is_unit new.row f) slots-is
 
-  pub moved-laid : (places l).is_unit v ≡ false → IsLaidOut (moved l r v)
+  pub moved-laid : (layout_places l).is_unit v ≡ false → IsLayout (moved l r v)
   moved-laid free = record {
     units_length = length-set (slice_set l.units gone false) v true ∙ length-set l.units gone false
         ∙ laid.units_length ∙ sym all-same;
     rows_length = length-set l.unit_rows v r ∙ laid.rows_length ∙ sym all-same;
     slots_length = length-set l.slots gone (slice_index l.slots v) ∙ laid.slots_length ∙ sym all-same;
-    placed = subst (λ m. ArePlaced m l.columns (l.columns + m) (places (moved l r v))) (sym rows-same)
-        (subst (λ s. ArePlaced (row_count l) l.columns (all l) s) (sym moved-places)
-        (exchanged-placed (row_count l) l.columns (all l) (places l) r v laid.placed rl vl free));
+    placed = subst (λ m. HaveSlots m l.columns (l.columns + m) (layout_places (moved l r v))) (sym rows-same)
+        (subst (λ s. HaveSlots (rows_of_layout l) l.columns (all l) s) (sym moved-places)
+        (exchanged-placed (rows_of_layout l) l.columns (all l) (layout_places l) r v laid.placed rl vl free));
     narrow = laid.narrow;
     few = subst (λ m. m ≤ column_limit) (sym rows-same) laid.few;
   }
     where
-      rows-same : row_count (moved l r v) ≡ row_count l
+      rows-same : rows_of_layout (moved l r v) ≡ rows_of_layout l
       rows-same = length-set l.basic r v
 
       all-same : all (moved l r v) ≡ all l
@@ -88,15 +88,15 @@ moved_to l r v g w = record {
   slots = slice_set l.slots g w;
 }
 
-pub read-laid : (l : Layout) (r v g w : ℕ) → IsLaidOut l → r < row_count l → v < all l → (places l).is_unit v ≡ false →
-    g ≡ slice_index_or l.basic r g → w ≡ slice_index_or l.slots v w → IsLaidOut (moved_to l r v g w)
+pub read-laid : (l : Layout) (r v g w : ℕ) → IsLayout l → r < rows_of_layout l → v < all l → (layout_places l).is_unit v ≡ false →
+    g ≡ slice_index_or l.basic r g → w ≡ slice_index_or l.slots v w → IsLayout (moved_to l r v g w)
 read-laid l r v g w laid rl vl free ge we =
-    subst (λ x. IsLaidOut (moved_to l r v x w)) (sym (get_or_read l.basic r g rl ge 0))
-    (subst (λ y. IsLaidOut (moved_to l r v (slice_index l.basic r) y))
+    subst (λ x. IsLayout (moved_to l r v x w)) (sym (get_or_read l.basic r g rl ge 0))
+    (subst (λ y. IsLayout (moved_to l r v (slice_index l.basic r) y))
     (sym (get_or_read l.slots v w (omega (arith, laid.slots_length, vl)) we 0))
     (moved-laid l r v laid rl vl free))
 
-pub read-moved : (l : Layout) (r v g w : ℕ) → IsLaidOut l → r < row_count l → v < all l →
+pub read-moved : (l : Layout) (r v g w : ℕ) → IsLayout l → r < rows_of_layout l → v < all l →
     g ≡ slice_index_or l.basic r g → w ≡ slice_index_or l.slots v w → moved_to l r v g w ≡ moved l r v
 read-moved l r v g w laid rl vl ge we =
     ap (λ x. moved_to l r v x w) (get_or_read l.basic r g rl ge 0)
@@ -120,7 +120,7 @@ module _ (m n : ℕ) (s : Places) (first : IsFirst m n s) where
   other-before : (c : ℕ) → c < n + m → s.is_unit c ≡ false → c < n
   other-before c cl h = less c (sym (first.unit_is c cl) ∙ h)
 
-  pub first-placed : ArePlaced m n (n + m) s
+  pub first-placed : HaveSlots m n (n + m) s
   first-placed = record {
     basic_below = λ i il. subst (λ c. c < n + m) (sym (first.basic_is i il)) (omega arith);
     basic_unit = λ i il. ap s.is_unit (first.basic_is i il) ∙ first.unit_is (n + i) (omega arith)
@@ -133,15 +133,15 @@ module _ (m n : ℕ) (s : Places) (first : IsFirst m n s) where
     apart = λ c d cl dl ch dh e. sym (first.slot_is c cl) ∙ e ∙ first.slot_is d dl;
   }
 
-pub first-laid : (m : ℕ) (l : Layout) → l.columns ≤ column_limit → m ≤ column_limit → row_count l ≡ m →
+pub first-laid : (m : ℕ) (l : Layout) → l.columns ≤ column_limit → m ≤ column_limit → rows_of_layout l ≡ m →
     length l.units ≡ l.columns + m → length l.unit_rows ≡ l.columns + m → length l.slots ≡ l.columns + m →
-    IsFirst m l.columns (places l) → IsLaidOut l
+    IsFirst m l.columns (layout_places l) → IsLayout l
 first-laid m l narrow few rows units unit_rows slots first = record {
   units_length = units ∙ ap (λ k. l.columns + k) (sym rows);
   rows_length = unit_rows ∙ ap (λ k. l.columns + k) (sym rows);
   slots_length = slots ∙ ap (λ k. l.columns + k) (sym rows);
-  placed = subst (λ k. ArePlaced k l.columns (l.columns + k) (places l)) (sym rows)
-      (first-placed m l.columns (places l) first);
+  placed = subst (λ k. HaveSlots k l.columns (l.columns + k) (layout_places l)) (sym rows)
+      (first-placed m l.columns (layout_places l) first);
   narrow = narrow;
   few = subst (λ k. k ≤ column_limit) (sym rows) few;
 }

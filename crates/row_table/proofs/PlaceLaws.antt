@@ -5,7 +5,7 @@ use Rattle.residue_theory.proofs.SumLaws.{nat_cases}
 use Rattle.linear_algebra.specs.Products.{identity}
 use Rattle.linear_algebra_laws.proofs.Entries.{identity-same, identity-other}
 use Rattle.row_table.specs.Reductions.{IsReduced}
-use Rattle.row_table.specs.Places.{Places, ArePlaced, whole, exchanged, with_unit}
+use Rattle.row_table.specs.Places.{Places, HaveSlots, whole, exchanged, with_unit}
 
 differ : {b : Bool} → b ≡ true → b ≡ false → ⊥
 differ e h = cc
@@ -16,7 +16,7 @@ if_same i r x y e = grind (arith, nat_tests)
 pub if_other : {A : Type 0} (i r : ℕ) (x y : A) → i ≢ r → cond (eqb i r) x y ≡ y
 if_other i r x y ne = grind (arith, nat_tests)
 
-module _ (m n all : ℕ) (s : Places) (r v : ℕ) (placed : ArePlaced m n all s) (rl : r < m) (vl : v < all)
+module _ (m n all : ℕ) (s : Places) (r v : ℕ) (placed : HaveSlots m n all s) (rl : r < m) (vl : v < all)
     (free : s.is_unit v ≡ false) where
   -- the column that leaves
   abbrev gone : ℕ
@@ -84,7 +84,7 @@ module _ (m n all : ℕ) (s : Places) (r v : ℕ) (placed : ArePlaced m n all s)
   row-other : (c : ℕ) → c < all → s.is_unit c ≡ true → c ≢ gone → s.row c ≢ r
   row-other c cl h ne q = ne (sym (placed.row_basic c cl h) ∙ ap s.basic q)
 
-  pub exchanged-placed : ArePlaced m n all (exchanged s r v)
+  pub exchanged-placed : HaveSlots m n all (exchanged s r v)
   exchanged-placed = record {
     basic_below = λ i il. elim (nat_cases i r) [
       | inl q ↦ subst (λ c. c < all) (sym (basic-here i q)) vl
@@ -136,7 +136,7 @@ record IsColumnReduced (p m : ℕ) (x y : ℕ → ℕ) (r : ℕ) (k : ℕ → �
   here : x r % p ≡ k r * y r % p
   others : (i : ℕ) → i < m → i ≢ r → x i % p ≡ (y i + k i * y r) % p
 
-module _ (p m n all : ℕ) (s : Places) (a b : ℕ → ℕ → ℕ) (r v : ℕ) (placed : ArePlaced m n all s) (rl : r < m)
+module _ (p m n all : ℕ) (s : Places) (a b : ℕ → ℕ → ℕ) (r v : ℕ) (placed : HaveSlots m n all s) (rl : r < m)
     (vl : v < all) (free : s.is_unit v ≡ false)
     (reduced : IsReduced p m n (with_unit a r (s.slot v)) b r (λ i. a i (s.slot v))) where
   abbrev after : Places

@@ -6,14 +6,14 @@ use Rattle.residue_theory.specs.Sets.{everything, without}
 use Rattle.residue_theory.specs.Sums.{sum_on, sum_below}
 use Rattle.residue_theory.proofs.SumLaws.{nat_cases, sum_on-ext, sum_on-none, sum_on-without, without-member}
 use Rattle.residue_theory.proofs.ResidueLaws.{agree-add, agree-mul}
-use Rattle.dense_q.specs.Tables.{Table, IsMatrix, HasSameSize, height, row_at, entry, with_entry}
+use Rattle.dense_q.specs.Tables.{Table, IsMatrix, HasSameSize, height, row_at, entry, table_with_entry}
 use Rattle.residue_theory.specs.Residues.{IsPrime}
 use Rattle.linear_algebra.specs.Products.{identity}
 use Rattle.linear_algebra.specs.RowOperations.{IsRowScaled}
 use Rattle.linear_algebra_laws.proofs.Entries.{identity-same, identity-other}
 use Rattle.row_table.specs.Reductions.{IsReduced}
 use Rattle.row_table.specs.Places.{with_unit}
-use Rattle.row_table.specs.PutOffs.{Kept, IsKept, actual, waiting, HasSameShape, IsActuallySame, IsSettled}
+use Rattle.row_table.specs.PutOffs.{Kept, AreKeptFactors, actual, waiting, HasSameShape, IsActuallySame, IsSettled}
 use Rattle.row_table.proofs.PlaceLaws.{if_same, if_other}
 
 pub sum-next : (n : ℕ) (f : ℕ → ℕ) → sum_below (n + 1) f ≡ sum_below n f + f n
@@ -21,7 +21,7 @@ sum-next n f = ap (λ k. sum_below k f) (add-one n)
 
 -- ---- one entry put
 module _ (m now : Table) (i j x : ℕ) (good : IsMatrix m) (il : i < height m) (jl : j < m.width) (e : now
-    ≡ with_entry m i j x) where
+    ≡ table_with_entry m i j x) where
   pub put-size : HasSameSize now m
   put-size = record { height_same = ap height e ∙ length-set m.rows i _; width_same = ap (λ (t : Table). t.width) e }
 
@@ -187,7 +187,7 @@ scaled-actual p old mid stored i k il shape same settled scaled = record {
 abbrev with_tables : Kept → Table → Table → Kept
 with_tables old stored pending = record { stored = stored; factors = old.factors; pending = pending; count = old.count }
 
-pub unit-put : (p : ℕ) → IsPrime p → (old : Kept) (cleared now pending : Table) (r j x : ℕ) → IsKept old →
+pub unit-put : (p : ℕ) → IsPrime p → (old : Kept) (cleared now pending : Table) (r j x : ℕ) → AreKeptFactors old →
     r < height old.stored →
     ((t : ℕ) → t < height old.pending → entry pending t j ≡ 0) →
     ((t c : ℕ) → c ≢ j → entry pending t c ≡ entry old.pending t c) →

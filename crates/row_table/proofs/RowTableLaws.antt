@@ -15,9 +15,9 @@ use Rattle.linear_algebra_laws.proofs.Entries.{identity-same, identity-other}
 use Rattle.linear_algebra_laws.proofs.Products.{sum-identity}
 use Rattle.dense_q.specs.Tables.{Table, IsMatrix, AreResidues, height, row_at, entry}
 use Rattle.row_table.specs.Reductions.{IsReduced, with_column_as, ZeroRowsStay}
-use Rattle.row_table.specs.Places.{Places, ArePlaced, whole, exchanged, with_unit, with_units}
+use Rattle.row_table.specs.Places.{Places, HaveSlots, whole, exchanged, with_unit, with_units}
 use Rattle.row_table.specs.PutOffs.{Kept, actual}
-use Rattle.row_table.specs.Layouts.{Layout, IsFirst, places, row_count}
+use Rattle.row_table.specs.Layouts.{Layout, IsFirst, layout_places, rows_of_layout}
 use Rattle.row_table.specs.RowTables.{Combined, entries, p_part, s_part, u_part, IsCombined}
 use Rattle.row_table.proofs.ReductionLaws.{first-inverse, reduced-pivoted, reduced-stay}
 use Rattle.row_table.proofs.PlaceLaws.{exchanged-reduced, exchanged-placed, whole-unit, whole-slot}
@@ -41,8 +41,8 @@ part-outside i m j n x h = grind (arith, nat_tests)
 -- ---- before any pivot
 module _ (p : ℕ) (prime : IsPrime p) (t : Combined) (q : Table) (good : IsMatrix q) (residues : AreResidues p q.rows)
     (q_is : t.q ≡ q) (stored_is : t.kept.stored ≡ q) (count_is : t.kept.count ≡ 0) (columns_is : t.layout.columns
-    ≡ q.width) (rows_is : row_count t.layout ≡ height q)
-    (first : IsFirst (height q) q.width (places t.layout)) where
+    ≡ q.width) (rows_is : rows_of_layout t.layout ≡ height q)
+    (first : IsFirst (height q) q.width (layout_places t.layout)) where
   actual-is : (i j : ℕ) → actual p t.kept i j ≡ entry q i j % p
   actual-is i j =
       ap (λ n. (entry t.kept.stored i j + sum_below n (λ k. entry t.kept.factors i k * entry t.kept.pending k j)) % p)
@@ -55,7 +55,7 @@ module _ (p : ℕ) (prime : IsPrime p) (t : Combined) (q : Table) (good : IsMatr
 
   entries-before : (i c : ℕ) → i < height q → c < q.width → entries p t i c ≡ entry q i c
   entries-before i c il cl =
-      whole-slot (places t.layout) (actual p t.kept) i c (first.unit_is c (omega arith) ∙ before c q.width cl)
+      whole-slot (layout_places t.layout) (actual p t.kept) i c (first.unit_is c (omega arith) ∙ before c q.width cl)
       ∙ ap (λ k. actual p t.kept i k) (first.slot_is c (omega arith)) ∙ actual-is i c
       ∙ mod-eq_of_lt (entry-small i c il cl)
     where
@@ -64,7 +64,7 @@ module _ (p : ℕ) (prime : IsPrime p) (t : Combined) (q : Table) (good : IsMatr
 
   entries-after : (i c : ℕ) → q.width ≤ c → c < q.width + height q → entries p t i c ≡ identity i (c - q.width)
   entries-after i c le cl =
-      whole-unit (places t.layout) (actual p t.kept) i c (first.unit_is c cl ∙ after c q.width le)
+      whole-unit (layout_places t.layout) (actual p t.kept) i c (first.unit_is c cl ∙ after c q.width le)
       ∙ ap (λ k. identity i k) (first.row_is c cl)
     where
       after : (c n : ℕ) → n ≤ c → not (ltb c n) ≡ true
@@ -78,7 +78,7 @@ module _ (p : ℕ) (prime : IsPrime p) (t : Combined) (q : Table) (good : IsMatr
       ∙ entries-after i (q.width + j) (omega arith) (omega arith) ∙ ap (λ k. identity i k) (omega arith)
 
   pub opened-u : (i j : ℕ) → i < height q → j < height q → u_part t i j ≡ identity i j
-  opened-u i j il jl = ap (λ (m : Table). with_units m.width (entry m) i ((places t.layout).basic j)) q_is
+  opened-u i j il jl = ap (λ (m : Table). with_units m.width (entry m) i ((layout_places t.layout).basic j)) q_is
       ∙ ap (λ c. with_units q.width (entry q) i c) (first.basic_is j jl)
       ∙ units-after q.width (entry q) i (q.width + j) (omega arith) ∙ ap (λ k. identity i k) (omega arith)
 
@@ -100,18 +100,18 @@ module _ (p : ℕ) (prime : IsPrime p) (t : Combined) (q : Table) (good : IsMatr
     kept_columns = ap (λ (m : Table). m.width) stored_is ∙ sym (ap (λ (m : Table). m.width) q_is);
     layout_rows = rows_is ∙ sym (ap height q_is);
     layout_columns = columns_is ∙ sym (ap (λ (m : Table). m.width) q_is);
-    placed = at_q (λ m. ArePlaced (height m) m.width (m.width + height m) (places t.layout))
-        (first-placed (height q) q.width (places t.layout) first);
+    placed = at_q (λ m. HaveSlots (height m) m.width (m.width + height m) (layout_places t.layout))
+        (first-placed (height q) q.width (layout_places t.layout) first);
     product_is = at_q (λ m. Agree p (height m) (m.width + height m) (entries p t)
         (product (height m) (λ i j. entries p t i (m.width + j)) (with_units m.width (entry m)))) product_at;
     inverse = at_q (λ m. IsInverse p (height m) (λ i j. entries p t i (m.width + j))
-        (λ i j. with_units m.width (entry m) i ((places t.layout).basic j))) inverse_at;
+        (λ i j. with_units m.width (entry m) i ((layout_places t.layout).basic j))) inverse_at;
   }
     where
       s_is : (i j : ℕ) → j < height q → entries p t i (q.width + j) ≡ identity i j
       s_is i j jl = entries-after i (q.width + j) (omega arith) (omega arith) ∙ ap (λ k. identity i k) (omega arith)
 
-      u_is : (i j : ℕ) → j < height q → with_units q.width (entry q) i ((places t.layout).basic j) ≡ identity i j
+      u_is : (i j : ℕ) → j < height q → with_units q.width (entry q) i ((layout_places t.layout).basic j) ≡ identity i j
       u_is i j jl = ap (λ c. with_units q.width (entry q) i c) (first.basic_is j jl)
           ∙ units-after q.width (entry q) i (q.width + j) (omega arith) ∙ ap (λ k. identity i k) (omega arith)
 
@@ -131,11 +131,11 @@ module _ (p : ℕ) (prime : IsPrime p) (t : Combined) (q : Table) (good : IsMatr
           ∙ sum-identity (height q) i (λ k. with_units q.width (entry q) k c) il))
 
       inverse_at : IsInverse p (height q) (λ i j. entries p t i (q.width + j))
-          (λ i j. with_units q.width (entry q) i ((places t.layout).basic j))
+          (λ i j. with_units q.width (entry q) i ((layout_places t.layout).basic j))
       inverse_at i j il jl = ap (λ y. y % p) (
           sum_on-ext everything (height q) (λ k. entries p t i (q.width + k) * with_units q.width (entry q) k
-          ((places t.layout).basic j)) (λ k. identity i k * identity k j)
-          (λ k kl _. ap (λ y. y * with_units q.width (entry q) k ((places t.layout).basic j)) (s_is i k kl)
+          ((layout_places t.layout).basic j)) (λ k. identity i k * identity k j)
+          (λ k kl _. ap (λ y. y * with_units q.width (entry q) k ((layout_places t.layout).basic j)) (s_is i k kl)
           ∙ ap (λ y. identity i k * y) (u_is k j jl))
           ∙ sum-identity (height q) i (λ k. identity k j) il)
 
@@ -166,9 +166,9 @@ if-choice f false x y = refl
 
 module _ (p : ℕ) (prime : IsPrime p) (t : Combined) (kept : Kept) (layout : Layout) (r v : ℕ)
     (combined : IsCombined p t) (rl : r < height t.q) (vl : v < t.q.width)
-    (free : (places t.layout).is_unit v ≡ false) (places_are : places layout ≡ exchanged (places t.layout) r v)
-    (reduced : IsReduced p (height t.q) t.q.width (with_unit (actual p t.kept) r ((places t.layout).slot v))
-    (actual p kept) r (λ i. actual p t.kept i ((places t.layout).slot v))) where
+    (free : (layout_places t.layout).is_unit v ≡ false) (places_are : layout_places layout ≡ exchanged (layout_places t.layout) r v)
+    (reduced : IsReduced p (height t.q) t.q.width (with_unit (actual p t.kept) r ((layout_places t.layout).slot v))
+    (actual p kept) r (λ i. actual p t.kept i ((layout_places t.layout).slot v))) where
   abbrev m : ℕ
   m = height t.q
 
@@ -184,7 +184,7 @@ module _ (p : ℕ) (prime : IsPrime p) (t : Combined) (kept : Kept) (layout : La
   all-reduced : IsReduced p m (n + m) (entries p t) (entries p now) r (λ i. entries p t i v)
   all-reduced = subst (λ s. IsReduced p m (n + m) (entries p t) (whole s (actual p kept)) r (λ i. entries p t i v))
       (sym places_are)
-      (exchanged-reduced p m n (n + m) (places t.layout) (actual p t.kept) (actual p kept) r v combined.placed rl
+      (exchanged-reduced p m n (n + m) (layout_places t.layout) (actual p t.kept) (actual p kept) r v combined.placed rl
       below free reduced)
 
   both : IsInverse p m (s_part p now) (with_column_as (u_part t) r (λ i. with_units n (entry t.q) i v)) × Agree p m
@@ -196,17 +196,17 @@ module _ (p : ℕ) (prime : IsPrime p) (t : Combined) (kept : Kept) (layout : La
 
   u-is : with_column_as (u_part t) r (λ i. with_units n (entry t.q) i v) ≡ u_part now
   u-is = fun_ext (λ i. fun_ext (λ j. sym (ap (λ (s : Places). with_units n (entry t.q) i (s.basic j)) places_are
-      ∙ if-choice (λ c. with_units n (entry t.q) i c) (eqb j r) v ((places t.layout).basic j))))
+      ∙ if-choice (λ c. with_units n (entry t.q) i c) (eqb j r) v ((layout_places t.layout).basic j))))
 
   pub pivoted-combined : height kept.stored ≡ height t.kept.stored → kept.stored.width ≡ t.kept.stored.width →
-      row_count layout ≡ row_count t.layout → layout.columns ≡ t.layout.columns →
+      rows_of_layout layout ≡ rows_of_layout t.layout → layout.columns ≡ t.layout.columns →
       IsCombined p (record { q = t.q; kept = kept; layout = layout })
   pivoted-combined rows columns places_rows places_columns = record {
     kept_rows = rows ∙ combined.kept_rows;
     kept_columns = columns ∙ combined.kept_columns;
     layout_rows = places_rows ∙ combined.layout_rows;
     layout_columns = places_columns ∙ combined.layout_columns;
-    placed = subst (λ s. ArePlaced m n (n + m) s) (sym places_are) (exchanged-placed m n (n + m) (places t.layout) r v
+    placed = subst (λ s. HaveSlots m n (n + m) s) (sym places_are) (exchanged-placed m n (n + m) (layout_places t.layout) r v
         combined.placed rl below free);
     product_is = both.1;
     inverse = subst (λ U. IsInverse p m (s_part p now) U) u-is both.0;
@@ -233,16 +233,16 @@ module _ (p : ℕ) (prime : IsPrime p) (t : Combined) (kept : Kept) (layout : La
 
 -- ---- a pivot at a column that is a unit column already
 module _ (p : ℕ) (prime : IsPrime p) (t : Combined) (r v : ℕ) (rl : r < height t.q) (vl : v < t.q.width)
-    (unit : (places t.layout).is_unit v ≡ true) (ne : p_part p t r v % p ≢ 0) where
-  entry-is : (i : ℕ) → i < height t.q → p_part p t i v ≡ identity i ((places t.layout).row v)
+    (unit : (layout_places t.layout).is_unit v ≡ true) (ne : p_part p t r v % p ≢ 0) where
+  entry-is : (i : ℕ) → i < height t.q → p_part p t i v ≡ identity i ((layout_places t.layout).row v)
   entry-is i il = part-within i (height t.q) v t.q.width (entries p t i v) il vl
-      ∙ whole-unit (places t.layout) (actual p t.kept) i v unit
+      ∙ whole-unit (layout_places t.layout) (actual p t.kept) i v unit
 
-  row-is : (places t.layout).row v ≡ r
-  row-is = elim (nat_cases ((places t.layout).row v) r) [
+  row-is : (layout_places t.layout).row v ≡ r
+  row-is = elim (nat_cases ((layout_places t.layout).row v) r) [
     | inl q ↦ q
     | inr other ↦ absurd (ne (ap (λ y. y % p) (entry-is r rl
-        ∙ identity-other r ((places t.layout).row v) (λ q. other (sym q)))
+        ∙ identity-other r ((layout_places t.layout).row v) (λ q. other (sym q)))
         ∙ mod-eq_of_lt (let l : 0 < p = omega (arith, prime.above_one) in l)))
   ]
 
@@ -257,11 +257,11 @@ module _ (p : ℕ) (prime : IsPrime p) (t : Combined) (r v : ℕ) (rl : r < heig
   }
 
 -- what the table's exchange says, at the slot that was read
-pub read-reduced : (p : ℕ) (t : Combined) (kept : Kept) (r v s : ℕ) → IsCombined p t → s ≡ (places t.layout).slot v →
+pub read-reduced : (p : ℕ) (t : Combined) (kept : Kept) (r v s : ℕ) → IsCombined p t → s ≡ (layout_places t.layout).slot v →
     IsReduced p (height t.kept.stored) t.kept.stored.width (with_unit (actual p t.kept) r s) (actual p kept) r
     (λ i. actual p t.kept i s) →
-    IsReduced p (height t.q) t.q.width (with_unit (actual p t.kept) r ((places t.layout).slot v)) (actual p kept) r
-    (λ i. actual p t.kept i ((places t.layout).slot v))
+    IsReduced p (height t.q) t.q.width (with_unit (actual p t.kept) r ((layout_places t.layout).slot v)) (actual p kept) r
+    (λ i. actual p t.kept i ((layout_places t.layout).slot v))
 read-reduced p t kept r v s combined e reduced =
     subst (λ x. IsReduced p (height t.q) t.q.width (with_unit (actual p t.kept) r x) (actual p kept) r
     (λ i. actual p t.kept i x)) e

@@ -1,7 +1,7 @@
 -- The places of the columns, kept as lists.
 use Rattle.std.specs.Prelude.{ℕ, ◌+◌, ◌-◌, ◌<◌, ◌≤◌, ◌≡◌, Bool, true, false, List, length, slice_index, slice_index_or, slice_set, not, ltb}
 use Rattle.limits.specs.Limits.{column_limit}
-use Rattle.row_table.specs.Places.{Places, ArePlaced}
+use Rattle.row_table.specs.Places.{Places, HaveSlots}
 
 -- so many columns; the column that is the unit column of each row; and for each column, the unit columns after the
 -- others,
@@ -13,15 +13,15 @@ pub record Layout : Type 0 where
   pub unit_rows : List ℕ
   pub slots : List ℕ
 
-abbrev pub row_count : Layout → ℕ
-row_count l = length l.basic
+abbrev pub rows_of_layout : Layout → ℕ
+rows_of_layout l = length l.basic
 
 -- how many columns there are, the unit columns with them
 abbrev pub all : Layout → ℕ
 all l = l.columns + length l.basic
 
-abbrev pub places : Layout → Places
-places l = record {
+abbrev pub layout_places : Layout → Places
+layout_places l = record {
   basic = λ i. slice_index l.basic i;
   is_unit = λ c. slice_index_or l.units c false;
   row = λ c. slice_index l.unit_rows c;
@@ -39,13 +39,13 @@ moved l r v = record {
 }
 
 -- the lists have an item for each row, or for each column, and the columns are placed
-pub record IsLaidOut (l : Layout) : Type 0 where
+pub record IsLayout (l : Layout) : Type 0 where
   pub units_length : length l.units ≡ all l
   pub rows_length : length l.unit_rows ≡ all l
   pub slots_length : length l.slots ≡ all l
-  pub placed : ArePlaced (row_count l) l.columns (all l) (places l)
+  pub placed : HaveSlots (rows_of_layout l) l.columns (all l) (layout_places l)
   pub narrow : l.columns ≤ column_limit
-  pub few : row_count l ≤ column_limit
+  pub few : rows_of_layout l ≤ column_limit
 
 -- before any exchange each of the m last columns is a unit column, and each of the n others has the slot of its number
 pub record IsFirst (m n : ℕ) (s : Places) : Type 0 where

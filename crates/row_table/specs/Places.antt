@@ -13,7 +13,7 @@ pub record Places : Type 0 where
   pub slot : ℕ → ℕ
 
 -- of `all` columns, m are unit columns, and each other one has a slot below n of its own
-pub record ArePlaced (m n all : ℕ) (s : Places) : Type 0 where
+pub record HaveSlots (m n all : ℕ) (s : Places) : Type 0 where
   pub basic_below : (i : ℕ) → i < m → s.basic i < all
   pub basic_unit : (i : ℕ) → i < m → s.is_unit (s.basic i) ≡ true
   pub basic_row : (i : ℕ) → i < m → s.row (s.basic i) ≡ i
@@ -42,14 +42,14 @@ with_unit a r j = with_column_as a j (λ i. identity i r)
 -- the exchange keeps that the columns are placed
 abbrev pub ExchangesKeepThePlaces : Type 0
 ExchangesKeepThePlaces =
-    (m n all : ℕ) (s : Places) (r v : ℕ) → ArePlaced m n all s → r < m → v < all → s.is_unit v ≡ false →
-    ArePlaced m n all (exchanged s r v)
+    (m n all : ℕ) (s : Places) (r v : ℕ) → HaveSlots m n all s → r < m → v < all → s.is_unit v ≡ false →
+    HaveSlots m n all (exchanged s r v)
 
 -- and if the table, with the leaving unit column in the slot of v, is reduced by what stood there, all columns are
 -- reduced by column v
 abbrev pub ExchangesReduceTheWhole : Type 0
 ExchangesReduceTheWhole =
-    (p m n all : ℕ) (s : Places) (a b : ℕ → ℕ → ℕ) (r v : ℕ) → ArePlaced m n all s → r < m → v < all →
+    (p m n all : ℕ) (s : Places) (a b : ℕ → ℕ → ℕ) (r v : ℕ) → HaveSlots m n all s → r < m → v < all →
     s.is_unit v ≡ false →
     IsReduced p m n (with_unit a r (s.slot v)) b r (λ i. a i (s.slot v)) →
     IsReduced p m all (whole s a) (whole (exchanged s r v) b) r (λ i. whole s a i v)

@@ -24,7 +24,7 @@ abbrev pub actual : ℕ → Kept → ℕ → ℕ → ℕ
 actual p k i j = (entry k.stored i j + waiting k i j) % p
 
 -- there are factors for each row, and the waiting rows are as wide
-pub record IsKept (k : Kept) : Type 0 where
+pub record AreKeptFactors (k : Kept) : Type 0 where
   pub factors_height : height k.factors ≡ height k.stored
   pub factors_width : k.factors.width ≡ most
   pub pending_height : height k.pending ≡ most

@@ -2,9 +2,9 @@
 use Rattle.std.specs.Prelude.{ℕ, ◌+◌, ◌≡◌, cond, ltb, ◌&&◌}
 use Rattle.linear_algebra.specs.Products.{product, Agree, IsInverse}
 use Rattle.dense_q.specs.Tables.{Table, height, entry}
-use Rattle.row_table.specs.Places.{ArePlaced, whole, with_units}
+use Rattle.row_table.specs.Places.{HaveSlots, whole, with_units}
 use Rattle.row_table.specs.PutOffs.{Kept, actual}
-use Rattle.row_table.specs.Layouts.{Layout, row_count, places}
+use Rattle.row_table.specs.Layouts.{Layout, rows_of_layout, layout_places}
 
 -- Q, the table of those columns of [P | S] that are no unit columns, and where each column stands
 pub record Combined : Type 0 where
@@ -14,7 +14,7 @@ pub record Combined : Type 0 where
 
 -- [P | S]
 abbrev pub entries : ℕ → Combined → ℕ → ℕ → ℕ
-entries p t = whole (places t.layout) (actual p t.kept)
+entries p t = whole (layout_places t.layout) (actual p t.kept)
 
 -- P, and 0 outside
 abbrev pub p_part : ℕ → Combined → ℕ → ℕ → ℕ
@@ -25,15 +25,15 @@ s_part p t i j = entries p t i (t.q.width + j)
 
 -- U: the columns of [Q | 1] that are unit columns in [P | S]
 abbrev pub u_part : Combined → ℕ → ℕ → ℕ
-u_part t i j = with_units t.q.width (entry t.q) i ((places t.layout).basic j)
+u_part t i j = with_units t.q.width (entry t.q) i ((layout_places t.layout).basic j)
 
 -- [P | S] is S * [Q | 1], and U is the inverse of S
 pub record IsCombined (p : ℕ) (t : Combined) : Type 0 where
   pub kept_rows : height t.kept.stored ≡ height t.q
   pub kept_columns : t.kept.stored.width ≡ t.q.width
-  pub layout_rows : row_count t.layout ≡ height t.q
+  pub layout_rows : rows_of_layout t.layout ≡ height t.q
   pub layout_columns : t.layout.columns ≡ t.q.width
-  pub placed : ArePlaced (height t.q) t.q.width (t.q.width + height t.q) (places t.layout)
+  pub placed : HaveSlots (height t.q) t.q.width (t.q.width + height t.q) (layout_places t.layout)
   pub product_is : Agree p (height t.q) (t.q.width + height t.q) (entries p t)
       (product (height t.q) (s_part p t) (with_units t.q.width (entry t.q)))
   pub inverse : IsInverse p (height t.q) (s_part p t) (u_part t)

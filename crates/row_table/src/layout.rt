@@ -3,7 +3,7 @@
 ghost use Rattle.std.specs.Prelude.{◌≡◌, ◌≢◌, ℕ, ◌+◌, ◌-◌, ◌<◌, ◌≤◌, Bool, true, false, not, ltb, length, slice_index, slice_index_or, IfOk, IfSome, IfNone, IsTrue, ◌↔◌};
 ghost use Rattle.limits.specs.Limits.{column_limit};
 ghost use Rattle.row_table.specs.Places.{Places, exchanged};
-ghost use Rattle.row_table.specs.Layouts.{Layout, row_count, all, places, moved, IsFirst};
+ghost use Rattle.row_table.specs.Layouts.{Layout, rows_of_layout, all, layout_places, moved, IsFirst};
 
 use out_of_memory::NoMemory;
 use std::alloc::{AllocError, Global};
@@ -21,7 +21,7 @@ pub struct Placement {
 }
 
 impl Model for Placement {
-    ghost use Rattle.row_table.specs.Layouts.{Layout, IsLaidOut};
+    ghost use Rattle.row_table.specs.Layouts.{Layout, IsLayout};
 
     ghost Value = { Layout };
 
@@ -33,7 +33,7 @@ impl Model for Placement {
       slots = t.slots.items;
     } };
 
-    ghost invariant = { λ t. IsLaidOut (record {
+    ghost invariant = { λ t. IsLayout (record {
       columns = t.columns;
       basic = t.basic.items;
       units = t.units.items;
@@ -47,9 +47,9 @@ impl Placement {
     pub fn first(alloc: Global, rows: usize, columns: usize) -> Result<Placement, NoMemory>
         requires rows { rows ≤ column_limit }
         requires columns { columns ≤ column_limit }
-        ensures rows { IfOk result (λ t. row_count t ≡ rows) }
+        ensures rows { IfOk result (λ t. rows_of_layout t ≡ rows) }
         ensures columns { IfOk result (λ t. t.columns ≡ columns) }
-        ensures first { IfOk result (λ t. IsFirst rows columns (places t)) }
+        ensures first { IfOk result (λ t. IsFirst rows columns (layout_places t)) }
     {
         let all = columns + rows;
         Ok(Placement {
@@ -63,8 +63,8 @@ impl Placement {
 
     /// The column that is the unit column of a row.
     pub fn basic(&self, row: usize) -> usize
-        requires { row < row_count self.now }
-        ensures basic { result ≡ (places self.now).basic row }
+        requires { row < rows_of_layout self.now }
+        ensures basic { result ≡ (layout_places self.now).basic row }
         ensures below { result < all self.now }
     {
         self.basic[row]
@@ -73,7 +73,7 @@ impl Placement {
     /// Whether a column is a unit column.
     pub fn is_unit(&self, column: usize) -> bool
         requires { column < all self.now }
-        ensures { result ≡ (places self.now).is_unit column }
+        ensures { result ≡ (layout_places self.now).is_unit column }
     {
         self.units[column]
     }
@@ -81,9 +81,9 @@ impl Placement {
     /// The row of a unit column.
     pub fn row(&self, column: usize) -> usize
         requires column { column < all self.now }
-        requires unit { (places self.now).is_unit column ≡ true }
-        ensures row { result ≡ (places self.now).row column }
-        ensures below { result < row_count self.now }
+        requires unit { (layout_places self.now).is_unit column ≡ true }
+        ensures row { result ≡ (layout_places self.now).row column }
+        ensures below { result < rows_of_layout self.now }
     {
         self.rows[column]
     }
@@ -91,8 +91,8 @@ impl Placement {
     /// The slot of a column that is no unit column.
     pub fn slot(&self, column: usize) -> usize
         requires column { column < all self.now }
-        requires other { (places self.now).is_unit column ≡ false }
-        ensures slot { result ≡ (places self.now).slot column }
+        requires other { (layout_places self.now).is_unit column ≡ false }
+        ensures slot { result ≡ (layout_places self.now).slot column }
         ensures below { result < self.now.columns }
     {
         self.slots[column]
@@ -100,12 +100,12 @@ impl Placement {
 
     /// Makes a column the unit column of a row; the one that was it takes its slot.
     pub fn exchange(&mut self, row: usize, column: usize)
-        requires row { row < row_count self.old }
+        requires row { row < rows_of_layout self.old }
         requires column { column < all self.old }
-        requires other { (places self.old).is_unit column ≡ false }
+        requires other { (layout_places self.old).is_unit column ≡ false }
         ensures moved { self.new ≡ moved self.old row column }
-        ensures exchanged { places self.new ≡ exchanged (places self.old) row column }
-        ensures rows { row_count self.new ≡ row_count self.old }
+        ensures exchanged { layout_places self.new ≡ exchanged (layout_places self.old) row column }
+        ensures rows { rows_of_layout self.new ≡ rows_of_layout self.old }
         ensures columns { self.new.columns ≡ self.old.columns }
     {
         let gone = self.basic[row];

@@ -30,7 +30,7 @@ pub struct PutOff<F: Field> {
 }
 
 impl<F: Field> Model for PutOff<F> {
-    ghost use Rattle.row_table.specs.PutOffs.{Kept, IsKept};
+    ghost use Rattle.row_table.specs.PutOffs.{Kept, AreKeptFactors};
 
     ghost Value = { Kept };
 
@@ -41,7 +41,7 @@ impl<F: Field> Model for PutOff<F> {
       count = t.count;
     } };
 
-    ghost invariant = { λ t. IsKept (record {
+    ghost invariant = { λ t. AreKeptFactors (record {
       stored = t.stored;
       factors = t.factors;
       pending = t.pending;
@@ -246,7 +246,7 @@ pub(crate) fn put<F: Field>(m: &mut Mat<F>, i: usize, j: usize, value: F)
     ensures other_rows { (u w : ℕ) → u ≢ i → entry m.new u w ≡ entry m.old u w }
     ensures other_columns { (w : ℕ) → w ≢ j → entry m.new i w ≡ entry m.old i w }
 {
-    let _rows = m.rows();
+    m.is_matrix();
     m.set(i, j, value);
 }
 

@@ -1,13 +1,9 @@
 -- A dense tableau as it is kept: that it is a tableau, and that its operations keep that.
-use Rattle.std.proofs.Common.{◌≡◌, ℕ, ◌*◌, ◌%◌, ◌<◌, true, false, sym, subst, ap, ◌∙◌, arith, length, replicate, None, Some, Option, is_some, IfNone, IfSome, inl, inr, ◌+◌}
+use Rattle.std.proofs.Common.{◌≡◌, ℕ, ◌*◌, ◌%◌, ◌<◌, true, false, sym, subst, ap, ◌∙◌, arith, length, replicate, None, ◌≢◌}
 use Rattle.std.proofs.lemmas.List.{length-replicate}
-use Rattle.residue_theory.specs.Residues.{IsPrime}
 use Rattle.residue_theory.specs.Sets.{everything}
-use Rattle.number_ranges.specs.Ranges.{IsLeast}
-use Rattle.residue_theory.proofs.SumLaws.{nat_cases, sum_on-ext}
-use Rattle.residue_theory.proofs.SetLaws.{lt_cases}
+use Rattle.residue_theory.proofs.SumLaws.{sum_on-ext}
 use Rattle.linear_algebra.specs.Bases.{IsBase, IsBaseTaken}
-use Rattle.linear_algebra.specs.Columns.{IsCombination}
 use Rattle.linear_algebra.specs.Products.{identity}
 use Rattle.linear_algebra.specs.RowOperations.{IsPivoted}
 use Rattle.bit_table.specs.Bits.{Bits}
@@ -15,14 +11,14 @@ use Rattle.dense_q.specs.Tables.{Table, height, entry, IsTableOf}
 use Rattle.row_table.specs.Places.{with_units}
 use Rattle.row_table.specs.RowTables.{Combined, entries, p_part, s_part, u_part, IsCombined}
 use Rattle.row_table.proofs.RowTableLaws.{part-within, units-before}
-use Rattle.row_transform.specs.Bases.{BaseLists, is_base, row_of, IsBaseDropped}
-use Rattle.row_transform.specs.Dense.{Dense, IsDense, state_of}
-use Rattle.row_transform.specs.Entries.{IsListed}
-use Rattle.row_transform.specs.Tableaus.{State, IsTableau, IsBare, IsBaseColumn, IsPivot, IsOpened, AreParts, has_entry}
-use Rattle.row_transform.proofs.EntryLaws.{zero_of}
-use Rattle.row_transform.proofs.TableauLaws.{span-zero, zero-span, base-taken, base-dropped, no_column}
+use Rattle.row_transform.specs.Bases.{BaseLists, is_base, base_row, IsBaseDropped}
+use Rattle.row_transform.specs.Dense.{Dense, IsDense, dense_state}
+use Rattle.row_transform.specs.Entries.{AreRowsListed, AreEntriesListed}
+use Rattle.row_transform.specs.Tableaus.{IsTableau, IsPivot, IsOpened, AreTableauParts}
+use Rattle.row_transform.proofs.TableauLaws.{base-taken, base-dropped, no_column}
+use Rattle.row_transform.proofs.EntryLaws.{listed-entries}
 
-pub dense-tableau : (p : ℕ) (d : Dense) → IsCombined p d.table → IsDense p d → IsTableau p (state_of p d)
+pub dense-tableau : (p : ℕ) (d : Dense) → IsCombined p d.table → IsDense p d → IsTableau p (dense_state p d)
 dense-tableau p d combined dense =
     let m : ℕ = height d.table.q in
     let n : ℕ = d.table.q.width in
@@ -41,7 +37,7 @@ dense-tableau p d combined dense =
 pub parts-are : (p : ℕ) (d : Dense) (S U P : Table) →
     IsTableOf (height d.table.q) (height d.table.q) (s_part p d.table) S →
     IsTableOf (height d.table.q) (height d.table.q) (u_part d.table) U →
-    IsTableOf (height d.table.q) d.table.q.width (entries p d.table) P → AreParts (state_of p d) S U P
+    IsTableOf (height d.table.q) d.table.q.width (entries p d.table) P → AreTableauParts (dense_state p d) S U P
 parts-are p d S U P s u e = record {
   s_height = s.height_is;
   s_width = s.width_is;
@@ -54,18 +50,6 @@ parts-are p d S U P s u e = record {
   p_entries = λ i j il jl. e.entries i j il jl
       ∙ sym (part-within i (height d.table.q) j d.table.q.width (entries p d.table i j) il jl);
 }
-
--- ---- the span of the base columns
-module _ (p : ℕ) (prime : IsPrime p) (t : State) (tableau : IsTableau p t) (v : ℕ) (vl : v < t.columns) where
-  pub in_span-zero : IsCombination p t.q t.rows t.columns t.base v →
-      (i : ℕ) → i < t.rows → IsBare t i → t.p i v % p ≡ 0
-  in_span-zero = span-zero p prime t.rows t.columns t.q t.p t.s t.u t.base t.row tableau.product_is tableau.inverse
-      tableau.unit_columns v vl
-
-  pub zero-in_span : ((i : ℕ) → i < t.rows → IsBare t i → t.p i v % p ≡ 0) →
-      IsCombination p t.q t.rows t.columns t.base v
-  zero-in_span = zero-span p prime t.rows t.columns t.q t.p t.s t.u t.base t.row tableau.product_is tableau.inverse
-      tableau.unit_columns v vl
 
 -- ---- before any pivot
 module _ (p : ℕ) (d : Dense) (q : Table) (rows columns : ℕ) (rows_are : rows ≡ height q)
@@ -94,7 +78,7 @@ module _ (p : ℕ) (d : Dense) (q : Table) (rows columns : ℕ) (rows_are : rows
   pub opened-state : p_part p d.table ≡ entry q →
       ((i j : ℕ) → i < height q → j < height q → s_part p d.table i j ≡ identity i j) →
       ((i j : ℕ) → i < height q → j < height q → u_part d.table i j ≡ identity i j) →
-      IsOpened p (height q) q.width (entry q) (state_of p d)
+      IsOpened p (height q) q.width (entry q) (dense_state p d)
   opened-state p_is s_is u_is = record {
     rows_are = ap height same;
     columns_are = ap (λ (m : Table). m.width) same;
@@ -107,18 +91,20 @@ module _ (p : ℕ) (d : Dense) (q : Table) (rows columns : ℕ) (rows_are : rows
 
 -- entries that are listed for q are so for P
 pub opened-listed : (p : ℕ) (t : Combined) (q : Table) (b : Bits) → t.q ≡ q → p_part p t ≡ entry q →
-    IsListed p (height q) q.width (entry q) b → IsListed p (height t.q) t.q.width (p_part p t) b
+    AreRowsListed (height q) q.width (λ i j. entry q i j ≢ 0) b →
+    AreEntriesListed p (height t.q) t.q.width (p_part p t) b
 opened-listed p t q b same p_is listed =
-    subst (λ (m : Table). IsListed p (height m) m.width (p_part p t) b) (sym same)
-    (subst (λ a. IsListed p (height q) q.width a b) (sym p_is) listed)
+    subst (λ (m : Table). AreEntriesListed p (height m) m.width (p_part p t) b) (sym same)
+    (subst (λ a. AreEntriesListed p (height q) q.width a b) (sym p_is)
+    (listed-entries p (height q) q.width (entry q) b listed))
 
 -- ---- a pivot
 module _ (p : ℕ) (d : Dense) (table : Combined) (base : BaseLists) (r v : ℕ) (dense : IsDense p d)
     (same : table.q ≡ d.table.q)
     (pivoted : IsPivoted p (height d.table.q) d.table.q.width (p_part p d.table) (p_part p table) r v)
-    (taken : IsBaseTaken (length d.base.rows) (is_base d.base) (row_of d.base) (is_base base) (row_of base) r v) where
-  taken_at : IsBaseTaken d.table.q.width (is_base d.base) (row_of d.base) (is_base base) (row_of base) r v
-  taken_at = subst (λ n. IsBaseTaken n (is_base d.base) (row_of d.base) (is_base base) (row_of base) r v)
+    (taken : IsBaseTaken (length d.base.rows) (is_base d.base) (base_row d.base) (is_base base) (base_row base) r v) where
+  taken_at : IsBaseTaken d.table.q.width (is_base d.base) (base_row d.base) (is_base base) (base_row base) r v
+  taken_at = subst (λ n. IsBaseTaken n (is_base d.base) (base_row d.base) (is_base base) (base_row base) r v)
       dense.base_columns taken
 
   pub pivoted-dense : r < height d.table.q → length base.columns ≡ length d.base.columns →
@@ -127,12 +113,12 @@ module _ (p : ℕ) (d : Dense) (table : Combined) (base : BaseLists) (r v : ℕ)
     base_rows = rows ∙ dense.base_rows ∙ sym (ap height same);
     base_columns = columns ∙ dense.base_columns ∙ sym (ap (λ (m : Table). m.width) same);
     unit_columns =
-        subst (λ (m : Table). IsBase p (p_part p table) (height m) m.width (is_base base) (row_of base)) (sym same)
+        subst (λ (m : Table). IsBase p (p_part p table) (height m) m.width (is_base base) (base_row base)) (sym same)
         (base-taken p (p_part p d.table) (p_part p table) (height d.table.q) d.table.q.width (is_base d.base)
-        (is_base base) (row_of d.base) (row_of base) r v pivoted rl taken_at dense.unit_columns);
+        (is_base base) (base_row d.base) (base_row base) r v pivoted rl taken_at dense.unit_columns);
   }
 
-  pub pivoted-state : IsPivot p (state_of p d) (state_of p (record { table = table; base = base })) r v
+  pub pivoted-state : IsPivot p (dense_state p d) (dense_state p (record { table = table; base = base })) r v
   pivoted-state = record {
     rows_same = ap height same;
     columns_same = ap (λ (m : Table). m.width) same;
@@ -144,31 +130,13 @@ module _ (p : ℕ) (d : Dense) (table : Combined) (base : BaseLists) (r v : ℕ)
 -- ---- a column leaves the base
 pub dropped-dense : (p : ℕ) (d : Dense) (now : BaseLists) (v : ℕ) → IsDense p d →
     length now.columns ≡ length d.base.columns → length now.rows ≡ length d.base.rows →
-    IsBaseDropped (length d.base.rows) (is_base d.base) (row_of d.base) (is_base now) (row_of now) v →
+    IsBaseDropped (length d.base.rows) (is_base d.base) (base_row d.base) (is_base now) (base_row now) v →
     IsDense p (record d { base = now })
 dropped-dense p d now v dense rows columns dropped = record {
   base_rows = rows ∙ dense.base_rows;
   base_columns = columns ∙ dense.base_columns;
   unit_columns = base-dropped p (p_part p d.table) (height d.table.q) d.table.q.width (is_base d.base) (is_base now)
-      (row_of d.base) (row_of now) v
-      (subst (λ n. IsBaseDropped n (is_base d.base) (row_of d.base) (is_base now) (row_of now) v) dense.base_columns
+      (base_row d.base) (base_row now) v
+      (subst (λ n. IsBaseDropped n (is_base d.base) (base_row d.base) (is_base now) (base_row now) v) dense.base_columns
       dropped) dense.unit_columns;
 }
-
--- ---- a row, as its base column tells
-pub bare_from : (o : Option ℕ) (P : Type 0) → is_some o ≡ false → IfNone o P → P
-bare_from None P e h = h
-bare_from (Some y) P e h = absurd (cc)
-
--- a row with an entry, but a base column too, is passed by a search of the span
-pub span-next : (p : ℕ) (t : State) (v at r : ℕ) (o : Option ℕ) →
-    ((k : ℕ) → k < at → IsBare t k → t.p k v % p ≡ 0) → IsLeast (λ row. has_entry p t row v) at t.rows r →
-    is_some o ≡ true → IfSome o (λ y. IsBaseColumn t r y) → (k : ℕ) → k < r + 1 → IsBare t k → t.p k v % p ≡ 0
-span-next p t v at r None so_far least some is k kl bare = absurd (cc)
-span-next p t v at r (Some y) so_far least some is k kl bare = elim (nat_cases k r) [
-  | inl q ↦ absurd (bare y is.below is.member (is.at_row ∙ sym q))
-  | inr ne ↦ elim (lt_cases k at) [
-    | inl l ↦ so_far k l bare
-    | inr ge ↦ zero_of (t.p k v % p) (least.none_before k ge (omega arith))
-  ]
-]

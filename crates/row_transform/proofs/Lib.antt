@@ -1,4 +1,4 @@
-pub mod BaseLaws
 pub mod EntryLaws
 pub mod TableauLaws
+pub mod SpanLaws
 pub mod DenseLaws

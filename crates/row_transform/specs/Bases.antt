@@ -1,5 +1,5 @@
 -- Which column is the base column of which row, kept as two lists, and how a base changes.
-use Rattle.std.specs.Prelude.{ℕ, ◌+◌, ◌-◌, ◌^◌, ◌<◌, ◌≡◌, ◌≢◌, min, Bool, true, false, List, length}
+use Rattle.std.specs.Prelude.{ℕ, ◌+◌, ◌-◌, ◌^◌, ◌<◌, ◌≡◌, ◌≢◌, min, Bool, true, false, List}
 use Rattle.std.specs.Prelude.{Option, Some, None, is_some, unwrap_or, slice_index_or, slice_set}
 
 -- a count after so many more, as far as 64 bits have room for it
@@ -18,17 +18,8 @@ abbrev pub is_base : BaseLists → ℕ → Bool
 is_base b y = is_some (slice_index_or b.rows y None)
 
 -- the row of the base column y, and 0 where y is none
-abbrev pub row_of : BaseLists → ℕ → ℕ
-row_of b y = unwrap_or (slice_index_or b.rows y None) 0
-
--- each item of a list names an item of the other, which names it back
-abbrev pub PointsBack : List (Option ℕ) → List (Option ℕ) → Type 0
-PointsBack a b = (i j : ℕ) → slice_index_or a i None ≡ Some j → (j < length b) × (slice_index_or b j None ≡ Some i)
-
--- the two lists say the same
-pub record IsConsistent (b : BaseLists) : Type 0 where
-  pub columns_point : PointsBack b.columns b.rows
-  pub rows_point : PointsBack b.rows b.columns
+abbrev pub base_row : BaseLists → ℕ → ℕ
+base_row b y = unwrap_or (slice_index_or b.rows y None) 0
 
 -- b without the column that was the base column of a row
 abbrev pub unlinked : BaseLists → ℕ → ℕ → BaseLists
@@ -44,7 +35,7 @@ linked b r y = record {
 
 -- row r has no base column now; all base columns of other rows stay. There are n columns; B and row are the base
 -- before, C and now the base after
-pub record IsRowCleared (n : ℕ) (B : ℕ → Bool) (row : ℕ → ℕ) (C : ℕ → Bool) (now : ℕ → ℕ) (r : ℕ) : Type 0 where
+pub record IsRowOutOfBase (n : ℕ) (B : ℕ → Bool) (row : ℕ → ℕ) (C : ℕ → Bool) (now : ℕ → ℕ) (r : ℕ) : Type 0 where
   pub only : (y : ℕ) → y < n → C y ≡ true → (B y ≡ true) × (row y ≢ r) × (now y ≡ row y)
   pub kept : (y : ℕ) → y < n → B y ≡ true → row y ≢ r → C y ≡ true
 

@@ -2,33 +2,27 @@
 
 ghost use Rattle.std.specs.Prelude.{◌≡◌, ◌≢◌, ℕ, ◌<◌, ◌≤◌, Bool, true, false, length, replicate, slice_index_or, IfOk, IfSome, IfNone};
 ghost use Rattle.linear_algebra.specs.Bases.{IsBaseTaken};
-ghost use Rattle.row_transform.specs.Bases.{BaseLists, is_base, raised, row_of, unlinked, linked, IsBaseDropped, IsRowCleared};
+ghost use Rattle.row_transform.specs.Bases.{BaseLists, is_base, raised, base_row, unlinked, linked, IsBaseDropped, IsRowOutOfBase};
 
+use number_pairs::NumberPairs;
 use out_of_memory::NoMemory;
-use std::alloc::{AllocError, Global};
+use std::alloc::Global;
 use std::marker::Model;
 
 /// Which column is the base column of which row: a row has at most one, and a column at most one row. Rows and columns
 /// are counted from 0. (Murota 2000, chapter 2: bases of the matroid of columns.) It counts the columns that it takes.
 #[derive(Drop)]
 pub struct Base {
-    columns: Vec<Option<usize>>,
-    rows: Vec<Option<usize>>,
+    pairs: NumberPairs,
     takes: u64,
 }
 
 impl Model for Base {
-    ghost use Rattle.row_transform.specs.Bases.{BaseLists, IsConsistent};
+    ghost use Rattle.row_transform.specs.Bases.{BaseLists};
 
     ghost Value = { BaseLists };
 
-    ghost view = { λ b. record { columns = b.columns.items; rows = b.rows.items; takes = b.takes } };
-
-    ghost invariant = { λ b. IsConsistent (record {
-      columns = b.columns.items;
-      rows = b.rows.items;
-      takes = b.takes;
-    }) };
+    ghost view = { λ b. record { columns = b.pairs.rights; rows = b.pairs.lefts; takes = b.takes } };
 }
 
 impl Base {
@@ -40,23 +34,20 @@ impl Base {
           takes = 0;
         }) }
     {
-        Ok(Base {
-            columns: nothing(alloc, rows)?,
-            rows: nothing(alloc, columns)?,
-            takes: 0,
-        })
+        let pairs = NumberPairs::open(alloc, rows, columns)?;
+        Ok(Base { pairs, takes: 0 })
     }
 
     /// The base column of a row.
     pub fn column_of(&self, row: usize) -> Option<usize>
         requires { row < length self.now.columns }
         ensures none { IfNone result ((y : ℕ) → y < length self.now.rows → is_base self.now y ≡ true →
-            row_of self.now y ≢ row) }
+            base_row self.now y ≢ row) }
         ensures below { IfSome result (λ y. y < length self.now.rows) }
         ensures member { IfSome result (λ y. is_base self.now y ≡ true) }
-        ensures at_row { IfSome result (λ y. row_of self.now y ≡ row) }
+        ensures at_row { IfSome result (λ y. base_row self.now y ≡ row) }
     {
-        self.columns[row]
+        self.pairs.right_of(row)
     }
 
     /// The row whose base column a column is.
@@ -64,10 +55,10 @@ impl Base {
         requires { column < length self.now.rows }
         ensures none { IfNone result (is_base self.now column ≡ false) }
         ensures member { IfSome result (λ r. is_base self.now column ≡ true) }
-        ensures at_row { IfSome result (λ r. row_of self.now column ≡ r) }
+        ensures at_row { IfSome result (λ r. base_row self.now column ≡ r) }
         ensures below { IfSome result (λ r. r < length self.now.columns) }
     {
-        self.rows[column]
+        self.pairs.left_of(column)
     }
 
     /// Makes a column that is no base column the base column of a row; the one that it had leaves the base.
@@ -75,8 +66,8 @@ impl Base {
         requires row { row < length self.old.columns }
         requires column { column < length self.old.rows }
         requires free { is_base self.old column ≡ false }
-        ensures taken { IsBaseTaken (length self.old.rows) (is_base self.old) (row_of self.old) (is_base self.new)
-            (row_of self.new) row column }
+        ensures taken { IsBaseTaken (length self.old.rows) (is_base self.old) (base_row self.old) (is_base self.new)
+            (base_row self.new) row column }
         ensures counted { self.new.takes ≡ raised self.old.takes 1 }
         ensures rows { length self.new.columns ≡ length self.old.columns }
         ensures columns { length self.new.rows ≡ length self.old.rows }
@@ -88,13 +79,13 @@ impl Base {
     /// Takes a column out of the base.
     pub fn leave(&mut self, column: usize)
         requires column { column < length self.old.rows }
-        ensures dropped { IsBaseDropped (length self.old.rows) (is_base self.old) (row_of self.old) (is_base self.new)
-            (row_of self.new) column }
+        ensures dropped { IsBaseDropped (length self.old.rows) (is_base self.old) (base_row self.old) (is_base self.new)
+            (base_row self.new) column }
         ensures takes { self.new.takes ≡ self.old.takes }
         ensures rows { length self.new.columns ≡ length self.old.columns }
         ensures columns { length self.new.rows ≡ length self.old.rows }
     {
-        if let Some(row) = self.rows[column] {
+        if let Some(row) = self.pairs.left_of(column) {
             self.unlink(row, column);
         }
     }
@@ -109,14 +100,16 @@ impl Base {
     // Takes the base column of a row out of the base, if there is one.
     fn clear(&mut self, row: usize)
         requires row { row < length self.old.columns }
-        ensures cleared { IsRowCleared (length self.old.rows) (is_base self.old) (row_of self.old) (is_base self.new)
-            (row_of self.new) row }
+        ensures cleared { IsRowOutOfBase (length self.old.rows) (is_base self.old) (base_row self.old)
+            (is_base self.new)
+            (base_row self.new) row }
         ensures takes { self.new.takes ≡ self.old.takes }
         ensures bare { slice_index_or self.new.columns row None ≡ None }
         ensures rows { length self.new.columns ≡ length self.old.columns }
         ensures columns { length self.new.rows ≡ length self.old.rows }
     {
-        if let Some(column) = self.columns[row] {
+        self.pairs.are_one_to_one();
+        if let Some(column) = self.pairs.right_of(row) {
             self.unlink(row, column);
         }
     }
@@ -125,8 +118,7 @@ impl Base {
         requires { slice_index_or self.old.columns row None ≡ Some column }
         ensures { self.new ≡ unlinked self.old row column }
     {
-        self.columns[row] = None;
-        self.rows[column] = None;
+        self.pairs.unlink(row, column);
     }
 
     fn link(&mut self, row: usize, column: usize)
@@ -136,18 +128,7 @@ impl Base {
         requires free { is_base self.old column ≡ false }
         ensures { self.new ≡ linked self.old row column }
     {
-        self.columns[row] = Some(column);
-        self.rows[column] = Some(row);
+        self.pairs.link(row, column);
         self.takes = self.takes.saturating_add(1);
     }
-}
-
-fn nothing(alloc: Global, count: usize) -> Result<Vec<Option<usize>>, AllocError>
-    ensures { IfOk result (λ v. v.items ≡ replicate count None) }
-{
-    let mut all = Vec::with_capacity(alloc, count)?;
-    for _place in 0..count {
-        all.push(None)?;
-    }
-    Ok(all)
 }

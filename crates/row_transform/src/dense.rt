@@ -3,7 +3,7 @@
 ghost use Rattle.std.specs.Prelude.{◌≡◌, ◌≢◌, ℕ, ◌<◌, ◌≤◌, ◌%◌, Bool, true, false, IfOk};
 ghost use Rattle.dense_q.specs.Tables.{height, entry};
 ghost use Rattle.row_transform.specs.Tableaus.{IsOpened};
-ghost use Rattle.row_transform.specs.Dense.{state_of};
+ghost use Rattle.row_transform.specs.Dense.{dense_state};
 
 use crate::base::Base;
 use crate::entries::Entries;
@@ -29,18 +29,18 @@ impl<F: Field> Model for DenseTableau<F> {
     ghost use Rattle.dense_q.specs.Tables.{height};
     ghost use Rattle.row_table.specs.RowTables.{p_part};
     ghost use Rattle.row_transform.specs.Dense.{Dense, IsDense};
-    ghost use Rattle.row_transform.specs.Entries.{IsListed};
+    ghost use Rattle.row_transform.specs.Entries.{AreEntriesListed};
 
     ghost Value = { Dense };
 
     ghost view = { λ t. record { table = t.table; base = t.base } };
 
     ghost invariant = { λ t. IsDense F.modulus (record { table = t.table; base = t.base })
-        × IsListed F.modulus (height t.table.q) t.table.q.width (p_part F.modulus t.table) t.entries.bits };
+        × AreEntriesListed F.modulus (height t.table.q) t.table.q.width (p_part F.modulus t.table) t.entries.bits };
 }
 
 impl<F: Field> Tableau<F> for DenseTableau<F> {
-    ghost state = { state_of F.modulus };
+    ghost state = { dense_state F.modulus };
 
     ghost pivots = { λ d. d.base.takes };
 
@@ -52,8 +52,8 @@ impl<F: Field> Tableau<F> for DenseTableau<F> {
         })
     }
 
-    fn pivots(&self) -> u64 {
-        self.base.takes()
+    fn base(&self) -> &Base {
+        &self.base
     }
 
     fn rows(&self) -> usize {
@@ -70,42 +70,14 @@ impl<F: Field> Tableau<F> for DenseTableau<F> {
         entry
     }
 
-    fn next_entry(&self, col: usize, from: usize) -> Option<usize> {
-        let rows = self.rows();
-        let mut at = from;
-        while let Some(row) = self.entries.next(col, at, rows) {
-            if !self.entry(row, col).is_zero() {
-                return Some(row);
-            }
-            at = row + 1;
-        }
-        None
-    }
-
-    fn base_of(&self, row: usize) -> Option<usize> {
-        self.base.column_of(row)
-    }
-
-    fn row_of(&self, col: usize) -> Option<usize> {
-        self.base.row_of(col)
-    }
-
-    fn in_span(&self, col: usize) -> bool {
-        // there are at most 8,192 rows, so that the sum below fits
-        let _rows = self.rows();
-        let mut at = 0;
-        while let Some(row) = self.next_entry(col, at) {
-            if self.base_of(row).is_none() {
-                return false;
-            }
-            at = row + 1;
-        }
-        true
+    fn next_candidate(&self, col: usize, from: usize) -> Option<usize> {
+        self.entries.next(col, from, self.table.rows())
     }
 
     fn pivot(&mut self, row: usize, col: usize) {
-        self.entries.pivot(&self.table, row, col);
+        self.entries.spread(&self.table, row, col);
         self.table.pivot(row, col);
+        self.entries.close(row, col);
         self.base.take(row, col);
     }
 
@@ -115,9 +87,9 @@ impl<F: Field> Tableau<F> for DenseTableau<F> {
 
     fn entry_of(&self, which: Which, row: usize, col: usize) -> F {
         // there are at most 8,192 rows and columns, so that the sum fits
-        let (_rows, columns) = (self.rows(), self.columns());
+        self.is_tableau();
         let entry = match which {
-            Which::S => self.table.entry(row, columns + col),
+            Which::S => self.table.entry(row, self.columns() + col),
             Which::U => self.table.u_entry(row, col),
             Which::P => self.table.entry(row, col),
         };

@@ -2,12 +2,13 @@
 
 ghost use Rattle.std.specs.Prelude.{◌≡◌, ◌≢◌, ℕ, ◌<◌, ◌≤◌, ◌%◌, Bool, true, false, IfSome, IfNone, IfOk, IsTrue, ◌↔◌};
 ghost use Rattle.limits.specs.Limits.{column_limit};
-ghost use Rattle.number_ranges.specs.Ranges.{HasNone, IsLeast};
+ghost use Rattle.residue_theory.specs.Ranges.{HasNone, IsLeast};
 ghost use Rattle.dense_q.specs.Tables.{height, entry};
 ghost use Rattle.row_transform.specs.Bases.{raised};
-ghost use Rattle.row_transform.specs.Tableaus.{State, IsOpened, IsTableau, IsBare, IsBaseColumn, IsPivot, IsDrop, AreParts, has_entry, has_entry_of, matrix_of, width_of};
+ghost use Rattle.row_transform.specs.Tableaus.{TableauState, IsOpened, IsTableau, IsBaseOf, IsBare, IsBaseColumn, IsCandidate, IsPivot, IsDrop, AreTableauParts, has_entry, has_entry_of, matrix_which, width_of};
 ghost use Rattle.linear_algebra.specs.Columns.{IsCombination};
 
+use crate::base::Base;
 use dense_q::Mat;
 use out_of_memory::NoMemory;
 use residue_field::Field;
@@ -35,7 +36,7 @@ pub enum Which {
 ///
 /// It counts its pivots: only `pivot` adds to the count.
 pub trait Tableau<F: Field>: Drop {
-    ghost state: { Self → State };
+    ghost state: { Self → TableauState };
 
     ghost pivots: { Self → ℕ };
 
@@ -45,9 +46,17 @@ pub trait Tableau<F: Field>: Drop {
             IsOpened F.modulus (height q.now) q.now.width (entry q.now) (state t)) }
         ensures no_pivot { IfOk result (λ t. pivots t ≡ 0) };
 
+    /// Its base: which column is the base column of which row.
+    fn base(&self) -> &Base
+        ensures base { IsBaseOf (state self.now) result.now }
+        ensures takes { result.now.takes ≡ pivots self.now };
+
     /// How many pivots were made since it was opened. At the greatest `u64` it stays.
     fn pivots(&self) -> u64
-        ensures { result ≡ pivots self.now };
+        ensures { result ≡ pivots self.now }
+    {
+        self.base().takes()
+    }
 
     /// How many rows there are.
     fn rows(&self) -> usize
@@ -61,11 +70,29 @@ pub trait Tableau<F: Field>: Drop {
         ensures narrow { result ≤ column_limit }
         ensures tableau { IsTableau F.modulus (state self.now) };
 
+    /// Tells a proof that its matrices and its base are a tableau, with few rows and columns. It does nothing when it
+    /// runs.
+    fn is_tableau(&self)
+        ensures tableau { IsTableau F.modulus (state self.now) }
+        ensures few { (state self.now).rows ≤ column_limit }
+        ensures narrow { (state self.now).columns ≤ column_limit }
+    {
+        let (_rows, _columns) = (self.rows(), self.columns());
+    }
+
     /// The entry of P.
     fn entry(&self, row: usize, col: usize) -> F
         requires row { row < (state self.now).rows }
         requires col { col < (state self.now).columns }
         ensures { F.number result ≡ (state self.now).p row col % F.modulus };
+
+    /// A row from `from` on where P may have an entry in the column that is not zero; no row before it has one.
+    fn next_candidate(&self, col: usize, from: usize) -> Option<usize>
+        requires { col < (state self.now).columns }
+        ensures none { IfNone result (HasNone (λ row.
+            has_entry F.modulus (state self.now) row col) from (state self.now).rows) }
+        ensures some { IfSome result (IsCandidate (λ row.
+            has_entry F.modulus (state self.now) row col) from (state self.now).rows) };
 
     /// The first row from `from` on where P has an entry in the column that is not zero.
     fn next_entry(&self, col: usize, from: usize) -> Option<usize>
@@ -73,26 +100,54 @@ pub trait Tableau<F: Field>: Drop {
         ensures none { IfNone result (HasNone (λ row.
             has_entry F.modulus (state self.now) row col) from (state self.now).rows) }
         ensures least { IfSome result (IsLeast (λ row.
-            has_entry F.modulus (state self.now) row col) from (state self.now).rows) };
+            has_entry F.modulus (state self.now) row col) from (state self.now).rows) }
+    {
+        self.is_tableau();
+        let mut at = from;
+        while let Some(row) = self.next_candidate(col, at) {
+            if !self.entry(row, col).is_zero() {
+                return Some(row);
+            }
+            at = row + 1;
+        }
+        None
+    }
 
     /// The base column of a row.
     fn base_of(&self, row: usize) -> Option<usize>
         requires { row < (state self.now).rows }
         ensures none { IfNone result (IsBare (state self.now) row) }
-        ensures some { IfSome result (IsBaseColumn (state self.now) row) };
+        ensures some { IfSome result (IsBaseColumn (state self.now) row) }
+    {
+        self.base().column_of(row)
+    }
 
     /// The row whose base column a column is.
     fn row_of(&self, col: usize) -> Option<usize>
         requires { col < (state self.now).columns }
         ensures none { IfNone result ((state self.now).base col ≡ false) }
         ensures some { IfSome result (λ row. IsBaseColumn (state self.now) row col) }
-        ensures below { IfSome result (λ row. row < (state self.now).rows) };
+        ensures below { IfSome result (λ row. row < (state self.now).rows) }
+    {
+        self.base().row_of(col)
+    }
 
     /// Whether a column of Q is a combination of the base columns.
     fn in_span(&self, col: usize) -> bool
         requires { col < (state self.now).columns }
         ensures { IsTrue result ↔ IsCombination F.modulus (state self.now).q (state self.now).rows
-            (state self.now).columns (state self.now).base col };
+            (state self.now).columns (state self.now).base col }
+    {
+        self.is_tableau();
+        let mut at = 0;
+        while let Some(row) = self.next_entry(col, at) {
+            if self.base_of(row).is_none() {
+                return false;
+            }
+            at = row + 1;
+        }
+        true
+    }
 
     /// Makes a column that is no base column the base column of a row where its entry is not zero.
     fn pivot(&mut self, row: usize, col: usize)
@@ -114,7 +169,7 @@ pub trait Tableau<F: Field>: Drop {
     fn entry_of(&self, which: Which, row: usize, col: usize) -> F
         requires row { row < (state self.now).rows }
         requires col { col < width_of which (state self.now) }
-        ensures { F.number result ≡ matrix_of which (state self.now) row col };
+        ensures { F.number result ≡ matrix_which which (state self.now) row col };
 
     /// The first entry of a row of one of the matrices that is not zero, from column `from` on, and its column.
     fn next_in_row(&self, which: Which, row: usize, from: usize) -> Option<(usize, F)>
@@ -123,7 +178,7 @@ pub trait Tableau<F: Field>: Drop {
             (width_of which (state self.now))) }
         ensures least { IfSome result (λ e. IsLeast (has_entry_of which (state self.now) row) from
             (width_of which (state self.now)) e.0) }
-        ensures entry { IfSome result (λ e. F.number e.1 ≡ matrix_of which (state self.now) row e.0) }
+        ensures entry { IfSome result (λ e. F.number e.1 ≡ matrix_which which (state self.now) row e.0) }
     {
         let width = match which {
             Which::S | Which::U => self.rows(),
@@ -140,5 +195,5 @@ pub trait Tableau<F: Field>: Drop {
 
     /// The matrices S, U and P.
     fn parts(&self) -> Result<TableauParts<F>, NoMemory>
-        ensures { IfOk result (λ t. AreParts (state self.now) t.s t.u t.p) };
+        ensures { IfOk result (λ t. AreTableauParts (state self.now) t.s t.u t.p) };
 }

@@ -7,10 +7,10 @@ use Rattle.std.proofs.lemmas.List.{map-append, get_or_append_left, get_or_at, ge
 use Rattle.std.proofs.lemmas.List.Elements.{All-push}
 use Rattle.residue_theory.proofs.SumLaws.{nat_cases}
 use Rattle.residue_theory.proofs.SetLaws.{differ}
-use Rattle.dense_q.specs.Tables.{Table, IsMatrix, HasSameSize, height, row_at, entry, with_entry, zero_table, IsTableOf}
-use Rattle.sparse_q.specs.Rows.{Item, Row, IsRow, IsRising, item_or, number_at, EndsBefore, with_last}
-use Rattle.sparse_q.specs.Storage.{IsStored}
-use Rattle.sparse_q.specs.Tables.{SparseTable, row_count, number_in, HasSize}
+use Rattle.dense_q.specs.Tables.{Table, IsMatrix, HasSameSize, height, row_at, entry, table_with_entry, zero_table, IsTableOf}
+use Rattle.sparse_q.specs.Rows.{Item, Row, IsEntryRow, IsRising, item_or, number_at, EndsBefore, with_last}
+use Rattle.sparse_q.specs.Storage.{AreSparseRows}
+use Rattle.sparse_q.specs.Tables.{SparseTable, sparse_rows, number_in, HasSize}
 use Rattle.sparse_q.proofs.RowLaws.{number-last, number-before, number-taken, last-before, lt_or_past}
 use Rattle.sparse_q.proofs.TableLaws.{table_of}
 
@@ -109,7 +109,7 @@ made-size w w' h a rows n made e wide = record {
 }
 
 pub made-stored : (w w' : ℕ) (a : ℕ → ℕ → ℕ) (rows : List Row) (n spare : ℕ) → IsMadeTo w a rows n → n ≤ 8192 →
-    w ≤ 8192 → w' ≡ w → spare ≡ w → IsStored w' rows spare
+    w ≤ 8192 → w' ≡ w → spare ≡ w → AreSparseRows w' rows spare
 made-stored w w' a rows n spare made few narrow wide spare_is = record {
   full = subst (λ u. All (λ r. r.width ≡ u) rows) (sym wide) made.full;
   spare_full = spare_is ∙ sym wide;
@@ -118,7 +118,7 @@ made-stored w w' a rows n spare made few narrow wide spare_is = record {
 }
 
 -- ---- a sparse matrix has none past its last row
-pub past-items : (m : SparseTable) (i j : ℕ) → row_count m ≤ i → number_in m i j ≡ 0
+pub past-items : (m : SparseTable) (i j : ℕ) → sparse_rows m ≤ i → number_in m i j ≡ 0
 past-items m i j le = ap (λ zs. number_at zs j) (get_or_past m.rows i [] le)
 
 -- a row that is not listed has no number in the column
@@ -166,8 +166,8 @@ put-none before i xs matrix l zero = record {
 }
 
 pub put-next : (p : ℕ) (before : Table) (i : ℕ) (xs : List Item) (m now : Table) (n c v : ℕ) →
-    IsRow p before.width xs → i < height before → IsPutTo before i xs m n → n < length xs →
-    c ≡ (item_or 0 xs n).column → v ≡ (item_or 0 xs n).number → now ≡ with_entry m i c v → IsPutTo before i xs now
+    IsEntryRow p before.width xs → i < height before → IsPutTo before i xs m n → n < length xs →
+    c ≡ (item_or 0 xs n).column → v ≡ (item_or 0 xs n).number → now ≡ table_with_entry m i c v → IsPutTo before i xs now
     (n + 1)
 put-next p before i xs m now n c v row il so_far l c_is v_is e = subst (λ t. IsPutTo before i xs t (n + 1)) (sym e)
     (record {
@@ -186,7 +186,7 @@ put-next p before i xs m now n c v row il so_far l c_is v_is e = subst (λ t. Is
           ∙ so_far.others t j ne;
     })
   where
-    at_i : row_at (with_entry m i c v) i ≡ slice_set (row_at m i) c v
+    at_i : row_at (table_with_entry m i c v) i ≡ slice_set (row_at m i) c v
     at_i = get_or-set_same m.rows i (slice_set (row_at m i) c v) [] (omega (arith, so_far.size.height_same))
 
     inside : c < length (row_at m i)
@@ -219,19 +219,19 @@ put-all before i xs m n put le j = put.numbers j ∙ ap (λ zs. number_at zs j) 
 
 -- the same, for entries that stand for items
 module _ {A : Type 0} (f : A → Item) (p w : ℕ) (before : Table) (items ys : List A) (n : ℕ) (a : A)
-    (row : IsRow p w (map f items)) (wide : w ≡ before.width) (same : ys ≡ items) (l : n < length ys)
+    (row : IsEntryRow p w (map f items)) (wide : w ≡ before.width) (same : ys ≡ items) (l : n < length ys)
     (is : a ≡ slice_index_or ys n a) where
   there : f a ≡ item_or 0 (map f ys) n
   there = ap f is ∙ sym (get_or-map f ys n a (record { column = 0; number = 0 }) l)
 
-  put-row : IsRow p before.width (map f ys)
-  put-row = subst (λ u. IsRow p u (map f ys)) wide (subst (λ zs. IsRow p w (map f zs)) (sym same) row)
+  put-row : IsEntryRow p before.width (map f ys)
+  put-row = subst (λ u. IsEntryRow p u (map f ys)) wide (subst (λ zs. IsEntryRow p w (map f zs)) (sym same) row)
 
   pub put-narrow : (f a).column < before.width
   put-narrow = subst (λ x. x.column < before.width) (sym there) (put-row.narrow n (omega (arith, length-map ys f)))
 
   pub put-entry : (i : ℕ) (m now : Table) → i < height before → IsPutTo before i (map f ys) m n →
-      now ≡ with_entry m i (f a).column (f a).number → IsPutTo before i (map f ys) now (n + 1)
+      now ≡ table_with_entry m i (f a).column (f a).number → IsPutTo before i (map f ys) now (n + 1)
   put-entry i m now il so_far e =
       put-next p before i (map f ys) m now n (f a).column (f a).number put-row il so_far
       (omega (arith, length-map ys f)) (ap (λ (x : Item). x.column) there) (ap (λ (x : Item). x.number) there) e
@@ -239,7 +239,7 @@ module _ {A : Type 0} (f : A → Item) (p w : ℕ) (before : Table) (items ys : 
 -- ---- a dense matrix
 -- the first n rows of m hold the numbers of s, and the others zeros
 pub record IsDenseTo (s : SparseTable) (m : Table) (n : ℕ) : Type 0 where
-  pub tall : height m ≡ row_count s
+  pub tall : height m ≡ sparse_rows s
   pub wide : m.width ≡ s.width
   pub done : (i j : ℕ) → i < n → entry m i j ≡ number_in s i j
   pub rest : (i j : ℕ) → n ≤ i → entry m i j ≡ 0
@@ -256,7 +256,7 @@ zero-entry h w i j = elim (lt_or_past i h) [
   | inr le ↦ past-row (zero_table h w) i j (omega (arith, length-replicate {A = List ℕ} h (replicate w 0)))
 ]
 
-pub dense-none : (s : SparseTable) (m : Table) (h w : ℕ) → m ≡ zero_table h w → h ≡ row_count s → w ≡ s.width →
+pub dense-none : (s : SparseTable) (m : Table) (h w : ℕ) → m ≡ zero_table h w → h ≡ sparse_rows s → w ≡ s.width →
     IsDenseTo s m 0
 dense-none s m h w e tall wide = record {
   tall = ap height e ∙ length-replicate h (replicate w 0) ∙ tall;
@@ -278,7 +278,7 @@ dense-next s m now n row so_far size here others is = record {
   rest = λ i j l. others i j (λ q. omega arith) ∙ so_far.rest i j (omega arith);
 }
 
-pub dense-all : (s : SparseTable) (m : Table) (n : ℕ) → IsDenseTo s m n → row_count s ≤ n → IsTableOf (row_count s)
+pub dense-all : (s : SparseTable) (m : Table) (n : ℕ) → IsDenseTo s m n → sparse_rows s ≤ n → IsTableOf (sparse_rows s)
     s.width (number_in s) m
 dense-all s m n made le = record {
   height_is = made.tall;

@@ -6,30 +6,30 @@ use Rattle.std.proofs.lemmas.Bool.Decides.{nat_tests}
 use Rattle.residue_theory.proofs.SumLaws.{nat_cases}
 use Rattle.residue_theory.specs.Residues.{IsPrime}
 use Rattle.residue_theory.proofs.ResidueLaws.{vanishes_factor}
-use Rattle.sparse_q.specs.Rows.{Item, Row, number_at, item_or, EndsBefore, IsRising, IsRow, with_last, IsSum, IsMultiple, IsMerged, IsPlaceFrom, has_number}
+use Rattle.sparse_q.specs.Rows.{Item, Row, number_at, item_or, EndsBefore, IsRising, IsEntryRow, with_last, IsSum, IsMultiple, IsMerged, IsPlaceFrom, has_number}
 use Rattle.std.specs.List.{AllWithin}
 use Rattle.std.specs.List.Sorted.{IsNonDecreasingBy, IsPartitionPoint}
-use Rattle.number_ranges.specs.Ranges.{HasNone, IsLeast}
-use Rattle.sparse_q.specs.Storage.{IsKept}
+use Rattle.residue_theory.specs.Ranges.{HasNone, IsLeast}
+use Rattle.sparse_q.specs.Storage.{IsKeptRow}
 pub use Rattle.row_entries.proofs.RowLaws.{item, number-push, number-last, number-absent, number-before, rising-rest, number-here, number-below, either, last-before, pushed-row, few_before, next-above, lt_or_past, place-within, column-narrow, number-narrow, number-taken, columns-rise, place-found, at-absent, at-here, next-none, next-least}
 
 -- ---- a row as it is stored
 -- there are no more items than columns
-pub kept-items : (p w room : ℕ) (xs : List Item) → IsKept p w room xs → length xs ≤ 8192
+pub kept-items : (p w room : ℕ) (xs : List Item) → IsKeptRow p w room xs → length xs ≤ 8192
 kept-items p w room xs kept = omega (arith, kept.few, few_before xs w kept.row.rising kept.row.narrow)
 
-pub kept-within : {A : Type 0} (f : A → Item) (p w room : ℕ) (xs : List A) → IsKept p w room (map f xs) → length xs ≤ w
+pub kept-within : {A : Type 0} (f : A → Item) (p w room : ℕ) (xs : List A) → IsKeptRow p w room (map f xs) → length xs ≤ w
 kept-within f p w room xs kept = omega (arith, length-map xs f, few_before (map f xs) w kept.row.rising kept.row.narrow)
 
-module _ {A : Type 0} (f : A → Item) (p w room : ℕ) (old : List A) (kept : IsKept p w room (map f old)) where
+module _ {A : Type 0} (f : A → Item) (p w room : ℕ) (old : List A) (kept : IsKeptRow p w room (map f old)) where
   -- there is room for an item behind the last one
   pub kept-room : (c : ℕ) → EndsBefore (map f old) c → c < w → length old < room
   kept-room c before less = omega (arith, kept.room, length-map old f, few_before (map f old) c kept.row.rising before)
 
   pub kept-pushed : (now : ℕ) (new : List A) (x : A) → new ≡ old ++ x ∷ [] → now ≡ room → EndsBefore (map f old)
-      (f x).column → (f x).column < w → (f x).number ≢ 0 → (f x).number < p → IsKept p w now (map f new)
+      (f x).column → (f x).column < w → (f x).number ≢ 0 → (f x).number < p → IsKeptRow p w now (map f new)
   kept-pushed now new x e same before less ne below = record {
-    row = subst (λ xs. IsRow p w xs) (sym (ap (λ xs. map f xs) e ∙ map-append f old (x ∷ [])))
+    row = subst (λ xs. IsEntryRow p w xs) (sym (ap (λ xs. map f xs) e ∙ map-append f old (x ∷ [])))
         (pushed-row p w (map f old) (f x).column (f x).number kept.row before less ne below);
     room = omega (arith, kept.room);
     few = kept.few;
@@ -65,7 +65,7 @@ plus_zero : (b : Bool) (m : ℕ) → m ≡ m + cond b 0 0
 plus_zero true m = omega arith
 plus_zero false m = omega arith
 
-module _ (p k w : ℕ) (xs ys out : List Item) (i t : ℕ) (first : IsRow p w xs) (second : IsRow p w ys)
+module _ (p k w : ℕ) (xs ys out : List Item) (i t : ℕ) (first : IsEntryRow p w xs) (second : IsEntryRow p w ys)
     (so_far : IsMerged p k w xs ys out i t) where
   -- v goes to column e, where x stands in xs and y in ys
   merged-step : (u s e x y v : ℕ) → u ≤ length xs → s ≤ length ys → EndsBefore out e → e < (item_or w xs u).column →
@@ -162,14 +162,14 @@ merged-all p k w xs ys out i t merged first second j =
 
 -- ---- the next item, as the code finds it: `first` and `second` are the columns that come next
 module _ (p k w fw sw : ℕ) (xs ys out : List Item) (i t c d : ℕ) (fw_is : fw ≡ w) (sw_is : sw ≡ w)
-    (xs_row : IsRow p fw xs) (ys_row : IsRow p sw ys)
+    (xs_row : IsEntryRow p fw xs) (ys_row : IsEntryRow p sw ys)
     (more : (i < length xs) ⊎ (t < length ys)) (so_far : IsMerged p k w xs ys out i t)
     (c_is : c ≡ (item_or fw xs i).column) (d_is : d ≡ (item_or sw ys t).column) where
-  first_row : IsRow p w xs
-  first_row = subst (λ u. IsRow p u xs) fw_is xs_row
+  first_row : IsEntryRow p w xs
+  first_row = subst (λ u. IsEntryRow p u xs) fw_is xs_row
 
-  second_row : IsRow p w ys
-  second_row = subst (λ u. IsRow p u ys) sw_is ys_row
+  second_row : IsEntryRow p w ys
+  second_row = subst (λ u. IsEntryRow p u ys) sw_is ys_row
 
   here : c ≡ (item_or w xs i).column
   here = subst (λ u. c ≡ (item_or u xs i).column) fw_is c_is
@@ -266,9 +266,9 @@ times-number p k (x ∷ xs) j rising = elim (nat_cases x.column j) [
 
 -- the row whose items are those of xs times k
 module _ (p : ℕ) (prime : IsPrime p) (k w : ℕ) (xs ys : List Item) (factor : k ≢ 0) (narrow : k < p)
-    (row : IsRow p w xs) (len : length ys ≡ length xs)
+    (row : IsEntryRow p w xs) (len : length ys ≡ length xs)
     (is : (i : ℕ) → i < length xs → item_or 0 ys i ≡ times p k (item_or 0 xs i)) where
-  pub times-row : IsRow p w ys
+  pub times-row : IsEntryRow p w ys
   times-row = record {
     rising = λ i j l jl. subst (λ x. x.column < (item_or 0 ys j).column) (sym (is i (omega arith)))
         (subst (λ x. (item_or 0 xs i).column < x.column) (sym (is j (omega arith))) (row.rising i j l (omega arith)));
@@ -316,7 +316,7 @@ module _ {A : Type 0} (f : A → Item) (p k : ℕ) where
       (omega (arith, so_far.len, length-map now f, length-map old f))))))
 
   module _ (prime : IsPrime p) (factor : k ≢ 0) (narrow : k < p) (w room : ℕ) (items old now : List A) (n : ℕ)
-      (kept : IsKept p w room (map f items)) (same : old ≡ items)
+      (kept : IsKeptRow p w room (map f items)) (same : old ≡ items)
       (all : IsTimesTo p k (map f old) (map f now) n) (end : length old ≤ n) where
     of_items : IsTimesTo p k (map f items) (map f now) n
     of_items = subst (λ xs. IsTimesTo p k (map f xs) (map f now) n) same all
@@ -324,8 +324,8 @@ module _ {A : Type 0} (f : A → Item) (p k : ℕ) where
     each : (i : ℕ) → i < length (map f items) → item_or 0 (map f now) i ≡ times p k (item_or 0 (map f items) i)
     each i l = of_items.done i (omega (arith, length-map items f, ap (λ xs. length xs) same)) l
 
-    pub scaled-kept : (out : List A) → out ≡ now → IsKept p w room (map f out)
-    scaled-kept out e = subst (λ xs. IsKept p w room (map f xs)) (sym e)
+    pub scaled-kept : (out : List A) → out ≡ now → IsKeptRow p w room (map f out)
+    scaled-kept out e = subst (λ xs. IsKeptRow p w room (map f xs)) (sym e)
         (record {
           row = times-row p prime k w (map f items) (map f now) factor narrow kept.row of_items.len each;
           room = kept.room;

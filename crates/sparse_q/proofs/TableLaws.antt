@@ -2,15 +2,15 @@
 use Rattle.std.proofs.Common.{◌≡◌, ℕ, ◌+◌, ◌*◌, ◌%◌, ◌<◌, List, [], map, length, slice_index_or, slice_set, refl, sym, subst, ap, ◌∙◌, arith}
 use Rattle.std.proofs.lemmas.List.{map-set, get_or-map, get_or-set_same, get_or-set_other, length-map, length-set}
 use Rattle.sparse_q.specs.Rows.{Row, number_at, IsSum, IsMultiple}
-use Rattle.sparse_q.specs.Tables.{SparseTable, row_count, number_in, IsRowSet}
+use Rattle.sparse_q.specs.Tables.{SparseTable, sparse_rows, number_in, IsRowSet}
 
 -- the table of rows
 abbrev pub table_of : ℕ → List Row → SparseTable
 table_of w rows = record { width = w; rows = map (λ r. r.items) rows }
 
-module _ (w : ℕ) (rows : List Row) (m : SparseTable) (view : table_of w rows ≡ m) (i : ℕ) (l : i < row_count m) where
+module _ (w : ℕ) (rows : List Row) (m : SparseTable) (view : table_of w rows ≡ m) (i : ℕ) (l : i < sparse_rows m) where
   within : i < length rows
-  within = omega (arith, length-map rows (λ (r : Row). r.items), ap row_count view)
+  within = omega (arith, length-map rows (λ (r : Row). r.items), ap sparse_rows view)
 
   pub row-at : (x : Row) → x ≡ slice_index_or rows i x → (j : ℕ) → number_at x.items j ≡ number_in m i j
   row-at x e j = ap (λ (r : Row). number_at r.items j) e

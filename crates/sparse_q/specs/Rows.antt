@@ -1,6 +1,6 @@
 -- A row of a matrix as the list of its entries that are not zero, and sums of such rows.
 use Rattle.std.specs.Prelude.{ℕ, ◌+◌, ◌*◌, ◌%◌, ◌≤◌, ◌≡◌, List, length, take}
-pub use Rattle.row_entries.specs.Rows.{Item, number_at, item_or, EndsBefore, IsRising, IsRow, with_last, has_number, IsPlaceFrom}
+pub use Rattle.row_entries.specs.Rows.{Item, number_at, item_or, EndsBefore, IsRising, IsEntryRow, with_last, has_number, IsPlaceFrom}
 
 -- the list of a row, and how many columns the row has
 pub record Row : Type 0 where

@@ -8,28 +8,28 @@ pub record SparseTable : Type 0 where
   pub rows : List (List Item)
 
 -- how many rows there are
-abbrev pub row_count : SparseTable → ℕ
-row_count m = length m.rows
+abbrev pub sparse_rows : SparseTable → ℕ
+sparse_rows m = length m.rows
 
 -- row i; past the last, the empty one
-abbrev pub items_of : SparseTable → ℕ → List Item
-items_of m i = slice_index_or m.rows i []
+abbrev pub sparse_row : SparseTable → ℕ → List Item
+sparse_row m i = slice_index_or m.rows i []
 
 -- the number at row i and column j, and 0 outside
 abbrev pub number_in : SparseTable → ℕ → ℕ → ℕ
-number_in m i j = number_at (items_of m i) j
+number_in m i j = number_at (sparse_row m i) j
 
 -- whether row i has a number at column j that is not zero
 abbrev pub has_number_in : SparseTable → ℕ → ℕ → Bool
-has_number_in m i = has_number (items_of m i)
+has_number_in m i = has_number (sparse_row m i)
 
 -- m has h rows and w columns
 pub record HasSize (h w : ℕ) (m : SparseTable) : Type 0 where
-  pub rows_are : row_count m ≡ h
+  pub rows_are : sparse_rows m ≡ h
   pub width_is : m.width ≡ w
 
 -- n is m with other numbers in row i: f tells them by their columns
 pub record IsRowSet (m n : SparseTable) (i : ℕ) (f : ℕ → ℕ) : Type 0 where
-  pub size : HasSize (row_count m) m.width n
+  pub size : HasSize (sparse_rows m) m.width n
   pub changed : (j : ℕ) → number_in n i j ≡ f j
   pub others : (t j : ℕ) → t ≢ i → number_in n t j ≡ number_in m t j

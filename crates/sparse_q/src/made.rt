@@ -6,7 +6,7 @@ ghost use Rattle.linear_algebra.specs.Products.{identity};
 ghost use Rattle.dense_q.specs.Tables.{height, entry};
 ghost use Rattle.bit_table.specs.Bits.{bit_in};
 ghost use Rattle.sparse_q.specs.Rows.{number_at};
-ghost use Rattle.sparse_q.specs.Tables.{number_in, row_count};
+ghost use Rattle.sparse_q.specs.Tables.{number_in, sparse_rows};
 
 use crate::matrix::SparseMat;
 use crate::row::SparseRow;
@@ -43,9 +43,9 @@ pub(crate) fn column_of<F: Field>(
     j: usize,
 ) -> Result<SparseRow<F>, NoMemory>
     requires column { j < listed.now.rows }
-    requires rows { listed.now.size ≡ row_count m.now }
-    requires listed { (i : ℕ) → i < row_count m.now → number_in m.now i j ≢ 0 → bit_in listed.now j i ≡ true }
-    ensures width { IfOk result (λ column. column.width ≡ row_count m.now) }
+    requires rows { listed.now.size ≡ sparse_rows m.now }
+    requires listed { (i : ℕ) → i < sparse_rows m.now → number_in m.now i j ≢ 0 → bit_in listed.now j i ≡ true }
+    ensures width { IfOk result (λ column. column.width ≡ sparse_rows m.now) }
     ensures numbers { IfOk result (λ column. (i : ℕ) → number_at column.items i ≡ number_in m.now i j) }
 {
     let rows = m.rows();

@@ -2,12 +2,12 @@
 
 ghost use Rattle.std.specs.Prelude.{◌≡◌, ◌≢◌, ℕ, ◌+◌, ◌*◌, ◌%◌, ◌<◌, ◌≤◌, true, length, IfOk, IfNone, IfSome};
 ghost use Rattle.limits.specs.Limits.{column_limit};
-ghost use Rattle.number_ranges.specs.Ranges.{HasNone, IsLeast};
+ghost use Rattle.residue_theory.specs.Ranges.{HasNone, IsLeast};
 ghost use Rattle.bit_table.specs.Bits.{bit_in};
 ghost use Rattle.linear_algebra.specs.Products.{identity, transposed};
 ghost use Rattle.dense_q.specs.Tables.{height, entry, IsTableOf};
 ghost use Rattle.sparse_q.specs.Rows.{number_at};
-ghost use Rattle.sparse_q.specs.Tables.{row_count, number_in, has_number_in, HasSize, IsRowSet};
+ghost use Rattle.sparse_q.specs.Tables.{sparse_rows, number_in, has_number_in, HasSize, IsRowSet};
 
 use crate::made::{column_of, row_of, unit_row};
 use crate::row::SparseRow;
@@ -32,14 +32,14 @@ pub struct SparseMat<F: Field> {
 
 impl<F: Field> Model for SparseMat<F> {
     ghost use Rattle.std.specs.Prelude.{map};
-    ghost use Rattle.sparse_q.specs.Storage.{IsStored};
+    ghost use Rattle.sparse_q.specs.Storage.{AreSparseRows};
     ghost use Rattle.sparse_q.specs.Tables.{SparseTable};
 
     ghost Value = { SparseTable };
 
     ghost view = { λ m. record { width = m.width; rows = map (λ row. row.items) m.rows.items } };
 
-    ghost invariant = { λ m. IsStored m.width m.rows.items m.spare.width };
+    ghost invariant = { λ m. AreSparseRows m.width m.rows.items m.spare.width };
 }
 
 impl<F: Field> SparseMat<F> {
@@ -64,11 +64,11 @@ impl<F: Field> SparseMat<F> {
     /// bit set for each row where the column has an entry that is not zero.
     pub fn turned(&self, alloc: Global, listed: &BitTable) -> Result<SparseMat<F>, NoMemory>
         requires columns { listed.now.rows ≡ self.now.width }
-        requires rows { listed.now.size ≡ row_count self.now }
-        requires listed { (i j : ℕ) → i < row_count self.now → j < self.now.width → number_in self.now i j ≢ 0 →
+        requires rows { listed.now.size ≡ sparse_rows self.now }
+        requires listed { (i j : ℕ) → i < sparse_rows self.now → j < self.now.width → number_in self.now i j ≢ 0 →
             bit_in listed.now j i ≡ true }
         requires outside { (i j : ℕ) → self.now.width ≤ j → number_in self.now i j ≡ 0 }
-        ensures size { IfOk result (HasSize self.now.width (row_count self.now)) }
+        ensures size { IfOk result (HasSize self.now.width (sparse_rows self.now)) }
         ensures numbers { IfOk result (λ m. number_in m ≡ transposed (number_in self.now)) }
     {
         let mut rows = Vec::with_capacity(alloc, self.cols())?;
@@ -103,7 +103,7 @@ impl<F: Field> SparseMat<F> {
 
     /// The dense matrix with these entries.
     pub fn dense(&self, alloc: Global) -> Result<Mat<F>, NoMemory>
-        ensures { IfOk result (IsTableOf (row_count self.now) self.now.width (number_in self.now)) }
+        ensures { IfOk result (IsTableOf (sparse_rows self.now) self.now.width (number_in self.now)) }
     {
         let mut m = Mat::zeros(alloc, self.rows.len(), self.width)?;
         for (i, row) in self.rows.iter().enumerate() {
@@ -114,7 +114,7 @@ impl<F: Field> SparseMat<F> {
 
     /// How many rows there are.
     pub fn rows(&self) -> usize
-        ensures rows { result ≡ row_count self.now }
+        ensures rows { result ≡ sparse_rows self.now }
         ensures few { result ≤ column_limit }
     {
         self.rows.len()
@@ -130,7 +130,7 @@ impl<F: Field> SparseMat<F> {
 
     /// The entry at row i and column j.
     pub fn get(&self, i: usize, j: usize) -> F
-        requires { i < row_count self.now }
+        requires { i < sparse_rows self.now }
         ensures { F.number result ≡ number_in self.now i j }
     {
         self.rows[i].at(j)
@@ -138,7 +138,7 @@ impl<F: Field> SparseMat<F> {
 
     /// The first column from `from` on where row i has an entry that is not zero.
     pub fn next(&self, i: usize, from: usize) -> Option<usize>
-        requires { i < row_count self.now }
+        requires { i < sparse_rows self.now }
         ensures none { IfNone result (HasNone (has_number_in self.now i) from self.now.width) }
         ensures least { IfSome result (IsLeast (has_number_in self.now i) from self.now.width) }
     {
@@ -147,7 +147,7 @@ impl<F: Field> SparseMat<F> {
 
     /// Multiplies row i by a factor that is not zero.
     pub fn scale_row(&mut self, i: usize, factor: F)
-        requires row { i < row_count self.old }
+        requires row { i < sparse_rows self.old }
         requires factor { F.number factor ≢ 0 }
         ensures { IsRowSet self.old self.new i (λ j. F.number factor * number_in self.old i j % F.modulus) }
     {
@@ -156,8 +156,8 @@ impl<F: Field> SparseMat<F> {
 
     /// Adds `factor` times row t to row i.
     pub fn add_row(&mut self, i: usize, t: usize, factor: F)
-        requires target { i < row_count self.old }
-        requires source { t < row_count self.old }
+        requires target { i < sparse_rows self.old }
+        requires source { t < sparse_rows self.old }
         ensures { IsRowSet self.old self.new i (λ j.
             (number_in self.old i j + F.number factor * number_in self.old t j) % F.modulus) }
     {
@@ -167,8 +167,8 @@ impl<F: Field> SparseMat<F> {
 
     /// Makes row i the same as row t of another matrix with as many columns.
     pub fn copy_row(&mut self, i: usize, other: &SparseMat<F>, t: usize)
-        requires target { i < row_count self.old }
-        requires source { t < row_count other.now }
+        requires target { i < sparse_rows self.old }
+        requires source { t < sparse_rows other.now }
         requires width { other.now.width ≡ self.old.width }
         ensures { IsRowSet self.old self.new i (number_in other.now t) }
     {

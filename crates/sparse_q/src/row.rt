@@ -3,8 +3,8 @@
 ghost use Rattle.std.specs.Prelude.{◌≡◌, ◌≢◌, ℕ, ◌+◌, ◌*◌, ◌%◌, ◌<◌, ◌≤◌, ◌⊎◌, [], length, IfOk, IfNone, IfSome};
 ghost use Rattle.limits.specs.Limits.{column_limit};
 ghost use Rattle.dense_q.specs.Tables.{height, entry, HasSameSize};
-ghost use Rattle.sparse_q.specs.Rows.{IsRow, number_at, item_or, EndsBefore, with_last, IsSum, IsMultiple, IsMerged, has_number};
-ghost use Rattle.number_ranges.specs.Ranges.{HasNone, IsLeast};
+ghost use Rattle.sparse_q.specs.Rows.{IsEntryRow, number_at, item_or, EndsBefore, with_last, IsSum, IsMultiple, IsMerged, has_number};
+ghost use Rattle.residue_theory.specs.Ranges.{HasNone, IsLeast};
 
 use dense_q::Mat;
 use out_of_memory::NoMemory;
@@ -30,7 +30,7 @@ pub(crate) struct SparseRow<F: Field> {
 impl<F: Field> Model for SparseRow<F> {
     ghost use Rattle.std.specs.Prelude.{map, vec_capacity};
     ghost use Rattle.sparse_q.specs.Rows.{Row};
-    ghost use Rattle.sparse_q.specs.Storage.{IsKept};
+    ghost use Rattle.sparse_q.specs.Storage.{IsKeptRow};
 
     ghost Value = { Row };
 
@@ -39,7 +39,7 @@ impl<F: Field> Model for SparseRow<F> {
       items = map (λ e. record { column = e.column; number = F.number e.value }) r.entries.items;
     } };
 
-    ghost invariant = { λ r. IsKept F.modulus r.width (vec_capacity r.entries)
+    ghost invariant = { λ r. IsKeptRow F.modulus r.width (vec_capacity r.entries)
         (map (λ e. record { column = e.column; number = F.number e.value }) r.entries.items) };
 }
 
@@ -58,7 +58,7 @@ impl<F: Field> SparseRow<F> {
     // How many entries there are.
     fn len(&self) -> usize
         ensures len { result ≡ length self.now.items }
-        ensures row { IsRow F.modulus self.now.width self.now.items }
+        ensures row { IsEntryRow F.modulus self.now.width self.now.items }
         ensures few { length self.now.items ≤ column_limit }
     {
         self.entries.len()
@@ -67,7 +67,7 @@ impl<F: Field> SparseRow<F> {
     // The column of the entry at a place, and past the last one the width.
     fn column(&self, place: usize) -> usize
         ensures column { result ≡ (item_or self.now.width self.now.items place).column }
-        ensures row { IsRow F.modulus self.now.width self.now.items }
+        ensures row { IsEntryRow F.modulus self.now.width self.now.items }
         ensures few { length self.now.items ≤ column_limit }
     {
         if place < self.entries.len() {
@@ -221,7 +221,7 @@ impl<F: Field> SparseRow<F> {
         ensures numbers { (j : ℕ) → entry m.new i j ≡ number_at self.now.items j }
         ensures others { (t j : ℕ) → t ≢ i → entry m.new t j ≡ entry m.old t j }
     {
-        let _width = m.cols();
+        m.is_matrix();
         for entry in &self.entries {
             m.set(i, entry.column as usize, entry.value);
         }

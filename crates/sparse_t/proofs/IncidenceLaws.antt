@@ -5,37 +5,37 @@ use Rattle.std.proofs.Math.Seq.{get_or-append_seam}
 use Rattle.std.proofs.lemmas.List.{take_more}
 use Rattle.std.specs.List.Sorted.{IsStrictlyIncreasing}
 use Rattle.residue_theory.specs.Sets.{has}
-use Rattle.sparse_t.specs.Lists.{IsBelow}
-use Rattle.sparse_t.specs.Incidences.{Incidence, IsIncidence, AreRowsOf, row_count, columns_at, with_last_row}
+use Rattle.sparse_t.specs.Lists.{AreAllBelow}
+use Rattle.sparse_t.specs.Incidences.{Incidence, IsIncidence, AreRowsAt, incidence_rows, columns_at, incidence_with_row}
 use Rattle.sparse_t.proofs.ListLaws.{lt_cases, has-none, has-append, nat_eq-itself, nat_eq-apart, rising-append, below-append}
 
 module _ (p : Incidence) (row : List ℕ) where
-  pub row_count-last : row_count (with_last_row p row) ≡ row_count p + 1
+  pub row_count-last : incidence_rows (incidence_with_row p row) ≡ incidence_rows p + 1
   row_count-last = omega (arith, length-append p.rows (row ∷ []))
 
-  row-early : (i : ℕ) → i < row_count p → columns_at (with_last_row p row) i ≡ columns_at p i
+  row-early : (i : ℕ) → i < incidence_rows p → columns_at (incidence_with_row p row) i ≡ columns_at p i
   row-early i l = get_or-append p.rows (row ∷ []) [] i l
 
-  row-last : (i : ℕ) → i ≡ row_count p → columns_at (with_last_row p row) i ≡ row
-  row-last i e = ap (λ k. columns_at (with_last_row p row) k) e ∙ get_or-append_seam p.rows row [] []
+  row-last : (i : ℕ) → i ≡ incidence_rows p → columns_at (incidence_with_row p row) i ≡ row
+  row-last i e = ap (λ k. columns_at (incidence_with_row p row) k) e ∙ get_or-append_seam p.rows row [] []
 
   -- what each row of p and the last one have, each row has
-  each-row : (P : List ℕ → Type 0) → ((i : ℕ) → i < row_count p → P (columns_at p i)) → P row → (i : ℕ) →
-      i < row_count (with_last_row p row) → P (columns_at (with_last_row p row) i)
-  each-row P early last i l = elim (lt_cases i (row_count p)) [
+  each-row : (P : List ℕ → Type 0) → ((i : ℕ) → i < incidence_rows p → P (columns_at p i)) → P row → (i : ℕ) →
+      i < incidence_rows (incidence_with_row p row) → P (columns_at (incidence_with_row p row) i)
+  each-row P early last i l = elim (lt_cases i (incidence_rows p)) [
     | inl less ↦ subst P (sym (row-early i less)) (early i less)
-    | inr ge ↦ let here : i ≡ row_count p = omega (arith, row_count-last) in subst P (sym (row-last i here)) last
+    | inr ge ↦ let here : i ≡ incidence_rows p = omega (arith, row_count-last) in subst P (sym (row-last i here)) last
   ]
 
-  pub incidence-last : IsIncidence p → IsStrictlyIncreasing row → IsBelow p.width row → row_count p < 8192 → IsIncidence (with_last_row p row)
+  pub incidence-last : IsIncidence p → IsStrictlyIncreasing row → AreAllBelow p.width row → incidence_rows p < 8192 → IsIncidence (incidence_with_row p row)
   incidence-last I up below few = record {
     rising = each-row IsStrictlyIncreasing I.rising up;
-    below = each-row (IsBelow p.width) I.below below;
+    below = each-row (AreAllBelow p.width) I.below below;
     few = omega (arith, row_count-last);
   }
 
-  none_late : (list : List ℕ) → IsBelow (row_count p) list → has list (row_count p) ≡ false
-  none_late list below = has-none list (row_count p) (λ k l q. omega (arith, below k l))
+  none_late : (list : List ℕ) → AreAllBelow (incidence_rows p) list → has list (incidence_rows p) ≡ false
+  none_late list below = has-none list (incidence_rows p) (λ k l q. omega (arith, below k l))
 
   or_false : (b : Bool) → (b || false) ≡ b
   or_false true = refl
@@ -46,45 +46,45 @@ module _ (p : Incidence) (row : List ℕ) where
   or_true false = refl
 
   -- the rows of a column that the last row touches
-  pub rows_of-touched : (j : ℕ) (list : List ℕ) → AreRowsOf p j list → has row j ≡ true → AreRowsOf (with_last_row p row) j (list ++ row_count p ∷ [])
+  pub rows_of-touched : (j : ℕ) (list : List ℕ) → AreRowsAt p j list → has row j ≡ true → AreRowsAt (incidence_with_row p row) j (list ++ incidence_rows p ∷ [])
   rows_of-touched j list A h = record {
-    rising = rising-append list (row_count p) A.rising A.below;
-    below = below-append (row_count p) (row_count (with_last_row p row)) list (row_count p) A.below
+    rising = rising-append list (incidence_rows p) A.rising A.below;
+    below = below-append (incidence_rows p) (incidence_rows (incidence_with_row p row)) list (incidence_rows p) A.below
         (omega (arith, row_count-last)) (omega (arith, row_count-last));
-    exact = λ i l. elim (lt_cases i (row_count p)) [
-      | inl less ↦ has-append list (row_count p) i
-          ∙ (ap (λ b. has list i || b) (nat_eq-apart (row_count p) i (λ q. omega arith))
+    exact = λ i l. elim (lt_cases i (incidence_rows p)) [
+      | inl less ↦ has-append list (incidence_rows p) i
+          ∙ (ap (λ b. has list i || b) (nat_eq-apart (incidence_rows p) i (λ q. omega arith))
           ∙ (or_false (has list i) ∙ (A.exact i less ∙ ap (λ r. has r j) (sym (row-early i less)))))
-      | inr ge ↦ let here : i ≡ row_count p = omega (arith, row_count-last) in
-          has-append list (row_count p) i
-          ∙ (ap (λ b. has list i || b) (ap (λ k. nat_eq (row_count p) k) here ∙ nat_eq-itself (row_count p))
+      | inr ge ↦ let here : i ≡ incidence_rows p = omega (arith, row_count-last) in
+          has-append list (incidence_rows p) i
+          ∙ (ap (λ b. has list i || b) (ap (λ k. nat_eq (incidence_rows p) k) here ∙ nat_eq-itself (incidence_rows p))
           ∙ (or_true (has list i) ∙ (sym h ∙ ap (λ r. has r j) (sym (row-last i here)))))
     ];
   }
 
-  pub rows_of-untouched : (j : ℕ) (list : List ℕ) → AreRowsOf p j list → has row j ≡ false → AreRowsOf (with_last_row p row) j list
+  pub rows_of-untouched : (j : ℕ) (list : List ℕ) → AreRowsAt p j list → has row j ≡ false → AreRowsAt (incidence_with_row p row) j list
   rows_of-untouched j list A h = record {
     rising = A.rising;
     below = λ k l. omega (arith, A.below k l, row_count-last);
-    exact = λ i l. elim (lt_cases i (row_count p)) [
+    exact = λ i l. elim (lt_cases i (incidence_rows p)) [
       | inl less ↦ A.exact i less ∙ ap (λ r. has r j) (sym (row-early i less))
-      | inr ge ↦ let here : i ≡ row_count p = omega (arith, row_count-last) in
+      | inr ge ↦ let here : i ≡ incidence_rows p = omega (arith, row_count-last) in
           ap (λ k. has list k) here ∙ (none_late list A.below ∙ (sym h ∙ ap (λ r. has r j) (sym (row-last i here))))
     ];
   }
 
-  pub rows_of-last : (j : ℕ) (list now : List ℕ) → AreRowsOf p j list →
-      (has row j ≡ true → now ≡ list ++ row_count p ∷ []) → (has row j ≡ false → now ≡ list) →
-      AreRowsOf (with_last_row p row) j now
+  pub rows_of-last : (j : ℕ) (list now : List ℕ) → AreRowsAt p j list →
+      (has row j ≡ true → now ≡ list ++ incidence_rows p ∷ []) → (has row j ≡ false → now ≡ list) →
+      AreRowsAt (incidence_with_row p row) j now
   rows_of-last j list now A touched untouched = go (has row j) refl
     where
-      go : (b : Bool) → has row j ≡ b → AreRowsOf (with_last_row p row) j now
-      go true h = subst (λ ys. AreRowsOf (with_last_row p row) j ys) (sym (touched h)) (rows_of-touched j list A h)
-      go false h = subst (λ ys. AreRowsOf (with_last_row p row) j ys) (sym (untouched h)) (rows_of-untouched j list A h)
+      go : (b : Bool) → has row j ≡ b → AreRowsAt (incidence_with_row p row) j now
+      go true h = subst (λ ys. AreRowsAt (incidence_with_row p row) j ys) (sym (touched h)) (rows_of-touched j list A h)
+      go false h = subst (λ ys. AreRowsAt (incidence_with_row p row) j ys) (sym (untouched h)) (rows_of-untouched j list A h)
 
 -- a copy takes the next row
 pub copied-next : (p q r : Incidence) (i : ℕ) (row : List ℕ) → q ≡ record p { rows = take i p.rows } →
-    r ≡ with_last_row q row → columns_at p i ≡ row → i < row_count p → r ≡ record p { rows = take (i + 1) p.rows }
+    r ≡ incidence_with_row q row → columns_at p i ≡ row → i < incidence_rows p → r ≡ record p { rows = take (i + 1) p.rows }
 copied-next p q r i row e f g l = f
-    ∙ (ap (λ m. with_last_row m row) e ∙ ap (λ (rs : List (List ℕ)). let m : Incidence = record p { rows = rs } in m)
+    ∙ (ap (λ m. incidence_with_row m row) e ∙ ap (λ (rs : List (List ℕ)). let m : Incidence = record p { rows = rs } in m)
     (ap (λ y. take i p.rows ++ y ∷ []) (sym g) ∙ sym (take_more p.rows i [] l)))

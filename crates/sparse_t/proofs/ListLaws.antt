@@ -9,7 +9,7 @@ use Rattle.std.specs.List.Sorted.{IsStrictlyIncreasing, IsBinarySearchResult}
 use Rattle.std.specs.Ordering.{nat_cmp}
 use Rattle.std.specs.Result.{MatchResult}
 use Rattle.residue_theory.specs.Sets.{has}
-use Rattle.sparse_t.specs.Lists.{IsBelow}
+use Rattle.sparse_t.specs.Lists.{AreAllBelow}
 
 nat_eq-same : (a b : ℕ) → a ≡ b → nat_eq a b ≡ true
 nat_eq-same a b e = grind (arith, nat_tests)
@@ -66,7 +66,7 @@ rises list up i (suc j) less l = go (lt_cases i j) (λ le. rises list up i j le 
     go (inl le) before = omega (arith, before le, step)
     go (inr ge) _ = subst (λ v. get_or list v 0 < get_or list (suc j) 0) (omega arith) step
 
-pub rising-append : (list : List ℕ) (item : ℕ) → IsStrictlyIncreasing list → IsBelow item list → IsStrictlyIncreasing (list ++ item ∷ [])
+pub rising-append : (list : List ℕ) (item : ℕ) → IsStrictlyIncreasing list → AreAllBelow item list → IsStrictlyIncreasing (list ++ item ∷ [])
 rising-append list item up below k l = go (lt_cases (k + 1) (length list))
   where
     go : (k + 1 < length list) ⊎ (length list ≤ k + 1) → get_or (list ++ item ∷ []) k 0 < get_or (list ++ item ∷ []) (k + 1) 0
@@ -77,7 +77,7 @@ rising-append list item up below k l = go (lt_cases (k + 1) (length list))
         (subst (λ v. get_or list k 0 < get_or (list ++ item ∷ []) v 0) (sym last)
         (rw (get_or-append_seam list item [] 0) (below k here)))
 
-pub below-append : (n m : ℕ) (list : List ℕ) (item : ℕ) → IsBelow n list → n ≤ m → item < m → IsBelow m (list ++ item ∷ [])
+pub below-append : (n m : ℕ) (list : List ℕ) (item : ℕ) → AreAllBelow n list → n ≤ m → item < m → AreAllBelow m (list ++ item ∷ [])
 below-append n m list item below le less k l = go (lt_cases k (length list))
   where
     go : (k < length list) ⊎ (length list ≤ k) → get_or (list ++ item ∷ []) k 0 < m

@@ -3,8 +3,8 @@
 ghost use Rattle.std.specs.Prelude.{◌≡◌, ◌<◌, ℕ, IfOk, OnOk, OnErr, []};
 ghost use Rattle.std.specs.List.Sorted.{IsStrictlyIncreasing};
 ghost use Rattle.limits.specs.Limits.{column_limit};
-ghost use Rattle.sparse_t.specs.Lists.{IsBelow};
-ghost use Rattle.sparse_t.specs.Incidences.{Incidence, IsIncidence, AreRowsOf, row_count, columns_at, touches, with_last_row};
+ghost use Rattle.sparse_t.specs.Lists.{AreAllBelow};
+ghost use Rattle.sparse_t.specs.Incidences.{Incidence, IsIncidence, AreRowsAt, incidence_rows, columns_at, touches, incidence_with_row};
 
 use crate::columns::Columns;
 use crate::lists::{Numbers, holds};
@@ -22,13 +22,13 @@ pub struct Pattern {
 impl Model for Pattern {
     ghost use Rattle.std.specs.Prelude.{map, length};
     ghost use Rattle.sparse_t.specs.Incidences.{Incidence};
-    ghost use Rattle.sparse_t.specs.Columns.{IsStored};
+    ghost use Rattle.sparse_t.specs.Columns.{AreIndexed};
 
     ghost Value = { Incidence };
 
     ghost view = { λ p. record { width = length p.columns.lists.items; rows = map (λ row. row.items) p.rows.items } };
 
-    ghost invariant = { λ p. IsStored p.rows.items p.columns.lists.items };
+    ghost invariant = { λ p. AreIndexed p.rows.items p.columns.lists.items };
 }
 
 impl Pattern {
@@ -45,9 +45,9 @@ impl Pattern {
     /// Puts a row below the last one: the columns that it touches, rising.
     pub fn push_row(&mut self, columns: &[u32]) -> Result<(), NoMemory>
         requires rising { IsStrictlyIncreasing columns.now }
-        requires below { IsBelow self.old.width columns.now }
-        requires room { row_count self.old < column_limit }
-        ensures ok { OnOk result (self.new ≡ with_last_row self.old columns.now) }
+        requires below { AreAllBelow self.old.width columns.now }
+        requires room { incidence_rows self.old < column_limit }
+        ensures ok { OnOk result (self.new ≡ incidence_with_row self.old columns.now) }
         ensures err { OnErr result (self.new ≡ self.old) }
     {
         let row = Numbers::from_slice(*self.rows.allocator(), columns)?;
@@ -68,9 +68,17 @@ impl Pattern {
         Ok(copy)
     }
 
+    /// Tells a proof what a pattern keeps. It does nothing when it runs.
+    pub fn is_pattern(&self)
+        ensures { IsIncidence self.now }
+    {
+        // a proof knows what the type keeps once a field is read
+        let _ = &self.rows;
+    }
+
     /// How many rows there are.
     pub fn rows(&self) -> usize
-        ensures rows { result ≡ row_count self.now }
+        ensures rows { result ≡ incidence_rows self.now }
         ensures incidence { IsIncidence self.now }
     {
         self.rows.len()
@@ -86,7 +94,7 @@ impl Pattern {
 
     /// Whether the row touches the column. It searches in the shorter of their two lists.
     pub fn touches(&self, row: usize, col: usize) -> bool
-        requires row { row < row_count self.now }
+        requires row { row < incidence_rows self.now }
         requires col { col < self.now.width }
         ensures { result ≡ touches self.now row col }
     {
@@ -101,10 +109,10 @@ impl Pattern {
 
     /// The columns that row i touches, rising.
     pub fn row(&self, i: usize) -> &[u32]
-        requires { i < row_count self.now }
+        requires { i < incidence_rows self.now }
         ensures columns { result.now ≡ columns_at self.now i }
         ensures rising { IsStrictlyIncreasing result.now }
-        ensures below { IsBelow self.now.width result.now }
+        ensures below { AreAllBelow self.now.width result.now }
     {
         self.rows[i].as_slice()
     }
@@ -112,7 +120,7 @@ impl Pattern {
     /// The rows that touch the column, rising.
     pub fn rows_of(&self, col: usize) -> &[u32]
         requires { col < self.now.width }
-        ensures { AreRowsOf self.now col result.now }
+        ensures { AreRowsAt self.now col result.now }
     {
         self.columns.lists[col].as_slice()
     }

@@ -9,13 +9,13 @@ use Rattle.linear_algebra.specs.Bases.{IsBase, IsBaseTaken}
 use Rattle.linear_algebra.specs.Products.{identity, transposed, product, Agree, IsInverse}
 use Rattle.linear_algebra.specs.RowOperations.{IsPivoted}
 use Rattle.dense_q.specs.Tables.{Table, height, entry, IsTableOf}
-use Rattle.sparse_q.specs.Tables.{SparseTable, row_count, number_in, HasSize, IsRowSet}
-use Rattle.row_transform.specs.Bases.{BaseLists, is_base, row_of, IsBaseDropped}
-use Rattle.row_transform.specs.Tableaus.{IsTableau, IsPivot, IsOpened, AreParts}
+use Rattle.sparse_q.specs.Tables.{SparseTable, sparse_rows, number_in, HasSize, IsRowSet}
+use Rattle.row_transform.specs.Bases.{BaseLists, is_base, base_row, IsBaseDropped}
+use Rattle.row_transform.specs.Tableaus.{IsTableau, IsPivot, IsOpened, AreTableauParts}
 use Rattle.row_transform.proofs.TableauLaws.{base-taken, base-dropped, no_column}
 use Rattle.row_table.specs.Reductions.{IsReduced, with_column_as}
 use Rattle.sparse_tableau.proofs.OpenLaws.{opened-inverse, opened-product}
-use Rattle.sparse_tableau.specs.Sparse.{Sparse, IsSparse, state_of}
+use Rattle.sparse_tableau.specs.Sparse.{Sparse, IsSparse, sparse_state}
 use Rattle.row_table.proofs.ReductionLaws.{first-inverse, reduced-pivoted}
 
 column-same : (a : ℕ → ℕ → ℕ) (r i : ℕ) (x : ℕ → ℕ) → with_column_as a r x i r ≡ x i
@@ -35,7 +35,7 @@ module _ (p : ℕ) (m n : ℕ) (of : Table) (q pp s v : SparseTable) (base : Bas
   start : Sparse
   start = record { q = q; p = pp; s = s; v = v; base = base }
 
-  rows_are : row_count pp ≡ m
+  rows_are : sparse_rows pp ≡ m
   rows_are = p_size.rows_are ∙ sym m_is
 
   columns_are : pp.width ≡ n
@@ -47,7 +47,7 @@ module _ (p : ℕ) (m n : ℕ) (of : Table) (q pp s v : SparseTable) (base : Bas
   same_q : (λ i j. number_in q j i) ≡ entry of
   same_q = ap transposed q_is
 
-  state_is : IsTableau p (state_of start)
+  state_is : IsTableau p (sparse_state start)
   unfolding start
   state_is = record {
     product_is = subst (λ h. Agree p h pp.width (number_in pp) (product h (number_in s) (λ i j. number_in q j i)))
@@ -85,7 +85,7 @@ module _ (p : ℕ) (m n : ℕ) (of : Table) (q pp s v : SparseTable) (base : Bas
   }
 
   pub opened-state : IsOpened p (height of) of.width (entry of)
-      (state_of (record { q = q; p = pp; s = s; v = v; base = base }))
+      (sparse_state (record { q = q; p = pp; s = s; v = v; base = base }))
   opened-state = record {
     rows_are = p_size.rows_are;
     columns_are = p_size.width_is;
@@ -102,14 +102,14 @@ module _ (p : ℕ) (m n : ℕ) (of : Table) (q pp s v : SparseTable) (base : Bas
 -- ---- a pivot: q, the columns of Q, stays, and row r of v becomes its row c
 module _ (p : ℕ) (prime : IsPrime p) (q pp s v pn sn vn : SparseTable) (base now : BaseLists) (r c : ℕ)
     (kept : IsSparse p (record { q = q; p = pp; s = s; v = v; base = base }))
-    (rl : r < row_count pp) (cl : c < pp.width) (some : number_in pp r c % p ≢ 0)
-    (p_size : HasSize (row_count pp) pp.width pn) (s_size : HasSize (row_count s) s.width sn)
-    (p_reduced : IsReduced p (row_count pp) pp.width (number_in pp) (number_in pn) r (λ i. number_in pp i c))
-    (s_reduced : IsReduced p (row_count s) s.width (number_in s) (number_in sn) r (λ i. number_in pp i c))
+    (rl : r < sparse_rows pp) (cl : c < pp.width) (some : number_in pp r c % p ≢ 0)
+    (p_size : HasSize (sparse_rows pp) pp.width pn) (s_size : HasSize (sparse_rows s) s.width sn)
+    (p_reduced : IsReduced p (sparse_rows pp) pp.width (number_in pp) (number_in pn) r (λ i. number_in pp i c))
+    (s_reduced : IsReduced p (sparse_rows s) s.width (number_in s) (number_in sn) r (λ i. number_in pp i c))
     (v_set : IsRowSet v vn r (number_in q c))
-    (taken : IsBaseTaken (length base.rows) (is_base base) (row_of base) (is_base now) (row_of now) r c) where
+    (taken : IsBaseTaken (length base.rows) (is_base base) (base_row base) (is_base now) (base_row now) r c) where
   abbrev m : ℕ
-  m = row_count pp
+  m = sparse_rows pp
 
   abbrev n : ℕ
   n = pp.width
@@ -117,13 +117,13 @@ module _ (p : ℕ) (prime : IsPrime p) (q pp s v pn sn vn : SparseTable) (base n
   pub pivot-pivoted : IsPivoted p m n (number_in pp) (number_in pn) r c
   pivot-pivoted = reduced-pivoted p prime m n (number_in pp) (number_in pn) r c rl cl some p_reduced
 
-  taken_at : IsBaseTaken n (is_base base) (row_of base) (is_base now) (row_of now) r c
-  taken_at = subst (λ k. IsBaseTaken k (is_base base) (row_of base) (is_base now) (row_of now) r c) kept.base_columns
+  taken_at : IsBaseTaken n (is_base base) (base_row base) (is_base now) (base_row now) r c
+  taken_at = subst (λ k. IsBaseTaken k (is_base base) (base_row base) (is_base now) (base_row now) r c) kept.base_columns
       taken
 
   on_s : IsReduced p m m (number_in s) (number_in sn) r (λ i. number_in pp i c)
   on_s = subst (λ h. IsReduced p h m (number_in s) (number_in sn) r (λ i. number_in pp i c)) kept.s_size.rows_are
-      (subst (λ w. IsReduced p (row_count s) w (number_in s) (number_in sn) r (λ i. number_in pp i c))
+      (subst (λ w. IsReduced p (sparse_rows s) w (number_in s) (number_in sn) r (λ i. number_in pp i c))
       kept.s_size.width_is s_reduced)
 
   -- U with column c of Q for its column r
@@ -166,15 +166,15 @@ module _ (p : ℕ) (prime : IsPrime p) (q pp s v pn sn vn : SparseTable) (base n
           (sym p_size.width_is) new.1);
       inverse = subst (λ h. IsInverse p h (number_in sn) (λ i j. number_in vn j i)) (sym p_size.rows_are)
           (subst (λ u. IsInverse p m (number_in sn) u) (sym new_u) new.0);
-      unit_columns = subst (λ h. IsBase p (number_in pn) h pn.width (is_base now) (row_of now)) (sym p_size.rows_are)
-          (subst (λ w. IsBase p (number_in pn) m w (is_base now) (row_of now)) (sym p_size.width_is)
-          (base-taken p (number_in pp) (number_in pn) m n (is_base base) (is_base now) (row_of base) (row_of now) r c
+      unit_columns = subst (λ h. IsBase p (number_in pn) h pn.width (is_base now) (base_row now)) (sym p_size.rows_are)
+          (subst (λ w. IsBase p (number_in pn) m w (is_base now) (base_row now)) (sym p_size.width_is)
+          (base-taken p (number_in pp) (number_in pn) m n (is_base base) (is_base now) (base_row base) (base_row now) r c
           pivot-pivoted rl taken_at kept.tableau.unit_columns));
     };
   }
 
-  pub pivoted-state : IsPivot p (state_of (record { q = q; p = pp; s = s; v = v; base = base }))
-      (state_of (record { q = q; p = pn; s = sn; v = vn; base = now })) r c
+  pub pivoted-state : IsPivot p (sparse_state (record { q = q; p = pp; s = s; v = v; base = base }))
+      (sparse_state (record { q = q; p = pn; s = sn; v = vn; base = now })) r c
   pivoted-state = record {
     rows_same = p_size.rows_are;
     columns_same = p_size.width_is;
@@ -186,7 +186,7 @@ module _ (p : ℕ) (prime : IsPrime p) (q pp s v pn sn vn : SparseTable) (base n
 -- ---- a column leaves the base
 pub dropped-sparse : (p : ℕ) (t : Sparse) (now : BaseLists) (c : ℕ) → IsSparse p t → length now.columns ≡ length
     t.base.columns → length now.rows ≡ length t.base.rows →
-    IsBaseDropped (length t.base.rows) (is_base t.base) (row_of t.base) (is_base now) (row_of now) c →
+    IsBaseDropped (length t.base.rows) (is_base t.base) (base_row t.base) (is_base now) (base_row now) c →
     IsSparse p (record t { base = now })
 dropped-sparse p t now c kept rows columns dropped = record {
   q_size = kept.q_size;
@@ -197,18 +197,18 @@ dropped-sparse p t now c kept rows columns dropped = record {
   tableau = record {
     product_is = kept.tableau.product_is;
     inverse = kept.tableau.inverse;
-    unit_columns = base-dropped p (number_in t.p) (row_count t.p) t.p.width (is_base t.base) (is_base now)
-        (row_of t.base) (row_of now) c
-        (subst (λ k. IsBaseDropped k (is_base t.base) (row_of t.base) (is_base now) (row_of now) c) kept.base_columns
+    unit_columns = base-dropped p (number_in t.p) (sparse_rows t.p) t.p.width (is_base t.base) (is_base now)
+        (base_row t.base) (base_row now) c
+        (subst (λ k. IsBaseDropped k (is_base t.base) (base_row t.base) (is_base now) (base_row now) c) kept.base_columns
         dropped) kept.tableau.unit_columns;
   };
 }
 
 -- ---- the matrices with all their entries; w has those of v, and u is w turned
-pub parts-are : (p : ℕ) (t : Sparse) (s w u a : Table) → IsSparse p t → IsTableOf (row_count t.s) t.s.width
-    (number_in t.s) s → IsTableOf (row_count t.v) t.v.width (number_in t.v) w →
-    IsTableOf w.width (height w) (λ i j. entry w j i) u → IsTableOf (row_count t.p) t.p.width (number_in t.p) a →
-    AreParts (state_of t) s u a
+pub parts-are : (p : ℕ) (t : Sparse) (s w u a : Table) → IsSparse p t → IsTableOf (sparse_rows t.s) t.s.width
+    (number_in t.s) s → IsTableOf (sparse_rows t.v) t.v.width (number_in t.v) w →
+    IsTableOf w.width (height w) (λ i j. entry w j i) u → IsTableOf (sparse_rows t.p) t.p.width (number_in t.p) a →
+    AreTableauParts (sparse_state t) s u a
 parts-are p t s w u a kept s_is w_is u_is a_is = record {
   s_height = s_is.height_is ∙ kept.s_size.rows_are;
   s_width = s_is.width_is ∙ kept.s_size.width_is;

@@ -1,7 +1,7 @@
 //! A tableau of sparse matrices. It keeps Q, and puts columns of Q into U, so that a pivot writes one column of U.
 #![tactic(auto)]
 
-mod entries;
+mod listing;
 mod sparse;
 mod transform;
 

@@ -1,14 +1,14 @@
 //! A tableau of sparse matrices.
 
 ghost use Rattle.std.specs.Prelude.{◌≡◌, ◌≢◌, ℕ, ◌<◌, ◌≤◌, ◌%◌, true, false, IfOk};
-ghost use Rattle.sparse_tableau.specs.Sparse.{state_of};
+ghost use Rattle.sparse_tableau.specs.Sparse.{sparse_state};
 
-use crate::entries::Entries;
+use crate::listing;
 use crate::transform::Transform;
 use out_of_memory::NoMemory;
 use residue_field::Field;
 use row_entries::EntryMat;
-use row_transform::{Base, Tableau, TableauParts, Which};
+use row_transform::{Base, Entries, Tableau, TableauParts, Which};
 use sparse_q::SparseMat;
 use std::alloc::Global;
 use std::marker::Model;
@@ -29,7 +29,7 @@ pub struct SparseTableau<F: Field> {
 
 impl<F: Field> Model for SparseTableau<F> {
     ghost use Rattle.sparse_tableau.specs.Sparse.{Sparse, IsSparse};
-    ghost use Rattle.sparse_tableau.specs.Entries.{AreListed, IsListed};
+    ghost use Rattle.sparse_tableau.specs.Listings.{AreNumbersListed, AreSparseEntriesListed};
 
     ghost Value = { Sparse };
 
@@ -47,11 +47,11 @@ impl<F: Field> Model for SparseTableau<F> {
       s = t.transform.s;
       v = t.v;
       base = t.base;
-    }) × IsListed F.modulus t.transform.p t.entries.bits × AreListed t.v t.u_entries.bits };
+    }) × AreSparseEntriesListed F.modulus t.transform.p t.entries.bits × AreNumbersListed t.v t.u_entries.bits };
 }
 
 impl<F: Field> Tableau<F> for SparseTableau<F> {
-    ghost state = { state_of };
+    ghost state = { sparse_state };
 
     ghost pivots = { λ t. t.base.takes };
 
@@ -59,10 +59,10 @@ impl<F: Field> Tableau<F> for SparseTableau<F> {
         let rows = q.rows();
         let columns = q.cols();
         let p = SparseMat::of(alloc, q)?;
-        let entries = Entries::of(alloc, &p)?;
+        let entries = Entries::of(alloc, q)?;
         let s = SparseMat::identity(alloc, rows)?;
         let v = SparseMat::identity(alloc, rows)?;
-        let u_entries = Entries::of(alloc, &v)?;
+        let u_entries = Entries::diagonal(alloc, rows)?;
         Ok(SparseTableau {
             alloc,
             columns: p.turned(alloc, &entries.bits)?,
@@ -74,8 +74,8 @@ impl<F: Field> Tableau<F> for SparseTableau<F> {
         })
     }
 
-    fn pivots(&self) -> u64 {
-        self.base.takes()
+    fn base(&self) -> &Base {
+        &self.base
     }
 
     fn rows(&self) -> usize {
@@ -92,45 +92,16 @@ impl<F: Field> Tableau<F> for SparseTableau<F> {
         entry
     }
 
-    fn next_entry(&self, col: usize, from: usize) -> Option<usize> {
-        let rows = self.rows();
-        let mut at = from;
-        while let Some(row) = self.entries.next(col, at, rows) {
-            if !self.entry(row, col).is_zero() {
-                return Some(row);
-            }
-            at = row + 1;
-        }
-        None
-    }
-
-    fn base_of(&self, row: usize) -> Option<usize> {
-        self.base.column_of(row)
-    }
-
-    fn row_of(&self, col: usize) -> Option<usize> {
-        self.base.row_of(col)
-    }
-
-    fn in_span(&self, col: usize) -> bool {
-        // there are at most 8,192 rows, so that the sum below fits
-        let _rows = self.rows();
-        let mut at = 0;
-        while let Some(row) = self.next_entry(col, at) {
-            if self.base_of(row).is_none() {
-                return false;
-            }
-            at = row + 1;
-        }
-        true
+    fn next_candidate(&self, col: usize, from: usize) -> Option<usize> {
+        self.entries.next(col, from, self.transform.p.rows())
     }
 
     fn pivot(&mut self, row: usize, col: usize) {
-        self.entries.spread(&self.transform.p, row, col);
+        listing::spread(&mut self.entries, &self.transform.p, row, col);
         self.transform.pivot(&self.entries, row, col);
         self.entries.close(row, col);
         self.v.copy_row(row, &self.columns, col);
-        self.u_entries.list_row(&self.v, row);
+        listing::list_row(&mut self.u_entries, &self.v, row);
         self.base.take(row, col);
     }
 
@@ -151,7 +122,7 @@ impl<F: Field> Tableau<F> for SparseTableau<F> {
     fn next_in_row(&self, which: Which, row: usize, from: usize) -> Option<(usize, F)> {
         let col = match which {
             Which::S => self.transform.s.next(row, from)?,
-            Which::U => self.u_entries.next_in(&self.v, row, from)?,
+            Which::U => listing::next_in(&self.u_entries, &self.v, row, from)?,
             Which::P => self.transform.p.next(row, from)?,
         };
         Some((col, self.entry_of(which, row, col)))

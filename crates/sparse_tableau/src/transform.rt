@@ -1,13 +1,13 @@
 //! Row operations on a sparse matrix, with their own matrix.
 
 ghost use Rattle.std.specs.Prelude.{◌≡◌, ◌≢◌, ℕ, ◌+◌, ◌*◌, ◌%◌, ◌<◌, true};
-ghost use Rattle.sparse_q.specs.Tables.{row_count, number_in, HasSize, IsRowSet};
+ghost use Rattle.sparse_q.specs.Tables.{sparse_rows, number_in, HasSize, IsRowSet};
 ghost use Rattle.bit_table.specs.Bits.{bit_in};
 ghost use Rattle.row_table.specs.Reductions.{IsReduced};
-ghost use Rattle.sparse_tableau.specs.Entries.{HasSizeOf};
+ghost use Rattle.row_transform.specs.Entries.{HasSizeOf};
 
-use crate::entries::Entries;
 use residue_field::Field;
+use row_transform::Entries;
 use sparse_q::SparseMat;
 
 // A matrix P to which row operations have led, and the matrix S of these operations.
@@ -20,8 +20,8 @@ pub(crate) struct Transform<F: Field> {
 impl<F: Field> Transform<F> {
     // Multiplies a row by a factor that is not zero.
     fn scale(&mut self, row: usize, factor: F)
-        requires row { row < row_count self.old.p }
-        requires same { row_count self.old.s ≡ row_count self.old.p }
+        requires row { row < sparse_rows self.old.p }
+        requires same { sparse_rows self.old.s ≡ sparse_rows self.old.p }
         requires factor { F.number factor ≢ 0 }
         ensures p { IsRowSet self.old.p self.new.p row (λ j.
             F.number factor * number_in self.old.p row j % F.modulus) }
@@ -34,9 +34,9 @@ impl<F: Field> Transform<F> {
 
     // Adds a multiple of row `source` to row `target`.
     fn add(&mut self, target: usize, source: usize, factor: F)
-        requires target { target < row_count self.old.p }
-        requires source { source < row_count self.old.p }
-        requires same { row_count self.old.s ≡ row_count self.old.p }
+        requires target { target < sparse_rows self.old.p }
+        requires source { source < sparse_rows self.old.p }
+        requires same { sparse_rows self.old.s ≡ sparse_rows self.old.p }
         ensures p { IsRowSet self.old.p self.new.p target (λ j.
             (number_in self.old.p target j + F.number factor * number_in self.old.p source j) % F.modulus) }
         ensures s { IsRowSet self.old.s self.new.s target (λ j.
@@ -48,18 +48,18 @@ impl<F: Field> Transform<F> {
 
     // Makes a column of P the unit column of a row, by row operations. All rows with an entry in the column are listed.
     pub(crate) fn pivot(&mut self, entries: &Entries, row: usize, col: usize)
-        requires row { row < row_count self.old.p }
+        requires row { row < sparse_rows self.old.p }
         requires col { col < self.old.p.width }
-        requires same { row_count self.old.s ≡ row_count self.old.p }
-        requires size { HasSizeOf self.old.p entries.now.bits }
-        requires listed { (i : ℕ) → i < row_count self.old.p → number_in self.old.p i col % F.modulus ≢ 0 →
+        requires same { sparse_rows self.old.s ≡ sparse_rows self.old.p }
+        requires size { HasSizeOf (sparse_rows self.old.p) self.old.p.width entries.now.bits }
+        requires listed { (i : ℕ) → i < sparse_rows self.old.p → number_in self.old.p i col % F.modulus ≢ 0 →
             bit_in entries.now.bits col i ≡ true }
         requires entry { number_in self.old.p row col ≢ 0 }
-        ensures p_size { HasSize (row_count self.old.p) self.old.p.width self.new.p }
-        ensures s_size { HasSize (row_count self.old.s) self.old.s.width self.new.s }
-        ensures p_reduced { IsReduced F.modulus (row_count self.old.p) self.old.p.width (number_in self.old.p)
+        ensures p_size { HasSize (sparse_rows self.old.p) self.old.p.width self.new.p }
+        ensures s_size { HasSize (sparse_rows self.old.s) self.old.s.width self.new.s }
+        ensures p_reduced { IsReduced F.modulus (sparse_rows self.old.p) self.old.p.width (number_in self.old.p)
             (number_in self.new.p) row (λ i. number_in self.old.p i col) }
-        ensures s_reduced { IsReduced F.modulus (row_count self.old.s) self.old.s.width (number_in self.old.s)
+        ensures s_reduced { IsReduced F.modulus (sparse_rows self.old.s) self.old.s.width (number_in self.old.s)
             (number_in self.new.s) row (λ i. number_in self.old.p i col) }
     {
         let entry = self.p.get(row, col);

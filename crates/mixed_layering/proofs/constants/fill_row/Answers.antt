@@ -1,5 +1,5 @@
 use Rattle.std.proofs.Common.{◌≡◌, ◌+◌, ◌-◌, ◌∙◌, length, ap, arith}
-use Rattle.dense_q.specs.Tables.{entry, height, with_entry}
+use Rattle.dense_q.specs.Tables.{entry, height, table_with_entry}
 use Rattle.mixed_model.specs.Models.{constant_at, mixed_matrix_of}
 use Rattle.mixed_layering.specs.Places.{constant_place}
 use Rattle.mixed_layering.proofs.EntryLaws.{row_long, fills-next, fills-same}
@@ -29,10 +29,10 @@ returns-in_ok-put g c =
     (constant_at model c.args.equation) (constant_place (mixed_matrix_of model) split c.args.equation) (omega (arith, c.requires.some))
     (omega (arith, long, c.requires.width, c.in-Some.ensures.within)) c.in_ok-put_constants.ensures.fills
     (c.in_ok-put.ensures.ok
-    ∙ ap (λ h. with_entry c.put_constants.new.q (h - 1) (c.cols.result - length split + place) (g.F.Field.number c.one.result))
+    ∙ ap (λ h. table_with_entry c.put_constants.new.q (h - 1) (c.cols.result - length split + place) (g.F.Field.number c.one.result))
     c.in_ok-put_constants.ensures.fills.size.height_same
-    ∙ ap (λ j. with_entry c.put_constants.new.q (height c.args.q.now - 1) j (g.F.Field.number c.one.result)) column
-    ∙ ap (λ x. with_entry c.put_constants.new.q (height c.args.q.now - 1) (length model.unknowns + place) x) c.one.ensures)
+    ∙ ap (λ j. table_with_entry c.put_constants.new.q (height c.args.q.now - 1) j (g.F.Field.number c.one.result)) column
+    ∙ ap (λ x. table_with_entry c.put_constants.new.q (height c.args.q.now - 1) (length model.unknowns + place) x) c.one.ensures)
     (λ b low. constant_place-some g.F.Field.modulus model c.in_ok-put_constants.ensures.model c.args.equation
     c.requires.equation split place c.requires.split.rising c.in-Some.ensures b
     (omega (arith, low, c.requires.width)))

@@ -1,7 +1,7 @@
 use Rattle.std.proofs.Common.{◌∷◌, ◌++◌, ◌-◌, ◌≤◌, [], length, ap, sym, subst, ◌∙◌, arith}
 use Rattle.std.proofs.lemmas.List.{append_assoc}
 use Rattle.std.specs.Option.{option_map, unwrap_or}
-use Rattle.dense_q.specs.Tables.{entry, height, with_entry}
+use Rattle.dense_q.specs.Tables.{entry, height, table_with_entry}
 use Rattle.mixed_model.specs.Entries.{RowEntry}
 use Rattle.mixed_model.specs.Models.{row_of}
 use Rattle.mixed_model.specs.Rows.{constant_in}
@@ -42,8 +42,8 @@ loop-entry-preserved-in-Continue-1 g c =
           (omega (arith, within, c.requires.width, row_long c.args.q.now (height c.args.q.now - 1) (omega (arith, c.requires.some)) c.requires.matrix))
           c.loop-entry.invariant.filled
           (c.in_ok-put.ensures.ok
-          ∙ ap (λ h. with_entry c.loop-entry.q (h - 1) c.entry.inside.column constant) c.loop-entry.invariant.filled.size.height_same
-          ∙ ap (λ (x : RowEntry). with_entry c.loop-entry.q (height c.args.q.now - 1) x.column constant) c.entry.view_is)
+          ∙ ap (λ h. table_with_entry c.loop-entry.q (h - 1) c.entry.inside.column constant) c.loop-entry.invariant.filled.size.height_same
+          ∙ ap (λ (x : RowEntry). table_with_entry c.loop-entry.q (height c.args.q.now - 1) x.column constant) c.entry.view_is)
           (λ b low. constant-next g.F.Field.modulus (row_of c.args.model.now c.args.equation) seen entry rest row_is.0 split constant
           (sym (ap (λ (x : RowEntry). x.constant) c.entry.view_is) ∙ ap (option_map g.F.Field.number) c.in-Some-constant.is) b);
     }

@@ -2,7 +2,7 @@ use Rattle.std.proofs.Common.{◌≡◌, ℕ, ◌∷◌, ◌++◌, [], length, a
 use Rattle.std.specs.List.Sorted.{IsStrictlyIncreasing}
 use Rattle.std.proofs.lemmas.List.{append_assoc}
 use Rattle.residue_theory.specs.Sets.{has}
-use Rattle.sparse_t.specs.Lists.{IsBelow}
+use Rattle.sparse_t.specs.Lists.{AreAllBelow}
 use Rattle.sparse_t.proofs.ListLaws.{rising-append, below-append}
 use Rattle.mixed_model.specs.Entries.{RowEntry}
 use Rattle.mixed_model.specs.Models.{row_of}
@@ -29,7 +29,7 @@ loop-entry-preserved-in-Continue-1 g c =
       is_finite = tt;
       split = split ∙ sym (append_assoc seen (entry ∷ []) rest);
       rising = subst IsStrictlyIncreasing pushed (rising-append list entry.column c.loop-entry.invariant.rising lower);
-      below = subst (IsBelow columns) pushed (below-append columns columns list entry.column c.loop-entry.invariant.below (omega arith) within);
+      below = subst (AreAllBelow columns) pushed (below-append columns columns list entry.column c.loop-entry.invariant.below (omega arith) within);
       exact = subst (λ items. (j : ℕ) → has items j ≡ symbol_in (seen ++ entry ∷ []) j) pushed
           (exact-next g.F.Field.modulus row seen entry rest row_is.0 split columns row_is.1 list
           c.loop-entry.invariant.exact (sym (ap (λ (x : RowEntry). x.symbol) c.entry.view_is) ∙ c.if-entry.true));

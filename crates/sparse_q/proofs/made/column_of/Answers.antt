@@ -1,7 +1,7 @@
 use Rattle.std.proofs.Common.{ℕ, ◌+◌, ◌∙◌, ap, sym, subst, arith}
 use Rattle.bit_table.specs.Bits.{bit_in}
 use Rattle.sparse_q.specs.Rows.{Row}
-use Rattle.sparse_q.specs.Tables.{row_count, number_in}
+use Rattle.sparse_q.specs.Tables.{sparse_rows, number_in}
 use Rattle.sparse_q.proofs.MadeLaws.{IsFilledTo, filled-next, filled-all, filled-past, past-items, unlisted}
 use Rattle.sparse_q.proofs.made.column_of.Goals as goal
 
@@ -29,8 +29,8 @@ returns-clause-numbers g c =
     let m = c.args.m.now in
     let f : ℕ → ℕ = λ i. number_in m i c.args.j in
     let I = c.loop-i.invariant in
-    filled-all f c.loop-i.column.items (row_count m)
-    (filled-past f c.loop-i.column.items c.loop-i.from (row_count m) I.filled I.within (λ j le l.
+    filled-all f c.loop-i.column.items (sparse_rows m)
+    (filled-past f c.loop-i.column.items c.loop-i.from (sparse_rows m) I.filled I.within (λ j le l.
     unlisted (bit_in c.args.listed.now c.args.j j) (f j)
     (c.in_default.ensures.none j le (omega (arith, l, c.rows-rows.ensures.rows))) (c.requires.listed j l)))
     (λ i le. past-items m i c.args.j le)

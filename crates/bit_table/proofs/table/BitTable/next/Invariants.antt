@@ -1,5 +1,5 @@
 use Rattle.std.proofs.Common.{◌-◌, ◌≤◌}
-use Rattle.number_ranges.specs.Ranges.{HasNone}
+use Rattle.residue_theory.specs.Ranges.{HasNone}
 use Rattle.bit_table.specs.Bits.{bit_of}
 use Rattle.bit_table.proofs.table.BitTable.next.Given as goal
 

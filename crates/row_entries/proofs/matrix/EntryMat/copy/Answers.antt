@@ -1,6 +1,6 @@
 use Rattle.std.proofs.Common.{◌∙◌, ap, subst, sym}
 use Rattle.row_entries.specs.Rows.{items}
-use Rattle.row_entries.specs.Tables.{IsStored, table_of}
+use Rattle.row_entries.specs.Tables.{AreEntryRows, table_of}
 use Rattle.row_entries.proofs.TableLaws.{taken-more, taken-all}
 use Rattle.row_entries.proofs.matrix.EntryMat.copy.Goals as goal
 
@@ -12,7 +12,7 @@ loop-row-preserved g c =
 
 pub invariant_of-result : goal.invariant_of-result
 invariant_of-result g c =
-    subst (IsStored g.F.Field.modulus c.self.inside.width)
+    subst (AreEntryRows g.F.Field.modulus c.self.inside.width)
     (sym (taken-all (λ row. items g.F.Field.number row.items) c.self.inside.rows.items c.deref-row-items.result.now c.loop-row.rows.items
     c.loop-row.row-index c.deref-row-items.ensures.value c.loop-row-test.false c.loop-row.invariant)) c.self.invariant
 

@@ -1,5 +1,5 @@
 use Rattle.std.proofs.Common.{◌∙◌, ◌-◌, ap, arith}
-use Rattle.dense_q.specs.Tables.{entry, height, with_entry}
+use Rattle.dense_q.specs.Tables.{entry, height, table_with_entry}
 use Rattle.row_entries.proofs.TableLaws.{filled-none, filled-put}
 use Rattle.row_entries.proofs.matrix.EntryMat.fill_last.Goals as goal
 
@@ -15,5 +15,5 @@ loop-j-preserved g c =
     (g.F.Field.number c.get.result) (entry c.args.q.now c.args.i) so_far (omega (arith, c.requires.some))
     (omega (arith, c.loop-j-test.true, c.cols-j-end.ensures.cols))
     (c.in_ok-put.ensures.ok
-    ∙ ap (λ h. with_entry c.loop-j.self (h - 1) c.loop-j.j (g.F.Field.number c.get.result)) so_far.size.height_same)
+    ∙ ap (λ h. table_with_entry c.loop-j.self (h - 1) c.loop-j.j (g.F.Field.number c.get.result)) so_far.size.height_same)
     c.get.ensures

@@ -1,7 +1,7 @@
 use Rattle.std.proofs.Common.{◌∙◌, not, eqb, ap, sym, subst, IfNone}
-use Rattle.number_ranges.specs.Ranges.{HasNone, IsLeast}
+use Rattle.residue_theory.specs.Ranges.{HasNone, IsLeast}
 use Rattle.dense_q.specs.Tables.{entry}
-use Rattle.row_entries.specs.Rows.{IsRising, IsRow, has_number, items, number_at}
+use Rattle.row_entries.specs.Rows.{IsRising, IsEntryRow, has_number, items, number_at}
 use Rattle.row_entries.proofs.TableLaws.{row-of, entry-of, least-told, none-told}
 use Rattle.row_entries.proofs.matrix.EntryMat.next.Goals as goal
 
@@ -17,7 +17,7 @@ returns-clause-least g c =
     least-told (λ row. items g.F.Field.number row.items) g.F.Field.modulus c.self.inside.width
     c.self.inside.rows.items c.args.self.now c.self.view_is c.self.invariant c.args.i
     c.args.from c.in_ok-col.col c.index.result.now c.requires.row c.index.ensures
-    (λ p w. subst (λ es. IsRow p w (items g.F.Field.number es) →
+    (λ p w. subst (λ es. IsEntryRow p w (items g.F.Field.number es) →
     IsLeast (has_number (items g.F.Field.number es)) c.args.from w c.in_ok-col.col) c.deref.ensures.value
     (c.in_ok-col.ensures.least p w))
 
@@ -36,5 +36,5 @@ returns-in_err-col-clause-none g c =
     (none-told (λ row. items g.F.Field.number row.items) g.F.Field.modulus c.self.inside.width
     c.self.inside.rows.items c.args.self.now c.self.view_is c.self.invariant c.args.i
     c.args.from c.index.result.now c.requires.row c.index.ensures
-    (λ p w. subst (λ es. IsRow p w (items g.F.Field.number es) → HasNone (has_number (items g.F.Field.number es)) c.args.from w)
+    (λ p w. subst (λ es. IsEntryRow p w (items g.F.Field.number es) → HasNone (has_number (items g.F.Field.number es)) c.args.from w)
     c.deref.ensures.value (c.in_err-col.ensures.none p w)))

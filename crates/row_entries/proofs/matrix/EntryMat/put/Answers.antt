@@ -1,9 +1,9 @@
 use Rattle.std.proofs.Common.{◌≡◌, ◌∙◌, ◌-◌, true, false, ap, subst, sym, arith}
 use Rattle.std.proofs.Common.{Result, Ok, Err, OnErr}
 use Rattle.std.proofs.lemmas.List.{map-append}
-use Rattle.dense_q.specs.Tables.{entry, with_entry, height}
+use Rattle.dense_q.specs.Tables.{entry, table_with_entry, height}
 use Rattle.row_entries.specs.Rows.{items}
-use Rattle.row_entries.specs.Tables.{IsStored, table_of}
+use Rattle.row_entries.specs.Tables.{AreEntryRows, table_of}
 use Rattle.row_entries.proofs.TableLaws.{stored-with, table-with, table-zero, rows-same, height-is}
 use Rattle.row_entries.proofs.matrix.EntryMat.put.Goals as goal
 
@@ -44,7 +44,7 @@ invariant_of-self-in_err-push g c =
       height-is (λ row. items g.F.Field.number row.items) g.F.Field.modulus c.self.inside.width
           c.self.inside.rows.items c.args.self.now c.self.view_is c.self.invariant,
     ) in
-    subst (IsStored g.F.Field.modulus c.self.inside.width)
+    subst (AreEntryRows g.F.Field.modulus c.self.inside.width)
     (sym (rows-same (λ row. items g.F.Field.number row.items) g.F.Field.modulus c.self.inside.width
     c.self.inside.rows.items c.args.self.now c.self.view_is c.self.invariant
     (c.len-last.result - 1) c.index_mut.result.now c.push.new.self (omega (arith, last, c.requires.some))
@@ -85,12 +85,12 @@ returns-in_ok-push-clause-ok g c =
     c.index_mut.ensures.value (g.F.Field.number c.args.value) (λ z. differ (sym c.if-not-is_zero.true ∙ c.is_zero.ensures.1 z))
     (ap (items g.F.Field.number) c.in_ok-push.ensures.items
     ∙ map-append (λ e. record { column = e.column; number = g.F.Field.number e.value }) c.index_mut.result.now.items _)
-    ∙ ap (λ i. with_entry c.args.self.now i c.args.col (g.F.Field.number c.args.value)) last
+    ∙ ap (λ i. table_with_entry c.args.self.now i c.args.col (g.F.Field.number c.args.value)) last
 
 pub returns-else-not-is_zero-clause-ok : goal.returns-else-not-is_zero-clause-ok
 returns-else-not-is_zero-clause-ok g c =
     table-zero (λ row. items g.F.Field.number row.items) g.F.Field.modulus c.self.inside.width
     c.self.inside.rows.items c.args.self.now c.self.view_is c.self.invariant
     (height c.args.self.now - 1) c.args.col (omega (arith, c.requires.some)) c.requires.col c.requires.zero
-    ∙ ap (with_entry c.args.self.now (height c.args.self.now - 1) c.args.col)
+    ∙ ap (table_with_entry c.args.self.now (height c.args.self.now - 1) c.args.col)
     (sym (c.is_zero.ensures.0 c.if-not-is_zero.false))

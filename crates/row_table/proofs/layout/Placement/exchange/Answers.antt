@@ -1,5 +1,5 @@
 use Rattle.std.proofs.Common.{◌∙◌, ap, ◌<◌, ◌≡◌, false, sym, subst}
-use Rattle.row_table.specs.Layouts.{Layout, row_count, all, places}
+use Rattle.row_table.specs.Layouts.{Layout, rows_of_layout, all, layout_places}
 use Rattle.row_table.proofs.LayoutLaws.{read-laid, read-moved, moved-places}
 use Rattle.row_table.proofs.layout.Placement.exchange.Goals as goal
 
@@ -14,9 +14,9 @@ invariant_of-self c =
       slots = c.self.inside.slots.items;
     })
     c.args.row c.args.column c.index-gone.result.now c.index.result.now c.self.invariant
-    (subst (λ (l : Layout). c.args.row < row_count l) (sym c.self.view_is) c.requires.row)
+    (subst (λ (l : Layout). c.args.row < rows_of_layout l) (sym c.self.view_is) c.requires.row)
     (subst (λ (l : Layout). c.args.column < all l) (sym c.self.view_is) c.requires.column)
-    (subst (λ (l : Layout). (places l).is_unit c.args.column ≡ false) (sym c.self.view_is) c.requires.other)
+    (subst (λ (l : Layout). (layout_places l).is_unit c.args.column ≡ false) (sym c.self.view_is) c.requires.other)
     c.index-gone.ensures c.index.ensures
 
 pub returns-clause-moved : goal.returns-clause-moved
@@ -29,12 +29,12 @@ returns-clause-moved c =
       slots = c.self.inside.slots.items;
     })
     c.args.row c.args.column c.index-gone.result.now c.index.result.now c.self.invariant
-    (subst (λ (l : Layout). c.args.row < row_count l) (sym c.self.view_is) c.requires.row)
+    (subst (λ (l : Layout). c.args.row < rows_of_layout l) (sym c.self.view_is) c.requires.row)
     (subst (λ (l : Layout). c.args.column < all l) (sym c.self.view_is) c.requires.column)
     c.index-gone.ensures c.index.ensures)
 
 pub returns-clause-exchanged : goal.returns-clause-exchanged
-returns-clause-exchanged c = ap (λ (l : Layout). places l) (returns-clause-moved c)
+returns-clause-exchanged c = ap (λ (l : Layout). layout_places l) (returns-clause-moved c)
     ∙ (rw (← c.self.view_is)
     (moved-places (record {
       columns = c.self.inside.columns;
@@ -45,5 +45,5 @@ returns-clause-exchanged c = ap (λ (l : Layout). places l) (returns-clause-move
       slots = c.self.inside.slots.items;
     })
     c.args.row c.args.column c.self.invariant
-    (subst (λ (l : Layout). c.args.row < row_count l) (sym c.self.view_is) c.requires.row)
+    (subst (λ (l : Layout). c.args.row < rows_of_layout l) (sym c.self.view_is) c.requires.row)
     (subst (λ (l : Layout). c.args.column < all l) (sym c.self.view_is) c.requires.column)))

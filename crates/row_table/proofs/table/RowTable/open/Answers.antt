@@ -1,15 +1,15 @@
 use Rattle.std.proofs.Common.{arith, ap, ◌∙◌, subst}
 use Rattle.dense_q.specs.Tables.{Table, height}
-use Rattle.row_table.specs.Layouts.{places, IsFirst}
+use Rattle.row_table.specs.Layouts.{layout_places, IsFirst}
 use Rattle.row_table.proofs.RowTableLaws.{opened-combined, opened-p, opened-s, opened-u}
 use Rattle.row_table.proofs.table.RowTable.open.Goals as goal
 
 pub invariant_of-result : goal.invariant_of-result
 invariant_of-result g c =
     let q : Table = c.args.q.now in
-    let first : IsFirst (height q) q.width (places c.in_ok-places.places) =
-    subst (λ m. IsFirst m q.width (places c.in_ok-places.places)) c.rows-rows.ensures.rows
-    (subst (λ n. IsFirst c.rows-rows.result n (places c.in_ok-places.places)) c.cols-columns.ensures.cols
+    let first : IsFirst (height q) q.width (layout_places c.in_ok-places.places) =
+    subst (λ m. IsFirst m q.width (layout_places c.in_ok-places.places)) c.rows-rows.ensures.rows
+    (subst (λ n. IsFirst c.rows-rows.result n (layout_places c.in_ok-places.places)) c.cols-columns.ensures.cols
     c.in_ok-places.ensures.first) in (
       opened-combined g.F.Field.modulus g.met.F.Field.prime (record {
         q = c.in_ok-copy.field-0;
@@ -32,9 +32,9 @@ invariant_of-result g c =
 pub returns-clause-p : goal.returns-clause-p
 returns-clause-p g c =
     let q : Table = c.args.q.now in
-    let first : IsFirst (height q) q.width (places c.in_ok-places.places) =
-    subst (λ m. IsFirst m q.width (places c.in_ok-places.places)) c.rows-rows.ensures.rows
-    (subst (λ n. IsFirst c.rows-rows.result n (places c.in_ok-places.places)) c.cols-columns.ensures.cols
+    let first : IsFirst (height q) q.width (layout_places c.in_ok-places.places) =
+    subst (λ m. IsFirst m q.width (layout_places c.in_ok-places.places)) c.rows-rows.ensures.rows
+    (subst (λ n. IsFirst c.rows-rows.result n (layout_places c.in_ok-places.places)) c.cols-columns.ensures.cols
     c.in_ok-places.ensures.first) in
     opened-p g.F.Field.modulus g.met.F.Field.prime (record {
       q = c.in_ok-copy.field-0;
@@ -47,9 +47,9 @@ returns-clause-p g c =
 pub returns-clause-s : goal.returns-clause-s
 returns-clause-s g c =
     let q : Table = c.args.q.now in
-    let first : IsFirst (height q) q.width (places c.in_ok-places.places) =
-    subst (λ m. IsFirst m q.width (places c.in_ok-places.places)) c.rows-rows.ensures.rows
-    (subst (λ n. IsFirst c.rows-rows.result n (places c.in_ok-places.places)) c.cols-columns.ensures.cols
+    let first : IsFirst (height q) q.width (layout_places c.in_ok-places.places) =
+    subst (λ m. IsFirst m q.width (layout_places c.in_ok-places.places)) c.rows-rows.ensures.rows
+    (subst (λ n. IsFirst c.rows-rows.result n (layout_places c.in_ok-places.places)) c.cols-columns.ensures.cols
     c.in_ok-places.ensures.first) in
     opened-s g.F.Field.modulus g.met.F.Field.prime (record {
       q = c.in_ok-copy.field-0;
@@ -62,9 +62,9 @@ returns-clause-s g c =
 pub returns-clause-u : goal.returns-clause-u
 returns-clause-u g c =
     let q : Table = c.args.q.now in
-    let first : IsFirst (height q) q.width (places c.in_ok-places.places) =
-    subst (λ m. IsFirst m q.width (places c.in_ok-places.places)) c.rows-rows.ensures.rows
-    (subst (λ n. IsFirst c.rows-rows.result n (places c.in_ok-places.places)) c.cols-columns.ensures.cols
+    let first : IsFirst (height q) q.width (layout_places c.in_ok-places.places) =
+    subst (λ m. IsFirst m q.width (layout_places c.in_ok-places.places)) c.rows-rows.ensures.rows
+    (subst (λ n. IsFirst c.rows-rows.result n (layout_places c.in_ok-places.places)) c.cols-columns.ensures.cols
     c.in_ok-places.ensures.first) in
     opened-u g.F.Field.modulus g.met.F.Field.prime (record {
       q = c.in_ok-copy.field-0;

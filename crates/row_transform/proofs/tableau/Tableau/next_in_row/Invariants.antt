@@ -1,4 +1,4 @@
-use Rattle.number_ranges.specs.Ranges.{HasNone}
+use Rattle.residue_theory.specs.Ranges.{HasNone}
 use Rattle.row_transform.specs.Tableaus.{has_entry_of}
 use Rattle.row_transform.proofs.tableau.Tableau.next_in_row.Given as goal
 

@@ -1,7 +1,7 @@
 use Rattle.std.proofs.Common.{◌<◌, ◌∙◌, arith, ap, length, slice_index_or, sym}
 use Rattle.std.proofs.lemmas.List.{length-map}
 use Rattle.sparse_q.specs.Rows.{Row}
-use Rattle.sparse_q.specs.Tables.{SparseTable, row_count}
+use Rattle.sparse_q.specs.Tables.{SparseTable, sparse_rows}
 use Rattle.sparse_q.proofs.TableLaws.{row-at}
 use Rattle.sparse_q.proofs.MadeLaws.{dense-none, dense-next, dense-all}
 use Rattle.sparse_q.proofs.matrix.SparseMat.dense.Goals as goal
@@ -9,14 +9,14 @@ use Rattle.sparse_q.proofs.matrix.SparseMat.dense.Goals as goal
 pub loop-i-init : goal.loop-i-init
 loop-i-init g c = dense-none c.args.self.now c.in_ok-m.m c.len.result c.self.inside.width c.in_ok-m.ensures
     (c.len.ensures ∙ c.self.inside.rows.ok.0 ∙ sym (length-map c.self.inside.rows.items (λ (r : Row). r.items))
-    ∙ ap row_count c.self.view_is) (ap (λ (t : SparseTable). t.width) c.self.view_is)
+    ∙ ap sparse_rows c.self.view_is) (ap (λ (t : SparseTable). t.width) c.self.view_is)
 
 pub put_into-requires-clause-row : goal.put_into-requires-clause-row
 put_into-requires-clause-row g c =
     omega (
       arith,
       c.loop-i.invariant.tall,
-      ap row_count c.self.view_is,
+      ap sparse_rows c.self.view_is,
       length-map c.self.inside.rows.items
           (λ (r : Row). r.items),
       ap (λ rs. length rs) c.deref-row-items.ensures.value,
@@ -36,9 +36,9 @@ put_into-requires-clause-zero g c j = c.loop-i.invariant.rest c.loop-i.i j (omeg
 
 pub loop-i-preserved : goal.loop-i-preserved
 loop-i-preserved g c =
-    let less : c.loop-i.i < row_count c.args.self.now = omega (
+    let less : c.loop-i.i < sparse_rows c.args.self.now = omega (
       arith,
-      ap row_count c.self.view_is,
+      ap sparse_rows c.self.view_is,
       length-map
           c.self.inside.rows.items (λ (r : Row). r.items),
       ap (λ rs. length rs) c.deref-row-items.ensures.value,
@@ -53,7 +53,7 @@ pub returns : goal.returns
 returns g c = dense-all c.args.self.now c.loop-i.m c.loop-i.i c.loop-i.invariant
     (omega (
       arith,
-      ap row_count c.self.view_is,
+      ap sparse_rows c.self.view_is,
       length-map c.self.inside.rows.items (λ (r : Row). r.items),
       ap (λ rs. length rs) c.deref-row-items.ensures.value,
     ))

@@ -1,13 +1,13 @@
 use Rattle.std.proofs.Common.{subst}
-use Rattle.row_transform.specs.Tableaus.{AreParts}
-use Rattle.sparse_tableau.specs.Sparse.{Sparse, state_of}
+use Rattle.row_transform.specs.Tableaus.{AreTableauParts}
+use Rattle.sparse_tableau.specs.Sparse.{Sparse, sparse_state}
 use Rattle.sparse_tableau.proofs.SparseLaws.{parts-are}
 use Rattle.sparse_tableau.proofs.sparse.SparseTableauTableau.parts.Goals as goal
 
 pub returns : goal.returns
 returns g c =
     let inside = c.self.inside in
-    subst (λ (t : Sparse). AreParts (state_of t) c.in_ok-s.s c.in_ok-u.u c.in_ok-p.p) c.self.view_is
+    subst (λ (t : Sparse). AreTableauParts (sparse_state t) c.in_ok-s.s c.in_ok-u.u c.in_ok-p.p) c.self.view_is
     (parts-are g.F.Field.modulus (record {
       q = inside.columns;
       p = inside.transform.p;

@@ -1,7 +1,7 @@
 use Rattle.std.proofs.Common.{◌≡◌, ◌⊎◌, ◌+◌, ◌*◌, ◌%◌, ◌<◌, ◌≤◌, ℕ, inl, inr, arith, sym, subst, ◌∙◌}
 use Rattle.residue_theory.proofs.SumLaws.{nat_cases}
 use Rattle.residue_theory.proofs.SetLaws.{differ}
-use Rattle.sparse_q.specs.Tables.{row_count, number_in}
+use Rattle.sparse_q.specs.Tables.{sparse_rows, number_in}
 use Rattle.sparse_tableau.proofs.TransformLaws.{reduced-scaled, reduced-past, reduced-skip, reduced-add, reduced-all, size-set, some-factor}
 use Rattle.sparse_tableau.proofs.transform.Transform.pivot.Goals as goal
 use Rattle.sparse_tableau.proofs.transform.Transform.pivot.Goals.{then-i-row+then-not-is_zero, else-i-row, else-i-row-via-then-i-row+else-not-is_zero, else-i-row-via-else-i-row}
@@ -39,7 +39,7 @@ loop-i-preserved g c =
     let k : ℕ → ℕ = λ i. number_in first.p i c.args.col in
     let L = c.in-Some.ensures.least in
     let from = c.loop-i.from in
-    let small : c.in-Some.i < row_count first.p = omega (arith, L.before_end, c.rows-rows.ensures.rows, c.scale.ensures.p.size.rows_are) in
+    let small : c.in-Some.i < sparse_rows first.p = omega (arith, L.before_end, c.rows-rows.ensures.rows, c.scale.ensures.p.size.rows_are) in
     let past : (j : ℕ) → from ≤ j → j < c.in-Some.i → (j ≡ c.args.row) ⊎ (k j % modulus ≡ 0) =
     λ j le less. elim (nat_cases (k j % modulus) 0) [
       | inl z ↦ inr z
@@ -55,9 +55,9 @@ loop-i-preserved g c =
           subst (λ x. (x + g.F.Field.number w.neg.result) % modulus ≡ 0) is w.neg.ensures.negative in
           rw w.self-is (record {
             within = omega (arith, small);
-            p_size = size-set (row_count first.p) first.p.width old.p w.add.new.self.p c.in-Some.i _ inv.p_size
+            p_size = size-set (sparse_rows first.p) first.p.width old.p w.add.new.self.p c.in-Some.i _ inv.p_size
                 w.add.ensures.p;
-            s_size = size-set (row_count first.s) first.s.width old.s w.add.new.self.s c.in-Some.i _ inv.s_size
+            s_size = size-set (sparse_rows first.s) first.s.width old.s w.add.new.self.s c.in-Some.i _ inv.s_size
                 w.add.ensures.s;
             on_p = reduced-add modulus (number_in first.p) (number_in old.p) c.args.row k c.in-Some.i on_p
                 (number_in w.add.new.self.p)
@@ -89,13 +89,13 @@ returns-clause-p_reduced g c =
     let first = c.args.self.now in
     let k : ℕ → ℕ = λ i. number_in first.p i c.args.col in
     let inv = c.loop-i.invariant in
-    reduced-all modulus (number_in first.p) (number_in c.loop-i.self.p) c.args.row k (row_count first.p)
+    reduced-all modulus (number_in first.p) (number_in c.loop-i.self.p) c.args.row k (sparse_rows first.p)
     (reduced-past modulus (number_in first.p) (number_in c.loop-i.self.p) c.args.row k c.loop-i.from inv.on_p
-    (row_count first.p) inv.within (λ j le less. elim (nat_cases (k j % modulus) 0) [
+    (sparse_rows first.p) inv.within (λ j le less. elim (nat_cases (k j % modulus) 0) [
       | inl z ↦ inr z
       | inr ne ↦ absurd (differ (c.in_default.ensures.none j le (omega (arith, less, c.rows-rows.ensures.rows, c.scale.ensures.p.size.rows_are)))
           (c.requires.listed j less ne))
-    ])) (row_count first.p) first.p.width (omega arith)
+    ])) (sparse_rows first.p) first.p.width (omega arith)
 
 pub returns-clause-s_reduced : goal.returns-clause-s_reduced
 returns-clause-s_reduced g c =
@@ -103,10 +103,10 @@ returns-clause-s_reduced g c =
     let first = c.args.self.now in
     let k : ℕ → ℕ = λ i. number_in first.p i c.args.col in
     let inv = c.loop-i.invariant in
-    reduced-all modulus (number_in first.s) (number_in c.loop-i.self.s) c.args.row k (row_count first.p)
+    reduced-all modulus (number_in first.s) (number_in c.loop-i.self.s) c.args.row k (sparse_rows first.p)
     (reduced-past modulus (number_in first.s) (number_in c.loop-i.self.s) c.args.row k c.loop-i.from inv.on_s
-    (row_count first.p) inv.within (λ j le less. elim (nat_cases (k j % modulus) 0) [
+    (sparse_rows first.p) inv.within (λ j le less. elim (nat_cases (k j % modulus) 0) [
       | inl z ↦ inr z
       | inr ne ↦ absurd (differ (c.in_default.ensures.none j le (omega (arith, less, c.rows-rows.ensures.rows, c.scale.ensures.p.size.rows_are)))
           (c.requires.listed j less ne))
-    ])) (row_count first.s) first.s.width (omega (arith, c.requires.same))
+    ])) (sparse_rows first.s) first.s.width (omega (arith, c.requires.same))

@@ -1,0 +1,15 @@
+use Rattle.std.proofs.Common.{arith, length, ap, None}
+use Rattle.std.proofs.lemmas.List.{get_or_read_under}
+use Rattle.number_pairs.specs.Pairs.{PairLists}
+use Rattle.number_pairs.proofs.PairLaws.{some-below}
+use Rattle.number_pairs.proofs.pairs.NumberPairs.right_of.Goals as goal
+
+pub returns-clause-below : goal.returns-clause-below
+returns-clause-below c =
+    rw (← c.self.view_is)
+    (some-below c.self.inside.rights.items c.self.inside.lefts.items c.args.left c.index.result.now
+    c.self.invariant.rights_point
+    (get_or_read_under c.self.inside.rights.items c.args.left c.self.inside.rights.len c.index.result.now None
+    c.index.ensures
+    (omega (arith, c.self.inside.rights.ok.0, ap (λ (p : PairLists). length p.rights) c.self.view_is))
+    c.self.inside.rights.ok.0))

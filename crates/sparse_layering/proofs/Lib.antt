@@ -1,4 +1,0 @@
-pub mod EntryPush
-pub mod PrintedRows
-pub mod ConstantRows
-pub mod LayerLaws

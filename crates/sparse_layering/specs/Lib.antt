@@ -1,2 +1,0 @@
-pub mod Matrices
-pub mod Layers

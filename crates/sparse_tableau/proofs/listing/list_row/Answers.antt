@@ -1,0 +1,31 @@
+use Rattle.std.proofs.Common.{◌∙◌, subst}
+use Rattle.bit_table.specs.Bits.{bit_in, IsBitSet}
+use Rattle.sparse_q.specs.Tables.{sparse_rows, number_in}
+use Rattle.row_transform.proofs.EntryLaws.{row_listed-next, row_listed-all}
+use Rattle.sparse_tableau.proofs.listing.list_row.Goals as goal
+
+pub loop-col-preserved : goal.loop-col-preserved
+loop-col-preserved g c =
+    let m = c.args.m.now in
+    let inv = c.loop-col.invariant in
+    let now = bit_in c.loop-col.entries.bits in
+    record {
+      size = record {
+        columns_are = c.set.ensures.rows ∙ inv.size.columns_are;
+        rows_are = c.set.ensures.size ∙ inv.size.rows_are;
+      };
+      so_far = row_listed-next (sparse_rows m) m.width (number_in m) (bit_in c.args.entries.now.bits) now
+          (bit_in c.set.new.self) c.args.row c.loop-col.from c.in-Some.col inv.so_far c.requires.row
+          c.in-Some.ensures.least
+          (subst (λ k. IsBitSet now (bit_in c.set.new.self) k c.in-Some.col c.args.row) inv.size.rows_are
+          c.set.ensures.set);
+    }
+
+pub returns-clause-listed : goal.returns-clause-listed
+returns-clause-listed g c =
+    let m = c.args.m.now in
+    row_listed-all (sparse_rows m) m.width (number_in m) (bit_in c.args.entries.now.bits)
+    (bit_in c.loop-col.entries.bits) c.args.row c.loop-col.from c.loop-col.invariant.so_far c.in_default.ensures.none
+
+pub returns-clause-kept : goal.returns-clause-kept
+returns-clause-kept g c = c.loop-col.invariant.so_far.kept
