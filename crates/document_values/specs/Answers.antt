@@ -9,15 +9,15 @@ use Rattle.refusals.specs.declared.Refused.{Refused as Refusal}
 use Rattle.refusals.specs.declared.Why.{Why}
 
 -- The answer is the wanted one, of whose value it holds what `see` sees.
-abbrev pub Gives : {V T : Type 0} → (V → T) → Result V Why → Result T Why → Type 0
-Gives see (Ok value) wanted = wanted ≡ Ok (see value)
-Gives see (Err why) wanted = wanted ≡ Err why
+abbrev pub GivesAnswer : {V T : Type 0} → (V → T) → Result V Why → Result T Why → Type 0
+GivesAnswer see (Ok value) wanted = wanted ≡ Ok (see value)
+GivesAnswer see (Err why) wanted = wanted ≡ Err why
 
 -- The answer is the wanted one, of whose value it holds what `see` sees; or memory ran out.
-abbrev pub Answers : {V T : Type 0} → (V → T) → Result V Fault → Result T Why → Type 0
-Answers see (Ok value) wanted = wanted ≡ Ok (see value)
-Answers see (Err (Broken why)) wanted = wanted ≡ Err why
-Answers see (Err NoMemory) wanted = Unit {0}
+abbrev pub AnswersAs : {V T : Type 0} → (V → T) → Result V Fault → Result T Why → Type 0
+AnswersAs see (Ok value) wanted = wanted ≡ Ok (see value)
+AnswersAs see (Err (Broken why)) wanted = wanted ≡ Err why
+AnswersAs see (Err NoMemory) wanted = Unit {0}
 
 -- and with the place of a broken rule
 abbrev pub Reads : {V T : Type 0} → (V → T) → Result V ReadModel → Result T Refusal → Type 0

@@ -30,8 +30,8 @@ due key table = some_or Missing (get_member key table)
 abbrev pub text_of : Data → Result (List ℕ) Why
 text_of datum = some_or BadValue (as_str datum)
 
-abbrev pub table_of : Data → Result Members Why
-table_of datum = some_or BadValue (as_table datum)
+abbrev pub members_of_value : Data → Result Members Why
+members_of_value datum = some_or BadValue (as_table datum)
 
 abbrev pub list_of : Data → Result (List Data) Why
 list_of datum = some_or BadValue (option_map items_in (as_array datum))
@@ -45,10 +45,10 @@ abbrev pub list_of_length : ℕ → Data → Result (List Data) Why
 list_of_length count datum = list_of datum >>= (λ items. keeping (nat_eq (length items) count) BadValue items)
 
 -- the residue of a number: a whole one, or one that a string tells
-abbrev pub number_in : ℕ → Data → Result ℕ Why
-number_in p (integer whole) = integer_of p whole
-number_in p (string text) = number_of p text
-number_in p _ = Err BadValue
+abbrev pub residue_in : ℕ → Data → Result ℕ Why
+residue_in p (integer whole) = integer_of p whole
+residue_in p (string text) = number_of p text
+residue_in p _ = Err BadValue
 
 -- a new short name, beside these
 abbrev pub new_name : List (List ℕ) → Data → Result (List ℕ) Why
@@ -73,4 +73,4 @@ declared_names declared before items = each (λ found. declared_name declared (b
 
 -- the residues of numbers
 abbrev pub numbers_in : ℕ → List Data → Result (List ℕ) Why
-numbers_in p items = each (λ found. number_in p) [] items
+numbers_in p items = each (λ found. residue_in p) [] items

@@ -8,8 +8,8 @@ ghost use Rattle.std.specs.String.{string_bytes};
 ghost use Rattle.mixed_model.specs.Names.{has_name};
 ghost use Rattle.toml.specs.Data.{get_member};
 ghost use Rattle.toml.specs.View.{table_view, view};
-ghost use Rattle.document_values.specs.Answers.{Answers, Gives};
-ghost use Rattle.document_values.specs.Values.{declared_name, declared_names, due, has_only, list_of, list_of_length, list_with, new_name, number_in, numbers_in, table_of, text_of};
+ghost use Rattle.document_values.specs.Answers.{AnswersAs, GivesAnswer};
+ghost use Rattle.document_values.specs.Values.{declared_name, declared_names, due, has_only, list_of, list_of_length, list_with, new_name, residue_in, numbers_in, members_of_value, text_of};
 ghost use Rattle.document_values.specs.Words.{texts};
 
 use crate::names::{Declared, NameSet};
@@ -21,21 +21,21 @@ use toml::{Table, Value};
 
 /// The text that a value is.
 pub fn text(value: &Value) -> Result<&str, Why>
-    ensures { Gives (λ text. text.now) result (text_of (view value.now)) }
+    ensures { GivesAnswer (λ text. text.now) result (text_of (view value.now)) }
 {
     value.as_str().ok_or(Why::BadValue)
 }
 
 /// The table that a value is.
 pub fn table(value: &Value) -> Result<&Table, Why>
-    ensures { Gives (λ table. table_view table.now) result (table_of (view value.now)) }
+    ensures { GivesAnswer (λ table. table_view table.now) result (members_of_value (view value.now)) }
 {
     value.as_table().ok_or(Why::BadValue)
 }
 
 /// The list that a value is.
 pub fn list(value: &Value) -> Result<&[Value], Why>
-    ensures { Gives (λ items. map view items.now) result (list_of (view value.now)) }
+    ensures { GivesAnswer (λ items. map view items.now) result (list_of (view value.now)) }
 {
     match value.as_array() {
         Some(items) => Ok(items),
@@ -45,7 +45,7 @@ pub fn list(value: &Value) -> Result<&[Value], Why>
 
 /// A list of at least so many items.
 pub fn list_with(value: &Value, least: usize) -> Result<&[Value], Why>
-    ensures { Gives (λ items. map view items.now) result (list_with least (view value.now)) }
+    ensures { GivesAnswer (λ items. map view items.now) result (list_with least (view value.now)) }
 {
     let items = list(value)?;
     if items.len() < least {
@@ -56,7 +56,7 @@ pub fn list_with(value: &Value, least: usize) -> Result<&[Value], Why>
 
 /// A list of so many items.
 pub fn list_of_length(value: &Value, count: usize) -> Result<&[Value], Why>
-    ensures { Gives (λ items. map view items.now) result (list_of_length count (view value.now)) }
+    ensures { GivesAnswer (λ items. map view items.now) result (list_of_length count (view value.now)) }
 {
     let items = list(value)?;
     if items.len() != count {
@@ -74,14 +74,14 @@ pub fn find<'t>(table: &'t Table, key: &str) -> Option<&'t Value>
 
 /// The value at a key that is due.
 pub fn due<'t>(table: &'t Table, key: &str) -> Result<&'t Value, Why>
-    ensures { Gives (λ value. view value.now) result (due key.now (table_view table.now)) }
+    ensures { GivesAnswer (λ value. view value.now) result (due key.now (table_view table.now)) }
 {
     table.get(key).ok_or(Why::Missing)
 }
 
 /// The number that a value is.
 pub fn number<F: Field>(value: &Value) -> Result<F, Why>
-    ensures { Gives F.number result (number_in F.modulus (view value.now)) }
+    ensures { GivesAnswer F.number result (residue_in F.modulus (view value.now)) }
 {
     if let Some(text) = value.as_str() {
         return number_of(text);
@@ -94,7 +94,7 @@ pub fn number<F: Field>(value: &Value) -> Result<F, Why>
 
 /// The numbers that some values are.
 pub fn numbers<F: Field>(alloc: Global, items: &[Value]) -> Result<Vec<F>, Fault>
-    ensures { Answers (λ numbers. map F.number numbers.items) result (numbers_in F.modulus (map view items.now)) }
+    ensures { AnswersAs (λ numbers. map F.number numbers.items) result (numbers_in F.modulus (map view items.now)) }
 {
     let mut numbers = Vec::new(alloc);
     for item in items {
@@ -105,7 +105,7 @@ pub fn numbers<F: Field>(alloc: Global, items: &[Value]) -> Result<Vec<F>, Fault
 
 /// A new name, beside these.
 pub fn new_name<'v>(names: &NameSet, value: &'v Value) -> Result<&'v str, Why>
-    ensures { Gives (λ name. name.now) result (new_name names.now (view value.now)) }
+    ensures { GivesAnswer (λ name. name.now) result (new_name names.now (view value.now)) }
 {
     let name = text(value)?;
     short_name(name)?;
@@ -121,7 +121,7 @@ pub fn declared_name<'v, D: Declared>(
     before: &NameSet,
     value: &'v Value,
 ) -> Result<&'v str, Why>
-    ensures { Gives (λ name. name.now) result (declared_name (D.names declared.now) before.now (view value.now)) }
+    ensures { GivesAnswer (λ name. name.now) result (declared_name (D.names declared.now) before.now (view value.now)) }
 {
     let name = text(value)?;
     if !declared.declares(name) {
@@ -140,7 +140,7 @@ pub fn declared_names<D: Declared>(
     before: &mut NameSet,
     items: &[Value],
 ) -> Result<Vec<String>, Fault>
-    ensures names { Answers (λ names. map string_bytes names.items) result
+    ensures names { AnswersAs (λ names. map string_bytes names.items) result
         (declared_names (D.names declared.now) before.old (map view items.now)) }
     ensures before { IfOk result (λ names. before.new ≡ before.old ++ map string_bytes names.items) }
 {

@@ -13,7 +13,7 @@ use Rattle.line_lexer.proofs.ResidueLaws.{residue_read}
 use Rattle.unit_equations.specs.declared.version.Version.TheVariants.{Two}
 use Rattle.unit_equations.specs.Kinds.{tee}
 use Rattle.flowsheet_reader.specs.Models.{BreaksFirst}
-use Rattle.flowsheet_reader.specs.Sheets.{Sheet, sheet_without_units, with_unit}
+use Rattle.flowsheet_reader.specs.Sheets.{Sheet, sheet_without_units, sheet_with_unit}
 use Rattle.flowsheet_examples.specs.Examples.{IsRefusedFor, ReadsAs, separator_sheet, separator_text, tee_sheet, tee_text}
 
 pub separator_read : (p : ℕ) → ReadsAs p separator_text (separator_sheet p)
@@ -48,7 +48,7 @@ one_fraction = (_, refl, refl)
 abbrev tee_with : ℕ → ℕ → Sheet
 tee_with first second =
     let streams : List (List ℕ) = codes "s2" ∷ codes "s3" ∷ codes "s4" ∷ [] in
-    with_unit (sheet_without_units Two (codes "A" ∷ []) (codes "s1" ∷ streams)) (codes "T")
+    sheet_with_unit (sheet_without_units Two (codes "A" ∷ []) (codes "s1" ∷ streams)) (codes "T")
     (tee 65521 Two (codes "A" ∷ []) (codes "T") (codes "s1") streams (first ∷ second ∷ []))
 
 abbrev residue : ℕ → ℕ

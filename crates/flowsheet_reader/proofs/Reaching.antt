@@ -21,8 +21,8 @@ use Rattle.flowsheet_reader.specs.Keeping.{KeptSheet, scope_of_kept}
 use Rattle.unit_equations.specs.Kinds.{flows}
 use Rattle.flowsheet_reader.specs.Models.{component_in, new_stream, stream_in, unit_at, units_in}
 use Rattle.unit_equations.specs.Parts.{UnitPart, system_of, together}
-use Rattle.flowsheet_reader.specs.Reached.{AreListed, IsReached, Keeps}
-use Rattle.flowsheet_reader.specs.Sheets.{Sheet, has_room, scope_of, sheet_without_units, with_unit}
+use Rattle.flowsheet_reader.specs.Reached.{AreGivenByItems, IsReached, Keeps}
+use Rattle.flowsheet_reader.specs.Sheets.{Sheet, has_system_room, scope_of, sheet_without_units, sheet_with_unit}
 use Rattle.flowsheet_reader.specs.Units.{add_unit, extended, unit_in}
 use Rattle.document_values.specs.Values.{each, new_name}
 use Rattle.unit_equations.proofs.EquationNames.{names_of}
@@ -81,10 +81,10 @@ streams-few components found (datum ∷ items) names kept few =
     streams-few components (found ++ name ∷ []) items names last (new_stream-new components found datum name
     (at-Ok (Place.Stream (length found + 1)) (new_stream components found datum) name first)).1
 
-pub listed-few : (components streams : List (List ℕ)) → AreListed components streams → length (flows components streams) ≤ 4096
+pub listed-few : (components streams : List (List ℕ)) → AreGivenByItems components streams → length (flows components streams) ≤ 4096
 listed-few components streams listed = streams-few components [] listed.stream_items streams listed.streams_are (omega arith)
 
-pub listed-sound : (version : Version) (components streams : List (List ℕ)) → AreListed components streams →
+pub listed-sound : (version : Version) (components streams : List (List ℕ)) → AreGivenByItems components streams →
     IsSound (sheet_without_units version components streams)
 listed-sound version components streams listed =
     let first = named component_in component-new [] listed.component_items components listed.components_are tt tt in
@@ -92,7 +92,7 @@ listed-sound version components streams listed =
     sound-start version components streams first.0 first.1 second.0 second.1
 
 -- room for a part tells how many equations it has
-room-few : (sheet : Sheet) (unit : List ℕ) (part : UnitPart) → has_room (with_unit sheet unit part).system ≡ true → length part.equations < 2 ^ 64
+room-few : (sheet : Sheet) (unit : List ℕ) (part : UnitPart) → has_system_room (sheet_with_unit sheet unit part).system ≡ true → length part.equations < 2 ^ 64
 room-few sheet unit part room = by (leb (length (sheet.system.equations ++ names_of part.equations)) 4096) refl room
   where
     by : (b : Bool) → leb (length (sheet.system.equations ++ names_of part.equations)) 4096 ≡ b →
@@ -106,7 +106,7 @@ room-few sheet unit part room = by (leb (length (sheet.system.equations ++ names
 add-sound : (p : ℕ) (sheet next : Sheet) (datum : Data) → 2 < p → IsSound sheet → add_unit p sheet datum ≡ Ok next → IsSound next
 add-sound p sheet next datum odd sound kept =
     let (unit, first, last) = chain-Ok (unit_in p (scope_of sheet) datum) (extended sheet) next kept in
-    let is = keeping-Ok (has_room (with_unit sheet unit.0 unit.1).system) TooMany (with_unit sheet unit.0 unit.1) next last in
+    let is = keeping-Ok (has_system_room (sheet_with_unit sheet unit.0 unit.1).system) TooMany (sheet_with_unit sheet unit.0 unit.1) next last in
     let added = unit-kept p sheet datum unit.0 unit.1 odd sound first (room-few sheet unit.0 unit.1 is.0) in
     subst IsSound is.1 (sound-more p sheet unit.0 unit.1 sound added.0 added.1)
 
@@ -167,10 +167,10 @@ module _ (p : ℕ) (odd : 2 < p) (kept : KeptSheet) (sheet : Sheet) (keeps : Kee
       (4096 < length (kept.model.unknowns ++ part.unknowns)) → add_unit p sheet datum ≡ Err TooMany
   unit-full over =
       then (unit_in p (scope_of sheet) datum) (extended sheet) (unit, part) told
-      ∙ ap (λ b. keeping b TooMany (with_unit sheet unit part)) (no-room over)
+      ∙ ap (λ b. keeping b TooMany (sheet_with_unit sheet unit part)) (no-room over)
     where
       no-room : (4096 < length (kept.model.equations ++ names_of part.equations)) ⊎
-          (4096 < length (kept.model.unknowns ++ part.unknowns)) → has_room (with_unit sheet unit part).system ≡ false
+          (4096 < length (kept.model.unknowns ++ part.unknowns)) → has_system_room (sheet_with_unit sheet unit part).system ≡ false
       no-room (inl many) = ap (λ b. b && leb (length (sheet.system.unknowns ++ part.unknowns)) 4096)
           (lt-leb (length (sheet.system.equations ++ names_of part.equations)) 4096
           (subst (λ names. 4096 < length (names ++ names_of part.equations)) keeps.model.equations_are many))
@@ -187,19 +187,19 @@ module _ (p : ℕ) (odd : 2 < p) (kept : KeptSheet) (sheet : Sheet) (keeps : Kee
   module _ (new : KeptSheet) (model : IsModelOf p (together sheet.system (system_of part)) new.model)
       (version : new.version ≡ kept.version) (components : new.components ≡ kept.components)
       (streams : new.streams ≡ kept.streams) (units : new.units ≡ kept.units ++ unit ∷ []) where
-    has-room : has_room (with_unit sheet unit part).system ≡ true
+    has-room : has_system_room (sheet_with_unit sheet unit part).system ≡ true
     has-room = (λ i.
         le-leb (length (sheet.system.equations ++ names_of part.equations)) 4096
         (subst (λ names. length names ≤ 4096) model.equations_are model.is_model.equations.few) i
         && le-leb (length (sheet.system.unknowns ++ part.unknowns)) 4096
         (subst (λ names. length names ≤ 4096) model.unknowns_are model.is_model.unknowns.few) i)
 
-    pub unit-added : add_unit p sheet datum ≡ Ok (with_unit sheet unit part)
+    pub unit-added : add_unit p sheet datum ≡ Ok (sheet_with_unit sheet unit part)
     unit-added =
         then (unit_in p (scope_of sheet) datum) (extended sheet) (unit, part) told
-        ∙ ap (λ b. keeping b TooMany (with_unit sheet unit part)) has-room
+        ∙ ap (λ b. keeping b TooMany (sheet_with_unit sheet unit part)) has-room
 
-    pub keeps-more : Keeps p new (with_unit sheet unit part)
+    pub keeps-more : Keeps p new (sheet_with_unit sheet unit part)
     keeps-more = record {
       version = version ∙ keeps.version;
       components = components ∙ keeps.components;
@@ -210,7 +210,7 @@ module _ (p : ℕ) (odd : 2 < p) (kept : KeptSheet) (sheet : Sheet) (keeps : Kee
         listed = keeps.reached.listed;
         unit_items = keeps.reached.unit_items ++ datum ∷ [];
         units = units-append p (sheet_without_units sheet.version sheet.components sheet.streams) sheet
-            (with_unit sheet unit part) keeps.reached.unit_items datum keeps.reached.units
+            (sheet_with_unit sheet unit part) keeps.reached.unit_items datum keeps.reached.units
             (ap (at (UnitPlace (length sheet.units + 1))) unit-added);
       };
     }

@@ -20,8 +20,8 @@ use Rattle.document_values.specs.Values.{has_only}
 use Rattle.document_values.proofs.Inversion.{chain-Ok, keeping-Ok}
 use Rattle.flowsheet_reader.specs.Models.{components_of, document_keys, list_at_key, sheet_in, start_of, streams_of, unit_at}
 use Rattle.flowsheet_reader.specs.Models.{units_in, version_of, with_units_of}
-use Rattle.flowsheet_reader.specs.Reached.{AreListed}
-use Rattle.flowsheet_reader.specs.Sheets.{Sheet, has_room, scope_of, sheet_without_units, with_unit}
+use Rattle.flowsheet_reader.specs.Reached.{AreGivenByItems}
+use Rattle.flowsheet_reader.specs.Sheets.{Sheet, has_system_room, scope_of, sheet_without_units, sheet_with_unit}
 use Rattle.flowsheet_reader.specs.Units.{add_unit, extended, unit_in}
 use Rattle.flowsheet_reader.proofs.Reaching.{listed-few, listed-sound}
 use Rattle.flowsheet_reader.proofs.Sound.{IsSound, new-part, sound-more}
@@ -35,7 +35,7 @@ pub record IsNamed (sheet : Sheet) : Type 0 where
   pub unknowns : IsNameList sheet.system.unknowns
 
 -- without units
-start-named : (p : ℕ) (version : Version) (components streams : List (List ℕ)) → AreListed components streams →
+start-named : (p : ℕ) (version : Version) (components streams : List (List ℕ)) → AreGivenByItems components streams →
     IsNamed (sheet_without_units version components streams)
 start-named p version components streams listed =
     let part = flows-part p version components streams listed empty_model (flows components streams) [] refl refl refl in
@@ -70,7 +70,7 @@ both-few m n room = by (leb m 4096) refl room
 
 -- with one unit more, for which there is room
 module _ (p : ℕ) (odd : 2 < p) (sheet : Sheet) (named : IsNamed sheet) (datum : Data) (unit : List ℕ) (part : UnitPart)
-    (read : unit_in p (scope_of sheet) datum ≡ Ok (unit, part)) (room : has_room (with_unit sheet unit part).system ≡ true) where
+    (read : unit_in p (scope_of sheet) datum ≡ Ok (unit, part)) (room : has_system_room (sheet_with_unit sheet unit part).system ≡ true) where
   few : (length (sheet.system.equations ++ names_of part.equations) ≤ 4096) × (length (sheet.system.unknowns ++ part.unknowns) ≤ 4096)
   few = both-few (length (sheet.system.equations ++ names_of part.equations)) (length (sheet.system.unknowns ++ part.unknowns)) room
 
@@ -82,7 +82,7 @@ module _ (p : ℕ) (odd : 2 < p) (sheet : Sheet) (named : IsNamed sheet) (datum 
     length-map part.equations (λ equation. equation.name),
   )
 
-  unit-named : IsNamed (with_unit sheet unit part)
+  unit-named : IsNamed (sheet_with_unit sheet unit part)
   unit-named =
       let added = unit-kept p sheet datum unit part odd named.sound read counted in
       let new = new-part p sheet unit part named.sound added.0 added.1 in
@@ -104,7 +104,7 @@ module _ (p : ℕ) (odd : 2 < p) (sheet : Sheet) (named : IsNamed sheet) (datum 
 add-named : (p : ℕ) (sheet next : Sheet) (datum : Data) → 2 < p → IsNamed sheet → add_unit p sheet datum ≡ Ok next → IsNamed next
 add-named p sheet next datum odd named kept =
     let (unit, first, last) = chain-Ok (unit_in p (scope_of sheet) datum) (extended sheet) next kept in
-    let is = keeping-Ok (has_room (with_unit sheet unit.0 unit.1).system) TooMany (with_unit sheet unit.0 unit.1) next last in
+    let is = keeping-Ok (has_system_room (sheet_with_unit sheet unit.0 unit.1).system) TooMany (sheet_with_unit sheet unit.0 unit.1) next last in
     subst IsNamed is.1 (unit-named p odd sheet named datum unit.0 unit.1 first is.0)
 
 placed-Ok : {A : Type 0} (place : Place) (given : Result A Why) (value : A) → at place given ≡ Ok value → given ≡ Ok value

@@ -11,8 +11,8 @@ use Rattle.unit_equations.specs.declared.version.Version.{Version}
 use Rattle.unit_equations.specs.Adding.{ArePlaced, AreSummands, IsNewPart}
 use Rattle.term_model.specs.Putting.{IsPlaced}
 use Rattle.unit_equations.specs.Kinds.{flow, flows}
-use Rattle.unit_equations.specs.Parts.{UnitEquation, UnitPart, terms_of}
-use Rattle.flowsheet_reader.specs.Sheets.{Sheet, sheet_without_units, with_unit}
+use Rattle.unit_equations.specs.Parts.{UnitEquation, UnitPart, equation_terms}
+use Rattle.flowsheet_reader.specs.Sheets.{Sheet, sheet_without_units, sheet_with_unit}
 use Rattle.unit_equations.proofs.Dots.{unit_of, word_of}
 use Rattle.unit_equations.proofs.EquationNames.{names_of}
 use Rattle.unit_equations.proofs.Keyed.{all-both, all-own, all-weaker, has-more, has-self}
@@ -130,7 +130,7 @@ module _ (p : ℕ) (sheet : Sheet) (unit : List ℕ) (part : UnitPart) (sound : 
   terms-placed : (equation : UnitEquation) → has_name (names_of part.equations) equation.name ≡ true →
       Stand p (flows sheet.components sheet.streams ++ (sound.own ++ part.unknowns)) equation.summands →
       AllByRecursion (IsPlaced (sheet.system.equations ++ names_of part.equations)
-      (sheet.system.unknowns ++ part.unknowns)) (terms_of equation)
+      (sheet.system.unknowns ++ part.unknowns)) (equation_terms equation)
   terms-placed equation there stand =
       all-map (λ summand. has_name (flows sheet.components sheet.streams ++
       (sound.own ++ part.unknowns)) summand.unknown ≡ true)
@@ -153,7 +153,7 @@ module _ (p : ℕ) (sheet : Sheet) (unit : List ℕ) (part : UnitPart) (sound : 
         (λ other there. has-more (names_of equations) equation.name other.name there) (own-named equations),
   )
 
-  pub sound-more : IsSound (with_unit sheet unit part)
+  pub sound-more : IsSound (sheet_with_unit sheet unit part)
   sound-more = record {
     good = sound.good;
     apart = sound.apart;
@@ -178,13 +178,13 @@ module _ (p : ℕ) (sheet : Sheet) (unit : List ℕ) (part : UnitPart) (sound : 
         (unit_of name) (has-self [] unit (unit_of name) told)) named);
     equations_differ = all-equations-differ;
     placed = all_at (IsPlaced (sheet.system.equations ++ names_of part.equations)
-        (sheet.system.unknowns ++ part.unknowns)) (sheet.system.terms ++ flat_map terms_of part.equations)
+        (sheet.system.unknowns ++ part.unknowns)) (sheet.system.terms ++ flat_map equation_terms part.equations)
         (all-append (IsPlaced (sheet.system.equations ++ names_of part.equations)
-        (sheet.system.unknowns ++ part.unknowns)) sheet.system.terms (flat_map terms_of part.equations) old-placed
+        (sheet.system.unknowns ++ part.unknowns)) sheet.system.terms (flat_map equation_terms part.equations) old-placed
         (all-flat_map (λ equation. (has_name (names_of part.equations) equation.name ≡ true)
         × Stand p (flows sheet.components sheet.streams ++ (sound.own ++ part.unknowns)) equation.summands)
         (IsPlaced (sheet.system.equations ++ names_of part.equations)
-        (sheet.system.unknowns ++ part.unknowns)) terms_of part.equations
+        (sheet.system.unknowns ++ part.unknowns)) equation_terms part.equations
         (λ equation both. terms-placed equation both.0 both.1)
         (all-both (λ equation. has_name (names_of part.equations) equation.name ≡ true)
         (λ equation. Stand p (flows sheet.components sheet.streams ++

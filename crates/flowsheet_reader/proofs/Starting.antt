@@ -18,13 +18,13 @@ use Rattle.toml.specs.View.{view}
 use Rattle.toml.specs.declared.value.Value.{Value}
 use Rattle.unit_equations.specs.declared.version.Version.{Version}
 use Rattle.unit_equations.specs.Adding.{ArePlaced, AreSummands, IsNewPart}
-use Rattle.document_values.specs.Answers.{Gives, OnRefused, fault_at, refused_at}
+use Rattle.document_values.specs.Answers.{GivesAnswer, OnRefused, fault_at, refused_at}
 use Rattle.document_values.specs.Chains.{at}
 use Rattle.flowsheet_reader.specs.Keeping.{KeptSheet}
 use Rattle.unit_equations.specs.Kinds.{flow, flows}
 use Rattle.flowsheet_reader.specs.Models.{components_in, components_of, list_at_key, streams_in, streams_of}
 use Rattle.unit_equations.specs.Parts.{UnitEquation, system_of, together}
-use Rattle.flowsheet_reader.specs.Reached.{AreListed, Grows, Keeps}
+use Rattle.flowsheet_reader.specs.Reached.{AreGivenByItems, Grows, Keeps}
 use Rattle.flowsheet_reader.specs.Sheets.{Sheet, sheet_without_units}
 use Rattle.unit_equations.proofs.EquationNames.{IsWord, own_for-spelled}
 use Rattle.document_values.proofs.Inversion.{chain-Ok}
@@ -45,7 +45,7 @@ grows-at p old new place (Err NoMemory) final wanted here is same grows = subst 
 
 -- what a document lists
 pub listed-of : (document : Members) (components streams : List (List ℕ)) → components_of document ≡ Ok components →
-    streams_of document components ≡ Ok streams → AreListed components streams
+    streams_of document components ≡ Ok streams → AreGivenByItems components streams
 listed-of document components streams first second =
     let (items, told, last) = chain-Ok (at Place.Document (list_at_key (get_member (codes "components") document))) components_in components first in
     let (others, given, end) = chain-Ok (at Place.Document (list_at_key (get_member (codes "streams") document))) (streams_in components) streams second in
@@ -54,7 +54,7 @@ listed-of document components streams first second =
 f-word : IsWord (codes "f")
 f-word = record { dotless = refl; spelled = record { some = omega arith; bytes = refl; short = omega arith } }
 
-module _ (p : ℕ) (version : Version) (components streams : List (List ℕ)) (listed : AreListed components streams) where
+module _ (p : ℕ) (version : Version) (components streams : List (List ℕ)) (listed : AreGivenByItems components streams) where
   flow-labels : AllByRecursion (λ name. IsTrue (is_label name)) (flows components streams)
   flow-labels =
       let sound = listed-sound version components streams listed in
@@ -104,14 +104,14 @@ module _ (p : ℕ) (version : Version) (components streams : List (List ℕ)) (l
 
 -- the list at a key, as a call gives it
 pub listed-Ok : (place : Place) (given : Result (Bor (List Value)) Why) (wanted : Result (List Data) Why)
-    (items : Bor (List Value)) → Gives (λ items. map view items.now) given wanted → refused_at place given ≡ Ok items →
+    (items : Bor (List Value)) → GivesAnswer (λ items. map view items.now) given wanted → refused_at place given ≡ Ok items →
     at place wanted ≡ Ok (map view items.now)
 listed-Ok place (Ok other) wanted items gives is = let same : other ≡ items = cc in ap (at place) gives
     ∙ ap (λ (items : Bor (List Value)). Ok (map view items.now)) same
 listed-Ok place (Err why) wanted items gives is = let f : ⊥ = cc in absurd f
 
 pub listed-Err : (place : Place) (given : Result (Bor (List Value)) Why) (wanted : Result (List Data) Why)
-    (error : ReadModel) → Gives (λ items. map view items.now) given wanted → refused_at place given ≡ Err error →
+    (error : ReadModel) → GivesAnswer (λ items. map view items.now) given wanted → refused_at place given ≡ Err error →
     OnRefused error (λ refused. at place wanted ≡ Err refused)
 listed-Err place (Ok other) wanted error gives is = let f : ⊥ = cc in absurd f
 listed-Err place (Err why) wanted error gives is =

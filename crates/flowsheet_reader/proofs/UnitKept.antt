@@ -24,9 +24,9 @@ use Rattle.unit_equations.specs.Kinds.{reactor, relation, separator, specificati
 use Rattle.unit_equations.specs.Parts.{UnitEquation, UnitPart}
 use Rattle.flowsheet_reader.specs.Sheets.{Scope, Sheet, scope_of}
 use Rattle.flowsheet_reader.specs.Units.{are_coefficients, coefficient_of, coefficients, fractions_in, kind_in}
-use Rattle.flowsheet_reader.specs.Units.{outlets_in, part_in, stream_at, streams_at, unit_in}
+use Rattle.flowsheet_reader.specs.Units.{outlets_in, unit_part_in, stream_at, streams_at, unit_in}
 use Rattle.document_values.specs.Values.{declared_name, declared_names, due, each, has_only, list_of, list_of_length}
-use Rattle.document_values.specs.Values.{list_with, members_in, new_name, number_in, numbers_in, table_of}
+use Rattle.document_values.specs.Values.{list_with, members_in, new_name, residue_in, numbers_in, members_of_value}
 use Rattle.document_values.proofs.Inversion.{chain-Ok, declared_name-Ok, declared_names-Ok, keeping-Ok, new_name-Ok}
 use Rattle.unit_equations.proofs.Keyed.{all-own, has-self}
 use Rattle.flowsheet_reader.proofs.Sound.{IsSound}
@@ -91,7 +91,7 @@ fractions-Ok p scope One inlet first second outlets table fractions two kept =
     (λ one. stream_at scope (inlet ∷ one ∷ []) second table >>= (λ other. Ok (one ∷ other ∷ []))) outlets two in
     let (other, middle, last) = chain-Ok (stream_at scope (inlet ∷ one ∷ []) second table) (λ other. Ok (one ∷ other ∷ [])) outlets back in
     let same : one ∷ other ∷ [] ≡ outlets = cc in
-    let (fraction, told, is) = chain-Ok (due (codes "fraction") table >>= number_in p) (λ fraction. Ok (fraction ∷ [])) fractions kept in
+    let (fraction, told, is) = chain-Ok (due (codes "fraction") table >>= residue_in p) (λ fraction. Ok (fraction ∷ [])) fractions kept in
     let given : fraction ∷ [] ≡ fractions = cc in
     ap length (sym given) ∙ ap (λ names. length names - 1) same
 fractions-Ok p scope Two inlet first second outlets table fractions two kept =
@@ -100,7 +100,7 @@ fractions-Ok p scope Two inlet first second outlets table fractions two kept =
     let (all, given, fits) = chain-Ok (list_of datum) (λ items. keeping (nat_eq (length items) (length outlets - 1)) BadValue items) items listed in
     let is = keeping-Ok (nat_eq (length all) (length outlets - 1)) BadValue all items fits in
     let count : length all ≡ length outlets - 1 = eqb-true (length all) (length outlets - 1) is.0 in
-    let many = each-length (λ found. number_in p) [] items fractions back in
+    let many = each-length (λ found. residue_in p) [] items fractions back in
     omega (arith, many, count, ap length is.1)
 
 zip-length : {X Y : Type 0} (xs : List X) (ys : List Y) → length xs ≡ length ys → length (zip xs ys) ≡ length xs
@@ -190,7 +190,7 @@ module _ (p : ℕ) (odd : 2 < p) (sheet : Sheet) (sound : IsSound sheet) (unit :
           (sound.own ++ []) unit sound.good sound.apart sound.short u version inlet outlets fractions there differ (omega (arith, few, count, splits)) fits
 
   pub part-kept : (kind : UnitKind) (table : Members) (part : UnitPart) →
-      part_in p (scope_of sheet) kind unit table ≡ Ok part → length part.equations < 2 ^ 64 → Adds part
+      unit_part_in p (scope_of sheet) kind unit table ≡ Ok part → length part.equations < 2 ^ 64 → Adds part
   part-kept Mixer table part kept few =
       let (inlets, first, rest) = chain-Ok (streams_at (scope_of sheet) 1 [] (codes "inlets") table)
       (λ inlets. stream_at (scope_of sheet) inlets (codes "outlet") table >>=
@@ -216,14 +216,14 @@ module _ (p : ℕ) (odd : 2 < p) (sheet : Sheet) (sound : IsSound sheet) (unit :
   part-kept Reactor table part kept few =
       let (inlet, first, rest) = chain-Ok (stream_at (scope_of sheet) [] (codes "inlet") table)
       (λ inlet. stream_at (scope_of sheet) (inlet ∷ []) (codes "outlet") table >>=
-      (λ outlet. due (codes "stoich") table >>= table_of >>= (λ stoich. are_coefficients p sheet.components
+      (λ outlet. due (codes "stoich") table >>= members_of_value >>= (λ stoich. are_coefficients p sheet.components
       (members_in stoich) >>= (λ _. Ok (reactor p unit inlet outlet
       (coefficients p sheet.components stoich)))))) part kept in
       let (outlet, second, more) = chain-Ok (stream_at (scope_of sheet) (inlet ∷ []) (codes "outlet") table)
-      (λ outlet. due (codes "stoich") table >>= table_of >>= (λ stoich. are_coefficients p sheet.components
+      (λ outlet. due (codes "stoich") table >>= members_of_value >>= (λ stoich. are_coefficients p sheet.components
       (members_in stoich) >>= (λ _. Ok (reactor p unit inlet outlet
       (coefficients p sheet.components stoich))))) part rest in
-      let (stoich, third, good) = chain-Ok (due (codes "stoich") table >>= table_of)
+      let (stoich, third, good) = chain-Ok (due (codes "stoich") table >>= members_of_value)
       (λ stoich. are_coefficients p sheet.components (members_in stoich) >>=
       (λ _. Ok (reactor p unit inlet outlet (coefficients p sheet.components stoich)))) part more in
       let (done, fourth, last) = chain-Ok (are_coefficients p sheet.components (members_in stoich))
@@ -296,29 +296,29 @@ pub unit-kept : (p : ℕ) (sheet : Sheet) (datum : Data) (unit : List ℕ) (part
     (sound : IsSound sheet) → unit_in p (scope_of sheet) datum ≡ Ok (unit, part) → length part.equations < 2 ^ 64
     → (has_name sheet.units unit ≡ false) × IsUnitPart p (flows sheet.components sheet.streams ++ (sound.own ++ part.unknowns)) unit part
 unit-kept p sheet datum unit part odd sound kept few =
-    let (table, first, rest) = chain-Ok (table_of datum)
+    let (table, first, rest) = chain-Ok (members_of_value datum)
     (λ table. due (codes "name") table >>= new_name sheet.units >>=
     (λ unit. kind_in table >>= (λ kind. keeping
     (has_only (codes "name" ∷ codes "kind" ∷ keys_of sheet.version kind) table) UnknownKey (tt {0}) >>=
-    (λ _. part_in p (scope_of sheet) kind unit table >>= (λ part. Ok (unit, part)))))) (unit, part) kept in
+    (λ _. unit_part_in p (scope_of sheet) kind unit table >>= (λ part. Ok (unit, part)))))) (unit, part) kept in
     let (name, second, more) = chain-Ok (due (codes "name") table >>= new_name sheet.units)
     (λ unit. kind_in table >>= (λ kind. keeping
     (has_only (codes "name" ∷ codes "kind" ∷ keys_of sheet.version kind) table) UnknownKey (tt {0}) >>=
-    (λ _. part_in p (scope_of sheet) kind unit table >>= (λ part. Ok (unit, part))))) (unit, part) rest in
+    (λ _. unit_part_in p (scope_of sheet) kind unit table >>= (λ part. Ok (unit, part))))) (unit, part) rest in
     let (given, there, told) = chain-Ok (due (codes "name") table) (new_name sheet.units) name second in
     let (kind, third, others) = chain-Ok (kind_in table)
     (λ kind. keeping (has_only (codes "name" ∷ codes "kind" ∷ keys_of sheet.version kind) table) UnknownKey
-    (tt {0}) >>= (λ _. part_in p (scope_of sheet) kind name table >>= (λ part. Ok (name, part))))
+    (tt {0}) >>= (λ _. unit_part_in p (scope_of sheet) kind name table >>= (λ part. Ok (name, part))))
     (unit, part) more in
     let (done, fourth, adds) = chain-Ok (keeping (has_only
     (codes "name" ∷ codes "kind" ∷ keys_of sheet.version kind) table) UnknownKey (tt {0}))
-    (λ _. part_in p (scope_of sheet) kind name table >>= (λ part. Ok (name, part))) (unit, part) others in
-    let (added, fifth, last) = chain-Ok (part_in p (scope_of sheet) kind name table) (λ part. Ok (name, part)) (unit, part) adds in
+    (λ _. unit_part_in p (scope_of sheet) kind name table >>= (λ part. Ok (name, part))) (unit, part) others in
+    let (added, fifth, last) = chain-Ok (unit_part_in p (scope_of sheet) kind name table) (λ part. Ok (name, part)) (unit, part) adds in
     let pair : ◌≡◌ {A = List ℕ × UnitPart} (name, added) (unit, part) = cc in
     let names : name ≡ unit = ap (λ t. t.0) pair in
     let parts : added ≡ part = ap (λ t. t.1) pair in
     let new = new_name-Ok sheet.units given name told in (
       ap (has_name sheet.units) (sym names) ∙ new.1,
       part-kept p odd sheet sound unit (short-name unit (ap is_short_name (sym names) ∙ new.0)) kind table part
-          (ap (λ n. part_in p (scope_of sheet) kind n table) (sym names) ∙ fifth ∙ ap Ok parts) few,
+          (ap (λ n. unit_part_in p (scope_of sheet) kind n table) (sym names) ∙ fifth ∙ ap Ok parts) few,
     )

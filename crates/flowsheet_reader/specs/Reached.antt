@@ -7,7 +7,7 @@ use Rattle.flowsheet_reader.specs.Models.{components_in, streams_in, units_in}
 use Rattle.flowsheet_reader.specs.Sheets.{Sheet, sheet_without_units}
 
 -- Some items give the components, and some the streams.
-pub record AreListed (components streams : List (List ℕ)) : Type 0 where
+pub record AreGivenByItems (components streams : List (List ℕ)) : Type 0 where
   pub component_items : List Data
   pub stream_items : List Data
   pub components_are : components_in component_items ≡ Ok components
@@ -15,7 +15,7 @@ pub record AreListed (components streams : List (List ℕ)) : Type 0 where
 
 -- Some items give its names, and some its units.
 pub record IsReached (p : ℕ) (sheet : Sheet) : Type 0 where
-  pub listed : AreListed sheet.components sheet.streams
+  pub listed : AreGivenByItems sheet.components sheet.streams
   pub unit_items : List Data
   pub units : units_in p (sheet_without_units sheet.version sheet.components sheet.streams) unit_items ≡ Ok sheet
 

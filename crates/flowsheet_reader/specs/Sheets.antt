@@ -44,10 +44,11 @@ sheet_without_units version components streams = record {
 }
 
 -- one unit more
-abbrev pub with_unit : Sheet → List ℕ → UnitPart → Sheet
-with_unit sheet unit part =
+abbrev pub sheet_with_unit : Sheet → List ℕ → UnitPart → Sheet
+sheet_with_unit sheet unit part =
     record sheet { units = sheet.units ++ unit ∷ []; system = together sheet.system (system_of part) }
 
 -- there are at most 4,096 equations and 4,096 unknowns
-abbrev pub has_room : System → Bool
-has_room system = nat_le (length system.equations) equation_limit && nat_le (length system.unknowns) equation_limit
+abbrev pub has_system_room : System → Bool
+has_system_room system = nat_le (length system.equations) equation_limit && nat_le (length system.unknowns)
+    equation_limit

@@ -13,8 +13,8 @@ use Rattle.unit_equations.specs.declared.version.Version.TheVariants.{One, Two}
 use Rattle.document_values.specs.Chains.{◌>>=◌, keeping, some_or}
 use Rattle.unit_equations.specs.Kinds.{balance, keys_of, kind_beside, kinds, mixer, reactor, relation, separator, specification, tee}
 use Rattle.unit_equations.specs.Parts.{UnitPart}
-use Rattle.flowsheet_reader.specs.Sheets.{Scope, Sheet, has_room, scope_of, with_unit}
-use Rattle.document_values.specs.Values.{declared_name, declared_names, due, has_only, list_of_length, list_with, members_in, new_name, number_in, numbers_in, table_of, text_of}
+use Rattle.flowsheet_reader.specs.Sheets.{Scope, Sheet, has_system_room, scope_of, sheet_with_unit}
+use Rattle.document_values.specs.Values.{declared_name, declared_names, due, has_only, list_of_length, list_with, members_in, new_name, residue_in, numbers_in, members_of_value, text_of}
 
 -- the stream at a key, none of those named before in the unit
 abbrev pub stream_at : Scope → List (List ℕ) → List ℕ → Members → Result (List ℕ) Why
@@ -34,7 +34,7 @@ outlets_in scope Two inlet first second table = streams_at scope 2 (inlet ∷ []
 
 -- the fractions of a tee: of each outlet but the last
 abbrev pub fractions_in : ℕ → Version → List (List ℕ) → Members → Result (List ℕ) Why
-fractions_in p One outlets table = due (codes "fraction") table >>= number_in p >>= (λ fraction. Ok (fraction ∷ []))
+fractions_in p One outlets table = due (codes "fraction") table >>= residue_in p >>= (λ fraction. Ok (fraction ∷ []))
 fractions_in p Two outlets table =
     due (codes "fractions") table >>= list_of_length (length outlets - 1) >>= numbers_in p
 
@@ -42,13 +42,13 @@ fractions_in p Two outlets table =
 abbrev pub are_coefficients : ℕ → List (List ℕ) → List (List ℕ × Data) → Result (Unit {0}) Why
 are_coefficients p components [] = Ok (tt {0})
 are_coefficients p components (entry ∷ entries) =
-    keeping (has_name components entry.0) Undeclared (tt {0}) >>= (λ _. number_in p entry.1)
+    keeping (has_name components entry.0) Undeclared (tt {0}) >>= (λ _. residue_in p entry.1)
     >>= (λ _. are_coefficients p components entries)
 
 -- the coefficient that a value is: 0 where none is there
 abbrev pub coefficient_of : ℕ → Option Data → ℕ
 coefficient_of p None = 0
-coefficient_of p (Some datum) = result_unwrap_or (number_in p datum) 0
+coefficient_of p (Some datum) = result_unwrap_or (residue_in p datum) 0
 
 -- each component with its coefficient
 abbrev pub coefficients : ℕ → List (List ℕ) → Members → List (List ℕ × ℕ)
@@ -56,33 +56,33 @@ coefficients p components table =
     zip components (map (λ component. coefficient_of p (get_member component table)) components)
 
 -- what a unit adds, by its kind and its name
-abbrev pub part_in : ℕ → Scope → UnitKind → List ℕ → Members → Result UnitPart Why
-part_in p scope Mixer unit table =
+abbrev pub unit_part_in : ℕ → Scope → UnitKind → List ℕ → Members → Result UnitPart Why
+unit_part_in p scope Mixer unit table =
     streams_at scope 1 [] (codes "inlets") table
     >>= (λ inlets. stream_at scope inlets (codes "outlet") table
     >>= (λ outlet. Ok (mixer p scope.components unit inlets outlet)))
-part_in p scope Separator unit table =
+unit_part_in p scope Separator unit table =
     stream_at scope [] (codes "inlet") table
     >>= (λ inlet. outlets_in scope scope.version inlet (codes "top") (codes "bottom") table
     >>= (λ outlets. Ok (separator p scope.version scope.components unit inlet outlets)))
-part_in p scope Reactor unit table =
+unit_part_in p scope Reactor unit table =
     stream_at scope [] (codes "inlet") table
     >>= (λ inlet. stream_at scope (inlet ∷ []) (codes "outlet") table
-    >>= (λ outlet. due (codes "stoich") table >>= table_of
+    >>= (λ outlet. due (codes "stoich") table >>= members_of_value
     >>= (λ stoich. are_coefficients p scope.components (members_in stoich)
     >>= (λ _. Ok (reactor p unit inlet outlet (coefficients p scope.components stoich))))))
-part_in p scope Tee unit table =
+unit_part_in p scope Tee unit table =
     stream_at scope [] (codes "inlet") table
     >>= (λ inlet. outlets_in scope scope.version inlet (codes "first") (codes "second") table
     >>= (λ outlets. fractions_in p scope.version outlets table
     >>= (λ fractions. Ok (tee p scope.version scope.components unit inlet outlets fractions))))
-part_in p scope Specification unit table =
+unit_part_in p scope Specification unit table =
     stream_at scope [] (codes "stream") table
     >>= (λ stream. due (codes "component") table >>= declared_name scope.components []
     >>= (λ component. Ok (specification unit stream component)))
-part_in p scope Balance unit table =
+unit_part_in p scope Balance unit table =
     streams_at scope 1 [] (codes "streams") table >>= (λ streams. Ok (balance scope.components unit streams))
-part_in p scope Relation unit table =
+unit_part_in p scope Relation unit table =
     due (codes "unknowns") table >>= list_with 1 >>= declared_names scope.unknowns []
     >>= (λ unknowns. Ok (relation unit unknowns))
 
@@ -93,16 +93,16 @@ kind_in table = due (codes "kind") table >>= text_of >>= (λ word. some_or BadKi
 -- a unit: its name and what it adds
 abbrev pub unit_in : ℕ → Scope → Data → Result (List ℕ × UnitPart) Why
 unit_in p scope datum =
-    table_of datum
+    members_of_value datum
     >>= (λ table. due (codes "name") table >>= new_name scope.units
     >>= (λ unit. kind_in table
     >>= (λ kind. keeping (has_only (codes "name" ∷ codes "kind" ∷ keys_of scope.version kind) table) UnknownKey (tt {0})
-    >>= (λ _. part_in p scope kind unit table >>= (λ part. Ok (unit, part))))))
+    >>= (λ _. unit_part_in p scope kind unit table >>= (λ part. Ok (unit, part))))))
 
 -- the flowsheet with a unit more, where there is room for it
 abbrev pub extended : Sheet → List ℕ × UnitPart → Result Sheet Why
 extended sheet unit =
-    keeping (has_room (with_unit sheet unit.0 unit.1).system) TooMany (with_unit sheet unit.0 unit.1)
+    keeping (has_system_room (sheet_with_unit sheet unit.0 unit.1).system) TooMany (sheet_with_unit sheet unit.0 unit.1)
 
 -- the flowsheet with a unit more, or the first rule that the unit breaks
 abbrev pub add_unit : ℕ → Sheet → Data → Result Sheet Why

@@ -5,7 +5,7 @@ ghost use Rattle.mixed_model.specs.Names.{has_name};
 ghost use Rattle.toml.specs.Data.{get_member};
 ghost use Rattle.toml.specs.View.{table_view, view};
 ghost use Rattle.document_values.specs.Values.{has_only};
-ghost use Rattle.document_values.specs.Answers.{AddsName, Gives, Reads};
+ghost use Rattle.document_values.specs.Answers.{AddsName, GivesAnswer, Reads};
 ghost use Rattle.document_values.specs.Chains.{keeping};
 ghost use Rattle.flowsheet_reader.specs.Models.{component_in, components_in, components_of, document_keys, list_at_key, new_stream, stream_in, streams_in, streams_of, version_of};
 
@@ -18,7 +18,8 @@ use unit_equations::Version;
 
 /// The version that a document tells: 1 where it tells none.
 pub(crate) fn version(document: &Table) -> Result<Version, Why>
-    ensures { Gives (λ version. version) result (version_of (get_member (codes "version") (table_view document.now))) }
+    ensures { GivesAnswer (λ version. version) result (version_of
+        (get_member (codes "version") (table_view document.now))) }
 {
     match find(document, "version") {
         Some(value) => version_in(value),
@@ -27,7 +28,7 @@ pub(crate) fn version(document: &Table) -> Result<Version, Why>
 }
 
 fn version_in(value: &Value) -> Result<Version, Why>
-    ensures { Gives (λ version. version) result (version_of (Some (view value.now))) }
+    ensures { GivesAnswer (λ version. version) result (version_of (Some (view value.now))) }
 {
     match value.as_integer() {
         Some(1) => Ok(Version::One),
@@ -38,7 +39,7 @@ fn version_in(value: &Value) -> Result<Version, Why>
 
 /// The list at a key of a document: an empty one where there is none.
 pub(crate) fn list_at<'t>(document: &'t Table, key: &str) -> Result<&'t [Value], Why>
-    ensures { Gives (λ items. map view items.now) result
+    ensures { GivesAnswer (λ items. map view items.now) result
         (list_at_key (get_member key.now (table_view document.now))) }
 {
     match find(document, key) {
@@ -49,7 +50,7 @@ pub(crate) fn list_at<'t>(document: &'t Table, key: &str) -> Result<&'t [Value],
 
 /// That a document has no other keys than its own.
 pub(crate) fn keys(document: &Table) -> Result<(), Why>
-    ensures { Gives (λ done. done) result
+    ensures { GivesAnswer (λ done. done) result
         (keeping (has_only document_keys (table_view document.now)) Why.UnknownKey (tt {0})) }
 {
     if has_only(document, &["version", "components", "streams", "unit"], &[]) {
@@ -135,7 +136,7 @@ fn new_stream<'v>(
     value: &'v Value,
 ) -> Result<&'v str, Why>
     requires { number ≡ length names.now + 1 }
-    ensures { Gives (λ name. name.now) result (new_stream components.now names.now (view value.now)) }
+    ensures { GivesAnswer (λ name. name.now) result (new_stream components.now names.now (view value.now)) }
 {
     let name = new_name(names, value)?;
     if components.len() > EQUATION_LIMIT / number {

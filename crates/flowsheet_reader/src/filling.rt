@@ -11,7 +11,7 @@ ghost use Rattle.document_values.specs.Answers.{OnRefused};
 ghost use Rattle.unit_equations.specs.Kinds.{flow, flows};
 ghost use Rattle.flowsheet_reader.specs.Models.{unit_at, units_in};
 ghost use Rattle.unit_equations.specs.Parts.{system_of, together};
-ghost use Rattle.flowsheet_reader.specs.Reached.{AreListed, Grows, IsKept, IsRefusedBy, Keeps};
+ghost use Rattle.flowsheet_reader.specs.Reached.{AreGivenByItems, Grows, IsKept, IsRefusedBy, Keeps};
 ghost use Rattle.flowsheet_reader.specs.Sheets.{sheet_without_units};
 ghost use Rattle.flowsheet_reader.specs.Units.{add_unit};
 
@@ -34,7 +34,7 @@ impl<F: Field> Sheet<F> {
         components: NameSet,
         streams: NameSet,
     ) -> Result<Sheet<F>, NoMemory>
-        requires { AreListed components streams }
+        requires { AreGivenByItems components streams }
         ensures { IfOk result (λ sheet. Keeps F.modulus sheet (sheet_without_units version components streams)) }
     {
         let mut model = Mixed::new(alloc)?;

@@ -2,9 +2,9 @@
 
 ghost use Rattle.std.specs.String.{string_bytes};
 ghost use Rattle.toml.specs.View.{table_view, view};
-ghost use Rattle.document_values.specs.Answers.{Answers, Gives};
+ghost use Rattle.document_values.specs.Answers.{AnswersAs, GivesAnswer};
 ghost use Rattle.flowsheet_reader.specs.Keeping.{scope_of_kept};
-ghost use Rattle.flowsheet_reader.specs.Units.{kind_in, part_in, unit_in};
+ghost use Rattle.flowsheet_reader.specs.Units.{kind_in, unit_part_in, unit_in};
 
 use crate::sheet::Sheet;
 use crate::unit_keys::{are_coefficients, coefficients, fractions, outlets, stream_at, streams_at};
@@ -26,7 +26,7 @@ pub(crate) fn read_unit<F: Field>(
     sheet: &Sheet<F>,
     value: &Value,
 ) -> Result<(String, UnitPart<F>), Fault>
-    ensures { Answers (λ unit. (string_bytes unit.0, unit.1)) result
+    ensures { AnswersAs (λ unit. (string_bytes unit.0, unit.1)) result
         (unit_in F.modulus (scope_of_kept sheet.now) (view value.now)) }
 {
     let table = table_in(value)?;
@@ -42,7 +42,7 @@ pub(crate) fn read_unit<F: Field>(
 
 // The kind that a unit's table tells.
 fn kind_of(table: &Table) -> Result<UnitKind, Why>
-    ensures { Gives (λ kind. kind) result (kind_in (table_view table.now)) }
+    ensures { GivesAnswer (λ kind. kind) result (kind_in (table_view table.now)) }
 {
     let word = text(due(table, "kind")?)?;
     UnitKind::named(word).ok_or(Why::BadKind)
@@ -56,8 +56,8 @@ fn read_part<F: Field>(
     unit: &str,
     table: &Table,
 ) -> Result<UnitPart<F>, Fault>
-    ensures { Answers (λ part. part) result
-        (part_in F.modulus (scope_of_kept sheet.now) kind unit.now (table_view table.now)) }
+    ensures { AnswersAs (λ part. part) result
+        (unit_part_in F.modulus (scope_of_kept sheet.now) kind unit.now (table_view table.now)) }
 {
     match kind {
         UnitKind::Mixer => read_mixer(alloc, sheet, unit, table),
@@ -77,8 +77,8 @@ fn read_mixer<F: Field>(
     unit: &str,
     table: &Table,
 ) -> Result<UnitPart<F>, Fault>
-    ensures { Answers (λ part. part) result
-        (part_in F.modulus (scope_of_kept sheet.now) UnitKind.Mixer unit.now (table_view table.now)) }
+    ensures { AnswersAs (λ part. part) result
+        (unit_part_in F.modulus (scope_of_kept sheet.now) UnitKind.Mixer unit.now (table_view table.now)) }
 {
     let mut named = NameSet::new(alloc);
     let inlets = streams_at(alloc, sheet, 1, &mut named, "inlets", table)?;
@@ -94,8 +94,8 @@ fn read_separator<F: Field>(
     unit: &str,
     table: &Table,
 ) -> Result<UnitPart<F>, Fault>
-    ensures { Answers (λ part. part) result
-        (part_in F.modulus (scope_of_kept sheet.now) UnitKind.Separator unit.now (table_view table.now)) }
+    ensures { AnswersAs (λ part. part) result
+        (unit_part_in F.modulus (scope_of_kept sheet.now) UnitKind.Separator unit.now (table_view table.now)) }
 {
     let inlet = stream_at(sheet, &NameSet::new(alloc), "inlet", table)?;
     let outlets = outlets(alloc, sheet, inlet, "top", "bottom", table)?;
@@ -117,8 +117,8 @@ fn read_reactor<F: Field>(
     unit: &str,
     table: &Table,
 ) -> Result<UnitPart<F>, Fault>
-    ensures { Answers (λ part. part) result
-        (part_in F.modulus (scope_of_kept sheet.now) UnitKind.Reactor unit.now (table_view table.now)) }
+    ensures { AnswersAs (λ part. part) result
+        (unit_part_in F.modulus (scope_of_kept sheet.now) UnitKind.Reactor unit.now (table_view table.now)) }
 {
     let inlet = stream_at(sheet, &NameSet::new(alloc), "inlet", table)?;
     let named = NameSet::of_one(alloc, inlet)?;
@@ -137,8 +137,8 @@ fn read_tee<F: Field>(
     unit: &str,
     table: &Table,
 ) -> Result<UnitPart<F>, Fault>
-    ensures { Answers (λ part. part) result
-        (part_in F.modulus (scope_of_kept sheet.now) UnitKind.Tee unit.now (table_view table.now)) }
+    ensures { AnswersAs (λ part. part) result
+        (unit_part_in F.modulus (scope_of_kept sheet.now) UnitKind.Tee unit.now (table_view table.now)) }
 {
     let inlet = stream_at(sheet, &NameSet::new(alloc), "inlet", table)?;
     let outlets = outlets(alloc, sheet, inlet, "first", "second", table)?;
@@ -162,8 +162,8 @@ fn read_specification<F: Field>(
     unit: &str,
     table: &Table,
 ) -> Result<UnitPart<F>, Fault>
-    ensures { Answers (λ part. part) result
-        (part_in F.modulus (scope_of_kept sheet.now) UnitKind.Specification unit.now (table_view table.now)) }
+    ensures { AnswersAs (λ part. part) result
+        (unit_part_in F.modulus (scope_of_kept sheet.now) UnitKind.Specification unit.now (table_view table.now)) }
 {
     let none = NameSet::new(alloc);
     let stream = stream_at(sheet, &none, "stream", table)?;
@@ -179,8 +179,8 @@ fn read_balance<F: Field>(
     unit: &str,
     table: &Table,
 ) -> Result<UnitPart<F>, Fault>
-    ensures { Answers (λ part. part) result
-        (part_in F.modulus (scope_of_kept sheet.now) UnitKind.Balance unit.now (table_view table.now)) }
+    ensures { AnswersAs (λ part. part) result
+        (unit_part_in F.modulus (scope_of_kept sheet.now) UnitKind.Balance unit.now (table_view table.now)) }
 {
     let mut named = NameSet::new(alloc);
     let streams = streams_at(alloc, sheet, 1, &mut named, "streams", table)?;
@@ -195,8 +195,8 @@ fn read_relation<F: Field>(
     unit: &str,
     table: &Table,
 ) -> Result<UnitPart<F>, Fault>
-    ensures { Answers (λ part. part) result
-        (part_in F.modulus (scope_of_kept sheet.now) UnitKind.Relation unit.now (table_view table.now)) }
+    ensures { AnswersAs (λ part. part) result
+        (unit_part_in F.modulus (scope_of_kept sheet.now) UnitKind.Relation unit.now (table_view table.now)) }
 {
     let mut named = NameSet::new(alloc);
     let items = list_with(due(table, "unknowns")?, 1)?;

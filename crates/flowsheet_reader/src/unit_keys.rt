@@ -4,7 +4,7 @@ ghost use Rattle.std.specs.Prelude.{◌≡◌, ◌++◌, [], map, IfOk};
 ghost use Rattle.std.specs.String.{string_bytes};
 ghost use Rattle.toml.specs.Data.{get_member};
 ghost use Rattle.toml.specs.View.{table_view};
-ghost use Rattle.document_values.specs.Answers.{Answers, Gives};
+ghost use Rattle.document_values.specs.Answers.{AnswersAs, GivesAnswer};
 ghost use Rattle.flowsheet_reader.specs.Keeping.{scope_of_kept};
 ghost use Rattle.flowsheet_reader.specs.Units.{are_coefficients, coefficient_of, fractions_in, outlets_in, stream_at, streams_at};
 ghost use Rattle.document_values.specs.Values.{members_in};
@@ -27,7 +27,7 @@ pub(crate) fn stream_at<'t, F: Field>(
     key: &str,
     table: &'t Table,
 ) -> Result<&'t str, Why>
-    ensures { Gives (λ name. name.now) result
+    ensures { GivesAnswer (λ name. name.now) result
         (stream_at (scope_of_kept sheet.now) before.now key.now (table_view table.now)) }
 {
     declared_name(&sheet.streams, before, due(table, key)?)
@@ -42,7 +42,7 @@ pub(crate) fn streams_at<F: Field>(
     key: &str,
     table: &Table,
 ) -> Result<Vec<String>, Fault>
-    ensures streams { Answers (λ names. map string_bytes names.items) result
+    ensures streams { AnswersAs (λ names. map string_bytes names.items) result
         (streams_at (scope_of_kept sheet.now) least before.old key.now (table_view table.now)) }
     ensures before { IfOk result (λ names. before.new ≡ before.old ++ map string_bytes names.items) }
 {
@@ -59,7 +59,7 @@ pub(crate) fn outlets<F: Field>(
     second: &str,
     table: &Table,
 ) -> Result<Vec<String>, Fault>
-    ensures { Answers (λ names. map string_bytes names.items) result
+    ensures { AnswersAs (λ names. map string_bytes names.items) result
         (outlets_in (scope_of_kept sheet.now) sheet.now.version inlet.now first.now second.now (table_view table.now)) }
 {
     match sheet.version {
@@ -77,7 +77,7 @@ fn two_outlets<F: Field>(
     second: &str,
     table: &Table,
 ) -> Result<Vec<String>, Fault>
-    ensures { Answers (λ names. map string_bytes names.items) result
+    ensures { AnswersAs (λ names. map string_bytes names.items) result
         (outlets_in (scope_of_kept sheet.now) Version.One inlet.now first.now second.now (table_view table.now)) }
 {
     let mut named = NameSet::of_one(alloc, inlet)?;
@@ -97,7 +97,7 @@ fn listed_outlets<F: Field>(
     inlet: &str,
     table: &Table,
 ) -> Result<Vec<String>, Fault>
-    ensures { Answers (λ names. map string_bytes names.items) result
+    ensures { AnswersAs (λ names. map string_bytes names.items) result
         (outlets_in (scope_of_kept sheet.now) Version.Two inlet.now [] [] (table_view table.now)) }
 {
     let mut named = NameSet::of_one(alloc, inlet)?;
@@ -111,7 +111,7 @@ pub(crate) fn fractions<F: Field>(
     outlets: &[String],
     table: &Table,
 ) -> Result<Vec<F>, Fault>
-    ensures { Answers (λ fractions. map F.number fractions.items) result
+    ensures { AnswersAs (λ fractions. map F.number fractions.items) result
         (fractions_in F.modulus version (map string_bytes outlets.now) (table_view table.now)) }
 {
     match version {
@@ -125,7 +125,7 @@ pub(crate) fn fractions<F: Field>(
 
 // The fraction of the first of two outlets.
 fn one_fraction<F: Field>(alloc: Global, table: &Table) -> Result<Vec<F>, Fault>
-    ensures { Answers (λ fractions. map F.number fractions.items) result
+    ensures { AnswersAs (λ fractions. map F.number fractions.items) result
         (fractions_in F.modulus Version.One [] (table_view table.now)) }
 {
     let fraction = number(due(table, "fraction")?)?;
@@ -136,7 +136,7 @@ fn one_fraction<F: Field>(alloc: Global, table: &Table) -> Result<Vec<F>, Fault>
 
 /// Whether each key of a table is a component with a number.
 pub(crate) fn are_coefficients<F: Field>(components: &NameSet, table: &Table) -> Result<(), Why>
-    ensures { Gives (λ _. tt {0}) result
+    ensures { GivesAnswer (λ _. tt {0}) result
         (are_coefficients F.modulus components.now (members_in (table_view table.now))) }
 {
     for (component, value) in table {

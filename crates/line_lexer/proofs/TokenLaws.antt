@@ -15,7 +15,7 @@ use Rattle.std.proofs.lemmas.List.Sums.{prefix_len-le-length, prefix_len-drop_ye
 use Rattle.std.proofs.lemmas.Str.{IsAscii-drop, IsUtf8-from_ascii}
 use Rattle.line_lexer.proofs.PlaceLaws.{position_or_len-Some, position_or_len-None}
 use Rattle.line_lexer.specs.Cuts.{CutsToken}
-use Rattle.line_lexer.specs.Tokens.{is_blank, is_comment_sign, is_odd, is_text_byte, is_clean, uncommented, parts_from, onto_first_part, has_bytes, tokens_from}
+use Rattle.line_lexer.specs.Tokens.{is_blank, is_comment_sign, is_odd, is_text_byte, is_clean, uncommented, pieces_from, onto_first_part, has_bytes, tokens_from}
 
 -- blanks before a token only move its place
 pub tokens_after_blanks : (i : ℕ) (text : List ℕ) → tokens_from i text ≡ tokens_from
@@ -37,22 +37,22 @@ tokens_after_blanks i (byte ∷ text) = by (is_blank byte) refl (tokens_after_bl
 -- what the parts of a text are from a blank on
 parts_after : ℕ → List ℕ → List (ℕ × List ℕ)
 parts_after i [] = []
-parts_after i (byte ∷ bytes) = parts_from (i + 1) bytes
+parts_after i (byte ∷ bytes) = pieces_from (i + 1) bytes
 
 -- the first part of a text ends at its first blank
-first_part : (i : ℕ) (text : List ℕ) → parts_from i text ≡
+first_part : (i : ℕ) (text : List ℕ) → pieces_from i text ≡
     (i, take (position_or_len is_blank text) text) ∷ parts_after (i + position_or_len is_blank text)
     (drop (position_or_len is_blank text) text)
 unfolding parts_after
 first_part i [] = refl
 first_part i (byte ∷ text) = by (is_blank byte) refl (first_part (i + 1) text)
   where
-    by : (b : Bool) → is_blank byte ≡ b → parts_from (i + 1) text ≡
+    by : (b : Bool) → is_blank byte ≡ b → pieces_from (i + 1) text ≡
         (i + 1, take (position_or_len is_blank text) text) ∷ parts_after (i + 1 + position_or_len is_blank text)
         (drop (position_or_len is_blank text) text) →
-        parts_from i (byte ∷ text) ≡ (i, take (position_or_len is_blank (byte ∷ text)) (byte ∷ text)) ∷ parts_after
+        pieces_from i (byte ∷ text) ≡ (i, take (position_or_len is_blank (byte ∷ text)) (byte ∷ text)) ∷ parts_after
         (i + position_or_len is_blank (byte ∷ text)) (drop (position_or_len is_blank (byte ∷ text)) (byte ∷ text))
-    by true e rest = rw e (ap (λ j. (i, []) ∷ parts_from (j + 1) text) (sym (add-zero i)))
+    by true e rest = rw e (ap (λ j. (i, []) ∷ pieces_from (j + 1) text) (sym (add-zero i)))
     by false e rest = rw e (ap (onto_first_part i byte) rest
         ∙ ap (λ j. (i, byte ∷ take (position_or_len is_blank text) text) ∷ parts_after j
         (drop (position_or_len is_blank text) text)) (add_assoc i 1 (position_or_len is_blank text))

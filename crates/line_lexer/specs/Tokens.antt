@@ -32,17 +32,17 @@ onto_first_part i byte [] = (i, byte ∷ []) ∷ []
 onto_first_part i byte (part ∷ parts) = (i, byte ∷ part.1) ∷ parts
 
 -- A text cut at each blank, from the place i on: each part with the place where it begins.
-abbrev pub parts_from : ℕ → List ℕ → List (ℕ × List ℕ)
-parts_from i [] = (i, []) ∷ []
-parts_from i (byte ∷ bytes) =
-    if is_blank byte then (i, []) ∷ parts_from (i + 1) bytes else onto_first_part i byte (parts_from (i + 1) bytes)
+abbrev pub pieces_from : ℕ → List ℕ → List (ℕ × List ℕ)
+pieces_from i [] = (i, []) ∷ []
+pieces_from i (byte ∷ bytes) =
+    if is_blank byte then (i, []) ∷ pieces_from (i + 1) bytes else onto_first_part i byte (pieces_from (i + 1) bytes)
 
 abbrev pub has_bytes : ℕ × List ℕ → Bool
 has_bytes part = nat_lt 0 (length part.1)
 
 -- The tokens of a text that begins at the place i: the parts that are not empty.
 abbrev pub tokens_from : ℕ → List ℕ → List (ℕ × List ℕ)
-tokens_from i text = filter has_bytes (parts_from i text)
+tokens_from i text = filter has_bytes (pieces_from i text)
 
 -- The tokens of a line, each with the place where it begins: the longest runs of bytes that are no blank.
 abbrev pub tokens_of : List ℕ → List (ℕ × List ℕ)

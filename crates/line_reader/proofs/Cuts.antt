@@ -11,7 +11,7 @@ use Rattle.std.proofs.lemmas.List.Quantifiers.{position-Some}
 use Rattle.std.proofs.lemmas.List.Folds.{list_any-append}
 use Rattle.line_lexer.proofs.PlaceLaws.{position_or_len-Some, position_or_len-None}
 use Rattle.line_lexer.specs.Lines.{is_line_feed, cut_at_feeds, lines_of}
-use Rattle.line_reader.specs.Readings.{IsCut}
+use Rattle.line_reader.specs.Readings.{IsCutInLines}
 
 pub or_false-first : (a b : Bool) → (a || b) ≡ false → a ≡ false
 or_false-first true b e = e
@@ -53,7 +53,7 @@ cut-length (byte ∷ text) = by (is_line_feed byte) refl (cut-length text)
     by false e rest = rw e (omega (arith, onto_first-length byte (cut_at_feeds text)))
 
 -- the lines are no more than the bytes
-pub cut-lines_within : (text : List ℕ) (lines : List (List ℕ)) (rest : List ℕ) → IsCut text lines rest → length lines ≤ length text
+pub cut-lines_within : (text : List ℕ) (lines : List (List ℕ)) (rest : List ℕ) → IsCutInLines text lines rest → length lines ≤ length text
 cut-lines_within text lines rest cut =
     let whole = ap length (cut.whole []) in
     omega (
@@ -67,12 +67,12 @@ cut-lines_within text lines rest cut =
     )
 
 -- nothing was fed
-pub cut-none : IsCut [] [] []
+pub cut-none : IsCutInLines [] [] []
 cut-none = record { whole = λ more. refl; unended = refl }
 
 -- a part that ends no line
-pub cut-part : (text : List ℕ) (lines : List (List ℕ)) (rest part : List ℕ) → IsCut text lines rest →
-    list_any is_line_feed part ≡ false → IsCut (text ++ part) lines (rest ++ part)
+pub cut-part : (text : List ℕ) (lines : List (List ℕ)) (rest part : List ℕ) → IsCutInLines text lines rest →
+    list_any is_line_feed part ≡ false → IsCutInLines (text ++ part) lines (rest ++ part)
 cut-part text lines rest part cut unended = record {
   whole = λ more.
       ap lines_of (append_assoc text part more) ∙ cut.whole (part ++ more)
@@ -81,8 +81,8 @@ cut-part text lines rest part cut unended = record {
 }
 
 -- a line feed
-pub cut-feed : (text : List ℕ) (lines : List (List ℕ)) (rest : List ℕ) → IsCut text lines rest →
-    IsCut (text ++ 10 ∷ []) (lines ++ strip_carriage_return rest ∷ []) []
+pub cut-feed : (text : List ℕ) (lines : List (List ℕ)) (rest : List ℕ) → IsCutInLines text lines rest →
+    IsCutInLines (text ++ 10 ∷ []) (lines ++ strip_carriage_return rest ∷ []) []
 cut-feed text lines rest cut = record {
   whole = λ more.
       ap lines_of (append_assoc text (10 ∷ []) more) ∙ cut.whole (10 ∷ more)
@@ -92,7 +92,7 @@ cut-feed text lines rest cut = record {
 }
 
 -- the lines of a text that ends here
-pub cut-end : (text : List ℕ) (lines : List (List ℕ)) (rest : List ℕ) → IsCut text lines rest → lines_of text ≡ lines ++ lines_of rest
+pub cut-end : (text : List ℕ) (lines : List (List ℕ)) (rest : List ℕ) → IsCutInLines text lines rest → lines_of text ≡ lines ++ lines_of rest
 cut-end text lines rest cut = ap lines_of (sym (append-nil text)) ∙ cut.whole [] ∙ ap (λ all. lines ++ lines_of all) (append-nil rest)
 
 -- before the first line feed stands none

@@ -25,7 +25,7 @@ reading what n bytes sign why = record { format = what; number = n; line = bytes
 
 -- A text begins with these lines, each of which is ended by a line feed, and then has this rest, in which none stands.
 -- However the text goes on, the lines stay, and the rest goes on with it.
-pub record IsCut (text : List ℕ) (lines : List (List ℕ)) (rest : List ℕ) : Type 0 where
+pub record IsCutInLines (text : List ℕ) (lines : List (List ℕ)) (rest : List ℕ) : Type 0 where
   pub whole : (more : List ℕ) → lines_of (text ++ more) ≡ lines ++ lines_of (rest ++ more)
   pub unended : list_any is_line_feed rest ≡ false
 
@@ -43,7 +43,7 @@ pub record IsProgress {R : Type 0}
     : Type 0 where
   pub lines : List (List ℕ)
   pub rest : List ℕ
-  pub cut : IsCut text lines rest
+  pub cut : IsCutInLines text lines rest
   pub kept : KeepBefore rules (length lines) lines
   pub read : has_read reading.format (map (words_in rules) lines)
   pub number_is : reading.number ≡ length lines + 1

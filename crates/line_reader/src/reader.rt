@@ -178,9 +178,7 @@ impl<R: LineFormat> Progress<R> {
         if !self.is_within_line() {
             return Ok(self.format);
         }
-        let Ok(()) = self.read_ended() else {
-            return Err(ReadModel::NoMemory);
-        };
+        self.read_ended()?;
         match self.refused {
             Some(refused) => Err(ReadModel::Refused(refused)),
             None => Ok(self.format),

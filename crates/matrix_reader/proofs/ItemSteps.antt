@@ -14,7 +14,7 @@ use Rattle.mixed_model.specs.Faults.{fault_of}
 use Rattle.matrix_reader.specs.Models.{IsModelOf, LinesGive}
 use Rattle.matrix_reader.specs.Rules.{term_rule, place_rule, item_rule}
 use Rattle.line_reader.specs.Answers.{AnswersRule}
-use Rattle.matrix_reader.specs.ReaderStates.{IsWithin, UnmarkedFrom, PutsValue, so_far}
+use Rattle.matrix_reader.specs.ReaderStates.{IsWithinLine, UnmarkedFrom, PutsValue, so_far}
 use Rattle.matrix_reader.proofs.LineForms.{equation_last, item_seen, lines_name_only}
 use Rattle.matrix_reader.proofs.MarkLaws.{Marks, marked_rule, unmarked_rule}
 use Rattle.line_reader.proofs.Rules.{first_kept}
@@ -50,7 +50,7 @@ symbol_there false false was fresh = refl
 
 module _ (p : ℕ) (before : List (List (List ℕ))) (name : List ℕ) (items : List (List ℕ)) (line : ℕ)
     (old : MixedModel) (old_lines : List ℕ) (item : List ℕ)
-    (at_line : IsWithin p before (so_far name items) line old old_lines) where
+    (at_line : IsWithinLine p before (so_far name items) line old old_lines) where
   -- an item whose unknown can't be marked
   pub unmarked_item : (why : Why) → term_rule p item ≡ None →
       UnmarkedFrom (position (bytes_eq (unknown_of item)) old.unknowns) line old old_lines why →
@@ -95,7 +95,7 @@ module _ (p : ℕ) (before : List (List (List ℕ))) (name : List ℕ) (items : 
     grown : (last : MixedModel) → IsModel p last → last.equations ≡ new.equations → last.unknowns ≡ new.unknowns
         → ((i c : ℕ) → constant_at last i c ≡ cond (eqb (length (equations_in before)) i && eqb j c) (item_constant p item) (constant_at old i c))
         → ((i c : ℕ) → symbol_of last i c ≡ cond (eqb (length (equations_in before)) i && eqb j c) (item_symbol item) (symbol_of old i c))
-        → IsWithin p before (so_far name (items ++ item ∷ [])) line last new_lines
+        → IsWithinLine p before (so_far name (items ++ item ∷ [])) line last new_lines
     grown last is equations unknowns constants symbols =
         let gives : LinesGive p (before ++ so_far name (items ++ item ∷ []) ∷ []) last =
         subst (λ list. IsModelOf p list (unknowns_in (before ++ so_far name (items ++ item ∷ []) ∷ [])) last)
@@ -118,7 +118,7 @@ module _ (p : ℕ) (before : List (List (List ℕ))) (name : List ℕ) (items : 
     -- an item whose value is put at its place
     pub grown_by_value : (last : MixedModel) → PutsValue p new last (length (equations_in before)) j
         (item_constant p item) (item_symbol item) →
-        IsWithin p before (so_far name (items ++ item ∷ [])) line last new_lines
+        IsWithinLine p before (so_far name (items ++ item ∷ [])) line last new_lines
     grown_by_value last puts = grown last (puts.is_model marks.is_model) puts.equations puts.unknowns
         (λ i c. ap (λ o. unwrap_or o 0) (puts.constants i c)
         ∙ constant_there (item_constant p item) (eqb (length (equations_in before)) i && eqb j c) (constant_of new i c)

@@ -11,3 +11,4 @@ pub mod RuleSteps
 pub mod SaidLaws
 pub mod SeenLaws
 pub mod ValueLaws
+pub mod NameCounts

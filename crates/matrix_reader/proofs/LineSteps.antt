@@ -15,7 +15,7 @@ use Rattle.matrix_reader.specs.Models.{IsModelOf, LinesGive}
 use Rattle.matrix_reader.specs.Rules.{each_rule, name_rule, room_rule, equation_rule, item_rule, unknown_rule, equation_line_rule, unknown_line_rule}
 use Rattle.line_reader.specs.Answers.{AnswersRule}
 use Rattle.refusals.specs.Faults.{OnBroken}
-use Rattle.matrix_reader.specs.ReaderStates.{IsRead, IsWithin, SeenFrom, UnseenFrom, AddsEquation, so_far}
+use Rattle.matrix_reader.specs.ReaderStates.{IsRead, IsWithinLine, SeenFrom, UnseenFrom, AddsEquation, so_far}
 use Rattle.refusals.specs.declared.fault.Fault.{Fault}
 use Rattle.refusals.specs.declared.fault.Fault.TheVariants.{Broken, NoMemory}
 use Rattle.matrix_reader.proofs.LineForms.{name_seen, no_equation, LinesGive-blank, lines_name_only}
@@ -31,14 +31,14 @@ words tokens = map (λ token. token.1) tokens
 -- within an equation line, after some of its items
 pub record ItemsSoFar (p : ℕ) (before : List (List (List ℕ))) (name : List ℕ) (all seen left : List (List ℕ))
     (line : ℕ) (model : MixedModel) (lines : List ℕ) : Type 0 where
-  pub within : IsWithin p before (so_far name seen) line model lines
+  pub within : IsWithinLine p before (so_far name seen) line model lines
   pub rule : each_rule (item_rule p before) (so_far name []) all ≡ each_rule (item_rule p before) (so_far name seen) left
 
 pub ItemsSoFar-more : (p : ℕ) (before : List (List (List ℕ))) (name : List ℕ) (all seen left : List (List ℕ))
     (item : List ℕ) (line : ℕ) (old new : MixedModel) (lines new_lines : List ℕ) → ItemsSoFar p before name all seen
     (item ∷ left) line old lines
     → item_rule p before (so_far name seen) item ≡ None →
-    IsWithin p before (so_far name (seen ++ item ∷ [])) line new new_lines →
+    IsWithinLine p before (so_far name (seen ++ item ∷ [])) line new new_lines →
     ItemsSoFar p before name all (seen ++ item ∷ []) left line new new_lines
 ItemsSoFar-more p before name all seen left item line old new lines new_lines progress kept after = record {
   within = after;
@@ -56,9 +56,9 @@ ItemsSoFar-broken p before name all seen left item line old lines progress Left 
 
 pub ItemsSoFar-all : (p : ℕ) (before : List (List (List ℕ))) (name : List ℕ) (all seen : List (List ℕ)) (line : ℕ)
     (model : MixedModel) (lines : List ℕ) → all ≡ seen ++ [] → ItemsSoFar p before name all seen [] line model lines
-    → (each_rule (item_rule p before) (so_far name []) all ≡ None) × IsWithin p before (so_far name all) line model lines
+    → (each_rule (item_rule p before) (so_far name []) all ≡ None) × IsWithinLine p before (so_far name all) line model lines
 ItemsSoFar-all p before name all seen line model lines whole progress =
-    (progress.rule, subst (λ items. IsWithin p before (so_far name items) line model lines) (sym (whole ∙ append-nil seen)) progress.within)
+    (progress.rule, subst (λ items. IsWithinLine p before (so_far name items) line model lines) (sym (whole ∙ append-nil seen)) progress.within)
 
 -- within an `unknown` line, after some names and some more
 pub record NamesSoFar (p : ℕ) (before : List (List (List ℕ))) (names all seen left : List (List ℕ)) (line : ℕ)
@@ -201,13 +201,13 @@ module _ (p : ℕ) (before : List (List (List ℕ))) (names : List (List ℕ)) (
 pub equation_answer : (p : ℕ) (before : List (List (List ℕ))) (all items : List (List ℕ)) (name : List ℕ) (line : ℕ)
     (new : MixedModel) (new_lines : List ℕ) (result : Result (Unit {0}) Fault) → all ≡ name ∷ items →
     equation_rule before name ≡ None
-    → AnswersRule (each_rule (item_rule p before) (so_far name []) items) (IsWithin p before (so_far name items) line new new_lines) result
+    → AnswersRule (each_rule (item_rule p before) (so_far name []) items) (IsWithinLine p before (so_far name items) line new new_lines) result
     → AnswersRule (equation_line_rule p before all) (IsRead p (before ++ (codes "eq" ∷ all) ∷ []) (line + 1) new new_lines) result
 equation_answer p before all items name line new new_lines result split kept answer =
     subst (λ line_words. AnswersRule (equation_line_rule p before line_words)
     (IsRead p (before ++ (codes "eq" ∷ line_words) ∷ []) (line + 1) new new_lines) result) (sym split)
     (answers_same (each_rule (item_rule p before) (so_far name []) items)
-    (equation_line_rule p before (name ∷ items)) (IsWithin p before (so_far name items) line new new_lines)
+    (equation_line_rule p before (name ∷ items)) (IsWithinLine p before (so_far name items) line new new_lines)
     (IsRead p (before ++ so_far name items ∷ []) (line + 1) new new_lines) result
     (first_kept (equation_rule before name) (each_rule (item_rule p before) (so_far name []) items) kept) (λ within. within.read) answer)
 

@@ -17,7 +17,7 @@ use Rattle.mixed_model.proofs.NameLaws.{has_name-Some, has_name-None, names_apar
 use Rattle.matrix_reader.specs.Items.{unknown_of}
 use Rattle.matrix_reader.specs.EquationLists.{equations_in, unknowns_in}
 use Rattle.matrix_reader.specs.Rules.{place_rule, room_rule}
-use Rattle.matrix_reader.specs.ReaderStates.{IsWithin, MarkedFrom, UnmarkedFrom, SeenFrom, so_far}
+use Rattle.matrix_reader.specs.ReaderStates.{IsWithinLine, MarkedFrom, UnmarkedFrom, SeenFrom, so_far}
 use Rattle.matrix_reader.specs.Models.{items_at}
 use Rattle.matrix_reader.proofs.SaidLaws.{items_at-last, absent-unseen}
 use Rattle.matrix_reader.proofs.LineForms.{equation_last}
@@ -135,7 +135,7 @@ has_name-push_other items item name differs = has_name-push items item name
 
 module _ (p : ℕ) (before : List (List (List ℕ))) (name : List ℕ) (items : List (List ℕ)) (line : ℕ)
     (old : MixedModel) (old_lines : List ℕ) (item : List ℕ)
-    (at_line : IsWithin p before (so_far name items) line old old_lines) where
+    (at_line : IsWithinLine p before (so_far name items) line old old_lines) where
   -- an unknown that is not there stands in no item of the line
   fresh_new : has_name old.unknowns (unknown_of item) ≡ false → has_name (map unknown_of items) (unknown_of item) ≡ false
   fresh_new absent =

@@ -24,7 +24,7 @@ abbrev pub so_far : List ℕ → List (List ℕ) → List (List ℕ)
 so_far name items = codes "eq" ∷ name ∷ items
 
 -- Within an equation line: it is read so far, and the unknowns that stand in it so far are those whose last line it is.
-pub record IsWithin
+pub record IsWithinLine
     (p : ℕ) (before : List (List (List ℕ))) (words : List (List ℕ)) (line : ℕ) (model : MixedModel)
     (last_lines : List ℕ) : Type 0 where
   pub read : IsRead p (before ++ words ∷ []) (line + 1) model last_lines
@@ -72,25 +72,25 @@ abbrev pub ReadsItem : ℕ → ℕ → ℕ → MixedModel → MixedModel → Lis
     → Result (Unit {0}) Fault → Type 0
 ReadsItem p line i old new old_lines new_lines item result =
     (before : List (List (List ℕ))) (name : List ℕ) (items : List (List ℕ)) → i ≡ length (equations_in before)
-    → IsWithin p before (so_far name items) line old old_lines
+    → IsWithinLine p before (so_far name items) line old old_lines
     → AnswersRule (item_rule p before (so_far name items) item)
-    (IsWithin p before (so_far name (items ++ item ∷ [])) line new new_lines) result
+    (IsWithinLine p before (so_far name (items ++ item ∷ [])) line new new_lines) result
 
 -- and of all items of an equation line
 abbrev pub ReadsItems : ℕ → ℕ → ℕ → MixedModel → MixedModel → List ℕ → List ℕ → List (List ℕ)
     → Result (Unit {0}) Fault → Type 0
 ReadsItems p line i old new old_lines new_lines items result =
     (before : List (List (List ℕ))) (name : List ℕ) → i ≡ length (equations_in before)
-    → IsWithin p before (so_far name []) line old old_lines
+    → IsWithinLine p before (so_far name []) line old old_lines
     → AnswersRule (each_rule (item_rule p before) (so_far name []) items)
-    (IsWithin p before (so_far name items) line new new_lines) result
+    (IsWithinLine p before (so_far name items) line new new_lines) result
 
 -- What adding an equation answers and leaves, wherever between two lines the reader is: its number among the others.
 abbrev pub AddsEquation : ℕ → ℕ → MixedModel → MixedModel → List ℕ → List ℕ → Result ℕ Fault → Type 0
 AddsEquation p line old new lines name (Ok i) =
     (before : List (List (List ℕ))) → IsRead p before line old lines
     → (equation_rule before name ≡ None) × (i ≡ length (equations_in before))
-    × IsWithin p before (so_far name []) line new lines
+    × IsWithinLine p before (so_far name []) line new lines
 AddsEquation p line old new lines name (Err (Broken why)) =
     (before : List (List (List ℕ))) → IsRead p before line old lines → equation_rule before name ≡ Some why
 AddsEquation p line old new lines name (Err NoMemory) = Unit {0}

@@ -63,11 +63,5 @@ pub fn read<F: Field>(alloc: Global, bytes: &[u8]) -> Result<Mixed<F>, ReadModel
     ensures model { IfOk result (λ m. GivesModel F.modulus bytes.now m) }
     ensures refused { IfErr result (λ why. IsRefusal F.modulus bytes.now why) }
 {
-    let Ok(reader) = MatrixReader::new(alloc) else {
-        return Err(ReadModel::NoMemory);
-    };
-    let Ok(reader) = reader.feed(bytes) else {
-        return Err(ReadModel::NoMemory);
-    };
-    reader.finish()
+    MatrixReader::new(alloc)?.feed(bytes)?.finish()
 }

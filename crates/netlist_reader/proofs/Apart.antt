@@ -7,12 +7,12 @@ use Rattle.term_model.specs.Terms.{Term, constant, symbol, dotted}
 use Rattle.term_model.proofs.DottedNames.{differ}
 use Rattle.term_model.proofs.Lists.{all-append}
 use Rattle.term_model.proofs.Clearing.{bytes_eq-sym, Clear, Clears, joined, clear-equation, clear-unknown, clears, clears-both, clears-after}
-use Rattle.netlist_reader.specs.declared.kind.DeviceKind.{DeviceKind}
-use Rattle.netlist_reader.specs.declared.kind.DeviceKind.TheVariants.{Passive, Voltage, Current, VoltageByVoltage}
-use Rattle.netlist_reader.specs.declared.kind.DeviceKind.TheVariants.{CurrentByVoltage, CurrentByCurrent}
-use Rattle.netlist_reader.specs.declared.kind.DeviceKind.TheVariants.{VoltageByCurrent, Opamp, Transformer, Gyrator}
-use Rattle.netlist_reader.specs.Devices.{Device, is_ground, ground, has_source}
-use Rattle.netlist_reader.specs.Terms.{own, node, node_voltage, node_current, difference, flow, proportion}
+use Rattle.netlist_devices.specs.declared.kind.DeviceKind.{DeviceKind}
+use Rattle.netlist_devices.specs.declared.kind.DeviceKind.TheVariants.{Passive, Voltage, Current, VoltageByVoltage}
+use Rattle.netlist_devices.specs.declared.kind.DeviceKind.TheVariants.{CurrentByVoltage, CurrentByCurrent}
+use Rattle.netlist_devices.specs.declared.kind.DeviceKind.TheVariants.{VoltageByCurrent, Opamp, Transformer, Gyrator}
+use Rattle.netlist_devices.specs.Devices.{Device, is_ground, ground, has_source}
+use Rattle.netlist_reader.specs.Terms.{own, node, node_voltage, node_current, difference, current_terms, proportion}
 use Rattle.netlist_reader.specs.Putting.{put_constant, put_difference, put_flow, put_voltage, put_branch_between}
 use Rattle.netlist_reader.specs.Putting.{put_branch, put_two_branches, put_control, put_ratio, put_by}
 
@@ -52,7 +52,7 @@ in-currents u n k = by (is_ground n)
 in-flow : (p : ℕ) (u plus minus : List ℕ) → AllByRecursion (InNode u) (put_flow p u plus minus)
 in-flow p u plus minus = by (bytes_eq plus minus)
   where
-    by : (b : Bool) → AllByRecursion (InNode u) (cond b [] (flow p u plus minus))
+    by : (b : Bool) → AllByRecursion (InNode u) (cond b [] (current_terms p u plus minus))
     by true = tt
     by false = all-append (InNode u) (node_current u 1 plus) (node_current u (p - 1) minus) (in-currents u plus 1) (in-currents u minus (p - 1))
 
@@ -94,7 +94,7 @@ difference-free p e plus minus = by (bytes_eq plus minus) refl
 flow-free : (p : ℕ) (u plus minus : List ℕ) → AreFree [] (put_flow p u plus minus)
 flow-free p u plus minus = by (bytes_eq plus minus) refl
   where
-    by : (b : Bool) → bytes_eq plus minus ≡ b → AreFree [] (cond b [] (flow p u plus minus))
+    by : (b : Bool) → bytes_eq plus minus ≡ b → AreFree [] (cond b [] (current_terms p u plus minus))
     by true same = tt
     by false other = two-free (is_ground plus) (is_ground minus) (constant (dotted (codes "kcl") plus) u 1) (constant (dotted (codes "kcl") minus) u (p - 1))
         (clear-equation (constant (dotted (codes "kcl") plus) u 1) (constant (dotted (codes "kcl") minus) u (p - 1))

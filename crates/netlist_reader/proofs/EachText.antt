@@ -9,11 +9,11 @@ use Rattle.line_reader.specs.LineRules.{KeepsAll, IsFirstBroken}
 use Rattle.line_reader.proofs.Deciding.{IsFirstBelow, each_text, first_below, kept_or_broken, of_kept}
 use Rattle.mixed_model.specs.Models.{MixedModel}
 use Rattle.term_model.proofs.Making.{system_made}
-use Rattle.netlist_reader.specs.Circuits.{IsCircuit}
-use Rattle.netlist_reader.specs.Devices.{Device, devices_in}
+use Rattle.netlist_devices.specs.Circuits.{IsCircuit}
+use Rattle.netlist_devices.specs.Devices.{Device, devices_in}
 use Rattle.netlist_reader.specs.Models.{GivesModel, IsModelOf, IsRefusal, SourcesBefore, lines_in, source_rule_at, system_of}
-use Rattle.netlist_reader.specs.Rules.{device_rules, ground_rule}
-use Rattle.netlist_reader.proofs.KeptLines.{no_devices, one_line, parts_of}
+use Rattle.netlist_devices.specs.Rules.{device_rules, ground_rule}
+use Rattle.netlist_devices.proofs.KeptLines.{no_devices, one_line, parts_of}
 use Rattle.netlist_reader.proofs.NameLists.{equations-listed, unknowns-listed}
 
 -- a circuit has a model

@@ -16,13 +16,13 @@ use Rattle.refusals.specs.declared.ReadModel.TheVariants.{Refused, NoMemory}
 use Rattle.line_lexer.proofs.PlaceLaws.{position_or_len-None}
 use Rattle.line_reader.specs.LineRules.{KeepsAll, IsRefusal as IsLineRefusal}
 use Rattle.mixed_model.specs.Models.{MixedModel}
-use Rattle.netlist_reader.specs.declared.kind.DeviceKind.TheVariants.{Passive}
-use Rattle.netlist_reader.specs.Devices.{Device, device_in, devices_in}
-use Rattle.netlist_reader.specs.Rules.{ground_rule, device_rules}
+use Rattle.netlist_devices.specs.declared.kind.DeviceKind.TheVariants.{Passive}
+use Rattle.netlist_devices.specs.Devices.{Device, device_in, devices_in}
+use Rattle.netlist_devices.specs.Rules.{ground_rule, device_rules}
 use Rattle.netlist_reader.specs.Models.{GivesModel, IsFirstUnsourced, IsModelOf, IsRefusal, lines_in}
-use Rattle.netlist_reader.specs.Circuits.{AreSourced, HasRead, Parts, device_lines}
-use Rattle.netlist_reader.specs.ReaderStates.{TestsCircuit, first_unsourced, keeps_source}
-use Rattle.netlist_reader.proofs.DeviceSteps.{unless_false, unless_true}
+use Rattle.netlist_devices.specs.Circuits.{AreSourced, HasRead, CircuitParts, device_lines}
+use Rattle.netlist_devices.specs.ReaderStates.{TestsCircuit, first_unsourced, keeps_source}
+use Rattle.netlist_devices.proofs.DeviceSteps.{unless_false, unless_true}
 
 -- The first of some devices that fails a test.
 record IsFirst (test : Device → Bool) (devices : List Device) (k : ℕ) (d : Device) : Type 0 where
@@ -138,7 +138,7 @@ pub sourced : (devices : List Device) → first_unsourced devices ≡ None → A
 sourced devices none = unless_true (list_all (keeps_source devices) devices) NoSuchSource (none_fails (keeps_source devices) devices none)
 
 -- A text of which all rules are kept gives the model of its circuit.
-pub gives : (p : ℕ) (text : List ℕ) (parts : Parts) (model : MixedModel) → KeepsAll (device_rules p) text →
+pub gives : (p : ℕ) (text : List ℕ) (parts : CircuitParts) (model : MixedModel) → KeepsAll (device_rules p) text →
     HasRead p parts (lines_in p text) → TestsCircuit parts (Ok tt) → IsModelOf p parts.devices model →
     GivesModel p text model
 gives p text parts model kept has tests given = record {
@@ -165,7 +165,7 @@ no_source p lines number first = (
 )
 
 -- Or it is refused as a whole, or at a line whose source is none.
-pub refused-whole : (p : ℕ) (text : List ℕ) (parts : Parts) (refused : Refusal) → KeepsAll (device_rules p) text →
+pub refused-whole : (p : ℕ) (text : List ℕ) (parts : CircuitParts) (refused : Refusal) → KeepsAll (device_rules p) text →
     HasRead p parts (lines_in p text) → TestsCircuit parts (Err refused) → IsRefusal p text (Refused refused)
 refused-whole p text parts refused kept has (inl (same, ground)) =
     inr (inl (NoGround, same, kept, ap ground_rule (sym has.devices) ∙ ground))

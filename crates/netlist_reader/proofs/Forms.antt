@@ -6,15 +6,16 @@ use Rattle.std.specs.Str.{bytes_eq}
 use Rattle.std.proofs.lemmas.Bool.{eqb-false}
 use Rattle.std.proofs.lemmas.List.Folds.{list_any_at}
 use Rattle.mixed_model.specs.Names.{has_name}
-use Rattle.term_model.specs.Putting.{IsPut}
+use Rattle.term_model.specs.Putting.{CountsAsTerm}
 use Rattle.term_model.specs.Terms.{Term, constant, symbol, dotted}
 use Rattle.term_model.proofs.Lists.{all-append}
-use Rattle.netlist_reader.specs.declared.kind.DeviceKind.{DeviceKind}
-use Rattle.netlist_reader.specs.declared.kind.DeviceKind.TheVariants.{Passive, Voltage, Current, VoltageByVoltage}
-use Rattle.netlist_reader.specs.declared.kind.DeviceKind.TheVariants.{CurrentByVoltage, CurrentByCurrent}
-use Rattle.netlist_reader.specs.declared.kind.DeviceKind.TheVariants.{VoltageByCurrent, Opamp, Transformer, Gyrator}
-use Rattle.netlist_reader.specs.Devices.{Device, is_ground, ground, has_source, nodes_wanted}
-use Rattle.netlist_reader.specs.Terms.{own, node, node_voltage, node_current, difference, flow, proportion, equation_words, unknown_words}
+use Rattle.netlist_devices.specs.declared.kind.DeviceKind.{DeviceKind}
+use Rattle.netlist_devices.specs.declared.kind.DeviceKind.TheVariants.{Passive, Voltage, Current, VoltageByVoltage}
+use Rattle.netlist_devices.specs.declared.kind.DeviceKind.TheVariants.{CurrentByVoltage, CurrentByCurrent}
+use Rattle.netlist_devices.specs.declared.kind.DeviceKind.TheVariants.{VoltageByCurrent, Opamp, Transformer, Gyrator}
+use Rattle.netlist_devices.specs.Devices.{Device, is_ground, ground, has_source, nodes_wanted}
+use Rattle.netlist_devices.specs.EquationNames.{equation_words, unknown_words}
+use Rattle.netlist_reader.specs.Terms.{own, node, node_voltage, node_current, difference, current_terms, proportion}
 use Rattle.netlist_reader.specs.Putting.{put_constant, put_difference, put_flow, put_voltage, put_branch_between}
 use Rattle.netlist_reader.specs.Putting.{put_branch, put_two_branches, put_control, put_ratio, put_by}
 use Rattle.mixed_model.proofs.NameLaws.{bytes_eq-refl}
@@ -61,7 +62,7 @@ abbrev pub Place : Device → Term → Type 0
 Place d term = OwnPlace d term ⊎ (VoltagePlace d term ⊎ (CurrentPlace d term ⊎ SourcePlace d term))
 
 pub record HasForm (d : Device) (term : Term) : Type 0 where
-  pub put : IsPut term
+  pub put : CountsAsTerm term
   pub place : Place d term
 
 abbrev pub HaveForms : Device → List Term → Type 0
@@ -176,7 +177,7 @@ module _ (p : ℕ) (d : Device) (big : 2 < p) where
       (has_name d.nodes minus ≡ true) ⊎ (is_ground minus ≡ true) → HaveForms d (put_flow p (own d wu) plus minus)
   flow-form wu plus minus u first second = by (bytes_eq plus minus)
     where
-      by : (b : Bool) → HaveForms d (cond b [] (flow p (own d wu) plus minus))
+      by : (b : Bool) → HaveForms d (cond b [] (current_terms p (own d wu) plus minus))
       by true = tt
       by false = both (node_current (own d wu) 1 plus) (node_current (own d wu) (p - 1) minus)
           (current-form wu plus 1 u first one_is) (leaving wu minus (p - 1) u second less_is)
@@ -319,6 +320,6 @@ module _ (p : ℕ) (d : Device) (big : 2 < p) where
       (has_unknown Gyrator is wanted (codes "ia") refl) (has_unknown Gyrator is wanted (codes "vb") refl))
 
 -- what is put has a symbol, or a constant other than 0
-pub puts : (d : Device) (terms : List Term) → HaveForms d terms → AllByRecursion IsPut terms
+pub puts : (d : Device) (terms : List Term) → HaveForms d terms → AllByRecursion CountsAsTerm terms
 puts d [] forms = tt
 puts d (t ∷ terms) forms = (forms.0.put, puts d terms forms.1)

@@ -7,8 +7,8 @@ use Rattle.refusals.specs.declared.Refused.{Refused}
 use Rattle.line_reader.proofs.Rules.{first_broken-one, keeps-unbroken}
 use Rattle.mixed_model.specs.Models.{MixedModel}
 use Rattle.term_model.proofs.Systems.{one_model}
-use Rattle.netlist_reader.specs.Devices.{devices_in}
-use Rattle.netlist_reader.specs.Rules.{ground_rule, device_rules}
+use Rattle.netlist_devices.specs.Devices.{devices_in}
+use Rattle.netlist_devices.specs.Rules.{ground_rule, device_rules}
 use Rattle.netlist_reader.specs.Models.{BreaksFirst, GivesModel, IsFirstUnsourced, lines_in, source_rule_at, system_of}
 
 pub text_gives_one : (p : ℕ) (text : List ℕ) (a b : MixedModel) → GivesModel p text a → GivesModel p text b → a ≡ b

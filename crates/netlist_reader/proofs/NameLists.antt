@@ -9,13 +9,13 @@ use Rattle.term_model.proofs.Lists.{all-append, all-flat_map, all-filter, all-se
 use Rattle.term_model.proofs.Lists.{differ-distinct, distinct-differ, all_at, at_all}
 use Rattle.term_model.proofs.DottedNames.{MayStand, dotted-apart, dotted-differ, dotted-labels}
 use Rattle.term_model.proofs.OwnNames.{own-differ, own-labels}
-use Rattle.netlist_reader.specs.declared.kind.DeviceKind.{DeviceKind}
-use Rattle.netlist_reader.specs.declared.kind.DeviceKind.TheVariants.{Passive, Voltage, Current, VoltageByVoltage}
-use Rattle.netlist_reader.specs.declared.kind.DeviceKind.TheVariants.{CurrentByVoltage, CurrentByCurrent}
-use Rattle.netlist_reader.specs.declared.kind.DeviceKind.TheVariants.{VoltageByCurrent, Opamp, Transformer, Gyrator}
-use Rattle.netlist_reader.specs.Devices.{Device, device_names, is_ground, nodes_of}
-use Rattle.netlist_reader.specs.Terms.{equation_words, unknown_words, own_names, equations_of, unknowns_of}
-use Rattle.netlist_reader.specs.Circuits.{IsDevice, IsCircuit, Parts}
+use Rattle.netlist_devices.specs.declared.kind.DeviceKind.{DeviceKind}
+use Rattle.netlist_devices.specs.declared.kind.DeviceKind.TheVariants.{Passive, Voltage, Current, VoltageByVoltage}
+use Rattle.netlist_devices.specs.declared.kind.DeviceKind.TheVariants.{CurrentByVoltage, CurrentByCurrent}
+use Rattle.netlist_devices.specs.declared.kind.DeviceKind.TheVariants.{VoltageByCurrent, Opamp, Transformer, Gyrator}
+use Rattle.netlist_devices.specs.Devices.{Device, device_names, is_ground, nodes_of}
+use Rattle.netlist_devices.specs.EquationNames.{equation_words, unknown_words, own_names, equations_of, unknowns_of}
+use Rattle.netlist_devices.specs.Circuits.{IsDevice, IsCircuit, CircuitParts}
 use Rattle.netlist_reader.proofs.NamesDiffer.{equations-dotted, unknowns-dotted, kcl-apart, u-apart}
 
 -- words of one kind differ, before any name
@@ -102,7 +102,7 @@ node-label : (word : List ℕ) → is_good word ≡ true → (p : ℕ) (devices 
 node-label word good p devices all =
     dotted-labels word good (λ node. is_node node ≡ true) node-part (nodes_of devices) (nodes-good p devices all)
 
-pub equations-listed : (p : ℕ) (parts : Parts) → IsCircuit p parts → IsNameList (equations_of parts.devices)
+pub equations-listed : (p : ℕ) (parts : CircuitParts) → IsCircuit p parts → IsNameList (equations_of parts.devices)
 equations-listed p parts is =
     let devices = parts.devices in
     let all = at_all (IsDevice p) devices is.devices in
@@ -116,7 +116,7 @@ equations-listed p parts is =
       distinct = differ-distinct (equations_of devices) (equations-distinct devices (distinct-differ (device_names devices) is.distinct));
     }
 
-pub unknowns-listed : (p : ℕ) (parts : Parts) → IsCircuit p parts → IsNameList (unknowns_of parts.devices)
+pub unknowns-listed : (p : ℕ) (parts : CircuitParts) → IsCircuit p parts → IsNameList (unknowns_of parts.devices)
 unknowns-listed p parts is =
     let devices = parts.devices in
     let all = at_all (IsDevice p) devices is.devices in

@@ -4,12 +4,12 @@ use Rattle.mixed_model.specs.Names.{has_name}
 use Rattle.term_model.specs.Terms.{dotted}
 use Rattle.term_model.proofs.DottedNames.{Apart, Dotted}
 use Rattle.term_model.proofs.OwnNames.{own-apart}
-use Rattle.netlist_reader.specs.declared.kind.DeviceKind.{DeviceKind}
-use Rattle.netlist_reader.specs.declared.kind.DeviceKind.TheVariants.{Passive, Voltage, Current, VoltageByVoltage}
-use Rattle.netlist_reader.specs.declared.kind.DeviceKind.TheVariants.{CurrentByVoltage, CurrentByCurrent}
-use Rattle.netlist_reader.specs.declared.kind.DeviceKind.TheVariants.{VoltageByCurrent, Opamp, Transformer, Gyrator}
-use Rattle.netlist_reader.specs.Devices.{Device}
-use Rattle.netlist_reader.specs.Terms.{equation_words, unknown_words, own_names}
+use Rattle.netlist_devices.specs.declared.kind.DeviceKind.{DeviceKind}
+use Rattle.netlist_devices.specs.declared.kind.DeviceKind.TheVariants.{Passive, Voltage, Current, VoltageByVoltage}
+use Rattle.netlist_devices.specs.declared.kind.DeviceKind.TheVariants.{CurrentByVoltage, CurrentByCurrent}
+use Rattle.netlist_devices.specs.declared.kind.DeviceKind.TheVariants.{VoltageByCurrent, Opamp, Transformer, Gyrator}
+use Rattle.netlist_devices.specs.Devices.{Device}
+use Rattle.netlist_devices.specs.EquationNames.{equation_words, unknown_words, own_names}
 
 pub equations-dotted : (kind : DeviceKind) → Dotted (equation_words kind)
 equations-dotted Passive = ((λ n. refl), ((λ n. refl), tt))

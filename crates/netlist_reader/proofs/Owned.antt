@@ -3,13 +3,13 @@ use Rattle.std.proofs.Common.{◌≡◌, ℕ, ◌-◌, Bool, true, false, cond, 
 use Rattle.std.specs.List.{AllByRecursion}
 use Rattle.term_model.specs.Terms.{Term, constant, dotted}
 use Rattle.term_model.proofs.Lists.{all-append}
-use Rattle.netlist_reader.specs.declared.kind.DeviceKind.{DeviceKind}
-use Rattle.netlist_reader.specs.declared.kind.DeviceKind.TheVariants.{Passive, Voltage, Current, VoltageByVoltage}
-use Rattle.netlist_reader.specs.declared.kind.DeviceKind.TheVariants.{CurrentByVoltage, CurrentByCurrent}
-use Rattle.netlist_reader.specs.declared.kind.DeviceKind.TheVariants.{VoltageByCurrent, Opamp, Transformer, Gyrator}
-use Rattle.netlist_reader.specs.Devices.{Device, is_ground, ground}
+use Rattle.netlist_devices.specs.declared.kind.DeviceKind.{DeviceKind}
+use Rattle.netlist_devices.specs.declared.kind.DeviceKind.TheVariants.{Passive, Voltage, Current, VoltageByVoltage}
+use Rattle.netlist_devices.specs.declared.kind.DeviceKind.TheVariants.{CurrentByVoltage, CurrentByCurrent}
+use Rattle.netlist_devices.specs.declared.kind.DeviceKind.TheVariants.{VoltageByCurrent, Opamp, Transformer, Gyrator}
+use Rattle.netlist_devices.specs.Devices.{Device, is_ground, ground}
 use Rattle.netlist_reader.specs.Owners.{owner_of}
-use Rattle.netlist_reader.specs.Terms.{difference, flow, node_voltage, node_current, voltage_is, terms_by, own, node}
+use Rattle.netlist_reader.specs.Terms.{difference, current_terms, node_voltage, node_current, voltage_is, terms_by, own, node}
 use Rattle.netlist_reader.specs.Terms.{branch_between, branch, control, two_branches, proportion}
 
 -- a term stands at a place of this device
@@ -43,7 +43,8 @@ module _ (p : ℕ) (d : Device) where
       both d.name (node_voltage equation 1 plus) (node_voltage equation (p - 1) minus)
       (voltage-owned d.name equation plus 1 owned) (voltage-owned d.name equation minus (p - 1) owned)
 
-  flow-owned : (current plus minus : List ℕ) → ((n : List ℕ) → owner_of (dotted (codes "kcl") n) current ≡ d.name) → AreOwned d.name (flow p current plus minus)
+  flow-owned : (current plus minus : List ℕ) → ((n : List ℕ) → owner_of (dotted (codes "kcl") n) current ≡ d.name) → AreOwned d.name
+      (current_terms p current plus minus)
   flow-owned current plus minus owned =
       both d.name (node_current current 1 plus) (node_current current (p - 1) minus)
       (current-owned d.name current plus 1 (owned plus)) (current-owned d.name current minus (p - 1)
@@ -58,7 +59,7 @@ module _ (p : ℕ) (d : Device) where
       ((n : List ℕ) → owner_of (dotted (codes "kcl") n) (own d i) ≡ d.name) →
       AreOwned d.name (branch_between p d kvl v i plus minus)
   between-owned kvl v i plus minus first second =
-      both d.name (voltage_is p (own d kvl) (own d v) plus minus) (flow p (own d i) plus minus)
+      both d.name (voltage_is p (own d kvl) (own d v) plus minus) (current_terms p (own d i) plus minus)
       (voltage_is-owned (own d kvl) (own d v) plus minus first) (flow-owned (own d i) plus minus second)
 
   branch-owned : AreOwned d.name (branch p d)
@@ -87,7 +88,7 @@ module _ (p : ℕ) (d : Device) where
   device-owned CurrentByCurrent = both d.name (branch p d) (proportion d (own d (codes "i")) (dotted (codes "i") d.source)) branch-owned (refl, (refl, tt))
   device-owned VoltageByCurrent = both d.name (branch p d) (proportion d (own d (codes "v")) (dotted (codes "i") d.source)) branch-owned (refl, (refl, tt))
   device-owned Opamp =
-      both d.name (flow p (own d (codes "i")) (node d 2) ground) (difference p (own d (codes "law")) (node d 0) (node d 1))
+      both d.name (current_terms p (own d (codes "i")) (node d 2) ground) (difference p (own d (codes "law")) (node d 0) (node d 1))
       (flow-owned (own d (codes "i")) (node d 2) ground (λ n. refl))
       (difference-owned (own d (codes "law")) (node d 0) (node d 1) (λ unknown. refl))
   device-owned Transformer = both d.name (two_branches p d) _ branches-owned (refl, (refl, (refl, (refl, tt))))

@@ -12,14 +12,15 @@ use Rattle.term_model.specs.Putting.{IsFree, IsPlaced}
 use Rattle.term_model.specs.Terms.{Term, dotted, stands_at}
 use Rattle.term_model.proofs.NamesAmong.{has-left, has-map, has-right, seen-there}
 use Rattle.term_model.proofs.OwnNames.{own-there}
-use Rattle.netlist_reader.specs.declared.kind.DeviceKind.{DeviceKind}
-use Rattle.netlist_reader.specs.declared.kind.DeviceKind.TheVariants.{Passive, Voltage, Current, VoltageByVoltage}
-use Rattle.netlist_reader.specs.declared.kind.DeviceKind.TheVariants.{CurrentByVoltage, CurrentByCurrent}
-use Rattle.netlist_reader.specs.declared.kind.DeviceKind.TheVariants.{VoltageByCurrent, Opamp, Transformer, Gyrator}
-use Rattle.netlist_reader.specs.Devices.{Device, is_ground, nodes_of, device_names, has_source}
+use Rattle.netlist_devices.specs.declared.kind.DeviceKind.{DeviceKind}
+use Rattle.netlist_devices.specs.declared.kind.DeviceKind.TheVariants.{Passive, Voltage, Current, VoltageByVoltage}
+use Rattle.netlist_devices.specs.declared.kind.DeviceKind.TheVariants.{CurrentByVoltage, CurrentByCurrent}
+use Rattle.netlist_devices.specs.declared.kind.DeviceKind.TheVariants.{VoltageByCurrent, Opamp, Transformer, Gyrator}
+use Rattle.netlist_devices.specs.Devices.{Device, is_ground, nodes_of, device_names, has_source}
 use Rattle.netlist_reader.specs.Owners.{owner_of}
-use Rattle.netlist_reader.specs.Terms.{own, own_names, equation_words, unknown_words, equations_of, unknowns_of, terms_of, terms_by}
-use Rattle.netlist_reader.specs.Rules.{is_source, is_voltage}
+use Rattle.netlist_devices.specs.EquationNames.{own_names, equation_words, unknown_words, equations_of, unknowns_of}
+use Rattle.netlist_reader.specs.Terms.{own, terms_of, terms_by}
+use Rattle.netlist_devices.specs.Rules.{is_source, is_voltage}
 use Rattle.netlist_reader.proofs.Forms.{HasForm, Place, IsNodeOf}
 use Rattle.netlist_reader.proofs.Owned.{Owned, AreOwned, device-owned}
 

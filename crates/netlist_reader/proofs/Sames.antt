@@ -12,12 +12,12 @@ use Rattle.mixed_model.specs.Models.{MixedModel}
 use Rattle.term_model.specs.Putting.{Says}
 use Rattle.term_model.specs.Terms.{Term, stands_at, constant, dotted}
 use Rattle.term_model.proofs.Sames.{AreSame, same, same-append, same-then, same-swap, cancels}
-use Rattle.netlist_reader.specs.declared.kind.DeviceKind.{DeviceKind}
-use Rattle.netlist_reader.specs.declared.kind.DeviceKind.TheVariants.{Passive, Voltage, Current, VoltageByVoltage}
-use Rattle.netlist_reader.specs.declared.kind.DeviceKind.TheVariants.{CurrentByVoltage, CurrentByCurrent}
-use Rattle.netlist_reader.specs.declared.kind.DeviceKind.TheVariants.{VoltageByCurrent, Opamp, Transformer, Gyrator}
-use Rattle.netlist_reader.specs.Devices.{Device, is_ground, ground}
-use Rattle.netlist_reader.specs.Terms.{own, node, difference, flow, voltage_is, branch_between, branch, two_branches, control, proportion, terms_by, terms_of}
+use Rattle.netlist_devices.specs.declared.kind.DeviceKind.{DeviceKind}
+use Rattle.netlist_devices.specs.declared.kind.DeviceKind.TheVariants.{Passive, Voltage, Current, VoltageByVoltage}
+use Rattle.netlist_devices.specs.declared.kind.DeviceKind.TheVariants.{CurrentByVoltage, CurrentByCurrent}
+use Rattle.netlist_devices.specs.declared.kind.DeviceKind.TheVariants.{VoltageByCurrent, Opamp, Transformer, Gyrator}
+use Rattle.netlist_devices.specs.Devices.{Device, is_ground, ground}
+use Rattle.netlist_reader.specs.Terms.{own, node, difference, current_terms, voltage_is, branch_between, branch, two_branches, control, proportion, terms_by, terms_of}
 use Rattle.netlist_reader.specs.Putting.{put_constant, put_difference, put_flow, put_voltage, put_branch_between}
 use Rattle.netlist_reader.specs.Putting.{put_branch, put_two_branches, put_control, put_ratio, put_by}
 
@@ -62,7 +62,7 @@ same-difference p e plus minus big = by (bytes_eq plus minus) refl
     by true one = subst (λ other. AreSame p [] (difference p e plus other)) ((bytes_eq-Decides plus minus).0 one) (at (is_ground plus))
     by false two = same p (difference p e plus minus)
 
-same-flow : (p : ℕ) (current plus minus : List ℕ) → 2 < p → AreSame p (put_flow p current plus minus) (flow p current plus minus)
+same-flow : (p : ℕ) (current plus minus : List ℕ) → 2 < p → AreSame p (put_flow p current plus minus) (current_terms p current plus minus)
 same-flow p current plus minus big = by (bytes_eq plus minus) refl
   where
     at : (g : Bool) → AreSame p [] (cond g [] (constant (dotted (codes "kcl") plus) current 1 ∷ []) ++ cond g []
@@ -70,9 +70,9 @@ same-flow p current plus minus big = by (bytes_eq plus minus) refl
     at true = same p []
     at false = cancels p (dotted (codes "kcl") plus) current big
 
-    by : (b : Bool) → bytes_eq plus minus ≡ b → AreSame p (cond b [] (flow p current plus minus)) (flow p current plus minus)
-    by true one = subst (λ other. AreSame p [] (flow p current plus other)) ((bytes_eq-Decides plus minus).0 one) (at (is_ground plus))
-    by false two = same p (flow p current plus minus)
+    by : (b : Bool) → bytes_eq plus minus ≡ b → AreSame p (cond b [] (current_terms p current plus minus)) (current_terms p current plus minus)
+    by true one = subst (λ other. AreSame p [] (current_terms p current plus other)) ((bytes_eq-Decides plus minus).0 one) (at (is_ground plus))
+    by false two = same p (current_terms p current plus minus)
 
 module _ (p : ℕ) (d : Device) (big : 2 < p) (small : d.number < p) where
   same-voltage : (e v plus minus : List ℕ) → AreSame p (put_voltage p e v plus minus) (voltage_is p e v plus minus)
@@ -83,7 +83,7 @@ module _ (p : ℕ) (d : Device) (big : 2 < p) (small : d.number < p) where
   same-between : (kvl v i plus minus : List ℕ) → AreSame p (put_branch_between p d kvl v i plus minus) (branch_between p d kvl v i plus minus)
   same-between kvl v i plus minus = same-append p (put_voltage p (own d kvl) (own d v) plus minus)
       (voltage_is p (own d kvl) (own d v) plus minus) (put_flow p (own d i) plus minus)
-      (flow p (own d i) plus minus) (same-voltage (own d kvl) (own d v) plus minus)
+      (current_terms p (own d i) plus minus) (same-voltage (own d kvl) (own d v) plus minus)
       (same-flow p (own d i) plus minus big)
 
   same-branch : AreSame p (put_branch p d) (branch p d)
@@ -137,7 +137,7 @@ module _ (p : ℕ) (d : Device) (big : 2 < p) (small : d.number < p) where
   same-device CurrentByCurrent = after (put_branch p d) (branch p d) (proportion d (own d (codes "i")) (dotted (codes "i") d.source)) same-branch
   same-device VoltageByCurrent = after (put_branch p d) (branch p d) (proportion d (own d (codes "v")) (dotted (codes "i") d.source)) same-branch
   same-device Opamp = same-append p (put_flow p (own d (codes "i")) (node d 2) ground)
-      (flow p (own d (codes "i")) (node d 2) ground) (put_difference p (own d (codes "law")) (node d 0) (node d 1))
+      (current_terms p (own d (codes "i")) (node d 2) ground) (put_difference p (own d (codes "law")) (node d 0) (node d 1))
       (difference p (own d (codes "law")) (node d 0) (node d 1))
       (same-flow p (own d (codes "i")) (node d 2) ground big) (same-difference p (own d (codes "law")) (node d 0)
       (node d 1) big)

@@ -14,15 +14,15 @@ use Rattle.term_model.specs.Putting.{AreFree, LacksRoom, PutsTerms, Says}
 use Rattle.term_model.proofs.Adding.{new_among}
 use Rattle.term_model.proofs.Clearing.{free-split}
 use Rattle.term_model.proofs.Lists.{Differ, distinct-differ}
-use Rattle.netlist_reader.specs.declared.kind.DeviceKind.{DeviceKind}
-use Rattle.netlist_reader.specs.declared.kind.DeviceKind.TheVariants.{Passive, Voltage, Current, VoltageByVoltage}
-use Rattle.netlist_reader.specs.declared.kind.DeviceKind.TheVariants.{CurrentByVoltage, CurrentByCurrent}
-use Rattle.netlist_reader.specs.declared.kind.DeviceKind.TheVariants.{VoltageByCurrent, Opamp, Transformer, Gyrator}
-use Rattle.netlist_reader.specs.Devices.{Device, device_names, has_source}
+use Rattle.netlist_devices.specs.declared.kind.DeviceKind.{DeviceKind}
+use Rattle.netlist_devices.specs.declared.kind.DeviceKind.TheVariants.{Passive, Voltage, Current, VoltageByVoltage}
+use Rattle.netlist_devices.specs.declared.kind.DeviceKind.TheVariants.{CurrentByVoltage, CurrentByCurrent}
+use Rattle.netlist_devices.specs.declared.kind.DeviceKind.TheVariants.{VoltageByCurrent, Opamp, Transformer, Gyrator}
+use Rattle.netlist_devices.specs.Devices.{Device, device_names, has_source}
 use Rattle.netlist_reader.specs.Terms.{terms_of}
 use Rattle.refusals.specs.declared.Why.TheVariants.{NoSuchSource}
-use Rattle.netlist_reader.specs.Rules.{is_source, is_voltage, unless}
-use Rattle.netlist_reader.specs.Circuits.{AreSourced, IsDevice}
+use Rattle.netlist_devices.specs.Rules.{is_source, is_voltage, unless}
+use Rattle.netlist_devices.specs.Circuits.{AreSourced, IsDevice}
 use Rattle.netlist_reader.specs.Putting.{IsNew, LacksMemory, PutsDevice, put_by}
 use Rattle.netlist_reader.proofs.Apart.{device-free}
 use Rattle.netlist_reader.proofs.Forms.{forms}

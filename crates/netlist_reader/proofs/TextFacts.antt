@@ -13,10 +13,10 @@ use Rattle.line_lexer.specs.Lines.{lines_of}
 use Rattle.mixed_model.specs.Entries.{RowEntry}
 use Rattle.mixed_model.specs.Models.{constant_at, symbol_of}
 use Rattle.mixed_model.specs.Names.{IsNameList, is_label}
-use Rattle.mixed_model.specs.Rows.{IsRow, IsWithin, IsFilled}
+use Rattle.mixed_model.specs.Rows.{IsRow, AreColumnsBelow, IsNotEmpty}
 use Rattle.term_model.specs.Terms.{said_of, symbol_said}
 use Rattle.netlist_reader.specs.Terms.{terms_of}
-use Rattle.netlist_reader.specs.Rules.{device_rules}
+use Rattle.netlist_devices.specs.Rules.{device_rules}
 use Rattle.netlist_reader.specs.Models.{GivesModel, IsRefusal, lines_in, source_rule_at}
 use Rattle.line_reader.specs.LineRules.{rule_at}
 use Rattle.netlist_reader.specs.Examples.{refusal, two_lines, constant_entry, symbol_entry, controlled_source, controlled_text, controlled_model}
@@ -88,14 +88,14 @@ same_bool false false e = refl
 same_bool true false e = absurd omega (arith, e)
 same_bool false true e = absurd omega (arith, e)
 
-constant_filled : (j n : ℕ) → 0 < n → n < 65521 → IsFilled 65521 (constant_entry j n)
+constant_filled : (j n : ℕ) → 0 < n → n < 65521 → IsNotEmpty 65521 (constant_entry j n)
 constant_filled j n positive small = record {
   some = refl;
   positive = λ c e. let same : n ≡ c = ap (λ o. unwrap_or o 0) e in omega (arith, same, positive);
   residue = λ c e. let same : n ≡ c = ap (λ o. unwrap_or o 0) e in omega (arith, same, small);
 }
 
-symbol_filled : (j : ℕ) → IsFilled 65521 (symbol_entry j)
+symbol_filled : (j : ℕ) → IsNotEmpty 65521 (symbol_entry j)
 symbol_filled j = record {
   some = refl;
   positive = λ c e. let f : None ≡ Some c = e in absurd cc;
@@ -106,7 +106,7 @@ abbrev IsBelow : RowEntry → Type 0
 IsBelow entry = entry.column < 7
 
 abbrev IsGood : List RowEntry → Type 0
-IsGood row = IsRow 65521 row × IsWithin 7 row
+IsGood row = IsRow 65521 row × AreColumnsBelow 7 row
 
 within_none : All IsBelow []
 within_none i d at = absurd omega arith

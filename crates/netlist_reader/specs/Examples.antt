@@ -9,11 +9,12 @@ use Rattle.mixed_model.specs.Entries.{RowEntry}
 use Rattle.mixed_model.specs.Names.{has_name}
 use Rattle.mixed_model.specs.Models.{MixedModel}
 use Rattle.term_model.specs.Terms.{said_of, symbol_said}
-use Rattle.netlist_reader.specs.declared.kind.DeviceKind.TheVariants.{Transformer}
+use Rattle.netlist_devices.specs.declared.kind.DeviceKind.TheVariants.{Transformer}
 use Rattle.line_reader.specs.LineRules.{words_in}
-use Rattle.netlist_reader.specs.Rules.{device_rules}
-use Rattle.netlist_reader.specs.Devices.{Device, devices_in}
-use Rattle.netlist_reader.specs.Terms.{equations_of, unknowns_of, terms_of}
+use Rattle.netlist_devices.specs.Rules.{device_rules}
+use Rattle.netlist_devices.specs.Devices.{Device, devices_in}
+use Rattle.netlist_devices.specs.EquationNames.{equations_of, unknowns_of}
+use Rattle.netlist_reader.specs.Terms.{terms_of}
 
 -- the devices of some lines
 abbrev pub devices_of : List (List ℕ) → List Device

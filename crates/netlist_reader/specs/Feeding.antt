@@ -1,8 +1,8 @@
 -- What a reader of netlists knows of the text that it was fed.
 use Rattle.std.specs.Prelude.{ℕ, List}
 use Rattle.line_reader.specs.Readings.{IsFed as IsFedLines}
-use Rattle.netlist_reader.specs.Rules.{device_rules}
-use Rattle.netlist_reader.specs.Circuits.{HasRead}
+use Rattle.netlist_devices.specs.Rules.{device_rules}
+use Rattle.netlist_devices.specs.Circuits.{HasRead}
 use Rattle.netlist_reader.specs.declared.netlist.NetlistReader.{NetlistReader}
 
 -- A reader was fed this text.

@@ -1,11 +1,7 @@
-pub mod Circuits
-pub mod Devices
 pub mod Examples
 pub mod Feeding
 pub mod Models
 pub mod Naming
 pub mod Owners
 pub mod Putting
-pub mod ReaderStates
-pub mod Rules
 pub mod Terms

@@ -9,9 +9,10 @@ use Rattle.line_lexer.specs.Lines.{lines_of}
 use Rattle.line_reader.specs.LineRules.{KeepsAll, IsFirstBroken, words_in}
 use Rattle.mixed_model.specs.Models.{MixedModel}
 use Rattle.term_model.specs.Systems.{System, IsModelOf as IsModelOfSystem}
-use Rattle.netlist_reader.specs.Devices.{Device, device_in, devices_in}
-use Rattle.netlist_reader.specs.Terms.{equations_of, unknowns_of, terms_of}
-use Rattle.netlist_reader.specs.Rules.{device_rules, ground_rule, source_rule}
+use Rattle.netlist_devices.specs.Devices.{Device, device_in, devices_in}
+use Rattle.netlist_devices.specs.EquationNames.{equations_of, unknowns_of}
+use Rattle.netlist_reader.specs.Terms.{terms_of}
+use Rattle.netlist_devices.specs.Rules.{device_rules, ground_rule, source_rule}
 
 -- The system of some devices: their equations, their unknowns and their terms.
 abbrev pub system_of : ℕ → List Device → System

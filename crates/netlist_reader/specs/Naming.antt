@@ -1,11 +1,11 @@
 -- The names of a circuit's unknowns or equations.
 use Rattle.std.specs.Prelude.{ℕ, List, ◌++◌, map, codes}
 use Rattle.term_model.specs.Terms.{dotted}
-use Rattle.netlist_reader.specs.declared.kind.DeviceKind.{DeviceKind}
+use Rattle.netlist_devices.specs.declared.kind.DeviceKind.{DeviceKind}
 use Rattle.netlist_reader.specs.declared.side.Side.{Side}
 use Rattle.netlist_reader.specs.declared.side.Side.TheVariants.{Unknowns, Equations}
-use Rattle.netlist_reader.specs.Devices.{Device, nodes_of}
-use Rattle.netlist_reader.specs.Terms.{unknown_words, equation_words, own_names}
+use Rattle.netlist_devices.specs.Devices.{Device, nodes_of}
+use Rattle.netlist_devices.specs.EquationNames.{unknown_words, equation_words, own_names}
 
 -- the word before a node
 abbrev pub node_word : Side → List ℕ

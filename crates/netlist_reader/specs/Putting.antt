@@ -7,10 +7,10 @@ use Rattle.mixed_model.specs.declared.errors.AddError.TheVariants.{NoMemory}
 use Rattle.mixed_model.specs.Models.{MixedModel}
 use Rattle.term_model.specs.Terms.{Term, constant, dotted}
 use Rattle.term_model.specs.Putting.{Says}
-use Rattle.netlist_reader.specs.declared.kind.DeviceKind.{DeviceKind}
-use Rattle.netlist_reader.specs.declared.kind.DeviceKind.TheVariants.{Passive, Voltage, Current, VoltageByVoltage, CurrentByVoltage, CurrentByCurrent, VoltageByCurrent, Opamp, Transformer, Gyrator}
-use Rattle.netlist_reader.specs.Devices.{Device, device_names, ground, has_source}
-use Rattle.netlist_reader.specs.Terms.{own, node, difference, flow, proportion, terms_of}
+use Rattle.netlist_devices.specs.declared.kind.DeviceKind.{DeviceKind}
+use Rattle.netlist_devices.specs.declared.kind.DeviceKind.TheVariants.{Passive, Voltage, Current, VoltageByVoltage, CurrentByVoltage, CurrentByCurrent, VoltageByCurrent, Opamp, Transformer, Gyrator}
+use Rattle.netlist_devices.specs.Devices.{Device, device_names, ground, has_source}
+use Rattle.netlist_reader.specs.Terms.{own, node, difference, current_terms, proportion, terms_of}
 
 -- a constant, unless it is 0
 abbrev pub put_constant : List ℕ → List ℕ → ℕ → List Term
@@ -22,7 +22,7 @@ put_difference p equation plus minus = if bytes_eq plus minus then [] else diffe
 
 -- a current that leaves plus and enters minus
 abbrev pub put_flow : ℕ → List ℕ → List ℕ → List ℕ → List Term
-put_flow p current plus minus = if bytes_eq plus minus then [] else flow p current plus minus
+put_flow p current plus minus = if bytes_eq plus minus then [] else current_terms p current plus minus
 
 abbrev pub put_voltage : ℕ → List ℕ → List ℕ → List ℕ → List ℕ → List Term
 put_voltage p equation voltage plus minus = constant equation voltage 1 ∷ put_difference p equation minus plus

@@ -1,40 +1,10 @@
--- The unknowns and the equations of devices, and the terms that stand in the equations.
-use Rattle.std.specs.Prelude.{ℕ, ◌-◌, List, [], ◌∷◌, ◌++◌, map, codes, if◌then◌else◌, slice_index_or}
+-- The terms that stand in the equations of devices.
+use Rattle.std.specs.Prelude.{ℕ, ◌-◌, List, [], ◌∷◌, ◌++◌, codes, if◌then◌else◌, slice_index_or}
 use Rattle.std.specs.List.{flat_map}
-use Rattle.term_model.specs.Terms.{Term, constant, dotted, own_names_of, symbol}
-use Rattle.netlist_reader.specs.declared.kind.DeviceKind.{DeviceKind}
-use Rattle.netlist_reader.specs.declared.kind.DeviceKind.TheVariants.{Passive, Voltage, Current, VoltageByVoltage, CurrentByVoltage, CurrentByCurrent, VoltageByCurrent, Opamp, Transformer, Gyrator}
-use Rattle.netlist_reader.specs.Devices.{Device, is_ground, ground, nodes_of}
-
--- the words of a device's own unknowns, in order
-abbrev pub unknown_words : DeviceKind → List (List ℕ)
-unknown_words VoltageByVoltage = codes "v" ∷ codes "i" ∷ codes "w" ∷ []
-unknown_words CurrentByVoltage = codes "v" ∷ codes "i" ∷ codes "w" ∷ []
-unknown_words Opamp = codes "i" ∷ []
-unknown_words Transformer = codes "va" ∷ codes "ia" ∷ codes "vb" ∷ codes "ib" ∷ []
-unknown_words Gyrator = codes "va" ∷ codes "ia" ∷ codes "vb" ∷ codes "ib" ∷ []
-unknown_words _ = codes "v" ∷ codes "i" ∷ []
-
--- the words of its own equations
-abbrev pub equation_words : DeviceKind → List (List ℕ)
-equation_words VoltageByVoltage = codes "kvl" ∷ codes "ctl" ∷ codes "law" ∷ []
-equation_words CurrentByVoltage = codes "kvl" ∷ codes "ctl" ∷ codes "law" ∷ []
-equation_words Opamp = codes "law" ∷ []
-equation_words Transformer = codes "kvla" ∷ codes "kvlb" ∷ codes "lawa" ∷ codes "lawb" ∷ []
-equation_words Gyrator = codes "kvla" ∷ codes "kvlb" ∷ codes "lawa" ∷ codes "lawb" ∷ []
-equation_words _ = codes "kvl" ∷ codes "law" ∷ []
-
--- some devices' own names, in order, by the words of their kinds
-abbrev pub own_names : (DeviceKind → List (List ℕ)) → List Device → List (List ℕ)
-own_names words devices = own_names_of (λ device. device.name) (λ device. words device.kind) devices
-
--- The unknowns of some devices: a voltage for each node but the ground, and then each device's own.
-abbrev pub unknowns_of : List Device → List (List ℕ)
-unknowns_of devices = map (dotted (codes "u")) (nodes_of devices) ++ own_names unknown_words devices
-
--- Their equations: the currents at each node but the ground, and then each device's own.
-abbrev pub equations_of : List Device → List (List ℕ)
-equations_of devices = map (dotted (codes "kcl")) (nodes_of devices) ++ own_names equation_words devices
+use Rattle.term_model.specs.Terms.{Term, constant, dotted, symbol}
+use Rattle.netlist_devices.specs.declared.kind.DeviceKind.{DeviceKind}
+use Rattle.netlist_devices.specs.declared.kind.DeviceKind.TheVariants.{Passive, Voltage, Current, VoltageByVoltage, CurrentByVoltage, CurrentByCurrent, VoltageByCurrent, Opamp, Transformer, Gyrator}
+use Rattle.netlist_devices.specs.Devices.{Device, is_ground, ground}
 
 -- n times the voltage of a node, in an equation: nothing at the ground
 abbrev pub node_voltage : List ℕ → ℕ → List ℕ → List Term
@@ -49,8 +19,8 @@ abbrev pub difference : ℕ → List ℕ → List ℕ → List ℕ → List Term
 difference p equation plus minus = node_voltage equation 1 plus ++ node_voltage equation (p - 1) minus
 
 -- a current leaves the node plus and enters the node minus
-abbrev pub flow : ℕ → List ℕ → List ℕ → List ℕ → List Term
-flow p current plus minus = node_current current 1 plus ++ node_current current (p - 1) minus
+abbrev pub current_terms : ℕ → List ℕ → List ℕ → List ℕ → List Term
+current_terms p current plus minus = node_current current 1 plus ++ node_current current (p - 1) minus
 
 -- an equation says that a voltage is u(plus) - u(minus): voltage - u(plus) + u(minus)
 abbrev pub voltage_is : ℕ → List ℕ → List ℕ → List ℕ → List ℕ → List Term
@@ -67,7 +37,7 @@ own device word = dotted word device.name
 -- between two of its nodes: a voltage, and a current, by the words of these and of the equation
 abbrev pub branch_between : ℕ → Device → List ℕ → List ℕ → List ℕ → List ℕ → List ℕ → List Term
 branch_between p d kvl voltage current plus minus =
-    voltage_is p (own d kvl) (own d voltage) plus minus ++ flow p (own d current) plus minus
+    voltage_is p (own d kvl) (own d voltage) plus minus ++ current_terms p (own d current) plus minus
 
 -- between its first two nodes
 abbrev pub branch : ℕ → Device → List Term
@@ -97,7 +67,7 @@ terms_by p CurrentByVoltage d = branch p d ++ control p d ++ proportion d (own d
 terms_by p CurrentByCurrent d = branch p d ++ proportion d (own d (codes "i")) (dotted (codes "i") d.source)
 terms_by p VoltageByCurrent d = branch p d ++ proportion d (own d (codes "v")) (dotted (codes "i") d.source)
 terms_by p Opamp d =
-    flow p (own d (codes "i")) (node d 2) ground ++ difference p (own d (codes "law")) (node d 0) (node d 1)
+    current_terms p (own d (codes "i")) (node d 2) ground ++ difference p (own d (codes "law")) (node d 0) (node d 1)
 terms_by p Transformer d =
     two_branches p d
     ++ constant (own d (codes "lawa")) (own d (codes "va")) 1

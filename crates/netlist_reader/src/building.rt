@@ -4,17 +4,17 @@ ghost use Rattle.std.specs.Prelude.{◌≡◌, [], All, map, IfOk, OnOk, IfErr};
 ghost use Rattle.std.specs.String.{string_bytes};
 ghost use Rattle.mixed_model.specs.Names.{IsNameList};
 ghost use Rattle.term_model.specs.Putting.{IsBlank, IsPlaced, Says};
-ghost use Rattle.netlist_reader.specs.Circuits.{AreSourced, IsCircuit, IsDevice};
+ghost use Rattle.netlist_devices.specs.Circuits.{AreSourced, IsCircuit, IsDevice};
 ghost use Rattle.netlist_reader.specs.Models.{IsModelOf};
 ghost use Rattle.netlist_reader.specs.Putting.{LacksMemory, PutsDevice, put_by};
-ghost use Rattle.netlist_reader.specs.Terms.{equations_of, terms_of, unknowns_of};
+ghost use Rattle.netlist_devices.specs.EquationNames.{equations_of, unknowns_of};
+ghost use Rattle.netlist_reader.specs.Terms.{terms_of};
 
-use crate::circuit::Circuit;
-use crate::device::Device;
 use crate::putting::put_terms;
 use crate::side::{Side, names_on};
 use crate::terms::Terms;
 use mixed_model::{AddError, Mixed};
+use netlist_devices::{Circuit, Device};
 use out_of_memory::NoMemory;
 use residue_field::Field;
 use std::alloc::Global;
@@ -29,8 +29,7 @@ pub(crate) fn build<F: Field>(alloc: Global, circuit: &Circuit<F>) -> Result<Mix
     add_unknowns(&mut model, &names_on(alloc, circuit, Side::Unknowns)?)?;
     add_equations(&mut model, &names_on(alloc, circuit, Side::Equations)?)?;
     put_devices(alloc, &mut model, circuit)?;
-    // a proof knows what the type keeps once it is asked
-    let _ = model.equations();
+    model.is_model();
     Ok(model)
 }
 
@@ -111,11 +110,8 @@ fn put_device<F: Field>(
 }
 
 // The one refusal that is left where names are new and nothing stands at a place.
-fn want_of_memory(error: AddError) -> NoMemory
-    requires { error ≡ AddError.NoMemory }
+fn want_of_memory(_error: AddError) -> NoMemory
+    requires { _error ≡ AddError.NoMemory }
 {
-    match error {
-        AddError::NoMemory => NoMemory,
-        AddError::Twice | AddError::TooMany => unreachable!(),
-    }
+    NoMemory
 }

@@ -3,8 +3,8 @@
 ghost use Rattle.std.specs.Prelude.{◌≡◌, ◌∷◌, ◌++◌, [], true, false, codes, Some, None};
 ghost use Rattle.line_lexer.specs.Tokens.{words_of};
 ghost use Rattle.line_reader.specs.LineRules.{line_rule};
-ghost use Rattle.netlist_reader.specs.Terms.{unknowns_of, equations_of};
-ghost use Rattle.netlist_reader.specs.Rules.{device_rules, ground_rule, source_rule};
+ghost use Rattle.netlist_devices.specs.EquationNames.{unknowns_of, equations_of};
+ghost use Rattle.netlist_devices.specs.Rules.{device_rules, ground_rule, source_rule};
 ghost use Rattle.netlist_reader.specs.Models.{GivesModel, IsRefusal};
 ghost use Rattle.netlist_reader.specs.Examples.{devices_of, controlled_source, opamps, transformer, loop, constants_in, symbols_in, refusal, two_lines, controlled_text, controlled_model, loses_no_term, all_kinds};
 

@@ -6,9 +6,9 @@ ghost use Rattle.netlist_reader.specs.Models.{GivesModel, IsRefusal};
 ghost use Rattle.netlist_reader.specs.Feeding.{IsFed};
 
 use crate::building::build;
-use crate::circuit::Circuit;
 use line_reader::LineReader;
 use mixed_model::Mixed;
+use netlist_devices::Circuit;
 use out_of_memory::NoMemory;
 use refusals::ReadModel;
 use residue_field::Field;
@@ -48,10 +48,7 @@ impl<F: Field> NetlistReader<F> {
     {
         let circuit = self.lines.finish()?;
         circuit.test()?;
-        match build(circuit.allocator(), &circuit) {
-            Ok(model) => Ok(model),
-            Err(_) => Err(ReadModel::NoMemory),
-        }
+        Ok(build(circuit.allocator(), &circuit)?)
     }
 }
 
@@ -78,11 +75,5 @@ pub fn read<F: Field>(alloc: Global, bytes: &[u8]) -> Result<Mixed<F>, ReadModel
     ensures model { IfOk result (λ m. GivesModel F.modulus bytes.now m) }
     ensures refused { IfErr result (λ why. IsRefusal F.modulus bytes.now why) }
 {
-    let Ok(reader) = NetlistReader::new(alloc) else {
-        return Err(ReadModel::NoMemory);
-    };
-    let Ok(reader) = reader.feed(bytes) else {
-        return Err(ReadModel::NoMemory);
-    };
-    reader.finish()
+    NetlistReader::new(alloc)?.feed(bytes)?.finish()
 }

@@ -1,7 +1,7 @@
 //! Terms put into a model.
 
 ghost use Rattle.std.specs.Prelude.{◌≡◌, ◌∷◌, [], All, OnOk, IfErr};
-ghost use Rattle.term_model.specs.Putting.{IsPlaced, IsPut, LacksRoom, PutsTerms};
+ghost use Rattle.term_model.specs.Putting.{IsPlaced, CountsAsTerm, LacksRoom, PutsTerms};
 
 use crate::term::Term;
 use mixed_model::{AddError, Mixed};
@@ -11,7 +11,7 @@ use term_model::put_value;
 /// Puts terms into a model, at whose places nothing stands: memory alone may be wanting.
 pub(crate) fn put_terms<F: Field>(model: &mut Mixed<F>, terms: &[Term<F>]) -> Result<(), AddError>
     requires placed { All (IsPlaced model.old.equations model.old.unknowns) terms.now }
-    requires constants { All IsPut terms.now }
+    requires constants { All CountsAsTerm terms.now }
     ensures equations { model.new.equations ≡ model.old.equations }
     ensures unknowns { model.new.unknowns ≡ model.old.unknowns }
     ensures says { OnOk result (PutsTerms F.modulus model.old model.new terms.now) }
@@ -26,7 +26,7 @@ pub(crate) fn put_terms<F: Field>(model: &mut Mixed<F>, terms: &[Term<F>]) -> Re
 // Puts a term at its place.
 fn put_term<F: Field>(model: &mut Mixed<F>, term: &Term<F>) -> Result<(), AddError>
     requires placed { IsPlaced model.old.equations model.old.unknowns term.now }
-    requires constant { IsPut term.now }
+    requires constant { CountsAsTerm term.now }
     ensures equations { model.new.equations ≡ model.old.equations }
     ensures unknowns { model.new.unknowns ≡ model.old.unknowns }
     ensures says { OnOk result (PutsTerms F.modulus model.old model.new (term.now ∷ [])) }

@@ -3,13 +3,11 @@
 ghost use Rattle.std.specs.Prelude.{◌≡◌, map, IfOk, OnOk, ◌++◌};
 ghost use Rattle.std.specs.String.{string_bytes};
 ghost use Rattle.term_model.specs.Terms.{dotted};
-ghost use Rattle.netlist_reader.specs.Circuits.{IsCircuit};
+ghost use Rattle.netlist_devices.specs.Circuits.{IsCircuit};
 ghost use Rattle.netlist_reader.specs.Naming.{node_word, own_words, names_on};
-ghost use Rattle.netlist_reader.specs.Terms.{own_names};
+ghost use Rattle.netlist_devices.specs.EquationNames.{own_names};
 
-use crate::circuit::Circuit;
-use crate::device::Device;
-use crate::kind::DeviceKind;
+use netlist_devices::{Circuit, Device, DeviceKind};
 use out_of_memory::NoMemory;
 use residue_field::Field;
 use std::alloc::Global;

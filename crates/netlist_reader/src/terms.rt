@@ -4,13 +4,12 @@ ghost use Rattle.std.specs.Prelude.{◌≡◌, ◌≢◌, ◌+◌, ◌<◌, ◌�
 ghost use Rattle.std.specs.String.{string_bytes};
 ghost use Rattle.term_model.specs.Putting.{term_of_value};
 ghost use Rattle.term_model.specs.Terms.{constant, dotted};
-ghost use Rattle.netlist_reader.specs.Circuits.{IsDevice};
+ghost use Rattle.netlist_devices.specs.Circuits.{IsDevice};
 ghost use Rattle.netlist_reader.specs.Putting.{put_constant, put_difference, put_flow, put_voltage, put_branch_between, put_branch, put_two_branches, put_control, put_ratio, put_by};
 ghost use Rattle.netlist_reader.specs.Terms.{own, node, node_voltage, node_current, proportion};
 
-use crate::device::Device;
-use crate::kind::DeviceKind;
 use crate::term::Term;
+use netlist_devices::{Device, DeviceKind};
 use out_of_memory::NoMemory;
 use residue_field::Field;
 use std::alloc::Global;

@@ -43,13 +43,13 @@ place_number (Stream k) = Some k
 place_number (Unit_of k) = Some k
 
 -- a number behind a space, where there is one
-abbrev pub number_text : Option ℕ → List ℕ
-number_text None = []
-number_text (Some k) = 32 ∷ decimal k
+abbrev pub place_number_text : Option ℕ → List ℕ
+place_number_text None = []
+place_number_text (Some k) = 32 ∷ decimal k
 
 -- a place, with its number where it has one
 abbrev pub place_text : Place → List ℕ
-place_text place = place_word place ++ number_text (place_number place)
+place_text place = place_word place ++ place_number_text (place_number place)
 
 -- the words for a reason
 abbrev pub why_text : Why → List ℕ

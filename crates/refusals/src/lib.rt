@@ -8,6 +8,7 @@ ghost use Rattle.std.specs.Prelude.{◌≡◌};
 ghost use Rattle.refusals.specs.Texts.{place_word, place_number, why_text};
 
 pub use fault::Fault;
+use out_of_memory::NoMemory;
 use std::alloc::{AllocError, AllocFailed};
 use thiserror::Error;
 
@@ -142,6 +143,17 @@ impl From<Refused> for ReadModel {
 
     fn from(refused: Refused) -> ReadModel {
         ReadModel::Refused(refused)
+    }
+}
+
+impl From<NoMemory> for ReadModel {
+    ghost use Rattle.std.specs.Prelude.{◌≡◌};
+    ghost use Rattle.refusals.specs.declared.ReadModel.TheVariants.{NoMemory};
+
+    ghost from_gives = { λ _ error. error ≡ NoMemory };
+
+    fn from(_error: NoMemory) -> ReadModel {
+        ReadModel::NoMemory
     }
 }
 

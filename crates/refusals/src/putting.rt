@@ -1,7 +1,7 @@
 //! The text of a refusal, put into a writer.
 
 ghost use Rattle.std.specs.Prelude.{◌≡◌};
-ghost use Rattle.refusals.specs.Texts.{number_text, place_number, place_text, place_word, refusal_text, why_text};
+ghost use Rattle.refusals.specs.Texts.{place_number_text, place_number, place_text, place_word, refusal_text, why_text};
 ghost use Rattle.text_writer.specs.Texts.{Puts};
 
 use crate::{Place, Refused, Why};
@@ -36,7 +36,7 @@ fn put_place_word<K: Sink>(out: &mut TextWriter<'_, K>, place: Place)
 
 // Puts the number of a place behind a space, where it has one.
 fn put_place_number<K: Sink>(out: &mut TextWriter<'_, K>, place: Place)
-    ensures { Puts K.Sink out.old out.new (number_text (place_number place)) }
+    ensures { Puts K.Sink out.old out.new (place_number_text (place_number place)) }
 {
     match place.number() {
         None => {}

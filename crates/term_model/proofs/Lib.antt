@@ -2,10 +2,11 @@ pub mod Adding
 pub mod Blank
 pub mod Clearing
 pub mod DottedNames
+mod Found
 pub mod Growing
 pub mod Labels
-pub mod Making
 pub mod Lists
+pub mod Making
 pub mod NamesAmong
 pub mod Negatives
 pub mod OwnNames
@@ -15,3 +16,4 @@ pub mod Sames
 pub mod Saying
 pub mod Systems
 pub mod Taking
+pub mod TextCounts

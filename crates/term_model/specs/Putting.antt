@@ -63,8 +63,8 @@ pub record Says (p : ℕ) (terms : List Term) (model : MixedModel) : Type 0 wher
       ≡ symbol_said terms (slice_index_or model.equations i []) (slice_index_or model.unknowns j [])
 
 -- a term with a symbol, or with a constant other than 0
-abbrev pub IsPut : Term → Type 0
-IsPut term = term.symbol ≡ false → term.constant ≢ 0
+abbrev pub CountsAsTerm : Term → Type 0
+CountsAsTerm term = term.symbol ≡ false → term.constant ≢ 0
 
 -- What putting terms leaves, whatever terms were put before.
 abbrev pub PutsTerms : ℕ → MixedModel → MixedModel → List Term → Type 0

@@ -3,7 +3,7 @@
 ghost use Rattle.std.specs.Prelude.{◌≡◌, ◌<◌, ◌∷◌, [], true, length, slice_index_or, OnOk, IfErr};
 ghost use Rattle.mixed_model.specs.Models.{IsModel};
 ghost use Rattle.mixed_model.specs.Names.{has_name};
-ghost use Rattle.term_model.specs.Putting.{IsPlaceOf, IsPlaced, IsPut, LacksRoom, PutsTerms, term_of_value};
+ghost use Rattle.term_model.specs.Putting.{IsPlaceOf, IsPlaced, CountsAsTerm, LacksRoom, PutsTerms, term_of_value};
 
 use crate::value::Value;
 use mixed_model::{AddError, Mixed};
@@ -19,7 +19,7 @@ pub fn put_value<F: Field>(
 ) -> Result<(), AddError>
     requires placed { IsPlaced model.old.equations model.old.unknowns
         (term_of_value F.number equation.now unknown.now value) }
-    requires constant { IsPut (term_of_value F.number equation.now unknown.now value) }
+    requires constant { CountsAsTerm (term_of_value F.number equation.now unknown.now value) }
     ensures equations { model.new.equations ≡ model.old.equations }
     ensures unknowns { model.new.unknowns ≡ model.old.unknowns }
     ensures says { OnOk result (PutsTerms F.modulus model.old model.new
@@ -44,8 +44,7 @@ fn place_of<F: Field>(model: &Mixed<F>, equation: &str, unknown: &str) -> (usize
     ensures place { IsPlaceOf model.now equation.now unknown.now result.0 result.1 }
     ensures model { IsModel F.modulus model.now }
 {
-    // a proof knows what the type keeps once it is asked
-    let _ = model.equations();
+    model.is_model();
     let i = equation_of(model, equation);
     let j = unknown_of(model, unknown);
     (i, j)
@@ -57,10 +56,7 @@ fn equation_of<F: Field>(model: &Mixed<F>, name: &str) -> usize
     ensures within { result < length model.now.equations }
     ensures name { slice_index_or model.now.equations result [] ≡ name.now }
 {
-    match model.find_equation(name) {
-        Some(i) => i,
-        None => unreachable!(),
-    }
+    model.find_equation(name).unwrap()
 }
 
 // The number of the unknown of this name.
@@ -69,8 +65,5 @@ fn unknown_of<F: Field>(model: &Mixed<F>, name: &str) -> usize
     ensures within { result < length model.now.unknowns }
     ensures name { slice_index_or model.now.unknowns result [] ≡ name.now }
 {
-    match model.find_unknown(name) {
-        Some(j) => j,
-        None => unreachable!(),
-    }
+    model.find_unknown(name).unwrap()
 }

@@ -1,7 +1,7 @@
 //! A writer of texts over a sink.
 
 ghost use Rattle.std.specs.Prelude.{◌≡◌, [], ◌++◌};
-ghost use Rattle.text_writer.specs.Numbers.{marked, item};
+ghost use Rattle.text_writer.specs.Numbers.{with_mark, item};
 ghost use Rattle.text_writer.specs.Texts.{HasPut, Puts, Finishes};
 
 use crate::digits::{LONGEST, put_digits};
@@ -54,7 +54,7 @@ impl<'a, K: Sink> TextWriter<'a, K> {
 
     /// Puts a mark and a number.
     pub fn number(&mut self, mark: u8, number: u64)
-        ensures { Puts K.Sink self.old self.new (marked mark number) }
+        ensures { Puts K.Sink self.old self.new (with_mark mark number) }
     {
         let mut place = [0u8; LONGEST];
         let start = put_digits(mark, number, &mut place);

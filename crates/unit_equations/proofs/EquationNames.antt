@@ -12,7 +12,7 @@ use Rattle.term_model.specs.Terms.{dotted}
 use Rattle.term_model.proofs.Lists.{Differ, all-map}
 use Rattle.unit_equations.specs.declared.version.Version.{Version}
 use Rattle.unit_equations.specs.declared.version.Version.TheVariants.{One, Two}
-use Rattle.unit_equations.specs.Kinds.{numbered, own_for}
+use Rattle.unit_equations.specs.Kinds.{outlet_word, own_for}
 use Rattle.unit_equations.specs.Parts.{UnitEquation}
 use Rattle.unit_equations.proofs.Dots.{behind-longer, behind_unit, before-dotless, before-dotted, after-dotted}
 use Rattle.unit_equations.proofs.Dots.{component_of, dotted-assoc, is_dotless, unit_of, unit_of-longer, word_of}
@@ -48,34 +48,34 @@ module _ (word unit component : List ℕ) (w : IsWord word) (u : IsShort unit) (
   own_for-spelled = spelled-dotted word (dotted unit component) 5 61 w.spelled (spelled-dotted unit component 30 30 u.spelled c.spelled)
 
   -- and with the number of an outlet
-  numbered-form : (k : ℕ) → numbered Two (own_for word unit component) k ≡ dotted word (dotted unit (dotted component (decimal k)))
+  numbered-form : (k : ℕ) → outlet_word Two (own_for word unit component) k ≡ dotted word (dotted unit (dotted component (decimal k)))
   numbered-form k =
       dotted-assoc word (dotted unit component) (decimal k) ∙ ap (dotted word) (dotted-assoc unit component (decimal k))
 
-  pub numbered-unit : (version : Version) (k : ℕ) → unit_of (numbered version (own_for word unit component) k) ≡ unit
+  pub numbered-unit : (version : Version) (k : ℕ) → unit_of (outlet_word version (own_for word unit component) k) ≡ unit
   numbered-unit One k = own_for-unit
   numbered-unit Two k = ap unit_of (numbered-form k) ∙ unit_of-longer word unit (dotted component (decimal k)) w.dotless u.dotless
 
-  pub numbered-component : (version : Version) (k : ℕ) → component_of (numbered version (own_for word unit component) k) ≡ component
+  pub numbered-component : (version : Version) (k : ℕ) → component_of (outlet_word version (own_for word unit component) k) ≡ component
   numbered-component One k = own_for-component
   numbered-component Two k =
       ap component_of (numbered-form k)
       ∙ ap word_of (behind-longer word unit (dotted component (decimal k)) w.dotless u.dotless)
       ∙ before-dotted component (decimal k) c.dotless
 
-  pub numbered-word : (version : Version) (k : ℕ) → word_of (numbered version (own_for word unit component) k) ≡ word
+  pub numbered-word : (version : Version) (k : ℕ) → word_of (outlet_word version (own_for word unit component) k) ≡ word
   numbered-word One k = own_for-word
   numbered-word Two k = ap word_of (numbered-form k) ∙ before-dotted word (dotted unit (dotted component (decimal k))) w.dotless
 
-  pub numbered-spelled : (version : Version) (k : ℕ) → k < 2 ^ 64 → IsSpelled (numbered version (own_for word unit component) k) 96
+  pub numbered-spelled : (version : Version) (k : ℕ) → k < 2 ^ 64 → IsSpelled (outlet_word version (own_for word unit component) k) 96
   numbered-spelled One k small = spelled-more (own_for word unit component) 67 96 own_for-spelled (omega arith)
   numbered-spelled Two k small =
-      spelled-more (numbered Two (own_for word unit component) k) 88 96
+      spelled-more (outlet_word Two (own_for word unit component) k) 88 96
       (spelled-dotted (own_for word unit component) (decimal k) 67 20 own_for-spelled (decimal-spelled k small))
       (omega arith)
 
   -- the number that it tells
-  pub numbered-number : (k : ℕ) → after_first is_point (behind_unit (numbered Two (own_for word unit component) k)) ≡ decimal k
+  pub numbered-number : (k : ℕ) → after_first is_point (behind_unit (outlet_word Two (own_for word unit component) k)) ≡ decimal k
   numbered-number k =
       ap (λ name. after_first is_point (behind_unit name)) (numbered-form k)
       ∙ ap (after_first is_point) (behind-longer word unit (dotted component (decimal k)) w.dotless u.dotless)

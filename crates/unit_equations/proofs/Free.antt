@@ -9,7 +9,7 @@ use Rattle.term_model.specs.Terms.{Term, stands_at}
 use Rattle.term_model.proofs.Clearing.{and_false, bytes_eq-sym}
 use Rattle.term_model.proofs.Growing.{equation-free}
 use Rattle.term_model.proofs.Lists.{Differ, distinct-differ}
-use Rattle.unit_equations.specs.Parts.{Summand, equation, terms_of}
+use Rattle.unit_equations.specs.Parts.{Summand, equation, equation_terms}
 
 -- a place stays free after a term at another unknown
 free-next : (before : List Term) (name unknown : List ℕ) (term : Term) → IsFree before name unknown →
@@ -36,7 +36,7 @@ free-others before name term (summand ∷ summands) none all = by (bytes_eq term
     by false e none more = (free-next before name summand.unknown term all.0 e, more (rw e at none) all.1)
 
 summands-free : (before : List Term) (name : List ℕ) (summands : List Summand) → Differ (map (λ summand. summand.unknown) summands)
-    → AllByRecursion (λ summand. IsFree before name summand.unknown) summands → AreFree before (terms_of (equation name summands))
+    → AllByRecursion (λ summand. IsFree before name summand.unknown) summands → AreFree before (equation_terms (equation name summands))
 summands-free before name [] differ all = tt
 summands-free before name (summand ∷ summands) differ all =
     let term : Term = record { equation = name; unknown = summand.unknown; constant = summand.constant; symbol = summand.symbol } in
@@ -45,7 +45,7 @@ summands-free before name (summand ∷ summands) differ all =
 -- what an equation of a new name has, after terms of others
 pub fresh-free : (names : List (List ℕ)) (before : List Term) (name : List ℕ) (summands : List Summand) → has_name names name ≡ false
     → AllByRecursion (λ (term : Term). has_name names term.equation ≡ true) before → IsDistinct bytes_eq (map (λ summand. summand.unknown) summands)
-    → AreFree before (terms_of (equation name summands))
+    → AreFree before (equation_terms (equation name summands))
 fresh-free names before name summands new among distinct =
     summands-free before name summands (distinct-differ (map (λ summand. summand.unknown) summands) distinct) (each summands)
   where

@@ -14,7 +14,7 @@ use Rattle.mixed_model.specs.Names.{has_name}
 use Rattle.mixed_model.specs.declared.errors.AddError.{AddError}
 use Rattle.mixed_model.specs.declared.errors.AddError.TheVariants as refusal
 use Rattle.mixed_model.proofs.NameLaws.{bytes_eq-refl}
-use Rattle.term_model.specs.Putting.{AreFree, IsPlaced, IsPut, LacksRoom, PutsTerms, Says}
+use Rattle.term_model.specs.Putting.{AreFree, IsPlaced, CountsAsTerm, LacksRoom, PutsTerms, Says}
 use Rattle.term_model.specs.Systems.{IsModelOf, System}
 use Rattle.term_model.specs.Terms.{Term}
 use Rattle.term_model.proofs.Adding.{new_among}
@@ -22,8 +22,8 @@ use Rattle.term_model.proofs.Growing.{says-equation, says-unknown}
 use Rattle.term_model.proofs.Lists.{all-map, all_at, at_all}
 use Rattle.term_model.proofs.NamesAmong.{has-left, has-right}
 use Rattle.unit_equations.specs.Adding.{ArePlaced, AreSummands, IsFilledSummand}
-use Rattle.unit_equations.specs.Growing.{GrowsBy, IsFull, equations_alone, unknowns_alone}
-use Rattle.unit_equations.specs.Parts.{Summand, UnitEquation, UnitPart, system_of, terms_of, together}
+use Rattle.unit_equations.specs.Growing.{GrowsBy, IsOverLimit, equations_alone, unknowns_alone}
+use Rattle.unit_equations.specs.Parts.{Summand, UnitEquation, UnitPart, system_of, equation_terms, together}
 use Rattle.unit_equations.proofs.Free.{fresh-free}
 use Rattle.unit_equations.proofs.SaidBy.{said_by}
 use Rattle.unit_equations.proofs.SummandTerms.{term_of}
@@ -73,16 +73,16 @@ grows-unknown p old new name is absent grown = record {
 -- the terms of an equation stand where its name and its unknowns do, and each puts something there
 pub terms-placed : (equations unknowns : List (List ℕ)) (of : UnitEquation) → has_name equations of.name ≡ true →
     All (λ summand. has_name unknowns summand.unknown ≡ true) of.summands → All (IsPlaced equations unknowns)
-    (terms_of of)
+    (equation_terms of)
 terms-placed equations unknowns of there among =
-    all_at (IsPlaced equations unknowns) (terms_of of)
+    all_at (IsPlaced equations unknowns) (equation_terms of)
     (all-map (λ summand. has_name unknowns summand.unknown ≡ true) (IsPlaced equations unknowns)
     (term_of of.name) of.summands (λ summand at. record { equation = there; unknown = at })
     (at_all (λ (summand : Summand). has_name unknowns summand.unknown ≡ true) of.summands among))
 
-pub terms-put : (p : ℕ) (of : UnitEquation) → All (IsFilledSummand p) of.summands → All IsPut (terms_of of)
+pub terms-put : (p : ℕ) (of : UnitEquation) → All (IsFilledSummand p) of.summands → All CountsAsTerm (equation_terms of)
 terms-put p of filled =
-    all_at IsPut (terms_of of) (all-map (IsFilledSummand p) IsPut (term_of of.name) of.summands
+    all_at CountsAsTerm (equation_terms of) (all-map (IsFilledSummand p) CountsAsTerm (term_of of.name) of.summands
     (λ summand is. is.constant) (at_all (IsFilledSummand p) of.summands filled))
 
 -- one more equation
@@ -96,32 +96,32 @@ module _ (p : ℕ) (old mid : MixedModel) (of : UnitEquation) (is : IsModel p ol
   pub same_unknowns : mid.unknowns ≡ old.unknowns
   same_unknowns = ap (λ (model : MixedModel). model.unknowns) grown
 
-  pub new-placed : All (IsPlaced mid.equations mid.unknowns) (terms_of of)
-  new-placed = subst (λ unknowns. All (IsPlaced mid.equations unknowns) (terms_of of)) (sym same_unknowns)
+  pub new-placed : All (IsPlaced mid.equations mid.unknowns) (equation_terms of)
+  new-placed = subst (λ unknowns. All (IsPlaced mid.equations unknowns) (equation_terms of)) (sym same_unknowns)
       (terms-placed mid.equations old.unknowns of named summands.there)
 
   says-mid : (before : List Term) → Says p before old → All (IsPlaced old.equations old.unknowns) before → Says p before mid
   says-mid before says placed = says-equation p before old of.name says (λ k d at. (placed k d at).equation) absent is mid grown
 
-  free-mid : (before : List Term) → All (IsPlaced old.equations old.unknowns) before → AreFree before (terms_of of)
+  free-mid : (before : List Term) → All (IsPlaced old.equations old.unknowns) before → AreFree before (equation_terms of)
   free-mid before placed = fresh-free old.equations before of.name of.summands absent
       (at_all (λ (term : Term). has_name old.equations term.equation ≡ true) before
       (λ k d at. (placed k d at).equation)) summands.distinct
 
   pub grows-equation : (new : MixedModel) → new.equations ≡ mid.equations → new.unknowns ≡ mid.unknowns →
-      PutsTerms p mid new (terms_of of) → GrowsBy p old new (equations_alone (of ∷ []))
+      PutsTerms p mid new (equation_terms of) → GrowsBy p old new (equations_alone (of ∷ []))
   grows-equation new equations unknowns puts = record {
     equations_are = equations ∙ ap (λ (model : MixedModel). model.equations) grown;
     unknowns_are = unknowns ∙ same_unknowns ∙ sym (append-nil old.unknowns);
-    placed = subst (All (IsPlaced new.equations new.unknowns)) (sym (append-nil (terms_of of)))
-        (subst (λ names. All (IsPlaced names new.unknowns) (terms_of of)) (sym equations)
-        (subst (λ names. All (IsPlaced mid.equations names) (terms_of of)) (sym unknowns) new-placed));
+    placed = subst (All (IsPlaced new.equations new.unknowns)) (sym (append-nil (equation_terms of)))
+        (subst (λ names. All (IsPlaced names new.unknowns) (equation_terms of)) (sym equations)
+        (subst (λ names. All (IsPlaced mid.equations names) (equation_terms of)) (sym unknowns) new-placed));
     says = λ before says placed.
-        subst (λ all. Says p (before ++ all) new) (sym (append-nil (terms_of of))) (puts before (says-mid before says placed) (free-mid before placed));
+        subst (λ all. Says p (before ++ all) new) (sym (append-nil (equation_terms of))) (puts before (says-mid before says placed) (free-mid before placed));
   }
 
   -- nothing stands there, so memory alone is wanting
-  pub equation-lacks : (error : AddError) → LacksRoom p mid (terms_of of) error → error ≡ refusal.NoMemory
+  pub equation-lacks : (error : AddError) → LacksRoom p mid (equation_terms of) error → error ≡ refusal.NoMemory
   equation-lacks error lacks =
       let said = said_by p old is in
       lacks said.0 (says-mid said.0 said.1 said.2) (free-mid said.0 said.2)
@@ -134,7 +134,7 @@ next-new names more i name distinct within is =
     (new_among (names ++ more) (length names + i) name distinct (omega (arith, length-append names more, within)) (get_or-append-add names more i [] ∙ is))
 
 -- more names are too many
-pub full-more : (names more : List (List ℕ)) (fault : Fault) → length names ≤ length more → IsFull names fault → IsFull more fault
+pub full-more : (names more : List (List ℕ)) (fault : Fault) → length names ≤ length more → IsOverLimit names fault → IsOverLimit more fault
 full-more names more (Broken why) longer full = (full.0, omega (arith, full.1, longer))
 full-more names more NoMemory longer full = tt
 
@@ -144,7 +144,7 @@ pub alone-append : (equations : List UnitEquation) (of : UnitEquation) → toget
 alone-append equations of = λ t. record {
   equations = sym (map-append (λ (e : UnitEquation). e.name) equations (of ∷ [])) t;
   unknowns = [];
-  terms = sym (flat_map-append terms_of equations (of ∷ [])) t;
+  terms = sym (flat_map-append equation_terms equations (of ∷ [])) t;
 }
 
 -- The model of a system, that grows by another, is that of both.
@@ -168,5 +168,5 @@ pub part-alone : (part : UnitPart) → together (unknowns_alone part.unknowns) (
 part-alone part = λ t. record {
   equations = map (λ (e : UnitEquation). e.name) part.equations;
   unknowns = append-nil part.unknowns t;
-  terms = flat_map terms_of part.equations;
+  terms = flat_map equation_terms part.equations;
 }

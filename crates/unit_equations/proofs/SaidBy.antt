@@ -13,7 +13,7 @@ use Rattle.std.proofs.lemmas.List.Sums.{sum_by-cons}
 use Rattle.mixed_model.specs.Entries.{RowEntry}
 use Rattle.mixed_model.specs.Models.{MixedModel, IsModel, row_of}
 use Rattle.mixed_model.specs.Names.{has_name}
-use Rattle.mixed_model.specs.Rows.{IsFilled, IsRow, IsWithin, RisesFrom, constant_at_place, entry_in, symbol_at_place}
+use Rattle.mixed_model.specs.Rows.{IsNotEmpty, IsRow, AreColumnsBelow, RisesFrom, constant_at_place, entry_in, symbol_at_place}
 use Rattle.mixed_model.proofs.NameLaws.{bytes_eq-refl, stands_once}
 use Rattle.mixed_model.proofs.RowLaws.{entry_in-filled}
 use Rattle.term_model.specs.Putting.{IsPlaced, Says}
@@ -160,7 +160,7 @@ absent-at names name i none at = bytes_eq-sym name (get_or names i []) (by (byte
 
 each-row : (p : ℕ) (names unknowns : List (List ℕ)) (rows : List (List RowEntry)) (i j : ℕ) → Differ names →
     IsDistinct bytes_eq unknowns → length rows ≡ length names → i < length names → j < length unknowns
-    → AllByRecursion (λ row. IsRow p row × IsWithin (length unknowns) row) rows
+    → AllByRecursion (λ row. IsRow p row × AreColumnsBelow (length unknowns) row) rows
     → filter (stands_at (get_or names i []) (get_or unknowns j [])) (terms_by names unknowns rows) ≡ at_place
     (get_or names i []) unknowns (entry_in (get_or rows i []) j)
 each-row p [] unknowns rows i j differ distinct long at col all = absurd (omega (arith, at))
@@ -187,7 +187,8 @@ placed-row equations unknowns name (entry ∷ row) there inside =
     (record { equation = there; unknown = there-at unknowns entry.column inside.0 }, placed-row equations unknowns name row there inside.1)
 
 placed-rows : (p : ℕ) (equations names unknowns : List (List ℕ)) (rows : List (List RowEntry)) → AllByRecursion (λ name. has_name equations name ≡ true) names
-    → AllByRecursion (λ row. IsRow p row × IsWithin (length unknowns) row) rows → AllByRecursion (IsPlaced equations unknowns) (terms_by names unknowns rows)
+    → AllByRecursion (λ row. IsRow p row × AreColumnsBelow (length unknowns) row) rows → AllByRecursion (IsPlaced equations unknowns)
+    (terms_by names unknowns rows)
 placed-rows p equations [] unknowns rows there all = tt
 placed-rows p equations (name ∷ names) unknowns [] there all = tt
 placed-rows p equations (name ∷ names) unknowns (row ∷ rows) there all =
@@ -196,7 +197,7 @@ placed-rows p equations (name ∷ names) unknowns (row ∷ rows) there all =
     (placed-rows p equations names unknowns rows there.1 all.1)
 
 -- what stands at a place is said there
-constant-said : (p : ℕ) (name : List ℕ) (unknowns : List (List ℕ)) (found : Option RowEntry) → ((entry : RowEntry) → found ≡ Some entry → IsFilled p entry)
+constant-said : (p : ℕ) (name : List ℕ) (unknowns : List (List ℕ)) (found : Option RowEntry) → ((entry : RowEntry) → found ≡ Some entry → IsNotEmpty p entry)
     → unwrap_or (constant_at_place found) 0 ≡ sum_by (λ term. term.constant) (at_place name unknowns found) % p
 constant-said p name unknowns None filled = sym (zero-mod p)
 constant-said p name unknowns (Some entry) filled = by entry.constant refl
@@ -241,8 +242,8 @@ said_by p model is = (
     terms : List Term
     terms = terms_by model.equations model.unknowns model.rows
 
-    all_rows : AllByRecursion (λ row. IsRow p row × IsWithin (length model.unknowns) row) model.rows
-    all_rows = at_all (λ row. IsRow p row × IsWithin (length model.unknowns) row) model.rows is.rows
+    all_rows : AllByRecursion (λ row. IsRow p row × AreColumnsBelow (length model.unknowns) row) model.rows
+    all_rows = at_all (λ row. IsRow p row × AreColumnsBelow (length model.unknowns) row) model.rows is.rows
 
     at : (i j : ℕ) → i < length model.equations → j < length model.unknowns
         → filter (stands_at (get_or model.equations i []) (get_or model.unknowns j []))

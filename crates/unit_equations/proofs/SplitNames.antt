@@ -11,7 +11,7 @@ use Rattle.mixed_model.specs.Names.{has_name}
 use Rattle.term_model.proofs.Lists.{Differ, all-flat_map, all-map}
 use Rattle.unit_equations.specs.declared.version.Version.{Version}
 use Rattle.unit_equations.specs.declared.version.Version.TheVariants.{One, Two}
-use Rattle.unit_equations.specs.Kinds.{numbered, own_for}
+use Rattle.unit_equations.specs.Kinds.{outlet_word, own_for}
 use Rattle.unit_equations.specs.Parts.{UnitEquation}
 use Rattle.unit_equations.proofs.Dots.{behind_unit, component_of, unit_of, word_of}
 use Rattle.unit_equations.proofs.EquationNames.{AreNames, AreNumbers, IsWord, names_of, numbered-component}
@@ -66,9 +66,9 @@ flat-each unit rows components all differ = record {
 -- the splits of a component, by the numbers of their outlets
 module _ {X : Type 0} (version : Version) (word unit component : List ℕ) (number : X → ℕ) (make : X → UnitEquation)
     (w : IsWord word) (u : IsShort unit) (c : IsShort component)
-    (named : (x : X) → (make x).name ≡ numbered version (own_for word unit component) (number x)) where
+    (named : (x : X) → (make x).name ≡ outlet_word version (own_for word unit component) (number x)) where
   all-told : (P : List ℕ → Type 0) (xs : List X) → ((x : X) → number x < 2 ^ 64 →
-      P (numbered version (own_for word unit component) (number x))) → AllByRecursion (λ x. number x < 2 ^ 64) xs →
+      P (outlet_word version (own_for word unit component) (number x))) → AllByRecursion (λ x. number x < 2 ^ 64) xs →
       AllByRecursion (λ equation. P equation.name) (map make xs)
   all-told P xs holds small =
       all-map (λ x. number x < 2 ^ 64) (λ equation. P equation.name) make xs (λ x less. subst P (sym (named x)) (holds x less)) small
@@ -88,7 +88,7 @@ module _ {X : Type 0} (version : Version) (word unit component : List ℕ) (numb
       map-differ (λ name. after_first is_point (behind_unit name)) (λ x. decimal (number x)) (λ x. (make x).name) xs
       (all-weaker (λ x. number x < 2 ^ 64) (λ x. after_first is_point (behind_unit ((make x).name)) ≡ decimal (number x)) xs
       (λ x less. ap (λ name. after_first is_point (behind_unit name)) (named x
-      ∙ ap (λ v. numbered v (own_for word unit component) (number x)) (sym is))
+      ∙ ap (λ v. outlet_word v (own_for word unit component) (number x)) (sym is))
       ∙ numbered-number word unit component w u c (number x)) are.0) are.1
 
   pub splits-of : (xs : List X) → Fits version (length xs) → AreNumbers number xs → AreOf unit component (map make xs)

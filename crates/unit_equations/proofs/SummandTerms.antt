@@ -7,7 +7,7 @@ use Rattle.mixed_model.specs.Names.{has_name}
 use Rattle.term_model.specs.Putting.{AreFree, IsPlaced, LacksRoom}
 use Rattle.term_model.specs.Terms.{Term}
 use Rattle.term_model.proofs.Taking.{PutsSoFar}
-use Rattle.unit_equations.specs.Parts.{Summand, equation, terms_of}
+use Rattle.unit_equations.specs.Parts.{Summand, equation, equation_terms}
 use Rattle.unit_equations.proofs.Pairing.{seen-is, seen-within}
 
 -- the term of a summand
@@ -21,9 +21,9 @@ pub record IsNextTerm (terms : List Term) (i : ℕ) (term : Term) : Type 0 where
 
 pub next_term : (name : List ℕ) (summands : List Summand) (i : ℕ) (summand : Summand) (term : Term) →
     i < length summands → summand ≡ get_or summands i summand → term ≡ term_of name summand →
-    IsNextTerm (terms_of (equation name summands)) i term
+    IsNextTerm (equation_terms (equation name summands)) i term
 next_term name summands i summand term within is seen =
-    let terms = terms_of (equation name summands) in
+    let terms = equation_terms (equation name summands) in
     record {
       within = seen-within (term_of name) summands i summand within is terms refl;
       is = sym (seen-is (term_of name) summands i summand within is terms refl ∙ sym seen) ∙ ap (get_or terms i) (sym seen);

@@ -13,7 +13,7 @@ use Rattle.term_model.proofs.NamesAmong.{has-left, has-right}
 use Rattle.unit_equations.specs.declared.version.Version.{Version}
 use Rattle.unit_equations.specs.Adding.{IsFilledSummand}
 use Rattle.unit_equations.specs.Kinds.{balance, but_last, conserved, each_times, fixed_split, flow, flows, mixer}
-use Rattle.unit_equations.specs.Kinds.{numbered, open_split, own_for, reactor, relation, separator, specification}
+use Rattle.unit_equations.specs.Kinds.{outlet_word, open_split, own_for, reactor, relation, separator, specification}
 use Rattle.unit_equations.specs.Kinds.{tee}
 use Rattle.unit_equations.specs.Parts.{UnitEquation, UnitPart, less, open_at, times}
 use Rattle.unit_equations.proofs.Dots.{is_dotless, unit_of, unit_of-own, word_of, before-dotted}
@@ -197,7 +197,7 @@ module _ (p : ℕ) (odd : 2 < p) (components streams rest : List (List ℕ)) (un
   module _ {X : Type 0} (version : Version) (word inlet : List ℕ) (outlets : List (List ℕ)) (number : X → ℕ) (make : List ℕ → X → UnitEquation) (xs : List X)
       (w : IsWord word) (other : bytes_eq (codes "bal") word ≡ false)
       (declared : AllByRecursion (λ stream. has_name streams stream ≡ true) (inlet ∷ outlets)) (differ : Differ (inlet ∷ outlets))
-      (named : (component : List ℕ) (x : X) → (make component x).name ≡ numbered version (own_for word unit component) (number x))
+      (named : (component : List ℕ) (x : X) → (make component x).name ≡ outlet_word version (own_for word unit component) (number x))
       (fits : Fits version (length xs)) (numbers : AreNumbers number xs)
       (stands : (component : List ℕ) → has_name components component ≡ true →
       AllByRecursion (λ x. Stand p (flows components streams ++ rest) (make component x).summands) xs) where

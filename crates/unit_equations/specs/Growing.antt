@@ -27,5 +27,5 @@ pub record GrowsBy (p : ℕ) (old new : MixedModel) (system : System) : Type 0 w
       → Says p (before ++ system.terms) new
 
 -- A rule that is broken is the limit: these names are more.
-abbrev pub IsFull : List (List ℕ) → Fault → Type 0
-IsFull names fault = OnBroken fault (λ why. (why ≡ TooMany) × (equation_limit < length names))
+abbrev pub IsOverLimit : List (List ℕ) → Fault → Type 0
+IsOverLimit names fault = OnBroken fault (λ why. (why ≡ TooMany) × (equation_limit < length names))

@@ -45,9 +45,9 @@ abbrev pub own_for : List ℕ → List ℕ → List ℕ → List ℕ
 own_for word unit component = dotted word (dotted unit component)
 
 -- and for an outlet of this number: version 1, where one outlet has such an equation, tells no number
-abbrev pub numbered : Version → List ℕ → ℕ → List ℕ
-numbered One name number = name
-numbered Two name number = dotted name (decimal number)
+abbrev pub outlet_word : Version → List ℕ → ℕ → List ℕ
+outlet_word One name number = name
+outlet_word Two name number = dotted name (decimal number)
 
 -- some streams' flows of a component, with a constant each
 abbrev pub each_times : ℕ → List (List ℕ) → List ℕ → List Summand
@@ -74,7 +74,7 @@ but_last outlets = enumerate_from 1 (take (length outlets - 1) outlets)
 -- how a component splits between the inlet and an outlet, by its number, is open
 abbrev pub open_split : Version → List ℕ → List ℕ → List ℕ → ℕ × List ℕ → UnitEquation
 open_split version unit inlet component outlet =
-    equation (numbered version (own_for (codes "split") unit component) outlet.0)
+    equation (outlet_word version (own_for (codes "split") unit component) outlet.0)
     (open_at (flow inlet component) ∷ open_at (flow outlet.1 component) ∷ [])
 
 abbrev pub separator : ℕ → Version → List (List ℕ) → List ℕ → List ℕ → List (List ℕ) → UnitPart
@@ -87,7 +87,7 @@ separator p version components unit inlet outlets = record {
 -- an outlet has this fraction of what goes in, of each component
 abbrev pub fixed_split : ℕ → Version → List ℕ → List ℕ → List ℕ → (ℕ × List ℕ) × ℕ → UnitEquation
 fixed_split p version unit inlet component split =
-    equation (numbered version (own_for (codes "tee") unit component) split.0.0)
+    equation (outlet_word version (own_for (codes "tee") unit component) split.0.0)
     (times 1 (flow split.0.1 component) ∷ less p split.1 (flow inlet component))
 
 abbrev pub tee : ℕ → Version → List (List ℕ) → List ℕ → List ℕ → List (List ℕ) → List ℕ → UnitPart

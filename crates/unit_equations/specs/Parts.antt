@@ -34,8 +34,8 @@ abbrev pub equation : List ℕ → List Summand → UnitEquation
 equation name summands = record { name = name; summands = summands }
 
 -- the terms of an equation
-abbrev pub terms_of : UnitEquation → List Term
-terms_of equation = map (λ summand. record {
+abbrev pub equation_terms : UnitEquation → List Term
+equation_terms equation = map (λ summand. record {
   equation = equation.name;
   unknown = summand.unknown;
   constant = summand.constant;
@@ -47,7 +47,7 @@ abbrev pub system_of : UnitPart → System
 system_of part = record {
   equations = map (λ equation. equation.name) part.equations;
   unknowns = part.unknowns;
-  terms = flat_map terms_of part.equations;
+  terms = flat_map equation_terms part.equations;
 }
 
 -- a system and what is added to it

@@ -8,11 +8,11 @@ ghost use Rattle.limits.specs.Limits.{equation_limit};
 ghost use Rattle.refusals.specs.Faults.{OnBroken};
 ghost use Rattle.refusals.specs.declared.Why.TheVariants.{TooMany};
 ghost use Rattle.mixed_model.specs.Names.{has_name, is_label};
-ghost use Rattle.term_model.specs.Putting.{IsPlaced, IsPut, LacksRoom, PutsTerms};
+ghost use Rattle.term_model.specs.Putting.{IsPlaced, CountsAsTerm, LacksRoom, PutsTerms};
 ghost use Rattle.term_model.specs.Systems.{IsModelOf, System};
 ghost use Rattle.unit_equations.specs.Adding.{ArePlaced, AreSummands, IsNewPart};
-ghost use Rattle.unit_equations.specs.Growing.{GrowsBy, IsFull, equations_alone, unknowns_alone};
-ghost use Rattle.unit_equations.specs.Parts.{equation, system_of, terms_of, together};
+ghost use Rattle.unit_equations.specs.Growing.{GrowsBy, IsOverLimit, equations_alone, unknowns_alone};
+ghost use Rattle.unit_equations.specs.Parts.{equation, system_of, equation_terms, together};
 
 use crate::part::{Summand, UnitEquation, UnitPart};
 use mixed_model::{AddError, Mixed};
@@ -31,8 +31,7 @@ pub fn add_part<F: Field>(model: &mut Mixed<F>, part: &UnitPart<F>) -> Result<()
 {
     add_unknowns(model, &part.unknowns)?;
     add_equations(model, &part.equations)?;
-    // a proof knows what the type keeps once it is asked
-    let _ = model.equations();
+    model.is_model();
     Ok(())
 }
 
@@ -41,7 +40,7 @@ fn add_unknowns<F: Field>(model: &mut Mixed<F>, names: &[String]) -> Result<(), 
     requires labels { All (λ name. IsTrue (is_label name)) (map string_bytes names.now) }
     requires new { IsDistinct bytes_eq (model.old.unknowns ++ map string_bytes names.now) }
     ensures grown { OnOk result (GrowsBy F.modulus model.old model.new (unknowns_alone (map string_bytes names.now))) }
-    ensures full { IfErr result (IsFull (model.old.unknowns ++ map string_bytes names.now)) }
+    ensures full { IfErr result (IsOverLimit (model.old.unknowns ++ map string_bytes names.now)) }
 {
     for name in names {
         add_unknown(model, name)?;
@@ -54,10 +53,9 @@ fn add_unknown<F: Field>(model: &mut Mixed<F>, name: &str) -> Result<(), Fault>
     requires label { IsTrue (is_label name.now) }
     requires new { has_name model.old.unknowns name.now ≡ false }
     ensures grown { OnOk result (GrowsBy F.modulus model.old model.new (unknowns_alone (name.now ∷ []))) }
-    ensures full { IfErr result (IsFull (model.old.unknowns ++ name.now ∷ [])) }
+    ensures full { IfErr result (IsOverLimit (model.old.unknowns ++ name.now ∷ [])) }
 {
-    // a proof knows what the type keeps once it is asked
-    let _ = model.unknowns();
+    model.is_model();
     model.add_unknown(name)?;
     Ok(())
 }
@@ -68,7 +66,7 @@ fn add_equations<F: Field>(model: &mut Mixed<F>, equations: &[UnitEquation<F>]) 
     requires new { IsDistinct bytes_eq (model.old.equations ++ map (λ equation. equation.name) equations.now) }
     requires summands { All (λ equation. AreSummands F.modulus model.old.unknowns equation.summands) equations.now }
     ensures grown { OnOk result (GrowsBy F.modulus model.old model.new (equations_alone equations.now)) }
-    ensures full { IfErr result (IsFull (model.old.equations ++ map (λ equation. equation.name) equations.now)) }
+    ensures full { IfErr result (IsOverLimit (model.old.equations ++ map (λ equation. equation.name) equations.now)) }
 {
     for equation in equations {
         add_equation(model, equation)?;
@@ -82,10 +80,9 @@ fn add_equation<F: Field>(model: &mut Mixed<F>, equation: &UnitEquation<F>) -> R
     requires new { has_name model.old.equations equation.now.name ≡ false }
     requires summands { AreSummands F.modulus model.old.unknowns equation.now.summands }
     ensures grown { OnOk result (GrowsBy F.modulus model.old model.new (equations_alone (equation.now ∷ []))) }
-    ensures full { IfErr result (IsFull (model.old.equations ++ equation.now.name ∷ [])) }
+    ensures full { IfErr result (IsOverLimit (model.old.equations ++ equation.now.name ∷ [])) }
 {
-    // a proof knows what the type keeps once it is asked
-    let _ = model.equations();
+    model.is_model();
     model.add_equation(&equation.name)?;
     put_summands(model, &equation.name, &equation.summands)?;
     Ok(())
@@ -98,12 +95,13 @@ fn put_summands<F: Field>(
     summands: &[Summand<F>],
 ) -> Result<(), AddError>
     requires placed { All (IsPlaced model.old.equations model.old.unknowns)
-        (terms_of (equation name.now summands.now)) }
-    requires constants { All IsPut (terms_of (equation name.now summands.now)) }
+        (equation_terms (equation name.now summands.now)) }
+    requires constants { All CountsAsTerm (equation_terms (equation name.now summands.now)) }
     ensures equations { model.new.equations ≡ model.old.equations }
     ensures unknowns { model.new.unknowns ≡ model.old.unknowns }
-    ensures says { OnOk result (PutsTerms F.modulus model.old model.new (terms_of (equation name.now summands.now))) }
-    ensures refused { IfErr result (LacksRoom F.modulus model.old (terms_of (equation name.now summands.now))) }
+    ensures says { OnOk result (PutsTerms F.modulus model.old model.new
+        (equation_terms (equation name.now summands.now))) }
+    ensures refused { IfErr result (LacksRoom F.modulus model.old (equation_terms (equation name.now summands.now))) }
 {
     for summand in summands {
         put_value(model, name, &summand.unknown, summand.value)?;

@@ -2,7 +2,7 @@
 
 ghost use Rattle.std.specs.Prelude.{◌≡◌, codes, IfOk};
 ghost use Rattle.std.specs.String.{string_bytes};
-ghost use Rattle.unit_equations.specs.Kinds.{flow, own_for, numbered};
+ghost use Rattle.unit_equations.specs.Kinds.{flow, own_for, outlet_word};
 
 use crate::version::Version;
 use out_of_memory::NoMemory;
@@ -35,7 +35,7 @@ pub(crate) fn numbered(
     name: String,
     number: usize,
 ) -> Result<String, NoMemory>
-    ensures { IfOk result (λ text. string_bytes text ≡ numbered version (string_bytes name) number) }
+    ensures { IfOk result (λ text. string_bytes text ≡ outlet_word version (string_bytes name) number) }
 {
     match version {
         Version::One => Ok(name),

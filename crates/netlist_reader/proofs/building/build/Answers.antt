@@ -20,7 +20,7 @@ put_devices-requires-clause-blank g c = blank_says g.F.Field.modulus c.add_equat
 
 pub returns : goal.returns
 returns g c = record {
-  is_model = c.equations.ensures.model;
+  is_model = c.is_model.ensures;
   equations_are = c.in_ok-put_devices.ensures.equations ∙ c.in_ok-add_equations.ensures.equations
       ∙ ap (map string_bytes) c.deref-2.ensures.value ∙ c.in_ok-names_on-2.ensures;
   unknowns_are = c.in_ok-put_devices.ensures.unknowns ∙ c.in_ok-add_equations.ensures.unknowns

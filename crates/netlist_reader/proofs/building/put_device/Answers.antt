@@ -1,6 +1,6 @@
 use Rattle.std.proofs.Common.{All, refl, sym, subst, ◌∙◌}
 use Rattle.std.proofs.lemmas.Result.{on_ok_weaker, IfErr-weaker}
-use Rattle.term_model.specs.Putting.{IsPlaced, IsPut, PutsTerms, LacksRoom}
+use Rattle.term_model.specs.Putting.{IsPlaced, CountsAsTerm, PutsTerms, LacksRoom}
 use Rattle.term_model.proofs.Lists.{all_at}
 use Rattle.netlist_reader.specs.Putting.{put_by}
 use Rattle.netlist_reader.proofs.Forms.{forms, puts}
@@ -15,8 +15,8 @@ pub put_terms-requires-clause-constants : goal.put_terms-requires-clause-constan
 put_terms-requires-clause-constants g c =
     let d = c.args.device.now in
     let p = g.F.Field.modulus in
-    subst (All IsPut) (sym (c.deref.ensures.value ∙ c.in-Ok.ensures))
-    (all_at IsPut (put_by p d.kind d) (puts d (put_by p d.kind d) (forms p d g.met.F.Field.odd d.kind refl c.requires.device.nodes_wanted)))
+    subst (All CountsAsTerm) (sym (c.deref.ensures.value ∙ c.in-Ok.ensures))
+    (all_at CountsAsTerm (put_by p d.kind d) (puts d (put_by p d.kind d) (forms p d g.met.F.Field.odd d.kind refl c.requires.device.nodes_wanted)))
 
 pub returns-clause-says : goal.returns-clause-says
 returns-clause-says g c =

@@ -1,9 +1,9 @@
 use Rattle.std.proofs.Common.{◌≡◌, ◌<◌, All, length, get_or, refl, sym, ap, subst, ◌∙◌, arith}
 use Rattle.term_model.specs.Putting.{IsPlaced}
 use Rattle.term_model.proofs.Lists.{all_at}
-use Rattle.netlist_reader.specs.Circuits.{IsDevice, Parts}
+use Rattle.netlist_devices.specs.Circuits.{IsDevice, CircuitParts}
 use Rattle.netlist_reader.specs.Putting.{put_by}
-use Rattle.netlist_reader.specs.Terms.{equations_of, unknowns_of}
+use Rattle.netlist_devices.specs.EquationNames.{equations_of, unknowns_of}
 use Rattle.netlist_reader.proofs.Forms.{forms}
 use Rattle.netlist_reader.proofs.Placed.{all-placed}
 use Rattle.netlist_reader.proofs.Steps.{sourced, is_new, next_says}
@@ -15,7 +15,8 @@ put_device-requires-clause-device g c =
     let devices = c.args.circuit.now.devices in
     let i = c.loop-device.device-index in
     let d = c.device-item.result in
-    let same : c.deref-device-items.result.now ≡ devices = c.deref-device-items.ensures.value ∙ ap (λ (parts : Parts). parts.devices) c.circuit.view_is in
+    let same : c.deref-device-items.result.now ≡ devices = c.deref-device-items.ensures.value ∙ ap (λ (parts : CircuitParts). parts.devices)
+    c.circuit.view_is in
     let within : i < length devices = omega (arith, c.loop-device-test.true, ap length same) in
     let is : d ≡ get_or devices i d = c.device-item.is ∙ ap (λ all. get_or all i d) same in
     subst (IsDevice p) (sym is) (c.requires.circuit.devices i d within)
@@ -26,7 +27,8 @@ put_device-requires-clause-placed g c =
     let devices = c.args.circuit.now.devices in
     let i = c.loop-device.device-index in
     let d = c.device-item.result in
-    let same : c.deref-device-items.result.now ≡ devices = c.deref-device-items.ensures.value ∙ ap (λ (parts : Parts). parts.devices) c.circuit.view_is in
+    let same : c.deref-device-items.result.now ≡ devices = c.deref-device-items.ensures.value ∙ ap (λ (parts : CircuitParts). parts.devices)
+    c.circuit.view_is in
     let within : i < length devices = omega (arith, c.loop-device-test.true, ap length same) in
     let is : d ≡ get_or devices i d = c.device-item.is ∙ ap (λ all. get_or all i d) same in
     let fine : IsDevice p d = subst (IsDevice p) (sym is) (c.requires.circuit.devices i d within) in
@@ -44,7 +46,8 @@ want_of_memory-requires g c =
     let devices = c.args.circuit.now.devices in
     let i = c.loop-device.device-index in
     let d = c.device-item.result in
-    let same : c.deref-device-items.result.now ≡ devices = c.deref-device-items.ensures.value ∙ ap (λ (parts : Parts). parts.devices) c.circuit.view_is in
+    let same : c.deref-device-items.result.now ≡ devices = c.deref-device-items.ensures.value ∙ ap (λ (parts : CircuitParts). parts.devices)
+    c.circuit.view_is in
     let within : i < length devices = omega (arith, c.loop-device-test.true, ap length same) in
     let is : d ≡ get_or devices i d = c.device-item.is ∙ ap (λ all. get_or all i d) same in
     c.in-Err.ensures.refused _ c.loop-device.invariant.says (is_new p devices c.requires.circuit.distinct c.requires.sourced i d within is)
@@ -55,7 +58,8 @@ loop-device-preserved g c =
     let devices = c.args.circuit.now.devices in
     let i = c.loop-device.device-index in
     let d = c.device-item.result in
-    let same : c.deref-device-items.result.now ≡ devices = c.deref-device-items.ensures.value ∙ ap (λ (parts : Parts). parts.devices) c.circuit.view_is in
+    let same : c.deref-device-items.result.now ≡ devices = c.deref-device-items.ensures.value ∙ ap (λ (parts : CircuitParts). parts.devices)
+    c.circuit.view_is in
     let within : i < length devices = omega (arith, c.loop-device-test.true, ap length same) in
     let is : d ≡ get_or devices i d = c.device-item.is ∙ ap (λ all. get_or all i d) same in
     record {

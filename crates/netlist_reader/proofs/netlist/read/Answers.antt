@@ -8,8 +8,8 @@ IfErr-weaker (Err e) P Q f h = f e h
 
 pub returns-clause-model : goal.returns-clause-model
 returns-clause-model g c = IfOk-weaker c.finish.result _ _
-    (λ m h. h c.args.bytes.now (c.in-Ok-feed.ensures [] c.in-Ok.ensures c.requires)) c.finish.ensures.model
+    (λ m h. h c.args.bytes.now (c.in_ok-feed.ensures [] c.in_ok-new.ensures c.requires)) c.finish.ensures.model
 
 pub returns-clause-refused : goal.returns-clause-refused
 returns-clause-refused g c = IfErr-weaker c.finish.result _ _
-    (λ why h. h c.args.bytes.now (c.in-Ok-feed.ensures [] c.in-Ok.ensures c.requires)) c.finish.ensures.refused
+    (λ why h. h c.args.bytes.now (c.in_ok-feed.ensures [] c.in_ok-new.ensures c.requires)) c.finish.ensures.refused

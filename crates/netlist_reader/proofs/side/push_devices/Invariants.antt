@@ -1,7 +1,7 @@
 use Rattle.std.proofs.Common.{◌≡◌, map, ◌++◌, take}
 use Rattle.std.specs.String.{string_bytes}
 use Rattle.netlist_reader.specs.Naming.{own_words}
-use Rattle.netlist_reader.specs.Terms.{own_names}
+use Rattle.netlist_devices.specs.EquationNames.{own_names}
 use Rattle.netlist_reader.proofs.side.push_devices.Given as goal
 
 abbrev pub invariant-loop-device : goal.invariant-loop-device

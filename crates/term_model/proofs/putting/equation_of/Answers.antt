@@ -1,14 +1,15 @@
-use Rattle.std.proofs.Common.{◌≡◌, true, false, ◌∙◌, sym}
-use Rattle.mixed_model.proofs.NameLaws.{has_name-Some, has_name-None}
+use Rattle.std.proofs.Common.{◌∙◌, sym, subst}
+use Rattle.std.specs.Option.{IsSome}
+use Rattle.mixed_model.proofs.NameLaws.{has_name-Some}
+use Rattle.term_model.proofs.Found.{is_found}
 use Rattle.term_model.proofs.putting.equation_of.Goals as goal
 
-pub unreachable-requires : goal.unreachable-requires
-unreachable-requires g c =
-    let none = has_name-None c.args.model.now.equations c.args.name.now (sym c.find_equation.ensures ∙ c.in-None.is) in
-    let both : true ≡ false = sym c.requires ∙ none in cc
+pub unwrap-requires : goal.unwrap-requires
+unwrap-requires g c =
+    subst IsSome (sym c.find_equation.ensures) (is_found c.args.model.now.equations c.args.name.now c.requires)
 
 pub returns-clause-within : goal.returns-clause-within
-returns-clause-within g c = (has_name-Some c.args.model.now.equations c.args.name.now _ (sym c.find_equation.ensures ∙ c.in-Some.is)).0
+returns-clause-within g c = (has_name-Some c.args.model.now.equations c.args.name.now _ (sym c.find_equation.ensures ∙ c.unwrap.ensures)).0
 
 pub returns-clause-name : goal.returns-clause-name
-returns-clause-name g c = (has_name-Some c.args.model.now.equations c.args.name.now _ (sym c.find_equation.ensures ∙ c.in-Some.is)).1
+returns-clause-name g c = (has_name-Some c.args.model.now.equations c.args.name.now _ (sym c.find_equation.ensures ∙ c.unwrap.ensures)).1

@@ -19,4 +19,4 @@ returns-clause-added g c =
     ∙ ap (λ (all : UnitPart). all.equations) c.part.view_is) c.in_ok-add_equations.ensures.grown in
     let grown = subst (GrowsBy p old new) (part-alone part) (grows-then p old mid new (unknowns_alone part.unknowns)
     (equations_alone part.equations) first then) in
-    model-grows p old new (system_of part) grown c.equations.ensures.model
+    model-grows p old new (system_of part) grown c.is_model.ensures

@@ -8,7 +8,7 @@ use Rattle.toml.specs.View.{view}
 use Rattle.flowsheet_reader.specs.Keeping.{KeptSheet, scope_of_kept}
 use Rattle.unit_equations.specs.Parts.{UnitPart}
 use Rattle.flowsheet_reader.specs.Reached.{IsRefusedBy, Keeps}
-use Rattle.flowsheet_reader.specs.Sheets.{with_unit}
+use Rattle.flowsheet_reader.specs.Sheets.{sheet_with_unit}
 use Rattle.flowsheet_reader.specs.Units.{add_unit, unit_in}
 use Rattle.document_values.proofs.Failing.{on_broken, same-fault}
 use Rattle.flowsheet_reader.proofs.Reaching.{keeps-more, part-new, reached-sound, unit-added, unit-full, unit-new}
@@ -100,7 +100,7 @@ returns-clause-added g c = λ sheet given.
     } in
     let pushed : c.push.new.self ≡ c.self.inside.units ++ string_bytes c.in_ok-name.name ∷ [] =
     c.in_ok-push.ensures.pushed ∙ ap (λ name. c.self.inside.units ++ name ∷ []) c.deref.ensures in (
-      with_unit sheet (string_bytes c.in_ok-name.name) c.in_ok-name.part,
+      sheet_with_unit sheet (string_bytes c.in_ok-name.name) c.in_ok-name.part,
       unit-added g.F.Field.modulus g.met.F.Field.odd kept sheet keeps (view c.args.value.now)
           (string_bytes c.in_ok-name.name) c.in_ok-name.part read few new model refl refl refl pushed,
       keeps-more g.F.Field.modulus g.met.F.Field.odd kept sheet keeps (view c.args.value.now)

@@ -33,7 +33,7 @@ returns-in-Some-refused-clause-refused g c = λ text fed.
     let progress = subst (λ refused. IsFed g.R.LineFormat.rules g.R.LineFormat.has_read
     (reading at.format at.number at.line.items at.commented refused) text) c.in_default.is fed in
     let read = subst (ReadsEnded g.R.LineFormat.rules g.R.LineFormat.has_read at.number at.line.items at.commented
-    at.format new.format) c.in-Some-refused.is c.in-Ok.ensures.read in
+    at.format new.format) c.in-Some-refused.is c.in_ok-read_ended.ensures.read in
     refused-left g.R.LineFormat.rules g.R.LineFormat.has_read text at.format at.number at.line.items at.commented
     new.format c.in-Some-refused.refused (c.is_within_line.ensures.within c.if-not-is_within_line.false) read
     progress
@@ -45,7 +45,7 @@ returns-in-None-clause-kept g c = λ text fed.
     let progress = subst (λ refused. IsFed g.R.LineFormat.rules g.R.LineFormat.has_read
     (reading at.format at.number at.line.items at.commented refused) text) c.in_default.is fed in
     let read = subst (ReadsEnded g.R.LineFormat.rules g.R.LineFormat.has_read at.number at.line.items at.commented
-    at.format new.format) c.in-None.is c.in-Ok.ensures.read in
+    at.format new.format) c.in-None.is c.in_ok-read_ended.ensures.read in
     keeps-left g.R.LineFormat.rules g.R.LineFormat.has_read text at.format at.number at.line.items at.commented
     new.format (c.is_within_line.ensures.within c.if-not-is_within_line.false) read progress
 
@@ -56,6 +56,6 @@ returns-in-None-clause-read g c = λ text fed.
     let progress = subst (λ refused. IsFed g.R.LineFormat.rules g.R.LineFormat.has_read
     (reading at.format at.number at.line.items at.commented refused) text) c.in_default.is fed in
     let read = subst (ReadsEnded g.R.LineFormat.rules g.R.LineFormat.has_read at.number at.line.items at.commented
-    at.format new.format) c.in-None.is c.in-Ok.ensures.read in
+    at.format new.format) c.in-None.is c.in_ok-read_ended.ensures.read in
     reads-left g.R.LineFormat.rules g.R.LineFormat.has_read text at.format at.number at.line.items at.commented
     new.format (c.is_within_line.ensures.within c.if-not-is_within_line.false) read progress

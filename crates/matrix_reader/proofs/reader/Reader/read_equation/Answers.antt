@@ -2,7 +2,7 @@ use Rattle.std.proofs.Common.{◌+◌, ◌++◌, ◌∷◌, [], Err, codes, ap, 
 use Rattle.std.proofs.lemmas.Result.{err_from_is_err_and}
 use Rattle.matrix_reader.specs.Rules.{equation_line_rule}
 use Rattle.line_reader.specs.Answers.{AnswersRule}
-use Rattle.matrix_reader.specs.ReaderStates.{IsRead, IsWithin, so_far}
+use Rattle.matrix_reader.specs.ReaderStates.{IsRead, IsWithinLine, so_far}
 use Rattle.matrix_reader.proofs.LineSteps.{equation_answer, words, equation_fault}
 use Rattle.matrix_reader.proofs.reader.Reader.read_equation.Goals as goal
 
@@ -25,6 +25,6 @@ returns-clause-read g c = λ before read.
     let items = words c.next.new.self in
     let name = c.in-Some.equation.text.now in
     let mid = c.add_equation.new.self in
-    let within = subst (λ lines. IsWithin g.F.Field.modulus before (so_far name []) c.args.line mid.model lines) (sym c.in_ok-i.ensures.lines) added.2 in
+    let within = subst (λ lines. IsWithinLine g.F.Field.modulus before (so_far name []) c.args.line mid.model lines) (sym c.in_ok-i.ensures.lines) added.2 in
     equation_answer g.F.Field.modulus before all items name c.args.line c.read_items.new.self.model c.read_items.new.self.last_lines.items c.read_items.result
     (ap words c.in-Some.ensures.steps) added.0 (c.read_items.ensures.read before name added.1 within)

@@ -7,7 +7,7 @@ use Rattle.matrix_reader.specs.Items.{item_constant}
 use Rattle.matrix_reader.specs.EquationLists.{equations_in}
 use Rattle.matrix_reader.specs.Rules.{item_rule}
 use Rattle.line_reader.specs.Answers.{AnswersRule}
-use Rattle.matrix_reader.specs.ReaderStates.{IsWithin, MarkedFrom, UnmarkedFrom, PutsValue, so_far}
+use Rattle.matrix_reader.specs.ReaderStates.{IsWithinLine, MarkedFrom, UnmarkedFrom, PutsValue, so_far}
 use Rattle.matrix_reader.proofs.MarkLaws.{Marks-from_mark}
 use Rattle.matrix_reader.proofs.ItemSteps.{unmarked_item, marked_item, grown_by_value, put_refused}
 use Rattle.line_reader.proofs.Faults.{answers_fault}
@@ -20,7 +20,7 @@ returns-in_err-j-clause-read g c = λ before name items numbered at_line.
     let lines = c.args.self.now.last_lines.items in
     let item = c.args.item.now in
     let rule = item_rule g.F.Field.modulus before (so_far name items) item in
-    let left = IsWithin g.F.Field.modulus before (so_far name (items ++ item ∷ [])) c.args.line c.mark.new.self.model c.mark.new.self.last_lines.items in
+    let left = IsWithinLine g.F.Field.modulus before (so_far name (items ++ item ∷ [])) c.args.line c.mark.new.self.model c.mark.new.self.last_lines.items in
     rw failed.1
     (subst (λ fault. AnswersRule rule left (Err fault)) (sym failed.2)
     (answers_fault rule left (UnmarkedFrom (position (bytes_eq c.in-Ok.term.unknown.now) old.unknowns) c.args.line old lines) c.in_err-j.field-0.0
@@ -38,7 +38,7 @@ returns-in_err-put_value-clause-read g c = λ before name items numbered at_line
     let new_lines = c.mark.new.self.last_lines.items in
     let j = c.in_ok-j.j in
     let rule = item_rule g.F.Field.modulus before (so_far name items) item in
-    let left = IsWithin g.F.Field.modulus before (so_far name (items ++ item ∷ [])) c.args.line c.put_value.new.model c.mark.new.self.last_lines.items in
+    let left = IsWithinLine g.F.Field.modulus before (so_far name (items ++ item ∷ [])) c.args.line c.put_value.new.model c.mark.new.self.last_lines.items in
     let error = c.in_err-put_value.field-0.0 in
     let marks = Marks-from_mark g.F.Field.modulus before name items c.args.line old lines item at_line new new_lines j
     (subst (λ unknown. MarkedFrom g.F.Field.modulus

@@ -23,7 +23,7 @@ returns-in_err-test-clause-refused g c =
 pub build-requires-clause-sourced : goal.build-requires-clause-sourced
 build-requires-clause-sourced g c = sourced c.in_ok-circuit.circuit.devices c.in_ok-test.ensures.1
 
-pub returns-in-Ok-clause-model : goal.returns-in-Ok-clause-model
-returns-in-Ok-clause-model g c = λ text fed.
-    gives g.F.Field.modulus text c.in_ok-circuit.circuit c.in-Ok.model (c.in_ok-circuit.ensures.kept text fed)
-    (c.in_ok-circuit.ensures.read text fed) c.in_ok-test.ensures c.in-Ok.ensures
+pub returns-clause-model : goal.returns-clause-model
+returns-clause-model g c = λ text fed.
+    gives g.F.Field.modulus text c.in_ok-circuit.circuit c.in_ok-build.field-0 (c.in_ok-circuit.ensures.kept text fed)
+    (c.in_ok-circuit.ensures.read text fed) c.in_ok-test.ensures c.in_ok-build.ensures

@@ -2,7 +2,7 @@ use Rattle.std.proofs.Common.{◌≡◌, ℕ, ◌-◌, ◌%◌, ◌+◌, ◌++�
 use Rattle.std.proofs.lemmas.Result.{on_ok_weaker}
 use Rattle.term_model.specs.Terms.{Term}
 use Rattle.term_model.proofs.Pushing.{put_four}
-use Rattle.netlist_reader.specs.Devices.{Device}
+use Rattle.netlist_devices.specs.Devices.{Device}
 use Rattle.netlist_reader.specs.Putting.{put_constant}
 use Rattle.netlist_reader.specs.Terms.{own}
 use Rattle.term_model.proofs.Negatives.{negative_is}

@@ -2,7 +2,7 @@ use Rattle.std.proofs.Common.{◌≡◌, ℕ, ◌+◌, ◌<◌, List, ◌++◌, 
 use Rattle.std.proofs.lemmas.List.{length-map}
 use Rattle.std.proofs.lemmas.List.FromFn.{length-enumerate_from}
 use Rattle.std.specs.String.{string_bytes}
-use Rattle.unit_equations.specs.Kinds.{but_last, fixed_split, flow, numbered, own_for}
+use Rattle.unit_equations.specs.Kinds.{but_last, fixed_split, flow, outlet_word, own_for}
 use Rattle.unit_equations.specs.Parts.{equation, less, times}
 use Rattle.unit_equations.proofs.NumberedPairs.{turn_of, turns_all}
 use Rattle.unit_equations.proofs.Pairing.{all_pairs, but_last-seen, next_pair, numbered-is, numbered-within, seen-is, seen-within}
@@ -24,8 +24,8 @@ loop-place-preserved g c =
     let same = sym (but_last-seen string_bytes c.args.outlets.now texts c.but_last.ensures) in
     let next : ℕ × List ℕ = (n + 1, string_bytes text) in
     let name = c.in_ok-name-2.ensures
-    ∙ ap (λ name. numbered c.args.version name (c.in-Some.place + 1)) c.in_ok-name.ensures
-    ∙ ap (λ place. numbered c.args.version (own_for (codes "tee") c.args.unit.now c.args.component.now) (place + 1)) turn.number in
+    ∙ ap (λ name. outlet_word c.args.version name (c.in-Some.place + 1)) c.in_ok-name.ensures
+    ∙ ap (λ place. outlet_word c.args.version (own_for (codes "tee") c.args.unit.now c.args.component.now) (place + 1)) turn.number in
     let put = c.in_ok-fixed_split.ensures
     ∙ (λ t. c.loop-place.self ++ equation (name t)
     (times 1 (flow (c.deref.ensures t) c.args.component.now) ∷ less g.F.Field.modulus (number value) (flow c.args.inlet.now c.args.component.now)) ∷ []) in

@@ -3,7 +3,7 @@ use Rattle.std.specs.List.{enumerate_from}
 use Rattle.std.specs.String.{string_bytes}
 use Rattle.std.proofs.lemmas.List.{length-map, take_all}
 use Rattle.std.proofs.lemmas.List.FromFn.{length-enumerate_from}
-use Rattle.unit_equations.specs.Kinds.{flow, numbered, open_split}
+use Rattle.unit_equations.specs.Kinds.{flow, outlet_word, open_split}
 use Rattle.unit_equations.specs.Parts.{equation, open_at}
 use Rattle.unit_equations.proofs.Pairing.{but_last-seen, next_one, numbered-is, numbered-within}
 use Rattle.unit_equations.proofs.equation_list.EquationList.open_splits.Goals as goal
@@ -15,7 +15,7 @@ loop-place-preserved g c =
     let items = c.but_last-outlet-items.result.now in
     let within : n < length items = c.loop-place-test.true in
     let put = c.in_ok-open_split.ensures
-    ∙ (λ t. c.loop-place.self ++ equation ((c.in_ok-name-2.ensures ∙ ap (λ name. numbered c.args.version name (n + 1)) c.in_ok-name.ensures) t)
+    ∙ (λ t. c.loop-place.self ++ equation ((c.in_ok-name-2.ensures ∙ ap (λ name. outlet_word c.args.version name (n + 1)) c.in_ok-name.ensures) t)
     (open_at (flow c.args.inlet.now c.args.component.now) ∷ open_at (flow (c.deref.ensures t) c.args.component.now) ∷ []) ∷ []) in
     next_one (open_split c.args.version c.args.unit.now c.args.inlet.now c.args.component.now)
     (enumerate_from 1 (map string_bytes items)) c.args.self.now c.loop-place.self c.open_split.new.self n

@@ -1,0 +1,9 @@
+pub mod CircuitSteps
+pub mod DeviceSteps
+pub mod KeptLines
+pub mod KeptWords
+pub mod LineSteps
+pub mod NodeSteps
+pub mod ReadSteps
+pub mod SourceLaws
+pub mod WordSteps

@@ -1,0 +1,5 @@
+pub mod Circuits
+pub mod Devices
+pub mod EquationNames
+pub mod ReaderStates
+pub mod Rules
