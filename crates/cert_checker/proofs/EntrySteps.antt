@@ -9,7 +9,7 @@ use Rattle.residue_theory.specs.Sets.{everything, without}
 use Rattle.residue_theory.specs.Sums.{sum_on, sum_below}
 use Rattle.residue_theory.proofs.SumLaws.{nat_cases, sum_on-without, sum_on-ext, sum_on-none, without-member}
 use Rattle.cert_text.specs.Readings.{entry_at, matrix_of}
-use Rattle.cert_checker.specs.Gathering.{IsAdded}
+use Rattle.cert_checker.specs.Gathering.{IsAddedRow}
 
 abbrev pub AreKeysRising : List (ℕ × ℕ) → Type 0
 AreKeysRising entries = IsStrictlyIncreasing (map (λ entry. entry.0) entries)
@@ -135,7 +135,7 @@ IsSumLeft p m n rows now coefficients want =
 
 pub sum_left-step : (p m n : ℕ) (rows : List (List (ℕ × ℕ))) (row : List (ℕ × ℕ)) (now new : List ℕ) (entry : ℕ × ℕ)
     (entries : List (ℕ × ℕ)) (want : ℕ → ℕ) → entry.0 < m → AreKeysRising (entry ∷ entries) →
-    ((j : ℕ) → entry_at row j ≡ matrix_of rows entry.0 j) → IsAdded p n entry.1 row now new →
+    ((j : ℕ) → entry_at row j ≡ matrix_of rows entry.0 j) → IsAddedRow p n entry.1 row now new →
     IsSumLeft p m n rows now (entry ∷ entries) want → IsSumLeft p m n rows new entries want
 sum_left-step p m n rows row now new entry entries want low rising is added left j jl =
     sym (mod-add-mod (slice_index new j) p rest)

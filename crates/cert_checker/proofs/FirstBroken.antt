@@ -5,7 +5,7 @@ use Rattle.mixed_matrices.specs.LayeredMatrices.{LayeredMatrix}
 use Rattle.mixed_matrices.specs.Models.{MixedMatrix}
 use Rattle.cert_text.specs.Contents.{Contents}
 use Rattle.cert_text.specs.Rules.{KeepsRules}
-use Rattle.cert_checker.specs.Checking.{KeepsRule, KeepsFirst, IsFirstBroken}
+use Rattle.cert_checker.specs.Checking.{KeepsRule, KeepsFirst, IsFirstBrokenRule}
 
 pub all-kept : (p : ℕ) (M : MixedMatrix) (L : LayeredMatrix) (c : Contents) → KeepsFirst p M L c 11 → KeepsRules p M L c
 all-kept p M L c each = record {
@@ -36,7 +36,7 @@ each-kept p M L c R (suc (suc (suc (suc (suc (suc (suc (suc (suc zero))))))))) =
 each-kept p M L c R (suc (suc (suc (suc (suc (suc (suc (suc (suc (suc zero)))))))))) = R.listing
 each-kept p M L c R (suc (suc (suc (suc (suc (suc (suc (suc (suc (suc (suc k))))))))))) = tt
 
-pub broken-kept : (p : ℕ) (M : MixedMatrix) (L : LayeredMatrix) (c : Contents) (rule : ℕ) → IsFirstBroken p M L c rule → KeepsRules p M L c → ⊥
+pub broken-kept : (p : ℕ) (M : MixedMatrix) (L : LayeredMatrix) (c : Contents) (rule : ℕ) → IsFirstBrokenRule p M L c rule → KeepsRules p M L c → ⊥
 broken-kept p M L c zero first R = absurd (omega (arith, first.from))
 broken-kept p M L c (suc zero) first R = absurd (omega (arith, first.from))
 broken-kept p M L c (suc (suc k)) first R = first.broken k (omega arith) (each-kept p M L c R k)
@@ -53,7 +53,7 @@ module _ (p : ℕ) (M : MixedMatrix) (L : LayeredMatrix) (c : Contents) where
   ]
 
   -- the next rule is broken
-  pub next-broken : (n rule : ℕ) → rule ≡ n + 2 → rule ≤ 12 → KeepsFirst p M L c n → (KeepsRule p M L c n → ⊥) → IsFirstBroken p M L c rule
+  pub next-broken : (n rule : ℕ) → rule ≡ n + 2 → rule ≤ 12 → KeepsFirst p M L c n → (KeepsRule p M L c n → ⊥) → IsFirstBrokenRule p M L c rule
   next-broken n rule is few before broken = record {
     from = omega (arith, is);
     to = few;

@@ -4,9 +4,9 @@ use Rattle.std.specs.List.{All}
 use Rattle.mixed_matrices.specs.LayeredMatrices.{LayeredMatrix}
 use Rattle.mixed_matrices.specs.Models.{MixedMatrix}
 use Rattle.cert_text.specs.Contents.{Contents, numbered_rows}
-use Rattle.cert_text.specs.Ranges.{ArePairs, IsMatrix, IsPattern}
+use Rattle.cert_text.specs.Ranges.{ArePairs, IsPrintedMatrix, IsPattern}
 use Rattle.cert_text.specs.Right.{HasShape}
-use Rattle.sparse_t.specs.Incidences.{Incidence, row_count, touches}
+use Rattle.sparse_t.specs.Incidences.{Incidence, incidence_rows, touches}
 use Rattle.cert_text.specs.Readings.{pattern_of}
 use Rattle.cert_checker.specs.Checking.{HasSizes}
 use Rattle.cert_checker.specs.Matching.{HasSymbolsOf}
@@ -23,14 +23,14 @@ module _ {T : Type 0} (number : T → ℕ) where
   printed-rows rows slice printed same is = ap (numbered_rows number) same ∙ is
 
   pub printed-count : (p m n : ℕ) (slice : List (List (ℕ × T))) (printed : List (List (ℕ × ℕ))) →
-      numbered_rows number slice ≡ printed → IsMatrix p m n printed → length slice ≡ m
+      numbered_rows number slice ≡ printed → IsPrintedMatrix p m n printed → length slice ≡ m
   printed-count p m n slice printed is matrix = sym (rows_count number slice) ∙ ap length is ∙ matrix.count
 
   pub printed-matrix : (p m n x y : ℕ) (slice : List (List (ℕ × T))) (printed : List (List (ℕ × ℕ))) →
-      numbered_rows number slice ≡ printed → IsMatrix p m n printed → m ≡ x → n ≡ y →
-      IsMatrix p x y (numbered_rows number slice)
+      numbered_rows number slice ≡ printed → IsPrintedMatrix p m n printed → m ≡ x → n ≡ y →
+      IsPrintedMatrix p x y (numbered_rows number slice)
   printed-matrix p m n x y slice printed is matrix rows columns =
-      subst (IsMatrix p x y) (sym is) (subst (λ i. IsMatrix p i y printed) rows (subst (λ j. IsMatrix p m j printed) columns matrix))
+      subst (IsPrintedMatrix p x y) (sym is) (subst (λ i. IsPrintedMatrix p i y printed) rows (subst (λ j. IsPrintedMatrix p m j printed) columns matrix))
 
 pub pairs-as : (m n x y : ℕ) (pairs items : List (ℕ × ℕ)) → items ≡ pairs → ArePairs m n pairs → m ≡ x → n ≡ y → ArePairs x y items
 pairs-as m n x y pairs items same are rows columns =
@@ -52,10 +52,10 @@ units_as p m n rows slice base items size same listed =
 
 -- the rows have the symbols of t in n columns
 abbrev Symbols : Incidence → ℕ → List (List ℕ) → Type 0
-Symbols t n rows = (i j : ℕ) → i < row_count t → j < n → pattern_of rows i j ≡ touches t i j
+Symbols t n rows = (i j : ℕ) → i < incidence_rows t → j < n → pattern_of rows i j ≡ touches t i j
 
 pub symbols_as : (t inside : Incidence) (n : ℕ) (rows slice : List (List ℕ)) → slice ≡ rows → inside ≡ t → t.width ≡ n →
-    HasSymbolsOf inside slice ↔ ((i j : ℕ) → i < row_count t → j < n → pattern_of rows i j ≡ touches t i j)
+    HasSymbolsOf inside slice ↔ ((i j : ℕ) → i < incidence_rows t → j < n → pattern_of rows i j ≡ touches t i j)
 symbols_as t inside n rows slice same view width =
     subst (λ x. HasSymbolsOf inside slice ↔ Symbols x n rows) view
     (subst (λ k. HasSymbolsOf inside slice ↔ Symbols inside k rows) (ap (λ x. x.width) view ∙ width)

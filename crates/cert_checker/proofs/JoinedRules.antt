@@ -10,7 +10,7 @@ use Rattle.part_checker.specs.Told.{IsPrintedBy, TellsParts}
 use Rattle.cert_checker.specs.Answers.{IsWhyBroken, TellsOfParts}
 use Rattle.cert_checker.specs.declared.checking.CheckError.{CheckError}
 use Rattle.cert_checker.specs.declared.checking.CheckError.TheVariants.{NoMemory, Reject}
-use Rattle.cert_checker.specs.Checking.{IsFirstBroken, KeepsFirst}
+use Rattle.cert_checker.specs.Checking.{IsFirstBrokenRule, KeepsFirst}
 use Rattle.cert_checker.specs.Standing.{Not, TellsPlaces}
 use Rattle.cert_checker.proofs.FirstBroken.{more-kept, next-broken}
 
@@ -47,7 +47,7 @@ module _ (p : ℕ) (M : MixedMatrix) (L : LayeredMatrix) (c : Contents) (kept : 
       more-kept p M L c 10 11 refl (more-kept p M L c 9 10 refl (more-kept p M L c 8 9 refl kept down) reasons) lists
 
   pub later-broken : (rule : ℕ) → ((rule ≡ 10) × Not (LeadsDown p L c)) ⊎ ((rule ≡ 11) × LeadsDown p L c × Not (HasReasons p L c))
-      ⊎ ((rule ≡ 12) × LeadsDown p L c × HasReasons p L c × Not (HasLowerLists p L c)) → IsFirstBroken p M L c rule
+      ⊎ ((rule ≡ 12) × LeadsDown p L c × HasReasons p L c × Not (HasLowerLists p L c)) → IsFirstBrokenRule p M L c rule
   later-broken rule (inl (is, broken)) = next-broken p M L c 8 rule is (omega (arith, is)) kept broken
   later-broken rule (inr (inl (is, down, broken))) = next-broken p M L c 9 rule is (omega (arith, is)) (more-kept p M L c 8 9 refl kept down) broken
   later-broken rule (inr (inr (is, down, reasons, broken))) =

@@ -2,6 +2,7 @@ pub mod WrittenBack
 pub mod NumberedRows
 pub mod EntrySteps
 pub mod RisingLists
+pub mod PrintedRows
 pub mod UnitRows
 pub mod ProductLaws
 pub mod WideLaws

@@ -16,7 +16,7 @@ use Rattle.cert_text.specs.Right.{HasShape, HasProduct}
 use Rattle.cert_text.specs.Rules.{HasMatching, HasPlacedRows, LeadsDown, HasReasons, HasLowerLists}
 use Rattle.part_checker.specs.Told.{IsPrintedBy}
 use Rattle.part_checker.proofs.PrintedArcs.{ends-same, leads-same}
-use Rattle.cert_checker.specs.Checking.{IsFirstBroken, KeepsFirst, KeepsRule}
+use Rattle.cert_checker.specs.Checking.{IsFirstBrokenRule, KeepsFirst, KeepsRule}
 use Rattle.cert_checker.proofs.MovedWalks.{below-moved, from-moved, mutual-moved, reaches-moved, to-moved}
 
 module _ (p : ℕ) (M : MixedMatrix) (L : LayeredMatrix) (c : Contents) (is : IsCcf p c) (q : ℕ → ℕ → ℕ) (t : ℕ → ℕ → Bool)
@@ -110,7 +110,7 @@ module _ (p : ℕ) (M : MixedMatrix) (L : LayeredMatrix) (c : Contents) (is : Is
 
     down-moved : LeadsDown p L c → LeadsDown p other c
     down-moved h = record {
-      free_first = h.free_first;
+      starts_first = h.starts_first;
       ends_last = λ x xl stop. h.ends_last x xl (stops-same x xl ∙ stop);
       first_leads = λ x y xl yl first leads. h.first_leads x y xl yl first (arcs-same x y xl ∙ leads);
       block_leads = λ x y in_one yl leads. h.block_leads x y in_one yl (arcs-same x y in_one.below ∙ leads);
@@ -155,7 +155,8 @@ module _ (p : ℕ) (M : MixedMatrix) (c : Contents) (is : IsCcf p c) where
   pub first-moved : (L K : LayeredMatrix) → AreSameLayers p L K → (n : ℕ) → KeepsFirst p M L c n → KeepsFirst p M K c n
   first-moved L K same n each k kl = moved L K same k (λ j jl. each j (omega (arith, jl, kl))) (each k kl)
 
-  pub broken-moved : (L K : LayeredMatrix) → AreSameLayers p L K → AreSameLayers p K L → (rule : ℕ) → IsFirstBroken p M L c rule → IsFirstBroken p M K c rule
+  pub broken-moved : (L K : LayeredMatrix) → AreSameLayers p L K → AreSameLayers p K L → (rule : ℕ) → IsFirstBrokenRule p M L c rule → IsFirstBrokenRule p M
+      K c rule
   broken-moved L K same back rule first = record {
     from = first.from;
     to = first.to;

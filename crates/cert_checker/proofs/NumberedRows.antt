@@ -4,7 +4,7 @@ use Rattle.std.specs.List.{All}
 use Rattle.std.specs.List.Sorted.{IsStrictlyIncreasing}
 use Rattle.std.proofs.lemmas.List.{drop_more, get_or-map, length-map}
 use Rattle.cert_text.specs.Contents.{numbered, numbered_rows}
-use Rattle.cert_text.specs.Ranges.{AreEntries, IsMatrix}
+use Rattle.cert_text.specs.Ranges.{AreEntries, IsPrintedMatrix}
 
 pub next_is : {X : Type 0} → (xs : List X) (k : ℕ) (x : X) → k < length xs → x ≡ get_or xs k x → drop k xs ≡ x ∷ drop (k + 1) xs
 next_is xs k x low is = drop_more xs k x low ∙ ap (λ y. y ∷ drop (k + 1) xs) (sym is)
@@ -67,7 +67,7 @@ module _ {T : Type 0} (number : T → ℕ) where
   row_is rows i slice row low same is = get_or-map (numbered number) rows i row [] low ∙ ap (numbered number) (sym is ∙ sym same)
 
   pub row_within : (p m n : ℕ) (rows : List (List (ℕ × T))) (i : ℕ) (slice row : List (ℕ × T)) →
-      IsMatrix p m n (numbered_rows number rows) → i < length rows → slice ≡ row → row ≡ get_or rows i row →
+      IsPrintedMatrix p m n (numbered_rows number rows) → i < length rows → slice ≡ row → row ≡ get_or rows i row →
       AreEntries p n (numbered number slice)
   row_within p m n rows i slice row is low same at =
       subst (AreEntries p n) (row_is rows i slice row low same at) (is.entries i [] (subst (λ k. i < k) (sym (rows_count rows)) low))

@@ -15,7 +15,7 @@ use Rattle.cert_text.proofs.RuleFacts.{right-rules}
 use Rattle.cert_checker.specs.Answers.{IsRejected, IsRightFor, IsWhyBroken, IsWhyNot}
 use Rattle.cert_checker.specs.declared.checking.CheckError.{CheckError}
 use Rattle.cert_checker.specs.declared.checking.CheckError.TheVariants.{NoMemory, Reject}
-use Rattle.cert_checker.specs.Checking.{IsFirstBroken, KeepsFirst}
+use Rattle.cert_checker.specs.Checking.{IsFirstBrokenRule, KeepsFirst}
 use Rattle.cert_checker.proofs.FirstBroken.{all-kept, broken-kept, each-kept}
 use Rattle.cert_checker.proofs.MovedRules.{broken-moved, first-moved}
 
@@ -41,7 +41,7 @@ module _ (p : ℕ) (prime : IsPrime p) (big : 2 < p) (M : MixedMatrix) (c : Cont
   pub right-for : (L : LayeredMatrix) (O : Origins) → IsLayeredMatrixOf M L O → IsRightCcf p M L O c → IsRightFor p M c
   right-for L O lay right = kept-for L O lay (right-kept L O lay right)
 
-  pub rejected-for : (L : LayeredMatrix) (O : Origins) → IsLayeredMatrixOf M L O → (rule : ℕ) → IsFirstBroken p M L c rule → IsRejected p M c rule
+  pub rejected-for : (L : LayeredMatrix) (O : Origins) → IsLayeredMatrixOf M L O → (rule : ℕ) → IsFirstBrokenRule p M L c rule → IsRejected p M c rule
   rejected-for L O lay rule first = record {
     layered = L;
     origins = O;
@@ -51,13 +51,13 @@ module _ (p : ℕ) (prime : IsPrime p) (big : 2 < p) (M : MixedMatrix) (c : Cont
 
   pub not-both : IsRightFor p M c → (rule : ℕ) → IsRejected p M c rule → ⊥
   not-both right rule rejected =
-      let first : IsFirstBroken p M right.layered c rule = rejected.each right.layered right.origins right.layers in
+      let first : IsFirstBrokenRule p M right.layered c rule = rejected.each right.layered right.origins right.layers in
       broken-kept p M right.layered c rule first (printed-rules p M right.layered c
       (right-rules p prime big M right.layered right.origins right.layers c is
       (right.each right.layered right.origins right.layers)))
 
   -- the first broken rule is one
-  earlier : (L : LayeredMatrix) (j k : ℕ) → IsFirstBroken p M L c j → IsFirstBroken p M L c k → j < k → ⊥
+  earlier : (L : LayeredMatrix) (j k : ℕ) → IsFirstBrokenRule p M L c j → IsFirstBrokenRule p M L c k → j < k → ⊥
   earlier L zero k one two less = absurd (omega (arith, one.from))
   earlier L (suc zero) k one two less = absurd (omega (arith, one.from))
   earlier L (suc (suc j)) k one two less = one.broken j (omega arith) (two.kept j (omega (arith, less)))
@@ -65,8 +65,8 @@ module _ (p : ℕ) (prime : IsPrime p) (big : 2 < p) (M : MixedMatrix) (c : Cont
   pub one-rule : (j k : ℕ) → IsRejected p M c j → IsRejected p M c k → j ≡ k
   one-rule j k one two =
       let L = one.layered in
-      let first : IsFirstBroken p M L c j = one.each L one.origins one.layers in
-      let second : IsFirstBroken p M L c k = two.each L one.origins one.layers in
+      let first : IsFirstBrokenRule p M L c j = one.each L one.origins one.layers in
+      let second : IsFirstBrokenRule p M L c k = two.each L one.origins one.layers in
       elim (lt_cases j k) [
         | inl less ↦ absurd (earlier L j k first second less)
         | inr rest ↦ elim (lt_cases k j) [

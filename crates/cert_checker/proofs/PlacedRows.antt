@@ -15,10 +15,10 @@ use Rattle.cert_text.specs.Readings.{pair_at, has_column, row_with, place_of, co
 use Rattle.cert_text.specs.Rules.{HasPlacedRows}
 use Rattle.cert_text.proofs.PairLists.{found, has-found, rows_differ}
 use Rattle.cert_text.proofs.PrintedRules.{place-is}
-use Rattle.cert_checker.specs.Placing.{ArePlaced, StandWithColumns}
+use Rattle.cert_checker.specs.Placing.{ArePlacedRows, StandWithColumns}
 use Rattle.cert_checker.specs.Standing.{TellsPlaces}
 
-pub placed-none : (m : ℕ) (pairs : List (ℕ × ℕ)) (columns : List ℕ) (last : ℕ) → ArePlaced m pairs columns last 0 (replicate m last)
+pub placed-none : (m : ℕ) (pairs : List (ℕ × ℕ)) (columns : List ℕ) (last : ℕ) → ArePlacedRows m pairs columns last 0 (replicate m last)
 placed-none m pairs columns last = record {
   count = length-replicate m last;
   item = λ k low. absurd (omega (arith, low));
@@ -27,9 +27,9 @@ placed-none m pairs columns last = record {
 
 module _ (m n : ℕ) (pairs : List (ℕ × ℕ)) (columns : List ℕ) (last : ℕ) (are : ArePairs m n pairs) where
   -- the row of one item more has the part of its column
-  pub placed-more : (k : ℕ) (places : List ℕ) (part : ℕ) → ArePlaced m pairs columns last k places → k < length pairs →
+  pub placed-more : (k : ℕ) (places : List ℕ) (part : ℕ) → ArePlacedRows m pairs columns last k places → k < length pairs →
       part ≡ slice_index columns (pair_at pairs k).1 →
-      ArePlaced m pairs columns last (k + 1) (slice_set places (pair_at pairs k).0 part)
+      ArePlacedRows m pairs columns last (k + 1) (slice_set places (pair_at pairs k).0 part)
   placed-more k places part placed low is = record {
     count = length-set places (pair_at pairs k).0 part ∙ placed.count;
     item = λ l ll. elim (nat_cases l k) [
@@ -48,7 +48,7 @@ module _ (m n : ℕ) (pairs : List (ℕ × ℕ)) (columns : List ℕ) (last : �
       here = get_or-set_same places (pair_at pairs k).0 part 0 (subst (λ c. (pair_at pairs k).0 < c) (sym placed.count) (are.within k (0, 0) low).0) ∙ is
 
   -- where two tables are made so, they are the same
-  placed-same : (wanted places : List ℕ) → ArePlaced m pairs columns last (length pairs) wanted → length places ≡ m →
+  placed-same : (wanted places : List ℕ) → ArePlacedRows m pairs columns last (length pairs) wanted → length places ≡ m →
       StandWithColumns m pairs columns last places → (i : ℕ) → i < m → slice_index wanted i ≡ slice_index places i
   placed-same wanted places placed long stand i il =
       elim (search_below (length pairs) (λ k. (pair_at pairs k).0 ≡ i) (λ k kl. nat_cases (pair_at pairs k).0 i)) [
@@ -56,7 +56,7 @@ module _ (m n : ℕ) (pairs : List (ℕ × ℕ)) (columns : List ℕ) (last : �
         | inr none ↦ placed.other i il none ∙ sym (stand.other i il none)
       ]
 
-  pub wanted-stand : (wanted places : List ℕ) → ArePlaced m pairs columns last (length pairs) wanted →
+  pub wanted-stand : (wanted places : List ℕ) → ArePlacedRows m pairs columns last (length pairs) wanted →
       length places ≡ m → (wanted ≡ places) ↔ StandWithColumns m pairs columns last places
   wanted-stand wanted places placed long = (
     λ same. record {

@@ -2,10 +2,12 @@
 use Rattle.std.proofs.Common.{◌≡◌, ℕ, ◌+◌, ◌*◌, ◌%◌, ◌<◌, ◌↔◌, List, slice_index, ap, sym, subst, ◌∙◌, arith}
 use Rattle.std.proofs.Math.Nat.{add-mod-mod, mod-add-mod, zero-mod}
 use Rattle.std.proofs.lemmas.Nat.{mul-mod_first}
+use Rattle.residue_theory.specs.Sets.{everything}
 use Rattle.residue_theory.specs.Sums.{sum_below}
+use Rattle.residue_theory.proofs.SumLaws.{sum_on-ext}
 use Rattle.linear_algebra.specs.Products.{Agree, IsInverse, identity, product}
 use Rattle.cert_text.specs.Readings.{entry_at, matrix_of}
-use Rattle.cert_checker.specs.Gathering.{IsAdded, IsGathered, IsZeroRow, IsCombination}
+use Rattle.cert_checker.specs.Gathering.{IsAddedRow, IsGatheredRow, IsZeroRow, IsRowCombination}
 
 -- ---- a sum less what it should be
 none-before : (a : ℕ) → 0 + a ≡ a
@@ -38,7 +40,7 @@ same-zero p f e s minus same =
     sym (mod-add-mod s p (f * e)) ∙ ap (λ z. (z + f * e) % p) (sym same) ∙ mod-add-mod e p (f * e) ∙ cancel p f e minus
 
 module _ (p k n f : ℕ) (minus : (1 + f) % p ≡ 0) (coefficients : List (ℕ × ℕ)) (matrix : List (List (ℕ × ℕ))) (entries : List (ℕ × ℕ)) (old sum less : List ℕ)
-    (zero_is : IsZeroRow p n old) (gathered : IsGathered p k n coefficients matrix old sum) (added : IsAdded p n f entries sum less) where
+    (zero_is : IsZeroRow p n old) (gathered : IsGatheredRow p k n coefficients matrix old sum) (added : IsAddedRow p n f entries sum less) where
   wanted : ℕ → ℕ
   wanted j = sum_below k (λ t. entry_at coefficients t * matrix_of matrix t j)
 
@@ -52,18 +54,19 @@ module _ (p k n f : ℕ) (minus : (1 + f) % p ≡ 0) (coefficients : List (ℕ �
       ∙ ap (λ z. z % p) (none-before (wanted j)))
       ∙ mod-add-mod (wanted j) p (f * entry_at entries j)
 
-  pub nothing-left : IsZeroRow p n less → IsCombination p k n coefficients matrix entries
+  pub nothing-left : IsZeroRow p n less → IsRowCombination p k n coefficients matrix entries
   unfolding wanted
   nothing-left none j jl = zero-same p f (entry_at entries j) (wanted j) minus (sym (rest j jl) ∙ none j jl)
 
-  pub left-nothing : IsCombination p k n coefficients matrix entries → IsZeroRow p n less
+  pub left-nothing : IsRowCombination p k n coefficients matrix entries → IsZeroRow p n less
   unfolding wanted
   left-nothing is j jl = rest j jl ∙ same-zero p f (entry_at entries j) (wanted j) minus (is j jl)
 
 pub combination_as : (p k : ℕ) (rows : List (List (ℕ × ℕ))) (n m : ℕ) (a b c d : List (ℕ × ℕ)) → n ≡ m → a ≡ b →
-    c ≡ d → IsCombination p k n a rows c → IsCombination p k m b rows d
+    c ≡ d → IsRowCombination p k n a rows c → IsRowCombination p k m b rows d
 combination_as p k rows n m a b c d size first second is =
-    subst (λ i. IsCombination p k i b rows d) size (subst (λ x. IsCombination p k n x rows d) first (subst (λ x. IsCombination p k n a rows x) second is))
+    subst (λ i. IsRowCombination p k i b rows d) size (subst (λ x. IsRowCombination p k n x rows d) first
+    (subst (λ x. IsRowCombination p k n a rows x) second is))
 
 -- ---- products of matrices that have the same entries
 -- a third matrix that prints the unit matrix
@@ -87,3 +90,14 @@ product_as p c d a b u v m x n y k z rows columns middle third first second =
     (subst (λ r. IsProductOf p m n k c a u ↔ IsProductOf p m n k r b v) third
     (subst (λ r. IsProductOf p m n k c a u ↔ IsProductOf p m n k c r v) first
     (subst (λ r. IsProductOf p m n k c a u ↔ IsProductOf p m n k c a r) second (λ h. h, λ h. h))))))
+
+-- a product by the same entries
+pub product-same : (p m n k : ℕ) (C A B D : ℕ → ℕ → ℕ) → ((t j : ℕ) → t < k → j < n → B t j ≡ D t j) →
+    Agree p m n C (product k A B) ↔ Agree p m n C (product k A D)
+product-same p m n k C A B D same = (
+  λ h i j il jl. h i j il jl ∙ ap (λ x. x % p) (sum i j jl),
+  λ h i j il jl. h i j il jl ∙ sym (ap (λ x. x % p) (sum i j jl)),
+)
+  where
+    sum : (i j : ℕ) → j < n → product k A B i j ≡ product k A D i j
+    sum i j jl = sum_on-ext everything k (λ t. A i t * B t j) (λ t. A i t * D t j) (λ t tl is. ap (λ x. A i t * x) (same t j tl jl))

@@ -18,7 +18,7 @@ use Rattle.cert_text.specs.Ranges.{AreRising, IsCcf, IsPart}
 use Rattle.cert_text.specs.declared.shape.Shape.{Shape}
 use Rattle.cert_text.specs.declared.part.CcfPart.{CcfPart}
 use Rattle.cert_text.specs.declared.part.CcfBlock.{CcfBlock}
-use Rattle.cert_checker.specs.Standing.{IsUnplaced, IsPlaced, AreSet, TellsPlaces, part_list, list_in, lists_in, count_in}
+use Rattle.cert_checker.specs.Standing.{IsUnplaced, IsPlacedList, AreSet, TellsPlaces, part_list, list_in, lists_in, count_in}
 
 -- places tells of each number below n in which of the first m lists it stands, counted from 1, and 0 where it stands
 -- in none of them;
@@ -63,7 +63,7 @@ has-at (y ∷ ys) zero low = ap (λ b. b || has ys y) (eqb_from y y refl)
 has-at (y ∷ ys) (suc k) low = either-second (eqb y (get_or ys k 0)) (has ys (get_or ys k 0)) (has-at ys k (omega (arith, low)))
 
 pub put-refused : (places now list : List ℕ) (k x part : ℕ) → IsStrictlyIncreasing list → k < length list →
-    x ≡ get_or list k 0 → x < length places → IsPlaced places (take k list) part now → slice_index now x ≢ 0 →
+    x ≡ get_or list k 0 → x < length places → IsPlacedList places (take k list) part now → slice_index now x ≢ 0 →
     IsUnplaced places list → (b : Bool) → b ≡ true
 put-refused places now list k x part rising low is within placed some unplaced b =
     let absent : has (take k list) x ≡ false = subst (λ y. has (take k list) y ≡ false) (sym is) (absent-before list k rising low) in
@@ -86,7 +86,7 @@ module _ (n m : ℕ) (lists : List (List ℕ)) (places : List ℕ) (old : AreSta
   is-here : (k x : ℕ) (b : Bool) → k ≡ m → has (slice_index_or lists k []) x ≡ b → has list x ≡ b
   is-here k x b same h = subst (λ l. has l x ≡ b) (sym is) (subst (λ i. has (slice_index_or lists i []) x ≡ b) same h)
 
-  module _ (now : List ℕ) (long : length now ≡ n) (unplaced : IsUnplaced places list) (placed : IsPlaced places list (m + 1) now) where
+  module _ (now : List ℕ) (long : length now ≡ n) (unplaced : IsUnplaced places list) (placed : IsPlacedList places list (m + 1) now) where
     now-in : (x : ℕ) → x < n → has list x ≡ true → slice_index now x ≡ m + 1
     now-in x xl h = placed x (omega (arith, xl, old.count)) ∙ ap (λ b. cond b (m + 1) (slice_index places x)) h
 

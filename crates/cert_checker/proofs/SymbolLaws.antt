@@ -2,7 +2,7 @@
 use Rattle.std.proofs.Common.{◌≡◌, ℕ, ◌<◌, ◌≤◌, Bool, true, false, ◌||◌, eqb, List, [], ◌∷◌, length, slice_index_or, inl, inr, refl, ap, sym, subst, ◌∙◌, arith}
 use Rattle.std.specs.List.Sorted.{IsStrictlyIncreasing}
 use Rattle.residue_theory.proofs.SetLaws.{differ, eqb_true, eqb_from, not_true, lt_cases}
-use Rattle.sparse_t.specs.Incidences.{Incidence, IsIncidence, row_count, columns_at, touches}
+use Rattle.sparse_t.specs.Incidences.{Incidence, IsIncidence, incidence_rows, columns_at, touches}
 use Rattle.cert_text.specs.Ranges.{AreRising, IsPattern}
 use Rattle.residue_theory.specs.Sets.{has}
 use Rattle.cert_text.specs.Readings.{pattern_of}
@@ -55,15 +55,15 @@ rising-same (x ∷ xs) (y ∷ ys) one two same = go heads (rising-same xs ys)
         let same' : (w : ℕ) → has (x ∷ xs) w ≡ has (x ∷ ys) w = λ w. subst (λ v. has (x ∷ xs) w ≡ has (v ∷ ys) w) (sym e) (same w) in
         ap (λ v. v ∷ xs) e ∙ ap (λ zs. y ∷ zs) (rest (rising-rest x xs one) (rising-rest y ys two) (λ w. tail-same (eqb x w) x w xs ys one two' refl (same' w)))
 
-pub rows-symbols : (t : Incidence) (rows : List (List ℕ)) → HasRowsOf t rows (row_count t) → (i j : ℕ) →
+pub rows-symbols : (t : Incidence) (rows : List (List ℕ)) → HasRowsOf t rows (incidence_rows t) → (i j : ℕ) →
     i < length t.rows → j < t.width → pattern_of rows i j ≡ touches t i j
 rows-symbols t rows same i j il jl = ap (λ list. has list j) (same i il)
 
 absent-from : (n j : ℕ) (xs : List ℕ) → ((k d : ℕ) → k < length xs → slice_index_or xs k d < n) → n ≤ j → has xs j ≡ false
 absent-from n j xs below le = not_true (has xs j) (λ h. absurd (omega (arith, le, has-below n xs j below h)))
 
-pub symbols-rows : (t : Incidence) (rows : List (List ℕ)) → IsIncidence t → IsPattern (row_count t) t.width rows →
-    ((i j : ℕ) → i < length t.rows → j < t.width → pattern_of rows i j ≡ touches t i j) → HasRowsOf t rows (row_count t)
+pub symbols-rows : (t : Incidence) (rows : List (List ℕ)) → IsIncidence t → IsPattern (incidence_rows t) t.width rows →
+    ((i j : ℕ) → i < length t.rows → j < t.width → pattern_of rows i j ≡ touches t i j) → HasRowsOf t rows (incidence_rows t)
 symbols-rows t rows is printed same i il =
     rising-same row (columns_at t i) (at.rising) (is.rising i il) (λ j. elim (lt_cases j t.width) [
       | inl low ↦ same i j il low

@@ -4,9 +4,9 @@ use Rattle.std.proofs.Common.{length, slice_index, slice_index_or, inl, inr, ref
 use Rattle.std.proofs.Math.Nat.{mod-eq_of_lt, zero-mod}
 use Rattle.residue_theory.proofs.SetLaws.{differ, eqb_true, eqb_from, zero_cases}
 use Rattle.residue_theory.proofs.SumLaws.{nat_cases}
-use Rattle.cert_text.specs.Ranges.{AreEntries, ArePairs, IsMatrix}
+use Rattle.cert_text.specs.Ranges.{AreEntries, ArePairs, IsPrintedMatrix}
 use Rattle.cert_text.specs.Readings.{entry_at, matrix_of, pair_at}
-use Rattle.cert_checker.specs.Units.{AreUnits, AreMarks, AreOnes, AreClear}
+use Rattle.cert_checker.specs.Units.{AreUnits, AreBaseMarks, AreOnes, AreClear}
 
 found-step : (b : Bool) (entry : ℕ × ℕ) (entries : List (ℕ × ℕ)) (j : ℕ) → eqb entry.0 j ≡ b → cond b entry.1 (entry_at entries j) ≢ 0 →
     (entry_at entries j ≢ 0 → (k : ℕ) × (k < length entries) × ((pair_at entries k).0 ≡ j)) → (k : ℕ)
@@ -50,7 +50,7 @@ not-zero : (p x : ℕ) → 0 < x → x < p → x % p ≡ 0 → ⊥
 not-zero p x some small zero_is = let same : x % p ≡ x = mod-eq_of_lt small in absurd (omega (arith, some, same, zero_is))
 
 module _ (p m n : ℕ) (big : 1 < p) (P : List (List (ℕ × ℕ))) (base : List (ℕ × ℕ)) (marks : List ℕ)
-    (matrix : IsMatrix p m n P) (pairs : ArePairs m n base) (are : AreMarks m n base (length base) marks) where
+    (matrix : IsPrintedMatrix p m n P) (pairs : ArePairs m n base) (are : AreBaseMarks m n base (length base) marks) where
   row-at : (i : ℕ) → i < m → AreEntries p n (slice_index_or P i [])
   row-at i il = matrix.entries i [] (omega (arith, il, matrix.count))
 

@@ -2,8 +2,8 @@
 use Rattle.std.proofs.Common.{◌≡◌, ℕ, ◌<◌, [], ◌∷◌, refl, sym, subst, arith}
 use Rattle.linear_algebra.specs.Products.{identity}
 use Rattle.cert_text.specs.Contents.{numbered}
-use Rattle.sparse_layering.specs.Matrices.{PrintsRow}
-use Rattle.sparse_layering.proofs.EntryPush.{all-one}
+use Rattle.cert_text.specs.Printing.{PrintsRow}
+use Rattle.cert_checker.proofs.PrintedRows.{all-one}
 
 -- a row of the unit matrix
 unit-row : (p n i : ℕ) → 1 < p → i < n → PrintsRow p n (identity i) ((i, 1) ∷ [])

@@ -8,12 +8,12 @@ use Rattle.residue_theory.proofs.SumLaws.{nat_cases}
 use Rattle.residue_field.specs.Rows.{plus_multiple}
 use Rattle.residue_field.proofs.RowLaws.{plus_multiple-at}
 use Rattle.cert_text.specs.Readings.{entry_at}
-use Rattle.cert_checker.specs.Gathering.{IsAdded}
+use Rattle.cert_checker.specs.Gathering.{IsAddedRow}
 use Rattle.cert_checker.specs.WideRows.{AreValues}
 
 -- a row of zeros to which the entries were added
 pub values-made : (p n f : ℕ) (entries : List (ℕ × ℕ)) (zeros values : List ℕ) → zeros ≡ replicate n 0 → f ≡ 1 →
-    length values ≡ n → IsAdded p n f entries zeros values → AreValues p n entries values
+    length values ≡ n → IsAddedRow p n f entries zeros values → AreValues p n entries values
 values-made p n f entries zeros values none one long added = record {
   count = long;
   at = λ j low. added j low
@@ -33,7 +33,7 @@ multiple-same p f x y e same =
 
 -- a row to which values were added is one to which the entries were
 pub values-added : (p n f : ℕ) (entries : List (ℕ × ℕ)) (values old new : List ℕ) → length old ≡ n → AreValues p n entries values →
-    new ≡ plus_multiple p f old values → IsAdded p n f entries old new
+    new ≡ plus_multiple p f old values → IsAddedRow p n f entries old new
 values-added p n f entries values old new long are sum j low =
     ap (λ xs. slice_index xs j % p) sum
     ∙ ap (λ z. z % p) (plus_multiple-at p f old values j (omega (arith, long, are.count)) (omega (arith, long, low)))

@@ -8,14 +8,14 @@ use Rattle.cert_text.specs.Contents.{Contents}
 use Rattle.cert_text.specs.Ranges.{IsCcf}
 use Rattle.cert_text.specs.Right.{IsRightCcf}
 use Rattle.cert_text.specs.Rules.{HasLowerLists, HasReasons, LeadsDown}
-use Rattle.cert_checker.specs.Checking.{IsFirstBroken}
+use Rattle.cert_checker.specs.Checking.{IsFirstBrokenRule}
 use Rattle.cert_checker.specs.Standing.{Not}
 use Rattle.cert_checker.specs.declared.checking.CheckError.{CheckError}
 use Rattle.cert_checker.specs.declared.checking.CheckError.TheVariants.{NoMemory, Reject}
 
 -- why a form is not taken: the rule is the first that is broken, or memory ran out
 abbrev pub IsWhyBroken : ℕ → MixedMatrix → LayeredMatrix → Contents → CheckError → Type 0
-IsWhyBroken p M L c (Reject rule) = IsFirstBroken p M L c rule
+IsWhyBroken p M L c (Reject rule) = IsFirstBrokenRule p M L c rule
 IsWhyBroken p M L c NoMemory = Unit {0}
 
 -- the rules 10 to 12 are kept, or which of them is broken first; or memory ran out
@@ -39,7 +39,7 @@ IsRightFor p M c = OfEachLayered M (λ L O. IsRightCcf p M L O c)
 
 -- this rule is the first that it breaks
 abbrev pub IsRejected : ℕ → MixedMatrix → Contents → ℕ → Type 0
-IsRejected p M c rule = OfEachLayered M (λ L O. IsFirstBroken p M L c rule)
+IsRejected p M c rule = OfEachLayered M (λ L O. IsFirstBrokenRule p M L c rule)
 
 -- why a form is not taken: it is rejected by this rule, or memory ran out
 abbrev pub IsWhyNot : ℕ → MixedMatrix → Contents → CheckError → Type 0

@@ -42,7 +42,7 @@ abbrev pub KeepsFirst : ℕ → MixedMatrix → LayeredMatrix → Contents → �
 KeepsFirst p M L c n = (k : ℕ) → k < n → KeepsRule p M L c k
 
 -- `rule` is the number of the first one that is broken
-pub record IsFirstBroken (p : ℕ) (M : MixedMatrix) (L : LayeredMatrix) (c : Contents) (rule : ℕ) : Type 0 where
+pub record IsFirstBrokenRule (p : ℕ) (M : MixedMatrix) (L : LayeredMatrix) (c : Contents) (rule : ℕ) : Type 0 where
   pub from : 2 ≤ rule
   pub to : rule ≤ 12
   pub kept : (k : ℕ) → k + 2 < rule → KeepsRule p M L c k
@@ -54,7 +54,7 @@ RightWhereNoneIsBroken =
     (p : ℕ) → IsPrime p → 2 < p → (M : MixedMatrix) (L : LayeredMatrix) (O : Origins) → IsLayeredMatrixOf M L O →
     (c : Contents) → IsCcf p c →
     (KeepsFirst p M L c 11 → IsRightCcf p M L O c)
-    × ((rule : ℕ) → IsFirstBroken p M L c rule → IsRightCcf p M L O c → ⊥)
+    × ((rule : ℕ) → IsFirstBrokenRule p M L c rule → IsRightCcf p M L O c → ⊥)
 
 -- all layered matrices of a model give one answer: a form that keeps each rule for one does so for each, and the first
 -- that it breaks for one is the first that it breaks for each
@@ -63,7 +63,7 @@ LayeredMatricesGiveOneAnswer =
     (p : ℕ) (M : MixedMatrix) (L K : LayeredMatrix) (O N : Origins) →
     IsLayeredMatrixOf M L O → IsLayeredMatrixOf M K N → (c : Contents) → IsCcf p c →
     (KeepsFirst p M L c 11 → KeepsFirst p M K c 11)
-    × ((rule : ℕ) → IsFirstBroken p M L c rule → IsFirstBroken p M K c rule)
+    × ((rule : ℕ) → IsFirstBrokenRule p M L c rule → IsFirstBrokenRule p M K c rule)
 
 -- the rows and columns that a form prints are as many as those of the layered matrix
 pub record HasSizes (L : LayeredMatrix) (c : Contents) : Type 0 where

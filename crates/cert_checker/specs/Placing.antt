@@ -3,7 +3,8 @@ use Rattle.std.specs.Prelude.{ℕ, ◌<◌, ◌≡◌, List, length, slice_index
 use Rattle.cert_text.specs.Readings.{pair_at}
 
 -- the rows of the first n items have the parts of their columns, and the others the part `last`
-pub record ArePlaced (rows : ℕ) (pairs : List (ℕ × ℕ)) (columns : List ℕ) (last n : ℕ) (places : List ℕ) : Type 0 where
+pub record ArePlacedRows (rows : ℕ) (pairs : List (ℕ × ℕ)) (columns : List ℕ) (last n : ℕ) (places : List ℕ)
+    : Type 0 where
   pub count : length places ≡ rows
   pub item : (k : ℕ) → k < n →
       slice_index places (pair_at pairs k).0 ≡ slice_index columns (pair_at pairs k).1

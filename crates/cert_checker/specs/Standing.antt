@@ -13,8 +13,8 @@ abbrev pub IsUnplaced : List ℕ → List ℕ → Type 0
 IsUnplaced places list = (x : ℕ) → x < length places → has list x ≡ true → slice_index places x ≡ 0
 
 -- the numbers of the list have this part now, and the others what they had
-abbrev pub IsPlaced : List ℕ → List ℕ → ℕ → List ℕ → Type 0
-IsPlaced places list part now = (x : ℕ) → x < length places →
+abbrev pub IsPlacedList : List ℕ → List ℕ → ℕ → List ℕ → Type 0
+IsPlacedList places list part now = (x : ℕ) → x < length places →
     slice_index now x ≡ cond (has list x) part (slice_index places x)
 
 -- each number has a part

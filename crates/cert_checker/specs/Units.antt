@@ -8,7 +8,7 @@ AreUnits p m P base = (k : ℕ) → k < length base →
     IsUnitColumn p m (matrix_of P) (pair_at base k).0 (pair_at base k).1
 
 -- at each column that an item of the first n has stands the row of such an item, and at each other one `rows`
-pub record AreMarks (rows columns : ℕ) (base : List (ℕ × ℕ)) (n : ℕ) (marks : List ℕ) : Type 0 where
+pub record AreBaseMarks (rows columns : ℕ) (base : List (ℕ × ℕ)) (n : ℕ) (marks : List ℕ) : Type 0 where
   pub count : length marks ≡ columns
   pub set : (k : ℕ) → k < n → slice_index marks (pair_at base k).1 ≢ rows
   pub item : (j : ℕ) → j < columns → (slice_index marks j ≡ rows)

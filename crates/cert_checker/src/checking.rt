@@ -3,7 +3,7 @@
 ghost use Rattle.std.specs.Prelude.{IfErr, IfOk};
 ghost use Rattle.cert_text.specs.Readings.{ColumnsDiffer, column_lists};
 ghost use Rattle.mixed_matrices.specs.LayeredMatrices.{LayeredMatrix};
-ghost use Rattle.sparse_layering.specs.Layers.{matrix_of_rows};
+ghost use Rattle.mixed_model.specs.Layers.{layered_matrix_of};
 ghost use Rattle.mixed_model.specs.Models.{mixed_matrix_of};
 ghost use Rattle.part_checker.specs.Told.{IsPrintedBy, TellsParts};
 ghost use Rattle.cert_checker.specs.Answers.{IsRightFor, IsWhyBroken, IsWhyNot, TellsOfParts};
@@ -15,11 +15,11 @@ use crate::rules::{
     has_unit_columns, is_counted,
 };
 use cert_text::Ccf;
-use mixed_model::Mixed;
+use mixed_layering::layer;
+use mixed_model::{Layered, Mixed};
 use out_of_memory::NoMemory;
 use part_checker::{has_lower_lists, has_reasons, leads_down, told_of};
 use residue_field::Field;
-use sparse_layering::{LayerRows, layer_rows};
 use std::alloc::Global;
 
 /// Why the check of a form does not end well.
@@ -46,14 +46,14 @@ impl From<NoMemory> for CheckError {
 fn check_rows<F: Field>(
     alloc: Global,
     model: &Mixed<F>,
-    layered: &LayerRows<F>,
+    layered: &Layered<F>,
     form: &Ccf<F>,
 ) -> Result<Vec<usize>, CheckError>
     ensures kept { IfOk result (λ parts.
-        KeepsFirst F.modulus (mixed_matrix_of model.now) (matrix_of_rows layered.now) form.now 8
-        × TellsPlaces (matrix_of_rows layered.now).columns (column_lists form.now) parts.items) }
+        KeepsFirst F.modulus (mixed_matrix_of model.now) (layered_matrix_of layered.now) form.now 8
+        × TellsPlaces (layered_matrix_of layered.now).columns (column_lists form.now) parts.items) }
     ensures broken { IfErr result
-        (IsWhyBroken F.modulus (mixed_matrix_of model.now) (matrix_of_rows layered.now) form.now) }
+        (IsWhyBroken F.modulus (mixed_matrix_of model.now) (layered_matrix_of layered.now) form.now) }
 {
     if !has_shape(model, layered, form) {
         return Err(CheckError::Reject { rule: 2 });
@@ -105,13 +105,13 @@ fn check_parts<F: Field>(alloc: Global, form: &Ccf<F>, parts: &[usize]) -> Resul
 fn check_layered<F: Field>(
     alloc: Global,
     model: &Mixed<F>,
-    layered: &LayerRows<F>,
+    layered: &Layered<F>,
     form: &Ccf<F>,
 ) -> Result<(), CheckError>
     ensures kept { IfOk result (λ kept.
-        KeepsFirst F.modulus (mixed_matrix_of model.now) (matrix_of_rows layered.now) form.now 11) }
+        KeepsFirst F.modulus (mixed_matrix_of model.now) (layered_matrix_of layered.now) form.now 11) }
     ensures broken { IfErr result
-        (IsWhyBroken F.modulus (mixed_matrix_of model.now) (matrix_of_rows layered.now) form.now) }
+        (IsWhyBroken F.modulus (mixed_matrix_of model.now) (layered_matrix_of layered.now) form.now) }
 {
     let parts = check_rows(alloc, model, layered, form)?;
     check_parts(alloc, form, &parts)
@@ -123,8 +123,7 @@ pub fn check<F: Field>(alloc: Global, model: &Mixed<F>, form: &Ccf<F>) -> Result
     ensures right { IfOk result (λ right. IsRightFor F.modulus (mixed_matrix_of model.now) form.now) }
     ensures rejected { IfErr result (IsWhyNot F.modulus (mixed_matrix_of model.now) form.now) }
 {
-    let layered = layer_rows(alloc, model)?;
-    // it tells the ranges of the lines
-    let _shape = form.shape();
+    let layered = layer(alloc, model)?;
+    form.is_in_form();
     check_layered(alloc, model, &layered, form)
 }

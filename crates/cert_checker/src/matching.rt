@@ -2,10 +2,10 @@
 
 ghost use Rattle.std.specs.Prelude.{◌≡◌, ◌<◌, ◌≤◌, ◌↔◌, ℕ, IfOk, IsTrue, length};
 ghost use Rattle.std.specs.List.{All};
-ghost use Rattle.sparse_t.specs.Incidences.{row_count};
+ghost use Rattle.sparse_t.specs.Incidences.{incidence_rows};
 ghost use Rattle.cert_text.specs.Ranges.{ArePairs};
 ghost use Rattle.cert_text.specs.Readings.{ColumnsDiffer};
-ghost use Rattle.cert_checker.specs.Matching.{AreSymbols, AreFree, IsTaken};
+ghost use Rattle.cert_checker.specs.Matching.{AreSymbols, AreFreeColumns, IsTaken};
 
 use out_of_memory::NoMemory;
 use sparse_t::Pattern;
@@ -13,7 +13,7 @@ use std::alloc::Global;
 
 /// Whether the row of each item has a symbol at its column.
 pub fn are_symbols(t: &Pattern, mates: &[(usize, usize)]) -> bool
-    requires { ArePairs (row_count t.now) t.now.width mates.now }
+    requires { ArePairs (incidence_rows t.now) t.now.width mates.now }
     ensures { IsTrue result ↔ AreSymbols t.now mates.now (length mates.now) }
 {
     for item in mates {
@@ -27,7 +27,7 @@ pub fn are_symbols(t: &Pattern, mates: &[(usize, usize)]) -> bool
 // Writes 1 at the column of each item. False where one of them has it already.
 fn take_columns(taken: &mut [usize], pairs: &[(usize, usize)]) -> bool
     requires { All (λ pair. pair.1 < length taken.old) pairs.now }
-    ensures answer { IsTrue result ↔ AreFree taken.old pairs.now (length pairs.now) }
+    ensures answer { IsTrue result ↔ AreFreeColumns taken.old pairs.now (length pairs.now) }
     ensures taken { IsTrue result → IsTaken taken.old pairs.now (length pairs.now) taken.new }
 {
     for pair in pairs {

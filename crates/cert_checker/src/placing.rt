@@ -2,7 +2,7 @@
 
 ghost use Rattle.std.specs.Prelude.{◌≡◌, ◌↔◌, ℕ, IfOk, IsTrue, length};
 ghost use Rattle.cert_text.specs.Ranges.{ArePairs};
-ghost use Rattle.cert_checker.specs.Placing.{ArePlaced, StandWithColumns};
+ghost use Rattle.cert_checker.specs.Placing.{ArePlacedRows, StandWithColumns};
 
 use out_of_memory::NoMemory;
 use std::alloc::Global;
@@ -16,7 +16,7 @@ fn wanted_places(
     last: usize,
 ) -> Result<Vec<usize>, NoMemory>
     requires { ArePairs rows (length columns.now) pairs.now }
-    ensures { IfOk result (λ places. ArePlaced rows pairs.now columns.now last (length pairs.now) places.items) }
+    ensures { IfOk result (λ places. ArePlacedRows rows pairs.now columns.now last (length pairs.now) places.items) }
 {
     let mut places = vec![in alloc; last; rows]?;
     for pair in pairs {

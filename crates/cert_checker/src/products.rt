@@ -5,9 +5,9 @@ ghost use Rattle.std.specs.List.{All};
 ghost use Rattle.std.specs.List.Sorted.{IsStrictlyIncreasing};
 ghost use Rattle.linear_algebra.specs.Products.{Agree, product};
 ghost use Rattle.cert_text.specs.Contents.{numbered, numbered_rows};
-ghost use Rattle.cert_text.specs.Ranges.{AreEntries, IsMatrix};
+ghost use Rattle.cert_text.specs.Ranges.{AreEntries, IsPrintedMatrix};
 ghost use Rattle.cert_text.specs.Readings.{matrix_of};
-ghost use Rattle.cert_checker.specs.Gathering.{IsGathered, IsZeroRow, IsCombination};
+ghost use Rattle.cert_checker.specs.Gathering.{IsGatheredRow, IsZeroRow, IsRowCombination};
 ghost use Rattle.cert_checker.specs.WideRows.{AreValuesOfRows};
 
 use crate::value_rows::{add_entries, is_zero_row, zero_row};
@@ -26,10 +26,11 @@ fn gather<F: Field>(
 )
     requires rising { IsStrictlyIncreasing (map (λ entry. entry.0) coefficients.now) }
     requires rows { All (λ entry. entry.0 < length matrix.now) coefficients.now }
-    requires matrix { IsMatrix F.modulus (length matrix.now) (length row.old) (numbered_rows F.number matrix.now) }
+    requires matrix { IsPrintedMatrix F.modulus (length matrix.now) (length row.old)
+        (numbered_rows F.number matrix.now) }
     requires values { AreValuesOfRows F.modulus (length row.old) (numbered_rows F.number matrix.now)
         (map (option_map (λ row. map F.number row.items)) values.now) }
-    ensures { IsGathered F.modulus (length matrix.now) (length row.old) (numbered F.number coefficients.now)
+    ensures { IsGatheredRow F.modulus (length matrix.now) (length row.old) (numbered F.number coefficients.now)
         (numbered_rows F.number matrix.now) (map F.number row.old) (map F.number row.new) }
 {
     for coefficient in coefficients {
@@ -48,12 +49,13 @@ fn is_combination<F: Field>(
     entries: &[(usize, F)],
 ) -> bool
     requires coefficients { AreEntries F.modulus (length matrix.now) (numbered F.number coefficients.now) }
-    requires matrix { IsMatrix F.modulus (length matrix.now) (length row.old) (numbered_rows F.number matrix.now) }
+    requires matrix { IsPrintedMatrix F.modulus (length matrix.now) (length row.old)
+        (numbered_rows F.number matrix.now) }
     requires values { AreValuesOfRows F.modulus (length row.old) (numbered_rows F.number matrix.now)
         (map (option_map (λ row. map F.number row.items)) values.now) }
     requires entries { AreEntries F.modulus (length row.old) (numbered F.number entries.now) }
     requires zero { IsZeroRow F.modulus (length row.old) (map F.number row.old) }
-    ensures answer { IsTrue result ↔ IsCombination F.modulus (length matrix.now) (length row.old)
+    ensures answer { IsTrue result ↔ IsRowCombination F.modulus (length matrix.now) (length row.old)
         (numbered F.number coefficients.now) (numbered_rows F.number matrix.now) (numbered F.number entries.now) }
     ensures zero { IsTrue result → IsZeroRow F.modulus (length row.old) (map F.number row.new) }
 {
@@ -70,9 +72,9 @@ pub fn is_product<F: Field>(
     columns: usize,
     c: &[Items<(usize, F)>],
 ) -> Result<bool, NoMemory>
-    requires a { IsMatrix F.modulus (length a.now) (length b.now) (numbered_rows F.number a.now) }
-    requires b { IsMatrix F.modulus (length b.now) columns (numbered_rows F.number b.now) }
-    requires c { IsMatrix F.modulus (length a.now) columns (numbered_rows F.number c.now) }
+    requires a { IsPrintedMatrix F.modulus (length a.now) (length b.now) (numbered_rows F.number a.now) }
+    requires b { IsPrintedMatrix F.modulus (length b.now) columns (numbered_rows F.number b.now) }
+    requires c { IsPrintedMatrix F.modulus (length a.now) columns (numbered_rows F.number c.now) }
     ensures { IfOk result (λ answer. IsTrue answer ↔ Agree F.modulus (length a.now) columns
         (matrix_of (numbered_rows F.number c.now))
         (product (length b.now) (matrix_of (numbered_rows F.number a.now))

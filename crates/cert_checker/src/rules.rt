@@ -2,8 +2,10 @@
 
 ghost use Rattle.std.specs.Prelude.{◌≡◌, ◌+◌, ◌↔◌, ℕ, IfOk, IsTrue, MatchOption, length};
 ghost use Rattle.linear_algebra.specs.Products.{IsInverse};
-ghost use Rattle.sparse_layering.specs.Layers.{matrix_of_rows};
+ghost use Rattle.mixed_model.specs.Layers.{layered_matrix_of};
 ghost use Rattle.mixed_model.specs.Models.{mixed_matrix_of};
+ghost use Rattle.cert_text.specs.Contents.{numbered_rows};
+ghost use Rattle.cert_text.specs.Printing.{PrintsMatrix};
 ghost use Rattle.cert_text.specs.Readings.{matrix_of, ColumnsDiffer, StandsOnce, column_lists};
 ghost use Rattle.cert_text.specs.Right.{HasShape, HasProduct, HasUnitColumns};
 ghost use Rattle.cert_text.specs.Rules.{HasMatching, HasPlacedRows};
@@ -11,22 +13,22 @@ ghost use Rattle.cert_checker.specs.Checking.{HasSizes, IsCounted, IsTransformed
 ghost use Rattle.cert_checker.specs.Standing.{Not, TellsPlaces};
 
 use crate::matching::{are_symbols, columns_differ};
-use crate::matrices::unit_rows;
+use crate::matrices::{rows_of, unit_rows};
 use crate::placing::stand_with_columns;
 use crate::products::is_product;
 use crate::standing::{Member, places_of};
 use crate::symbols::has_symbols;
 use crate::units::are_units;
-use cert_text::{Ccf, Shape};
-use mixed_model::Mixed;
+use cert_text::{Ccf, Items, Shape};
+use mixed_model::{Layered, Mixed};
 use out_of_memory::NoMemory;
 use residue_field::Field;
-use sparse_layering::LayerRows;
+use sparse_t::Pattern;
 use std::alloc::Global;
 
 /// Rule 2: the printed sizes are those of the model and of its layered matrix.
-pub fn has_shape<F: Field>(model: &Mixed<F>, layered: &LayerRows<F>, form: &Ccf<F>) -> bool
-    ensures { IsTrue result ↔ HasShape (mixed_matrix_of model.now) (matrix_of_rows layered.now) form.now }
+pub fn has_shape<F: Field>(model: &Mixed<F>, layered: &Layered<F>, form: &Ccf<F>) -> bool
+    ensures { IsTrue result ↔ HasShape (mixed_matrix_of model.now) (layered_matrix_of layered.now) form.now }
 {
     let found = Shape {
         equations: model.equations(),
@@ -41,11 +43,11 @@ pub fn has_shape<F: Field>(model: &Mixed<F>, layered: &LayerRows<F>, form: &Ccf<
 /// Rule 3: the product of S and U is the unit matrix.
 pub fn has_inverse<F: Field>(
     alloc: Global,
-    layered: &LayerRows<F>,
+    layered: &Layered<F>,
     form: &Ccf<F>,
 ) -> Result<bool, NoMemory>
-    requires { HasSizes (matrix_of_rows layered.now) form.now }
-    ensures { IfOk result (λ answer. IsTrue answer ↔ IsInverse F.modulus (matrix_of_rows layered.now).q_rows
+    requires { HasSizes (layered_matrix_of layered.now) form.now }
+    ensures { IfOk result (λ answer. IsTrue answer ↔ IsInverse F.modulus (layered_matrix_of layered.now).q_rows
         (matrix_of form.now.s) (matrix_of form.now.u)) }
 {
     let n = layered.q_rows();
@@ -59,41 +61,61 @@ pub fn has_inverse<F: Field>(
     )
 }
 
+// The rows of symbols.
+fn symbols<F: Field>(layered: &Layered<F>) -> &Pattern
+    ensures { result.now ≡ layered.now.t }
+{
+    &layered.t
+}
+
+// The printed rows of the constants.
+fn constants_of<F: Field>(
+    alloc: Global,
+    layered: &Layered<F>,
+) -> Result<Items<Items<(usize, F)>>, NoMemory>
+    ensures { IfOk result (λ rows. PrintsMatrix F.modulus (layered_matrix_of layered.now).q_rows
+        (layered_matrix_of layered.now).columns (layered_matrix_of layered.now).q (numbered_rows F.number rows)) }
+{
+    rows_of(alloc, &layered.q)
+}
+
 // Whether P is S times the constants.
 fn is_transformed<F: Field>(
     alloc: Global,
-    layered: &LayerRows<F>,
+    layered: &Layered<F>,
     form: &Ccf<F>,
 ) -> Result<bool, NoMemory>
-    requires { HasSizes (matrix_of_rows layered.now) form.now }
-    ensures { IfOk result (λ answer. IsTrue answer ↔ IsTransformed F.modulus (matrix_of_rows layered.now) form.now) }
+    requires { HasSizes (layered_matrix_of layered.now) form.now }
+    ensures { IfOk result (λ answer. IsTrue answer ↔ IsTransformed F.modulus (layered_matrix_of layered.now) form.now) }
 {
+    let constants = constants_of(alloc, layered)?;
     is_product(
         alloc,
         form.s().as_slice(),
-        layered.constants(),
+        constants.as_slice(),
         layered.columns(),
         form.p().as_slice(),
     )
 }
 
 // Whether the T lines are the rows of symbols.
-fn prints_symbols<F: Field>(layered: &LayerRows<F>, form: &Ccf<F>) -> bool
-    requires { HasSizes (matrix_of_rows layered.now) form.now }
-    ensures { IsTrue result ↔ PrintsSymbols (matrix_of_rows layered.now) form.now }
+fn prints_symbols<F: Field>(layered: &Layered<F>, form: &Ccf<F>) -> bool
+    requires { HasSizes (layered_matrix_of layered.now) form.now }
+    ensures { IsTrue result ↔ PrintsSymbols (layered_matrix_of layered.now) form.now }
 {
-    has_symbols(form.t().as_slice(), layered.symbols())
+    layered.are_layers();
+    has_symbols(form.t().as_slice(), symbols(layered))
 }
 
 /// Rule 4: P is S times the constants, and the T lines are the rows of symbols.
 pub fn has_product<F: Field>(
     alloc: Global,
-    layered: &LayerRows<F>,
+    layered: &Layered<F>,
     form: &Ccf<F>,
 ) -> Result<bool, NoMemory>
-    requires { HasSizes (matrix_of_rows layered.now) form.now }
+    requires { HasSizes (layered_matrix_of layered.now) form.now }
     ensures { IfOk result (λ answer.
-        IsTrue answer ↔ HasProduct F.modulus (matrix_of_rows layered.now) form.now) }
+        IsTrue answer ↔ HasProduct F.modulus (layered_matrix_of layered.now) form.now) }
 {
     if !is_transformed(alloc, layered, form)? {
         return Ok(false);
@@ -104,12 +126,12 @@ pub fn has_product<F: Field>(
 /// Rule 5: for each item of the base, its column of P is 1 at its row and 0 elsewhere.
 pub fn has_unit_columns<F: Field>(
     alloc: Global,
-    layered: &LayerRows<F>,
+    layered: &Layered<F>,
     form: &Ccf<F>,
 ) -> Result<bool, NoMemory>
-    requires { HasSizes (matrix_of_rows layered.now) form.now }
+    requires { HasSizes (layered_matrix_of layered.now) form.now }
     ensures { IfOk result (λ answer.
-        IsTrue answer ↔ HasUnitColumns F.modulus (matrix_of_rows layered.now) form.now) }
+        IsTrue answer ↔ HasUnitColumns F.modulus (layered_matrix_of layered.now) form.now) }
 {
     are_units(
         alloc,
@@ -122,23 +144,24 @@ pub fn has_unit_columns<F: Field>(
 /// Rule 6: each matched row has a symbol at its column, and all columns of base and match differ.
 pub fn has_matching<F: Field>(
     alloc: Global,
-    layered: &LayerRows<F>,
+    layered: &Layered<F>,
     form: &Ccf<F>,
 ) -> Result<bool, NoMemory>
-    requires { HasSizes (matrix_of_rows layered.now) form.now }
-    ensures { IfOk result (λ answer. IsTrue answer ↔ HasMatching (matrix_of_rows layered.now) form.now) }
+    requires { HasSizes (layered_matrix_of layered.now) form.now }
+    ensures { IfOk result (λ answer. IsTrue answer ↔ HasMatching (layered_matrix_of layered.now) form.now) }
 {
+    layered.are_layers();
     let mates = form.mates().as_slice();
-    if !are_symbols(layered.symbols(), mates) {
+    if !are_symbols(symbols(layered), mates) {
         return Ok(false);
     }
     columns_differ(alloc, form.base().as_slice(), mates, layered.columns())
 }
 
 /// Rule 7: the rank with the number of columns is the number of unknowns with that of the items of base and match.
-pub fn is_counted<F: Field>(model: &Mixed<F>, layered: &LayerRows<F>, form: &Ccf<F>) -> bool
-    requires { HasSizes (matrix_of_rows layered.now) form.now }
-    ensures { IsTrue result ↔ IsCounted (mixed_matrix_of model.now) (matrix_of_rows layered.now) form.now }
+pub fn is_counted<F: Field>(model: &Mixed<F>, layered: &Layered<F>, form: &Ccf<F>) -> bool
+    requires { HasSizes (layered_matrix_of layered.now) form.now }
+    ensures { IsTrue result ↔ IsCounted (mixed_matrix_of model.now) (layered_matrix_of layered.now) form.now }
 {
     let items = form.base().as_slice().len() + form.mates().as_slice().len();
     form.rank() + layered.columns() == model.unknowns() + items
@@ -147,13 +170,13 @@ pub fn is_counted<F: Field>(model: &Mixed<F>, layered: &LayerRows<F>, form: &Ccf
 /// Rule 8: the part in which each column stands, counted from 1, if each stands in exactly one.
 pub fn column_places<F: Field>(
     alloc: Global,
-    layered: &LayerRows<F>,
+    layered: &Layered<F>,
     form: &Ccf<F>,
 ) -> Result<Option<Vec<usize>>, NoMemory>
-    requires { HasSizes (matrix_of_rows layered.now) form.now }
+    requires { HasSizes (layered_matrix_of layered.now) form.now }
     ensures { IfOk result (λ found. MatchOption found
-        (Not (StandsOnce (matrix_of_rows layered.now).columns (column_lists form.now)))
-        (λ places. TellsPlaces (matrix_of_rows layered.now).columns (column_lists form.now) places.items)) }
+        (Not (StandsOnce (layered_matrix_of layered.now).columns (column_lists form.now)))
+        (λ places. TellsPlaces (layered_matrix_of layered.now).columns (column_lists form.now) places.items)) }
 {
     places_of(alloc, form, Member::Column, layered.columns())
 }
@@ -162,14 +185,14 @@ pub fn column_places<F: Field>(
 /// else. `columns` has the part of each column.
 pub fn has_placed_rows<F: Field>(
     alloc: Global,
-    layered: &LayerRows<F>,
+    layered: &Layered<F>,
     form: &Ccf<F>,
     columns: &[usize],
 ) -> Result<bool, NoMemory>
-    requires sizes { HasSizes (matrix_of_rows layered.now) form.now }
+    requires sizes { HasSizes (layered_matrix_of layered.now) form.now }
     requires differ { ColumnsDiffer form.now.base form.now.mates }
-    requires places { TellsPlaces (matrix_of_rows layered.now).columns (column_lists form.now) columns.now }
-    ensures { IfOk result (λ answer. IsTrue answer ↔ HasPlacedRows (matrix_of_rows layered.now) form.now) }
+    requires places { TellsPlaces (layered_matrix_of layered.now).columns (column_lists form.now) columns.now }
+    ensures { IfOk result (λ answer. IsTrue answer ↔ HasPlacedRows (layered_matrix_of layered.now) form.now) }
 {
     let Some(q_rows) = places_of(alloc, form, Member::QRow, layered.q_rows())? else {
         return Ok(false);

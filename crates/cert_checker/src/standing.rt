@@ -4,7 +4,7 @@ ghost use Rattle.std.specs.Prelude.{◌≡◌, ◌<◌, ◌≤◌, ◌↔◌, �
 ghost use Rattle.cert_text.specs.Ranges.{AreRising};
 ghost use Rattle.cert_text.specs.Readings.{StandsOnce};
 ghost use Rattle.cert_text.specs.declared.part.CcfPart.{CcfPart};
-ghost use Rattle.cert_checker.specs.Standing.{IsUnplaced, IsPlaced, AreSet, TellsPlaces, Not, part_list, list_in, lists_in, count_in};
+ghost use Rattle.cert_checker.specs.Standing.{IsUnplaced, IsPlacedList, AreSet, TellsPlaces, Not, part_list, list_in, lists_in, count_in};
 
 use cert_text::{Ccf, CcfPart};
 use out_of_memory::NoMemory;
@@ -49,7 +49,7 @@ fn list_of(part: &CcfPart, member: Member) -> &[usize]
 fn put(places: &mut [usize], list: &[usize], part: usize) -> bool
     requires { AreRising (length places.old) list.now }
     ensures answer { IsTrue result ↔ IsUnplaced places.old list.now }
-    ensures placed { IsTrue result → IsPlaced places.old list.now part places.new }
+    ensures placed { IsTrue result → IsPlacedList places.old list.now part places.new }
 {
     for number in list {
         if places[*number] != 0 {

@@ -1,7 +1,7 @@
 //! Whether printed rows of symbols are those of a pattern.
 
 ghost use Rattle.std.specs.Prelude.{◌≡◌, ◌<◌, ◌≤◌, ◌↔◌, ℕ, IsTrue, length};
-ghost use Rattle.sparse_t.specs.Incidences.{row_count};
+ghost use Rattle.sparse_t.specs.Incidences.{incidence_rows};
 ghost use Rattle.cert_text.specs.Ranges.{IsPattern};
 ghost use Rattle.cert_checker.specs.Matching.{HasRowsOf, HasSymbolsOf};
 
@@ -25,8 +25,8 @@ fn same_numbers(a: &[usize], b: &[u32]) -> bool
 
 // Whether the printed rows are those of the pattern.
 fn has_rows_of(rows: &[Items<usize>], t: &Pattern) -> bool
-    requires { length rows.now ≡ row_count t.now }
-    ensures { IsTrue result ↔ HasRowsOf t.now rows.now (row_count t.now) }
+    requires { length rows.now ≡ incidence_rows t.now }
+    ensures { IsTrue result ↔ HasRowsOf t.now rows.now (incidence_rows t.now) }
 {
     for i in 0..rows.len() {
         if !same_numbers(rows[i].as_slice(), t.row(i)) {
@@ -38,10 +38,9 @@ fn has_rows_of(rows: &[Items<usize>], t: &Pattern) -> bool
 
 /// Whether the printed rows have the symbols of the pattern.
 pub fn has_symbols(rows: &[Items<usize>], t: &Pattern) -> bool
-    requires { IsPattern (row_count t.now) t.now.width rows.now }
+    requires { IsPattern (incidence_rows t.now) t.now.width rows.now }
     ensures { IsTrue result ↔ HasSymbolsOf t.now rows.now }
 {
-    // it tells that the rows of the pattern rise
-    let _rows = t.rows();
+    t.is_pattern();
     has_rows_of(rows, t)
 }

@@ -3,9 +3,9 @@
 ghost use Rattle.std.specs.Prelude.{◌≡◌, ◌<◌, ◌≤◌, ◌↔◌, ℕ, IfOk, IsTrue, length};
 ghost use Rattle.std.specs.List.{All};
 ghost use Rattle.cert_text.specs.Contents.{numbered, numbered_rows};
-ghost use Rattle.cert_text.specs.Ranges.{ArePairs, IsMatrix};
+ghost use Rattle.cert_text.specs.Ranges.{ArePairs, IsPrintedMatrix};
 ghost use Rattle.cert_text.specs.Readings.{entry_at};
-ghost use Rattle.cert_checker.specs.Units.{AreMarks, AreOnes, AreUnits, IsClear, AreClear};
+ghost use Rattle.cert_checker.specs.Units.{AreBaseMarks, AreOnes, AreUnits, IsClear, AreClear};
 
 use cert_text::Items;
 use out_of_memory::NoMemory;
@@ -20,7 +20,7 @@ fn marks_of(
     columns: usize,
 ) -> Result<Vec<usize>, NoMemory>
     requires { ArePairs rows columns base.now }
-    ensures { IfOk result (λ marks. AreMarks rows columns base.now (length base.now) marks.items) }
+    ensures { IfOk result (λ marks. AreBaseMarks rows columns base.now (length base.now) marks.items) }
 {
     let mut marks = vec![in alloc; rows; columns]?;
     for item in base {
@@ -70,7 +70,7 @@ fn is_clear<F: Field>(row: &[(usize, F)], i: usize, marks: &[usize], rows: usize
 
 // Whether this is so of each row.
 fn are_clear<F: Field>(p: &[Items<(usize, F)>], marks: &[usize]) -> bool
-    requires { IsMatrix F.modulus (length p.now) (length marks.now) (numbered_rows F.number p.now) }
+    requires { IsPrintedMatrix F.modulus (length p.now) (length marks.now) (numbered_rows F.number p.now) }
     ensures { IsTrue result ↔ AreClear (length p.now) marks.now (numbered_rows F.number p.now) (length p.now) }
 {
     for i in 0..p.len() {
@@ -88,7 +88,7 @@ pub fn are_units<F: Field>(
     base: &[(usize, usize)],
     columns: usize,
 ) -> Result<bool, NoMemory>
-    requires p { IsMatrix F.modulus (length p.now) columns (numbered_rows F.number p.now) }
+    requires p { IsPrintedMatrix F.modulus (length p.now) columns (numbered_rows F.number p.now) }
     requires base { ArePairs (length p.now) columns base.now }
     ensures { IfOk result (λ answer.
         IsTrue answer ↔ AreUnits F.modulus (length p.now) (numbered_rows F.number p.now) base.now) }

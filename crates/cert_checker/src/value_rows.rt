@@ -4,7 +4,7 @@ ghost use Rattle.std.specs.Prelude.{◌≡◌, ◌<◌, ◌↔◌, length, map, 
 ghost use Rattle.std.specs.List.{All};
 ghost use Rattle.std.specs.List.Sorted.{IsStrictlyIncreasing};
 ghost use Rattle.cert_text.specs.Contents.{numbered};
-ghost use Rattle.cert_checker.specs.Gathering.{IsAdded, IsZeroRow};
+ghost use Rattle.cert_checker.specs.Gathering.{IsAddedRow, IsZeroRow};
 
 use out_of_memory::NoMemory;
 use residue_field::Field;
@@ -39,7 +39,7 @@ pub fn is_zero_row<F: Field>(row: &[F]) -> bool
 pub fn add_entries<F: Field>(row: &mut [F], entries: &[(usize, F)], factor: F)
     requires rising { IsStrictlyIncreasing (map (λ entry. entry.0) entries.now) }
     requires columns { All (λ entry. entry.0 < length row.old) entries.now }
-    ensures { IsAdded F.modulus (length row.old) (F.number factor) (numbered F.number entries.now)
+    ensures { IsAddedRow F.modulus (length row.old) (F.number factor) (numbered F.number entries.now)
         (map F.number row.old) (map F.number row.new) }
 {
     for entry in entries {

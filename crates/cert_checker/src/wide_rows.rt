@@ -2,8 +2,8 @@
 
 ghost use Rattle.std.specs.Prelude.{◌≡◌, ◌<◌, length, map, option_map, IfOk, IfSome};
 ghost use Rattle.cert_text.specs.Contents.{numbered, numbered_rows};
-ghost use Rattle.cert_text.specs.Ranges.{AreEntries, IsMatrix};
-ghost use Rattle.cert_checker.specs.Gathering.{IsAdded};
+ghost use Rattle.cert_text.specs.Ranges.{AreEntries, IsPrintedMatrix};
+ghost use Rattle.cert_checker.specs.Gathering.{IsAddedRow};
 ghost use Rattle.cert_checker.specs.WideRows.{AreValues, AreValuesOfRows};
 
 use crate::value_rows::{add_entries, zero_row};
@@ -53,7 +53,7 @@ pub fn wide_rows<F: Field>(
     matrix: &[Items<(usize, F)>],
     columns: usize,
 ) -> Result<Vec<Option<Vec<F>>>, NoMemory>
-    requires { IsMatrix F.modulus (length matrix.now) columns (numbered_rows F.number matrix.now) }
+    requires { IsPrintedMatrix F.modulus (length matrix.now) columns (numbered_rows F.number matrix.now) }
     ensures { IfOk result (λ rows. AreValuesOfRows F.modulus columns (numbered_rows F.number matrix.now)
         (map (option_map (λ values. map F.number values.items)) rows.items)) }
 {
@@ -69,7 +69,7 @@ pub fn add_row<F: Field>(sum: &mut [F], entries: &[(usize, F)], values: &Option<
     requires entries { AreEntries F.modulus (length sum.old) (numbered F.number entries.now) }
     requires values { IfSome values.now (λ values.
         AreValues F.modulus (length sum.old) (numbered F.number entries.now) (map F.number values.items)) }
-    ensures { IsAdded F.modulus (length sum.old) (F.number factor) (numbered F.number entries.now)
+    ensures { IsAddedRow F.modulus (length sum.old) (F.number factor) (numbered F.number entries.now)
         (map F.number sum.old) (map F.number sum.new) }
 {
     match values {

@@ -6,7 +6,7 @@ use Rattle.std.specs.Char.{is_ascii_digit}
 use Rattle.std.specs.List.{list_all}
 use Rattle.std.proofs.lemmas.Bool.Decides.{nat_tests}
 use Rattle.std.proofs.lemmas.Fmt.{digits_decimal, decimal_nonempty}
-use Rattle.cert_text.specs.Texts.{spaced, marked, item, lettered, pairs_text, entries_text, numbers_text, letters_text}
+use Rattle.cert_text.specs.Texts.{spaced, with_mark, item, lettered, pairs_text, entries_text, numbers_text, letters_text}
 use Rattle.cert_reader.specs.Fronts.{◌>>=◌, text_at, number_at, begins_with}
 use Rattle.cert_reader.specs.Items.{index_at, positive_at, marked_at, pair_at, entry_at, goes_on}
 use Rattle.cert_reader.proofs.Numbers.{EndsNumber, digits}
@@ -138,10 +138,10 @@ pub are-pairs : (m n : ℕ) → m < 10 ^ 10 → n < 10 ^ 10 → AreItems goes_on
     (Above (λ p. p.0) (λ p. (p.0 < m) × (p.1 < n))) (λ p. item (p.0 + 1) (p.1 + 1)) pairs_text
 are-pairs m n small narrow = record {
   spells = λ low. Spells-pair m n low small narrow;
-  goes = λ low p rest fits. ap goes_on (append_assoc (spaced (p.0 + 1)) (marked 61 (p.1 + 1)) rest)
-      ∙ number-goes (p.0 + 1) (marked 61 (p.1 + 1) ++ rest) (omega (arith, fits.1.0));
+  goes = λ low p rest fits. ap goes_on (append_assoc (spaced (p.0 + 1)) (with_mark 61 (p.1 + 1)) rest)
+      ∙ number-goes (p.0 + 1) (with_mark 61 (p.1 + 1) ++ rest) (omega (arith, fits.1.0));
   ending = λ low p rest fits. refl;
-  some = λ p. omega (arith, length-append (spaced (p.0 + 1)) (marked 61 (p.1 + 1)));
+  some = λ p. omega (arith, length-append (spaced (p.0 + 1)) (with_mark 61 (p.1 + 1)));
   none = refl;
   more = λ p ps. refl;
 }
@@ -151,10 +151,10 @@ pub are-entries : (modulus n : ℕ) → modulus < 2 ^ 32 → n < 10 ^ 10 → Are
     (λ p. item (p.0 + 1) p.1) entries_text
 are-entries modulus n small narrow = record {
   spells = λ low. Spells-entry modulus n low small narrow;
-  goes = λ low p rest fits. ap goes_on (append_assoc (spaced (p.0 + 1)) (marked 61 p.1) rest)
-      ∙ number-goes (p.0 + 1) (marked 61 p.1 ++ rest) (omega (arith, fits.1.0));
+  goes = λ low p rest fits. ap goes_on (append_assoc (spaced (p.0 + 1)) (with_mark 61 p.1) rest)
+      ∙ number-goes (p.0 + 1) (with_mark 61 p.1 ++ rest) (omega (arith, fits.1.0));
   ending = λ low p rest fits. refl;
-  some = λ p. omega (arith, length-append (spaced (p.0 + 1)) (marked 61 p.1));
+  some = λ p. omega (arith, length-append (spaced (p.0 + 1)) (with_mark 61 p.1));
   none = refl;
   more = λ p ps. refl;
 }

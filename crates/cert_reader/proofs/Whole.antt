@@ -10,7 +10,7 @@ use Rattle.cert_text.specs.Contents.{Certificate, Contents}
 use Rattle.residue_field.specs.Modulus.{modulus_of}
 use Rattle.residue_field.specs.declared.field_name.FieldName.TheVariants.{Large, Small}
 use Rattle.cert_text.specs.Texts.{tail_line, entries_line, columns_line, kind_text, shape_text, pairs_text}
-use Rattle.cert_text.specs.Ranges.{IsShape, AreRising, ArePairs, AreEntries, IsMatrix, IsPattern, IsPart, IsBlock, IsCcf}
+use Rattle.cert_text.specs.Ranges.{IsShape, AreRising, ArePairs, AreEntries, IsPrintedMatrix, IsPattern, IsPart, IsBlock, IsCcf}
 use Rattle.cert_text.specs.declared.kind.Kind.{Kind}
 use Rattle.cert_text.specs.declared.kind.Kind.TheVariants.{Matrix}
 use Rattle.cert_text.specs.declared.shape.Shape.{Shape}
@@ -157,11 +157,11 @@ whole-both modulus small = Whole-pair {FB = ArePieces modulus} {lb = λ shape. p
 
 -- ---- the conditions of the contents
 
-matrix-to : (modulus m n : ℕ) (rows : List (List (ℕ × ℕ))) → AreRows (AreEntries modulus n) m rows → IsMatrix modulus m n rows
+matrix-to : (modulus m n : ℕ) (rows : List (List (ℕ × ℕ))) → AreRows (AreEntries modulus n) m rows → IsPrintedMatrix modulus m n rows
 matrix-to modulus m n rows are = (let h = rows-to (AreEntries modulus n) m rows are in
     record { count = h.0; entries = All-from_recursion (AreEntries modulus n) rows h.1 })
 
-matrix-from : (modulus m n : ℕ) (rows : List (List (ℕ × ℕ))) → IsMatrix modulus m n rows → AreRows (AreEntries modulus n) m rows
+matrix-from : (modulus m n : ℕ) (rows : List (List (ℕ × ℕ))) → IsPrintedMatrix modulus m n rows → AreRows (AreEntries modulus n) m rows
 matrix-from modulus m n rows is = rows-from (AreEntries modulus n) m rows is.count (recursion_from_All (AreEntries modulus n) rows is.entries)
 
 pattern-to : (m n : ℕ) (rows : List (List ℕ)) → AreRows (AreRising n) m rows → IsPattern m n rows

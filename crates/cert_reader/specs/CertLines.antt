@@ -46,8 +46,8 @@ certificate_lines c = version_lines c.version c.modulus ++ body_lines c
 
 -- The first line of a text that is refused: the lines before it begin the text of a certificate, and with this one they
 -- do not.
-abbrev pub IsRefused : List ℕ → ℕ → Type 0
-IsRefused text line = (before : ℕ) × (line ≡ before + 1) × HasJust IsCertificate certificate_lines before text
+abbrev pub IsRefusedAt : List ℕ → ℕ → Type 0
+IsRefusedAt text line = (before : ℕ) × (line ≡ before + 1) × HasJust IsCertificate certificate_lines before text
 
 -- the text is that of a certificate
 pub record IsOfCertificate (text : List ℕ) : Type 0 where
@@ -58,9 +58,9 @@ pub record IsOfCertificate (text : List ℕ) : Type 0 where
 -- no certificate has the text, and this line of it is the first that is refused
 pub record IsNoCertificate (text : List ℕ) (line : ℕ) : Type 0 where
   pub none : (certificate : Certificate) → IsCertificate certificate → text ≢ certificate_text certificate
-  pub refused : IsRefused text line
+  pub refused : IsRefusedAt text line
 
 -- why a text was not read: memory ran out, or this line is refused
 abbrev pub IsCause : ReadCert → List ℕ → Type 0
 IsCause errors.NoMemory text = Unit {0}
-IsCause (errors.Refused line) text = IsRefused text line
+IsCause (errors.Refused line) text = IsRefusedAt text line

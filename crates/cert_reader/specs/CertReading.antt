@@ -48,12 +48,12 @@ abbrev pub rank_at : ℕ → List ℕ → Result (ℕ × List ℕ) ℕ
 rank_at line bytes = count_at (codes "rank ") column_limit line bytes
 
 -- the first tail, the blocks, and the last tail
-abbrev pub Parts : Type 0
-Parts = CcfPart × (List CcfBlock × CcfPart)
+abbrev pub CertificateParts : Type 0
+CertificateParts = CcfPart × (List CcfBlock × CcfPart)
 
 -- S, U, P and T, and the parts
 abbrev pub Matrices : Type 0
-Matrices = List (List (ℕ × ℕ)) × (List (List (ℕ × ℕ)) × (List (List (ℕ × ℕ)) × (List (List ℕ) × Parts)))
+Matrices = List (List (ℕ × ℕ)) × (List (List (ℕ × ℕ)) × (List (List (ℕ × ℕ)) × (List (List ℕ) × CertificateParts)))
 
 -- what follows the shape: the rank, base and match, and the matrices and the parts
 abbrev pub Pieces : Type 0
@@ -62,7 +62,7 @@ Pieces = ℕ × (List (ℕ × ℕ) × (List (ℕ × ℕ) × Matrices))
 abbrev pub all_blocks_at : Shape → ℕ → List ℕ → Result ((List CcfBlock × CcfPart) × List ℕ) ℕ
 all_blocks_at shape line bytes = blocks_at shape (suc (length bytes)) 0 line bytes
 
-abbrev pub parts_at : Shape → ℕ → List ℕ → Result (Parts × List ℕ) ℕ
+abbrev pub parts_at : Shape → ℕ → List ℕ → Result (CertificateParts × List ℕ) ℕ
 parts_at shape = then_at 1 (tail_at (codes "first") shape) (λ first. all_blocks_at shape)
 
 abbrev pub matrices_at : ℕ → Shape → ℕ → List ℕ → Result (Matrices × List ℕ) ℕ

@@ -18,9 +18,9 @@ Fails errors.NoMemory read = Unit {0}
 Fails (errors.Refused line) read = read ≡ Err line
 
 -- What a call answered, seen by view, is what reading gives, unless memory ran out.
-abbrev pub Gives : {X Y : Type 0} → (X → Y) → Result X ReadCert → Result Y ℕ → Type 0
-Gives view (Ok x) read = read ≡ Ok (view x)
-Gives view (Err e) read = Fails e read
+abbrev pub GivesReading : {X Y : Type 0} → (X → Y) → Result X ReadCert → Result Y ℕ → Type 0
+GivesReading view (Ok x) read = read ≡ Ok (view x)
+GivesReading view (Err e) read = Fails e read
 
 abbrev pub begins_with : List ℕ → List ℕ → Bool
 begins_with [] bytes = true

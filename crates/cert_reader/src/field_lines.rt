@@ -2,7 +2,7 @@
 
 ghost use Rattle.std.specs.Prelude.{◌≡◌};
 ghost use Rattle.cert_reader.specs.CertReading.{field_count};
-ghost use Rattle.cert_reader.specs.Fronts.{Gives};
+ghost use Rattle.cert_reader.specs.Fronts.{GivesReading};
 ghost use Rattle.cert_reader.specs.LineReading.{version_at, field_at, field_line_at};
 ghost use Rattle.residue_field.specs.Modulus.{modulus_of};
 
@@ -14,7 +14,7 @@ use residue_field::FieldName;
 /// The line of the version.
 #[tactic(auto, unfolding(crate::specs::LineReading::version_at))]
 pub fn version_at(line: u32, bytes: &[u8]) -> Result<(Version, &[u8]), ReadCert>
-    ensures { Gives (λ x. (x.0, x.1.now)) result (version_at line bytes.now) }
+    ensures { GivesReading (λ x. (x.0, x.1.now)) result (version_at line bytes.now) }
 {
     if let Some(rest) = behind(b"mixed-certificate 1\n", bytes) {
         return Ok((Version::One, rest));
@@ -28,7 +28,7 @@ pub fn version_at(line: u32, bytes: &[u8]) -> Result<(Version, &[u8]), ReadCert>
 /// The field that a certificate of this version is over, by its line in version 2.
 #[tactic(auto, unfolding(crate::specs::LineReading::field_at))]
 pub fn field_at(line: u32, version: Version, bytes: &[u8]) -> Result<(FieldName, &[u8]), ReadCert>
-    ensures { Gives (λ x. (modulus_of x.0, x.1.now)) result (field_at version line bytes.now) }
+    ensures { GivesReading (λ x. (modulus_of x.0, x.1.now)) result (field_at version line bytes.now) }
 {
     match version {
         Version::One => Ok((FieldName::Small, bytes)),
@@ -39,7 +39,7 @@ pub fn field_at(line: u32, version: Version, bytes: &[u8]) -> Result<(FieldName,
 // The line of the field.
 #[tactic(auto, unfolding(crate::specs::LineReading::field_line_at))]
 fn field_line_at(line: u32, bytes: &[u8]) -> Result<(FieldName, &[u8]), ReadCert>
-    ensures { Gives (λ x. (modulus_of x.0, x.1.now)) result (field_line_at line bytes.now) }
+    ensures { GivesReading (λ x. (modulus_of x.0, x.1.now)) result (field_line_at line bytes.now) }
 {
     if let Some(rest) = behind(b"field 65521\n", bytes) {
         return Ok((FieldName::Small, rest));

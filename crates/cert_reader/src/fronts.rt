@@ -4,7 +4,7 @@ ghost use Rattle.std.specs.Prelude.{◌≡◌, ◌<◌, ◌≤◌, ◌^◌, ℕ,
 ghost use Rattle.std.specs.Str.Parse.{digits_value};
 ghost use Rattle.std.specs.List.{list_all};
 ghost use Rattle.std.specs.Char.{is_ascii_digit};
-ghost use Rattle.cert_reader.specs.Fronts.{Gives, begins_with, text_at, number_at, is_no_digit, is_plain, front_digits};
+ghost use Rattle.cert_reader.specs.Fronts.{GivesReading, begins_with, text_at, number_at, is_no_digit, is_plain, front_digits};
 
 use crate::fault::ReadCert;
 
@@ -26,7 +26,7 @@ pub fn begins(text: &[u8], bytes: &[u8]) -> bool
 /// The bytes after this text, with which they begin.
 #[tactic(auto, unfolding(crate::specs::Fronts::text_at))]
 pub fn text_at<'a>(line: u32, text: &[u8], bytes: &'a [u8]) -> Result<&'a [u8], ReadCert>
-    ensures { Gives (λ x. (tt, x.now)) result (text_at text.now line bytes.now) }
+    ensures { GivesReading (λ x. (tt, x.now)) result (text_at text.now line bytes.now) }
 {
     match behind(text, bytes) {
         Some(rest) => Ok(rest),
@@ -77,7 +77,7 @@ fn value_of(digits: &[u8]) -> usize
 #[tactic(auto, unfolding(crate::specs::Fronts::number_at))]
 pub fn number_at(line: u32, limit: usize, bytes: &[u8]) -> Result<(usize, &[u8]), ReadCert>
     ensures within { IfOk result (λ x. x.0 ≤ limit) }
-    ensures number { Gives (λ x. (x.0, x.1.now)) result (number_at limit line bytes.now) }
+    ensures number { GivesReading (λ x. (x.0, x.1.now)) result (number_at limit line bytes.now) }
 {
     let (digits, rest) = split_digits(bytes);
     if !is_plain(digits) {

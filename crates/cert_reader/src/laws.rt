@@ -5,7 +5,7 @@ ghost use Rattle.std.specs.List.{concat};
 ghost use Rattle.cert_text.specs.Contents.{Certificate};
 ghost use Rattle.cert_text.specs.Texts.{certificate_text};
 ghost use Rattle.cert_reader.specs.Limits.{certificate_limit};
-ghost use Rattle.cert_reader.specs.CertLines.{IsCertificate, certificate_lines, IsOfCertificate, IsNoCertificate, IsRefused};
+ghost use Rattle.cert_reader.specs.CertLines.{IsCertificate, certificate_lines, IsOfCertificate, IsNoCertificate, IsRefusedAt};
 
 /// The text of a certificate is its lines, one after the other.
 pub fn a_text_is_its_lines()
@@ -14,7 +14,7 @@ pub fn a_text_is_its_lines()
 
 /// A text has at most one line that is the first refused.
 pub fn one_line_is_refused()
-    ensures { (text : List ℕ) (j k : ℕ) → IsRefused text j → IsRefused text k → j ≡ k }
+    ensures { (text : List ℕ) (j k : ℕ) → IsRefusedAt text j → IsRefusedAt text k → j ≡ k }
 {}
 
 /// Two certificates with the same text are the same.

@@ -4,7 +4,7 @@ ghost use Rattle.std.specs.Prelude.{◌≡◌, ◌<◌, ◌≤◌, ◌+◌, ◌^
 ghost use Rattle.cert_text.specs.Contents.{numbered};
 ghost use Rattle.cert_text.specs.Ranges.{IsShape};
 ghost use Rattle.cert_text.specs.Texts.{head_text};
-ghost use Rattle.cert_reader.specs.Fronts.{Gives, text_at};
+ghost use Rattle.cert_reader.specs.Fronts.{GivesReading, text_at};
 ghost use Rattle.cert_reader.specs.LineReading.{kind_at, count_at, echo_at, spaced_at, head_at, shape_at, pairs_line_at, entries_line_at, columns_line_at, part_at, tail_at, block_at};
 
 use crate::fault::ReadCert;
@@ -18,7 +18,7 @@ use std::alloc::Global;
 /// The line of the kind.
 #[tactic(auto, unfolding(crate::specs::LineReading::kind_at))]
 pub fn kind_at(line: u32, bytes: &[u8]) -> Result<(Kind, &[u8]), ReadCert>
-    ensures { Gives (λ x. (x.0, x.1.now)) result (kind_at line bytes.now) }
+    ensures { GivesReading (λ x. (x.0, x.1.now)) result (kind_at line bytes.now) }
 {
     if let Some(rest) = behind(b"kind matrix\n", bytes) {
         return Ok((Kind::Matrix, rest));
@@ -41,7 +41,7 @@ pub fn count_at<'a>(
     bytes: &'a [u8],
 ) -> Result<(usize, &'a [u8]), ReadCert>
     ensures within { IfOk result (λ x. x.0 ≤ limit) }
-    ensures number { Gives (λ x. (x.0, x.1.now)) result (count_at word.now limit line bytes.now) }
+    ensures number { GivesReading (λ x. (x.0, x.1.now)) result (count_at word.now limit line bytes.now) }
 {
     let rest = text_at(line, word, bytes)?;
     let (number, rest) = number_at(line, limit, rest)?;
@@ -52,7 +52,7 @@ pub fn count_at<'a>(
 /// The echo, and what follows its line.
 #[tactic(auto, unfolding(crate::specs::LineReading::echo_at, crate::specs::LineReading::bytes_at))]
 pub fn echo_at(line: u32, count: usize, bytes: &[u8]) -> Result<(&[u8], &[u8]), ReadCert>
-    ensures { Gives (λ x. (x.0.now, x.1.now)) result (echo_at count line bytes.now) }
+    ensures { GivesReading (λ x. (x.0.now, x.1.now)) result (echo_at count line bytes.now) }
 {
     if bytes.len() < count {
         return Err(ReadCert::Refused { line });
@@ -66,7 +66,7 @@ pub fn echo_at(line: u32, count: usize, bytes: &[u8]) -> Result<(&[u8], &[u8]), 
 #[tactic(auto, unfolding(crate::specs::LineReading::spaced_at))]
 fn spaced_at(line: u32, limit: usize, bytes: &[u8]) -> Result<(usize, &[u8]), ReadCert>
     ensures within { IfOk result (λ x. x.0 ≤ limit) }
-    ensures number { Gives (λ x. (x.0, x.1.now)) result (spaced_at limit line bytes.now) }
+    ensures number { GivesReading (λ x. (x.0, x.1.now)) result (spaced_at limit line bytes.now) }
 {
     let rest = text_at(line, b" ", bytes)?;
     number_at(line, limit, rest)
@@ -76,7 +76,7 @@ fn spaced_at(line: u32, limit: usize, bytes: &[u8]) -> Result<(usize, &[u8]), Re
 #[tactic(auto, unfolding(crate::specs::LineReading::shape_at))]
 pub fn shape_at(line: u32, bytes: &[u8]) -> Result<(Shape, &[u8]), ReadCert>
     ensures fits { IfOk result (λ x. IsShape x.0) }
-    ensures shape { Gives (λ x. (x.0, x.1.now)) result (shape_at line bytes.now) }
+    ensures shape { GivesReading (λ x. (x.0, x.1.now)) result (shape_at line bytes.now) }
 {
     let rest = text_at(line, b"shape", bytes)?;
     let (equations, rest) = spaced_at(line, EQUATION_LIMIT, rest)?;
@@ -105,7 +105,7 @@ pub fn pairs_line_at<'a>(
     n: usize,
     bytes: &'a [u8],
 ) -> Result<(Vec<(usize, usize)>, &'a [u8]), ReadCert>
-    ensures { Gives (λ x. (x.0.items, x.1.now)) result (pairs_line_at word.now m n line bytes.now) }
+    ensures { GivesReading (λ x. (x.0.items, x.1.now)) result (pairs_line_at word.now m n line bytes.now) }
 {
     let rest = text_at(line, word, bytes)?;
     let (pairs, rest) = pairs_at(alloc, line, m, n, rest)?;
@@ -116,7 +116,7 @@ pub fn pairs_line_at<'a>(
 // How a numbered line begins, as a text.
 fn head_at<'a>(line: u32, word: &[u8], number: usize, bytes: &'a [u8]) -> Result<&'a [u8], ReadCert>
     requires { number < 10 ^ 10 }
-    ensures { Gives (λ x. (tt, x.now)) result (text_at (head_text word.now number) line bytes.now) }
+    ensures { GivesReading (λ x. (tt, x.now)) result (text_at (head_text word.now number) line bytes.now) }
 {
     number_head(line, word, number, bytes)
 }
@@ -129,7 +129,7 @@ fn number_head<'a>(
     number: usize,
     bytes: &'a [u8],
 ) -> Result<&'a [u8], ReadCert>
-    ensures { Gives (λ x. (tt, x.now)) result (head_at word.now number line bytes.now) }
+    ensures { GivesReading (λ x. (tt, x.now)) result (head_at word.now number line bytes.now) }
 {
     let rest = text_at(line, word, bytes)?;
     let (found, rest) = spaced_at(line, number, rest)?;
@@ -151,7 +151,7 @@ pub fn entries_line_at<'a, F: Field>(
     bytes: &'a [u8],
 ) -> Result<(Vec<(usize, F)>, &'a [u8]), ReadCert>
     requires { number < 10 ^ 10 }
-    ensures { Gives (λ x. (numbered F.number x.0.items, x.1.now)) result
+    ensures { GivesReading (λ x. (numbered F.number x.0.items, x.1.now)) result
         (entries_line_at F.modulus word.now n number line bytes.now) }
 {
     let rest = head_at(line, word, number, bytes)?;
@@ -171,7 +171,7 @@ pub fn columns_line_at<'a>(
     bytes: &'a [u8],
 ) -> Result<(Vec<usize>, &'a [u8]), ReadCert>
     requires { number < 10 ^ 10 }
-    ensures { Gives (λ x. (x.0.items, x.1.now)) result (columns_line_at word.now n number line bytes.now) }
+    ensures { GivesReading (λ x. (x.0.items, x.1.now)) result (columns_line_at word.now n number line bytes.now) }
 {
     let rest = head_at(line, word, number, bytes)?;
     let (columns, rest) = numbers_at(alloc, line, n, rest)?;
@@ -187,7 +187,7 @@ fn part_at(
     shape: Shape,
     bytes: &[u8],
 ) -> Result<(CcfPart, &[u8]), ReadCert>
-    ensures { Gives (λ x. (x.0, x.1.now)) result (part_at shape line bytes.now) }
+    ensures { GivesReading (λ x. (x.0, x.1.now)) result (part_at shape line bytes.now) }
 {
     let (columns, rest) = numbers_at(alloc, line, shape.columns, bytes)?;
     let rest = text_at(line, b" |", rest)?;
@@ -210,7 +210,7 @@ pub fn tail_at<'a>(
     shape: Shape,
     bytes: &'a [u8],
 ) -> Result<(CcfPart, &'a [u8]), ReadCert>
-    ensures { Gives (λ x. (x.0, x.1.now)) result (tail_at word.now shape line bytes.now) }
+    ensures { GivesReading (λ x. (x.0, x.1.now)) result (tail_at word.now shape line bytes.now) }
 {
     let rest = text_at(line, word, bytes)?;
     let (part, rest) = part_at(alloc, line, shape, rest)?;
@@ -228,7 +228,7 @@ pub fn block_at(
     bytes: &[u8],
 ) -> Result<(CcfBlock, &[u8]), ReadCert>
     requires { k + 1 < 10 ^ 10 }
-    ensures { Gives (λ x. (x.0, x.1.now)) result (block_at shape k line bytes.now) }
+    ensures { GivesReading (λ x. (x.0, x.1.now)) result (block_at shape k line bytes.now) }
 {
     let rest = head_at(line, b"block", k + 1, bytes)?;
     let (part, rest) = part_at(alloc, line, shape, rest)?;

@@ -2,7 +2,7 @@
 
 ghost use Rattle.std.specs.Prelude.{◌≡◌, ◌<◌, ◌≤◌, ◌+◌, ◌^◌, ℕ, codes, length, IfOk};
 ghost use Rattle.cert_text.specs.Contents.{numbered};
-ghost use Rattle.cert_reader.specs.Fronts.{Gives, begins_with};
+ghost use Rattle.cert_reader.specs.Fronts.{GivesReading, begins_with};
 ghost use Rattle.cert_reader.specs.Items.{goes_on, numbers_at, letters_at, pairs_at, entries_at};
 
 use crate::fault::ReadCert;
@@ -18,7 +18,7 @@ pub fn numbers_at(
     n: usize,
     bytes: &[u8],
 ) -> Result<(Vec<usize>, &[u8]), ReadCert>
-    ensures { Gives (λ x. (x.0.items, x.1.now)) result (numbers_at n line bytes.now) }
+    ensures { GivesReading (λ x. (x.0.items, x.1.now)) result (numbers_at n line bytes.now) }
 {
     let mut numbers = Vec::new(alloc);
     let mut low = 0;
@@ -41,7 +41,7 @@ pub fn letters_at<'a>(
     bytes: &'a [u8],
 ) -> Result<(Vec<usize>, &'a [u8]), ReadCert>
     requires { 0 < length mark.now }
-    ensures { Gives (λ x. (x.0.items, x.1.now)) result (letters_at mark.now n line bytes.now) }
+    ensures { GivesReading (λ x. (x.0.items, x.1.now)) result (letters_at mark.now n line bytes.now) }
 {
     let mut rows = Vec::new(alloc);
     let mut low = 0;
@@ -63,7 +63,7 @@ pub fn pairs_at(
     n: usize,
     bytes: &[u8],
 ) -> Result<(Vec<(usize, usize)>, &[u8]), ReadCert>
-    ensures { Gives (λ x. (x.0.items, x.1.now)) result (pairs_at m n line bytes.now) }
+    ensures { GivesReading (λ x. (x.0.items, x.1.now)) result (pairs_at m n line bytes.now) }
 {
     let mut pairs = Vec::new(alloc);
     let mut low = 0;
@@ -84,7 +84,7 @@ pub fn entries_at<F: Field>(
     n: usize,
     bytes: &[u8],
 ) -> Result<(Vec<(usize, F)>, &[u8]), ReadCert>
-    ensures { Gives (λ x. (numbered F.number x.0.items, x.1.now)) result
+    ensures { GivesReading (λ x. (numbered F.number x.0.items, x.1.now)) result
         (entries_at F.modulus n line bytes.now) }
 {
     let mut entries = Vec::new(alloc);

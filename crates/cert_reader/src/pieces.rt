@@ -1,7 +1,7 @@
 //! Items at the front of bytes.
 
 ghost use Rattle.std.specs.Prelude.{◌≡◌, ◌<◌, ◌≤◌, ◌+◌, ◌-◌, ◌^◌, ℕ, codes, length, IfOk};
-ghost use Rattle.cert_reader.specs.Fronts.{Gives, begins_with};
+ghost use Rattle.cert_reader.specs.Fronts.{GivesReading, begins_with};
 ghost use Rattle.cert_reader.specs.Items.{index_at, positive_at, marked_at, pair_at, entry_at, goes_on};
 
 use crate::fault::ReadCert;
@@ -12,7 +12,7 @@ use residue_field::Field;
 #[tactic(auto, unfolding(crate::specs::Items::index_at))]
 fn index_at(line: u32, n: usize, low: usize, bytes: &[u8]) -> Result<(usize, &[u8]), ReadCert>
     ensures below { IfOk result (λ x. x.0 < n) }
-    ensures index { Gives (λ x. (x.0, x.1.now)) result (index_at n low line bytes.now) }
+    ensures index { GivesReading (λ x. (x.0, x.1.now)) result (index_at n low line bytes.now) }
 {
     let (number, rest) = number_at(line, n, bytes)?;
     if number <= low {
@@ -25,7 +25,7 @@ fn index_at(line: u32, n: usize, low: usize, bytes: &[u8]) -> Result<(usize, &[u
 #[tactic(auto, unfolding(crate::specs::Items::positive_at))]
 fn positive_at(line: u32, limit: usize, bytes: &[u8]) -> Result<(usize, &[u8]), ReadCert>
     ensures within { IfOk result (λ x. x.0 ≤ limit) }
-    ensures number { Gives (λ x. (x.0, x.1.now)) result (positive_at limit line bytes.now) }
+    ensures number { GivesReading (λ x. (x.0, x.1.now)) result (positive_at limit line bytes.now) }
 {
     let (number, rest) = number_at(line, limit, bytes)?;
     if number == 0 {
@@ -36,7 +36,7 @@ fn positive_at(line: u32, limit: usize, bytes: &[u8]) -> Result<(usize, &[u8]), 
 
 // The value of a number from 1 on below the modulus.
 fn value_at<F: Field>(line: u32, bytes: &[u8]) -> Result<(F, &[u8]), ReadCert>
-    ensures { Gives (λ x. (F.number x.0, x.1.now)) result (positive_at (F.modulus - 1) line bytes.now) }
+    ensures { GivesReading (λ x. (F.number x.0, x.1.now)) result (positive_at (F.modulus - 1) line bytes.now) }
 {
     let (number, rest) = positive_at(line, F::MODULUS as usize - 1, bytes)?;
     Ok((F::of(number as u64), rest))
@@ -52,7 +52,7 @@ pub fn marked_at<'a>(
     bytes: &'a [u8],
 ) -> Result<(usize, &'a [u8]), ReadCert>
     ensures below { IfOk result (λ x. x.0 < n) }
-    ensures index { Gives (λ x. (x.0, x.1.now)) result (marked_at mark.now n low line bytes.now) }
+    ensures index { GivesReading (λ x. (x.0, x.1.now)) result (marked_at mark.now n low line bytes.now) }
 {
     let rest = text_at(line, mark, bytes)?;
     index_at(line, n, low, rest)
@@ -68,7 +68,7 @@ pub fn pair_at(
     bytes: &[u8],
 ) -> Result<((usize, usize), &[u8]), ReadCert>
     ensures below { IfOk result (λ x. x.0.0 < m) }
-    ensures pair { Gives (λ x. (x.0, x.1.now)) result (pair_at m n low line bytes.now) }
+    ensures pair { GivesReading (λ x. (x.0, x.1.now)) result (pair_at m n low line bytes.now) }
 {
     let rest = text_at(line, b" ", bytes)?;
     let (row, rest) = index_at(line, m, low, rest)?;
@@ -86,7 +86,7 @@ pub fn entry_at<F: Field>(
     bytes: &[u8],
 ) -> Result<((usize, F), &[u8]), ReadCert>
     ensures below { IfOk result (λ x. x.0.0 < n) }
-    ensures entry { Gives (λ x. ((x.0.0, F.number x.0.1), x.1.now)) result
+    ensures entry { GivesReading (λ x. ((x.0.0, F.number x.0.1), x.1.now)) result
         (entry_at F.modulus n low line bytes.now) }
 {
     let rest = text_at(line, b" ", bytes)?;

@@ -6,7 +6,7 @@ ghost use Rattle.cert_text.specs.Contents as contents;
 ghost use Rattle.cert_text.specs.Contents.{contents_of, numbered_rows};
 ghost use Rattle.cert_text.specs.Ranges.{IsShape, IsCcf};
 ghost use Rattle.cert_text.specs.Texts.{certificate_text};
-ghost use Rattle.cert_reader.specs.Fronts.{Gives};
+ghost use Rattle.cert_reader.specs.Fronts.{GivesReading};
 ghost use Rattle.cert_reader.specs.Limits.{certificate_limit};
 ghost use Rattle.cert_reader.specs.CertLines.{IsCertificate, IsCause};
 ghost use Rattle.cert_reader.specs.CertReading.{contents_at, body_at, certificate_at, parts_at, matrices_at, pieces_at};
@@ -62,7 +62,7 @@ fn parts_at(
     requires shape { IsShape shape }
     requires short { length bytes.now ≤ certificate_limit }
     requires room { line + certificate_limit + 3 < 2 ^ 32 }
-    ensures { Gives (λ x. ((x.0.first, (x.0.blocks.items, x.0.last)), x.1.now)) result
+    ensures { GivesReading (λ x. ((x.0.first, (x.0.blocks.items, x.0.last)), x.1.now)) result
         (parts_at shape line bytes.now) }
 {
     let (first, rest) = tail_at(alloc, line, b"first", shape, bytes)?;
@@ -84,7 +84,7 @@ fn matrices_at<F: Field>(
     requires shape { IsShape shape }
     requires short { length bytes.now ≤ certificate_limit }
     requires room { line + certificate_limit + 4 * equation_limit + 3 < 2 ^ 32 }
-    ensures { Gives (λ x. (
+    ensures { GivesReading (λ x. (
       (
         numbered_rows F.number x.0.s.items,
         (
@@ -124,7 +124,7 @@ fn pieces_at<F: Field>(
 ) -> Result<(Pieces<F>, &[u8]), ReadCert>
     requires short { length bytes.now ≤ certificate_limit }
     requires room { line + certificate_limit + 4 * equation_limit + 7 < 2 ^ 32 }
-    ensures { Gives (λ x. (
+    ensures { GivesReading (λ x. (
       contents_of F.number x.0.shape x.0.rank x.0.base.items x.0.mates.items
           x.0.matrices.s.items x.0.matrices.u.items x.0.matrices.p.items x.0.matrices.t.items
           x.0.matrices.parts.first x.0.matrices.parts.blocks.items x.0.matrices.parts.last,
@@ -159,7 +159,7 @@ fn contents_at<F: Field>(
 ) -> Result<(Ccf<F>, &[u8]), ReadCert>
     requires short { length bytes.now ≤ certificate_limit }
     requires room { line + certificate_limit + 4 * equation_limit + 7 < 2 ^ 32 }
-    ensures { Gives (λ x. (x.0, x.1.now)) result (contents_at F.modulus line bytes.now) }
+    ensures { GivesReading (λ x. (x.0, x.1.now)) result (contents_at F.modulus line bytes.now) }
 {
     let (pieces, rest) = pieces_at(alloc, line, bytes)?;
     let matrices = pieces.matrices;
@@ -190,7 +190,7 @@ fn body_at<F: Field>(
 ) -> Result<(Certificate<F>, &[u8]), ReadCert>
     requires short { length bytes.now ≤ certificate_limit }
     requires room { line ≤ 3 }
-    ensures { Gives (λ x. (x.0, x.1.now)) result (body_at version F.modulus line bytes.now) }
+    ensures { GivesReading (λ x. (x.0, x.1.now)) result (body_at version F.modulus line bytes.now) }
 {
     let at_size = line + 1;
     let at_echo = at_size + 1;
@@ -212,7 +212,7 @@ fn body_at<F: Field>(
 #[tactic(auto, unfolding(crate::specs::CertReading::certificate_at))]
 fn certificate_at(alloc: Global, bytes: &[u8]) -> Result<(AnyCertificate, &[u8]), ReadCert>
     requires { length bytes.now ≤ certificate_limit }
-    ensures { Gives (λ x. (certificate_in x.0, x.1.now)) result (certificate_at 1 bytes.now) }
+    ensures { GivesReading (λ x. (certificate_in x.0, x.1.now)) result (certificate_at 1 bytes.now) }
 {
     let (version, from_field) = version_at(1, bytes)?;
     let (field, from_kind) = field_at(2, version, from_field)?;
@@ -239,7 +239,7 @@ pub fn read(alloc: Global, bytes: &[u8]) -> Result<AnyCertificate, ReadCert>
     ensures found { IfOk result (λ any. IsCertificate (certificate_in any) ×
         (bytes.now ≡ certificate_text (certificate_in any))) }
     ensures only { (c : contents.Certificate) → IsCertificate c → bytes.now ≡ certificate_text c →
-        Gives certificate_in result (Ok c) }
+        GivesReading certificate_in result (Ok c) }
     ensures refused { IfErr result (λ e. IsCause e bytes.now) }
 {
     let (certificate, _rest) = certificate_at(alloc, bytes)?;

@@ -4,7 +4,7 @@ ghost use Rattle.std.specs.Prelude.{◌≡◌, ◌<◌, ◌≤◌, ◌+◌, ◌^
 ghost use Rattle.limits.specs.Limits.{equation_limit};
 ghost use Rattle.cert_text.specs.Contents.{numbered_rows};
 ghost use Rattle.cert_text.specs.Ranges.{IsShape};
-ghost use Rattle.cert_reader.specs.Fronts.{Gives};
+ghost use Rattle.cert_reader.specs.Fronts.{GivesReading};
 ghost use Rattle.cert_reader.specs.Limits.{certificate_limit};
 ghost use Rattle.cert_reader.specs.LineReading.{entries_line_at, columns_line_at};
 ghost use Rattle.cert_reader.specs.CertReading.{rows_at, closing_at, all_blocks_at};
@@ -27,7 +27,7 @@ pub fn matrix_at<'a, F: Field>(
 ) -> Result<(Vec<Items<(usize, F)>>, &'a [u8]), ReadCert>
     requires few { count ≤ equation_limit }
     requires room { line + count < 2 ^ 32 }
-    ensures { Gives (λ x. (numbered_rows F.number x.0.items, x.1.now)) result
+    ensures { GivesReading (λ x. (numbered_rows F.number x.0.items, x.1.now)) result
         (rows_at (entries_line_at F.modulus word.now n) count 1 line bytes.now) }
 {
     let mut rows = Vec::new(alloc);
@@ -51,7 +51,7 @@ pub fn pattern_at<'a>(
 ) -> Result<(Vec<Items<usize>>, &'a [u8]), ReadCert>
     requires few { count ≤ equation_limit }
     requires room { line + count < 2 ^ 32 }
-    ensures { Gives (λ x. (x.0.items, x.1.now)) result
+    ensures { GivesReading (λ x. (x.0.items, x.1.now)) result
         (rows_at (columns_line_at word.now n) count 1 line bytes.now) }
 {
     let mut rows = Vec::new(alloc);
@@ -73,7 +73,7 @@ fn closing_at(
     bytes: &[u8],
 ) -> Result<(CcfPart, &[u8]), ReadCert>
     requires { line + 2 < 2 ^ 32 }
-    ensures { Gives (λ x. (x.0, x.1.now)) result (closing_at shape line bytes.now) }
+    ensures { GivesReading (λ x. (x.0, x.1.now)) result (closing_at shape line bytes.now) }
 {
     let (last, rest) = tail_at(alloc, line, b"last", shape, bytes)?;
     let rest = text_at(line + 1, b"end\n", rest)?;
@@ -93,7 +93,7 @@ pub fn blocks_at(
     requires shape { IsShape shape }
     requires short { length bytes.now ≤ certificate_limit }
     requires room { line + certificate_limit + 2 < 2 ^ 32 }
-    ensures { Gives (λ x. ((x.0.0.items, x.0.1), x.1.now)) result (all_blocks_at shape line bytes.now) }
+    ensures { GivesReading (λ x. ((x.0.0.items, x.0.1), x.1.now)) result (all_blocks_at shape line bytes.now) }
 {
     let mut blocks = Vec::new(alloc);
     let mut at = line;

@@ -5,7 +5,7 @@ use Rattle.std.specs.List.{All}
 use Rattle.std.proofs.lemmas.List.{get_or-map, get_or_past, get_or_append_left, length-map, length-append}
 use Rattle.std.proofs.lemmas.List.Elements.{All-head, All-tail}
 use Rattle.residue_theory.proofs.SetLaws.{differ, either_cases, either-first, eqb_true, eqb_false, eqb_from, lt_cases, not_true}
-use Rattle.closed_sets.specs.Rules.{KeepsRules as KeepsPlaces}
+use Rattle.closed_sets.specs.Rules.{InBlock, KeepsPlaceRules as KeepsPlaces}
 use Rattle.linear_algebra.specs.Products.{IsInverse}
 use Rattle.mixed_matrices.specs.Arcs.{is_end, is_free, leads_to}
 use Rattle.mixed_matrices.specs.CheckerRules.{KeepsPartRules, block_of, in_first, in_last}
@@ -17,7 +17,7 @@ use Rattle.cert_text.specs.Ranges.{IsCcf}
 use Rattle.residue_theory.specs.Sets.{has}
 use Rattle.cert_text.specs.Readings.{matrix_of, place_of, column_lists, q_row_lists, t_row_lists, parts_of, lower_of, tableau_of, StandsOnce}
 use Rattle.cert_text.specs.Right.{HasShape, HasProduct, HasUnitColumns}
-use Rattle.cert_text.specs.Rules.{HasMatching, IsInBlock, KeepsRules}
+use Rattle.cert_text.specs.Rules.{HasMatching, KeepsRules}
 
 -- rules 9 to 12, taken together
 pub record HasCheckedParts (p : ℕ) (L : LayeredMatrix) (c : Contents) : Type 0 where
@@ -115,7 +115,7 @@ block-member p M L c is sizes once k within =
     (x, low, place-is L.columns (column_lists c) once x (suc k) low at.0 (subst (λ list. has list x ≡ true) (sym at.1) (has-first columns block.some)))
 
 in-block : (L : LayeredMatrix) (c : Contents) (x k : ℕ) → x < L.columns → (parts_of c).column x ≡ suc k →
-    k < length c.blocks → IsInBlock L c x × (block_of (parts_of c) x ≡ k)
+    k < length c.blocks → InBlock L.columns (in_first (parts_of c)) (in_last (parts_of c)) x × (block_of (parts_of c) x ≡ k)
 in-block L c x k low place within = (
   record {
     below = low;
@@ -166,13 +166,8 @@ rules-printed p M L c is K = record {
       rows = (K.rows).rows;
       rules = record {
         apart = λ x xl first last. tails-apart ((parts_of c).column x) (length c.blocks) first last;
-        starts_first = (K.arcs).free_first;
-        ends_last = (K.arcs).ends_last;
-        first_leads = (K.arcs).first_leads;
-        block_leads = (K.arcs).block_leads;
-        first_from = (K.reasons).first_from;
-        last_to = (K.reasons).last_to;
-        block_mutual = (K.reasons).block_mutual;
+        down = K.arcs;
+        reasons = K.reasons;
         number = λ x in_one. block-number ((parts_of c).column x) (length c.blocks) (((K.rows).rows).columns x in_one.below) in_one.not_first in_one.not_last;
         member = λ k kb. let at = block-member p M L c is K.shape K.columns k kb in let stands = in-block L c at.0 k at.1 at.2 kb in (at.0, stands.0, stands.1);
         falling = λ k l h. (lower-before p c is k l h).0;
@@ -194,8 +189,8 @@ printed-rules p M L c K = record {
   counted = K.counted;
   columns = K.columns;
   rows = record { q_rows = (K.checked).q_rows; t_rows = (K.checked).t_rows; rows = parts.rows };
-  arcs = record { free_first = rules.starts_first; ends_last = rules.ends_last; first_leads = rules.first_leads; block_leads = rules.block_leads };
-  reasons = record { first_from = rules.first_from; last_to = rules.last_to; block_mutual = rules.block_mutual };
+  arcs = rules.down;
+  reasons = rules.reasons;
   listing = record { below = (K.checked).below; order = parts.order; lists = parts.lists; least = rules.least };
 }
   where

@@ -15,14 +15,14 @@ use Rattle.mixed_matrices.specs.Models.{MixedMatrix}
 use Rattle.mixed_matrices.specs.Pairs.{IsMatching, pair_size}
 use Rattle.mixed_matrices.specs.StructuralRanks.{IsLayeredRank, IsStructuralRank}
 use Rattle.mixed_matrices.specs.Tableaus.{HasTableau, IsTableau}
-use Rattle.mixed_pairs.proofs.Minimisers.{least_set, least_set-closed, tableau-pair}
-use Rattle.mixed_pairs.proofs.PairRank.{closed-rank}
-use Rattle.mixed_pairs.proofs.TableauParts.{tableau}
+use Rattle.mixed_pair_laws.proofs.Minimisers.{least_set, least_set-closed, tableau-pair}
+use Rattle.mixed_pair_laws.proofs.PairRank.{closed-rank}
+use Rattle.mixed_pair_laws.proofs.TableauParts.{tableau}
 use Rattle.mixed_layering_laws.proofs.LayeringRank.{law-layering}
-use Rattle.mixed_forms.proofs.CheckedForms.{checked-form, checked-ordered}
-use Rattle.mixed_forms.proofs.CheckedParts.{checked-clear, checked-listing}
-use Rattle.mixed_forms.proofs.Canonical.{below-block, block-below, block-lower, lower-block, checked-canonical}
-use Rattle.mixed_forms.proofs.IdealLaws.{ideal-minimiser, minimiser-ideal}
+use Rattle.mixed_form_laws.proofs.CheckedForms.{checked-form, checked-ordered}
+use Rattle.mixed_form_laws.proofs.CheckedParts.{checked-clear, checked-listing}
+use Rattle.mixed_form_laws.proofs.Canonical.{below-block, block-below, block-lower, lower-block, checked-canonical}
+use Rattle.mixed_form_laws.proofs.IdealLaws.{ideal-minimiser, minimiser-ideal}
 use Rattle.cert_text.specs.Contents.{Contents}
 use Rattle.cert_text.specs.Ranges.{IsCcf}
 use Rattle.cert_text.specs.Readings.{matrix_of, pair_at, has_column, row_with, tableau_of, parts_of, lower_of, ColumnsDiffer, IsUnitColumn}

@@ -12,11 +12,11 @@ use Rattle.mixed_matrices.specs.Models.{MixedMatrix}
 use Rattle.mixed_matrices.specs.Pairs.{IsBest, pair_size, matching_values}
 use Rattle.mixed_matrices.specs.StructuralRanks.{IsLayeredRank}
 use Rattle.mixed_matrices.specs.Tableaus.{IsTableau}
-use Rattle.mixed_pairs.proofs.MinMax.{best-clear}
-use Rattle.mixed_pairs.proofs.PairRank.{pair-reached}
-use Rattle.mixed_pairs.proofs.TableauParts.{tableau}
+use Rattle.mixed_pair_laws.proofs.MinMax.{best-clear}
+use Rattle.mixed_pair_laws.proofs.PairRank.{pair-reached}
+use Rattle.mixed_pair_laws.proofs.TableauParts.{tableau}
 use Rattle.mixed_layering_laws.proofs.LayeringRank.{layering-law}
-use Rattle.mixed_forms.proofs.RightParts.{right-kept}
+use Rattle.mixed_form_laws.proofs.RightParts.{right-kept}
 use Rattle.cert_text.specs.Contents.{Contents}
 use Rattle.cert_text.specs.Ranges.{IsCcf}
 use Rattle.cert_text.specs.Readings.{matrix_of, pair_at, has_column, row_with, tableau_of, parts_of, lower_of}

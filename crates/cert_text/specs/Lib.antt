@@ -3,6 +3,7 @@ pub mod Ranges
 pub mod Certificates
 pub mod Texts
 pub mod Readings
+pub mod Printing
 pub mod Right
 pub mod Rules
 pub mod RightLaws

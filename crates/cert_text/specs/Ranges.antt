@@ -31,7 +31,7 @@ pub record AreEntries (p n : ℕ) (entries : List (ℕ × ℕ)) : Type 0 where
   pub within : All (λ entry. (entry.0 < n) × (0 < entry.1) × (entry.1 < p)) entries
 
 -- m rows of entries in n columns
-pub record IsMatrix (p m n : ℕ) (rows : List (List (ℕ × ℕ))) : Type 0 where
+pub record IsPrintedMatrix (p m n : ℕ) (rows : List (List (ℕ × ℕ))) : Type 0 where
   pub count : length rows ≡ m
   pub entries : All (AreEntries p n) rows
 
@@ -57,9 +57,9 @@ pub record IsCcf (modulus : ℕ) (c : Contents) : Type 0 where
   pub rank : c.rank ≤ column_limit
   pub base : ArePairs c.shape.q_rows c.shape.columns c.base
   pub mates : ArePairs c.shape.t_rows c.shape.columns c.mates
-  pub s : IsMatrix modulus c.shape.q_rows c.shape.q_rows c.s
-  pub u : IsMatrix modulus c.shape.q_rows c.shape.q_rows c.u
-  pub p : IsMatrix modulus c.shape.q_rows c.shape.columns c.p
+  pub s : IsPrintedMatrix modulus c.shape.q_rows c.shape.q_rows c.s
+  pub u : IsPrintedMatrix modulus c.shape.q_rows c.shape.q_rows c.u
+  pub p : IsPrintedMatrix modulus c.shape.q_rows c.shape.columns c.p
   pub t : IsPattern c.shape.t_rows c.shape.columns c.t
   pub first : IsPart c.shape c.first
   pub blocks : (k : ℕ) (d : CcfBlock) → k < length c.blocks → IsBlock c.shape k (slice_index_or c.blocks k d)

@@ -1,12 +1,9 @@
 -- The rules by which a canonical form that a certificate prints is tried, numbered as the checker names them. The first
 -- is about the input text alone.
-use Rattle.std.specs.Prelude.{ℕ, ◌+◌, ◌<◌, ◌≡◌, ◌⊎◌, Bool, true, length}
+use Rattle.std.specs.Prelude.{ℕ, ◌+◌, ◌<◌, ◌≡◌, true, length}
 use Rattle.linear_algebra.specs.Products.{IsInverse}
-use Rattle.closed_sets.specs.Blocks.{IsBelow}
-use Rattle.closed_sets.specs.Orders.{IsCover}
-use Rattle.closed_sets.specs.Rules.{InBlock}
-use Rattle.closed_sets.specs.Walks.{Mutual, Reaches, ReachesOn}
-use Rattle.mixed_matrices.specs.Arcs.{IsFromFree, ReachesEnd, is_end, is_free, leads_to}
+use Rattle.closed_sets.specs.Rules.{PlacesHaveLowerLists, PlacesHaveReasons, PlacesLeadDown}
+use Rattle.mixed_matrices.specs.Arcs.{is_end, is_free, leads_to}
 use Rattle.mixed_matrices.specs.CheckerRules.{HasRows, block_of, in_first, in_last}
 use Rattle.mixed_matrices.specs.LayeredMatrices.{LayeredMatrix}
 use Rattle.mixed_matrices.specs.Models.{MixedMatrix}
@@ -26,42 +23,25 @@ pub record HasPlacedRows (L : LayeredMatrix) (c : Contents) : Type 0 where
   pub t_rows : StandsOnce L.t_rows (t_row_lists c)
   pub rows : HasRows L (tableau_of c) (parts_of c)
 
--- column x stands in a block
-abbrev pub IsInBlock : LayeredMatrix → Contents → ℕ → Type 0
-IsInBlock L c x = InBlock L.columns (in_first (parts_of c)) (in_last (parts_of c)) x
-
 -- free columns stand first and ends last; a column of the first tail leads only to the first tail, and a column of a
 -- block only to it, to its own block, and to blocks below it by the chains of the lower lists
-pub record LeadsDown (p : ℕ) (L : LayeredMatrix) (c : Contents) : Type 0 where
-  pub free_first : (x : ℕ) → x < L.columns → is_free (tableau_of c) x ≡ true → in_first (parts_of c) x ≡ true
-  pub ends_last : (x : ℕ) → x < L.columns → is_end p L (tableau_of c) x ≡ true → in_last (parts_of c) x ≡ true
-  pub first_leads : (x y : ℕ) → x < L.columns → y < L.columns → in_first (parts_of c) x ≡ true →
-      leads_to p L (tableau_of c) x y ≡ true → in_first (parts_of c) y ≡ true
-  pub block_leads : (x y : ℕ) → IsInBlock L c x → y < L.columns → leads_to p L (tableau_of c) x y ≡ true →
-      (in_first (parts_of c) y ≡ true)
-      ⊎ (IsInBlock L c y × ((block_of (parts_of c) y ≡ block_of (parts_of c) x)
-      ⊎ ReachesOn (lower_of c) (length c.blocks) (block_of (parts_of c) x) (block_of (parts_of c) y)))
+abbrev pub LeadsDown : ℕ → LayeredMatrix → Contents → Type 0
+LeadsDown p L c = PlacesLeadDown (leads_to p L (tableau_of c)) L.columns (is_free (tableau_of c))
+    (is_end p L (tableau_of c)) (in_first (parts_of c)) (in_last (parts_of c)) (block_of (parts_of c)) (length c.blocks)
+    (lower_of c)
 
 -- each column of the first tail is free or reached from a free one, each of the last is an end or reaches one, and any
 -- two columns of a block reach each other
-pub record HasReasons (p : ℕ) (L : LayeredMatrix) (c : Contents) : Type 0 where
-  pub first_from : (x : ℕ) → x < L.columns → in_first (parts_of c) x ≡ true → IsFromFree p L (tableau_of c) x
-  pub last_to : (x : ℕ) → x < L.columns → in_last (parts_of c) x ≡ true → ReachesEnd p L (tableau_of c) x
-  pub block_mutual : (x y : ℕ) → IsInBlock L c x → IsInBlock L c y → block_of (parts_of c) x ≡ block_of (parts_of c) y →
-      Mutual (leads_to p L (tableau_of c)) L.columns x y
+abbrev pub HasReasons : ℕ → LayeredMatrix → Contents → Type 0
+HasReasons p L c = PlacesHaveReasons (leads_to p L (tableau_of c)) L.columns (is_free (tableau_of c))
+    (is_end p L (tableau_of c)) (in_first (parts_of c)) (in_last (parts_of c)) (block_of (parts_of c))
 
--- below tells of two blocks whether one is reached from the other; each lower list holds exactly the blocks right
--- below; and at each place stands, of the blocks all of whose lower ones have stood before, the one with the least
--- column
-pub record HasLowerLists (p : ℕ) (L : LayeredMatrix) (c : Contents) : Type 0 where
-  pub below : ℕ → ℕ → Bool
-  pub order : IsBelow (leads_to p L (tableau_of c)) L.columns (is_free (tableau_of c)) (is_end p L (tableau_of c))
-      (block_of (parts_of c)) (length c.blocks) below
-  pub lists : IsCover below (length c.blocks) (lower_of c)
-  pub least : (x k : ℕ) → IsInBlock L c x → k < block_of (parts_of c) x →
-      ((y : ℕ) → IsInBlock L c y → Reaches (leads_to p L (tableau_of c)) L.columns x y → (block_of (parts_of c) y < k)
-      ⊎ (block_of (parts_of c) y ≡ block_of (parts_of c) x)) →
-      (z : ℕ) × (z < x) × IsInBlock L c z × (block_of (parts_of c) z ≡ k)
+-- each lower list holds exactly the blocks right below; and at each place stands, of the blocks all of whose lower ones
+-- have stood before, the one with the least column
+abbrev pub HasLowerLists : ℕ → LayeredMatrix → Contents → Type 0
+HasLowerLists p L c = PlacesHaveLowerLists (leads_to p L (tableau_of c)) L.columns (is_free (tableau_of c))
+    (is_end p L (tableau_of c)) (in_first (parts_of c)) (in_last (parts_of c)) (block_of (parts_of c)) (length c.blocks)
+    (lower_of c)
 
 pub record KeepsRules (p : ℕ) (M : MixedMatrix) (L : LayeredMatrix) (c : Contents) : Type 0 where
   -- rule 2

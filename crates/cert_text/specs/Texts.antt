@@ -1,7 +1,7 @@
 -- The text of a certificate, by cases on its fields. Rows, columns and blocks are counted from 0 here, and from 1 in
 -- the text.
 use Rattle.std.specs.Prelude.{ℕ, ◌+◌, List, [], ◌∷◌, ◌++◌, length, codes}
-pub use Rattle.text_writer.specs.Numbers.{marked, spaced, item}
+pub use Rattle.text_writer.specs.Numbers.{with_mark, spaced, item}
 use Rattle.cert_text.specs.Contents.{Contents, Certificate}
 use Rattle.cert_text.specs.declared.kind.Kind.{Kind}
 use Rattle.cert_text.specs.declared.kind.Kind.TheVariants.{Flowsheet, Matrix, Netlist}
@@ -13,7 +13,7 @@ use Rattle.cert_text.specs.declared.version.Version.TheVariants.{One, Two}
 
 -- a row behind its letter, behind a space
 abbrev pub lettered : ℕ → ℕ → List ℕ
-lettered letter row = codes " " ++ marked letter row
+lettered letter row = codes " " ++ with_mark letter row
 
 -- the items of rows and their columns
 abbrev pub pairs_text : List (ℕ × ℕ) → List ℕ

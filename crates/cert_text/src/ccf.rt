@@ -86,6 +86,14 @@ impl<F: Field> Ccf<F> {
         }
     }
 
+    /// Tells a proof what a printed form keeps. It does nothing when it runs.
+    pub fn is_in_form(&self)
+        ensures { IsCcf F.modulus self.now }
+    {
+        // a proof knows what the type keeps once a field is read
+        let _ = &self.shape;
+    }
+
     /// The numbers of equations, unknowns, rows and columns.
     pub fn shape(&self) -> Shape
         ensures shape { result ≡ self.now.shape }

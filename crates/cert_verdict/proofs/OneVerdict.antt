@@ -12,7 +12,7 @@ use Rattle.cert_reader.proofs.Theorem.{one_certificate}
 use Rattle.cert_checker.specs.Answers.{IsRejected, IsRightFor}
 use Rattle.cert_checker.proofs.OneVerdict.{not-both, one-rule}
 use Rattle.input_kinds.proofs.ByKind.{given-unrefused, gives-one}
-use Rattle.cert_verdict.specs.Verdicts.{BreaksFirst, IsAccepted, IsRejectedBy, IsVerdict, KeepsRules}
+use Rattle.cert_verdict.specs.Verdicts.{BreaksFirstOfAll, IsAccepted, IsRejectedBy, IsVerdict, KeepsAllRules}
 use Rattle.cert_verdict.specs.declared.judging.NotAccepted.{NotAccepted}
 use Rattle.cert_verdict.specs.declared.judging.NotAccepted.TheVariants.{NoMemory, Refused as Unread, Rejected}
 
@@ -30,7 +30,7 @@ big-modulus c is = elim is.field [
 ]
 
 -- of a certificate: a certificate that keeps all rules breaks none, and one that breaks a rule breaks one first
-kept-unbroken : (c : Certificate) (rule : ℕ) → IsCertificate c → KeepsRules c → BreaksFirst c rule → ⊥
+kept-unbroken : (c : Certificate) (rule : ℕ) → IsCertificate c → KeepsAllRules c → BreaksFirstOfAll c rule → ⊥
 kept-unbroken c rule is keeps (inl (first, (refused, broken))) =
     given-unrefused c.modulus c.kind c.echo refused keeps.model keeps.gives broken
 kept-unbroken c rule is keeps (inr (model, gives, rejected)) =
@@ -38,7 +38,7 @@ kept-unbroken c rule is keeps (inr (model, gives, rejected)) =
     not-both c.modulus (prime-modulus c is) (big-modulus c is) (mixed_matrix_of model) c.ccf is.ccf
     (subst (λ m. IsRightFor c.modulus (mixed_matrix_of m) c.ccf) same keeps.right) rule rejected
 
-one-broken : (c : Certificate) (j k : ℕ) → IsCertificate c → BreaksFirst c j → BreaksFirst c k → j ≡ k
+one-broken : (c : Certificate) (j k : ℕ) → IsCertificate c → BreaksFirstOfAll c j → BreaksFirstOfAll c k → j ≡ k
 one-broken c j k is (inl (first, one)) (inl (second, two)) = first ∙ sym second
 one-broken c j k is (inl (first, (refused, broken))) (inr (model, gives, rejected)) =
     given-unrefused c.modulus c.kind c.echo refused model gives broken
@@ -60,13 +60,13 @@ module _ (text : List ℕ) (short : length text ≤ certificate_limit) where
   accepted-unbroken rule one two =
       let same : one.certificate ≡ two.certificate =
       same-certificate one.certificate two.certificate one.is two.is one.text_is two.text_is in
-      kept-unbroken two.certificate rule two.is (subst KeepsRules same one.keeps) two.broken
+      kept-unbroken two.certificate rule two.is (subst KeepsAllRules same one.keeps) two.broken
 
   rejected-once : (j k : ℕ) → IsRejectedBy text j → IsRejectedBy text k → j ≡ k
   rejected-once j k one two =
       let same : one.certificate ≡ two.certificate =
       same-certificate one.certificate two.certificate one.is two.is one.text_is two.text_is in
-      one-broken two.certificate j k two.is (subst (λ c. BreaksFirst c j) same one.broken) two.broken
+      one-broken two.certificate j k two.is (subst (λ c. BreaksFirstOfAll c j) same one.broken) two.broken
 
   refused-once : (j k : ℕ) → IsNoCertificate text j → IsNoCertificate text k → j ≡ k
   refused-once j k one two =

@@ -12,14 +12,14 @@ use Rattle.cert_verdict.specs.declared.judging.NotAccepted.{NotAccepted}
 use Rattle.cert_verdict.specs.declared.judging.NotAccepted.TheVariants.{NoMemory, Refused as Unread, Rejected}
 
 -- rules 1 to 12: the echo gives a model of its kind, and the form is right for that model
-pub record KeepsRules (c : Certificate) : Type 0 where
+pub record KeepsAllRules (c : Certificate) : Type 0 where
   pub model : MixedModel
   pub gives : GivesModel c.modulus c.kind c.echo model
   pub right : IsRightFor c.modulus (mixed_matrix_of model) c.ccf
 
 -- this is the number of the first rule that is broken: rule 1, as the echo gives no model, or one of the others
-abbrev pub BreaksFirst : Certificate → ℕ → Type 0
-BreaksFirst c rule = ((rule ≡ 1) × ((refused : Refused) × IsRefused c.modulus c.kind c.echo refused))
+abbrev pub BreaksFirstOfAll : Certificate → ℕ → Type 0
+BreaksFirstOfAll c rule = ((rule ≡ 1) × ((refused : Refused) × IsRefused c.modulus c.kind c.echo refused))
     ⊎ ((model : MixedModel) × GivesModel c.modulus c.kind c.echo model
     × IsRejected c.modulus (mixed_matrix_of model) c.ccf rule)
 
@@ -28,7 +28,7 @@ pub record IsAccepted (text : List ℕ) : Type 0 where
   pub certificate : Certificate
   pub is : IsCertificate certificate
   pub text_is : text ≡ certificate_text certificate
-  pub keeps : KeepsRules certificate
+  pub keeps : KeepsAllRules certificate
 
 -- the text is that of this certificate, which keeps all rules, and its echo gives this model
 pub record IsAcceptedAs (text : List ℕ) (certificate : Certificate) (model : MixedModel) : Type 0 where
@@ -42,7 +42,7 @@ pub record IsRejectedBy (text : List ℕ) (rule : ℕ) : Type 0 where
   pub certificate : Certificate
   pub is : IsCertificate certificate
   pub text_is : text ≡ certificate_text certificate
-  pub broken : BreaksFirst certificate rule
+  pub broken : BreaksFirstOfAll certificate rule
 
 -- why a text is not accepted: no certificate has it, or it breaks a rule, or memory ran out
 abbrev pub IsWhyNotAccepted : List ℕ → NotAccepted → Type 0

@@ -6,7 +6,7 @@ ghost use Rattle.cert_reader.specs.CertLines.{IsCertificate};
 ghost use Rattle.cert_reader.specs.Limits.{certificate_limit};
 ghost use Rattle.cert_text.specs.Texts.{certificate_text};
 ghost use Rattle.cert_verdict.specs.Accepted.{accepted_in};
-ghost use Rattle.cert_verdict.specs.Judging.{IsWhyBroken};
+ghost use Rattle.cert_verdict.specs.Judging.{IsWhyNotTaken};
 ghost use Rattle.cert_checker.specs.Answers.{IsRightFor};
 ghost use Rattle.input_kinds.specs.Kinds.{GivesModel};
 ghost use Rattle.mixed_model.specs.Models.{mixed_matrix_of};
@@ -71,7 +71,7 @@ fn echoed_model<F: Field>(
 ) -> Result<Mixed<F>, NotAccepted>
     requires { IsCertificate certificate.now }
     ensures gives { IfOk result (GivesModel certificate.now.modulus certificate.now.kind certificate.now.echo) }
-    ensures broken { IfErr result (IsWhyBroken certificate.now) }
+    ensures broken { IfErr result (IsWhyNotTaken certificate.now) }
 {
     match read_model(alloc, certificate.kind, certificate.echo.as_slice()) {
         Ok(model) => Ok(model),
@@ -90,7 +90,7 @@ fn check_form<F: Field>(
     requires gives { GivesModel certificate.now.modulus certificate.now.kind certificate.now.echo model.now }
     ensures right { IfOk result (λ kept.
         IsRightFor certificate.now.modulus (mixed_matrix_of model.now) certificate.now.ccf) }
-    ensures broken { IfErr result (IsWhyBroken certificate.now) }
+    ensures broken { IfErr result (IsWhyNotTaken certificate.now) }
 {
     match check(alloc, model, &certificate.ccf) {
         Ok(()) => Ok(()),
@@ -110,7 +110,7 @@ fn accept_certificate<F: Field>(
         GivesModel certificate.modulus certificate.kind certificate.echo accepted.model) }
     ensures right { IfOk result (λ accepted.
         IsRightFor certificate.modulus (mixed_matrix_of accepted.model) certificate.ccf) }
-    ensures broken { IfErr result (IsWhyBroken certificate) }
+    ensures broken { IfErr result (IsWhyNotTaken certificate) }
 {
     let model = echoed_model(alloc, &certificate)?;
     check_form(alloc, &certificate, &model)?;

@@ -13,9 +13,9 @@ use Rattle.mixed_matrices.specs.LayeredMatrices.{AreSameLayers, LayeredMatrix}
 use Rattle.mixed_matrices.specs.Layerings.{IsLayeredMatrixOf, Origins, gives_q, has_symbol}
 use Rattle.mixed_matrices.specs.Models.{MixedMatrix, value}
 use Rattle.mixed_matrices.specs.SetFunctions.{IsMinimiser}
-use Rattle.mixed_pairs.proofs.PairRank.{greatest-unique}
-use Rattle.mixed_forms.proofs.CanonicalForm.{canonical-one}
-use Rattle.mixed_forms.proofs.RowSizes.{same-rows}
+use Rattle.mixed_pair_laws.proofs.PairRank.{greatest-unique}
+use Rattle.mixed_form_laws.proofs.CanonicalForm.{canonical-one}
+use Rattle.mixed_form_laws.proofs.RowSizes.{same-rows}
 use Rattle.cert_text.specs.Contents.{Contents}
 use Rattle.cert_text.specs.declared.part.CcfBlock.{CcfBlock}
 use Rattle.cert_text.specs.declared.shape.Shape.{Shape}
@@ -24,7 +24,7 @@ use Rattle.cert_text.specs.Readings.{matrix_of, pattern_of, column_lists, q_row_
 use Rattle.cert_text.specs.Right.{IsRightCcf}
 use Rattle.cert_text.proofs.PrintedRules.{KeepsPrintedRules}
 use Rattle.cert_text.proofs.RuleFacts.{right-rules}
-use Rattle.certificate_laws.specs.Agreement.{Agree, lower_lists}
+use Rattle.certificate_laws.specs.Agreement.{AgreeInParts, lower_lists}
 use Rattle.certificate_laws.proofs.OneMatrix.{one-matrix}
 use Rattle.certificate_laws.proofs.PlacedLists.{columns-long, columns-rise, place-counted, q_rows-long, q_rows-rise, same-places, t_rows-long, t_rows-rise}
 use Rattle.certificate_laws.proofs.PlacedRows.{AreTold, are-told, one-part, same-told}
@@ -212,7 +212,7 @@ module _ (p : ℕ) (prime : IsPrime p) (big : 2 < p) (M : MixedMatrix) (L K : La
       (lower-rises p c is l ll) (lower-rises p d so l (subst (λ n. l < n) one.0 ll))
       (λ k kl h. lower-into k l (omega arith) ll h) (λ k kl h. lower-from k l (omega arith) ll h)
 
-  pub agreed : Agree c d
+  pub agreed : AgreeInParts c d
   agreed = record {
     shape = same-shape c.shape d.shape
         ((R.shape).equations ∙ sym (Q.shape).equations) ((R.shape).unknowns ∙ sym (Q.shape).unknowns)

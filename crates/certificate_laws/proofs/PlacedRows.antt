@@ -8,7 +8,7 @@ use Rattle.mixed_matrices.specs.Forms.{IsForm, Parts}
 use Rattle.mixed_matrices.specs.LayeredMatrices.{LayeredMatrix}
 use Rattle.mixed_matrices.specs.Pairs.{IsMatching}
 use Rattle.mixed_matrices.specs.Tableaus.{Tableau}
-use Rattle.mixed_pairs.proofs.ArcFacts.{match_found}
+use Rattle.mixed_pair_laws.proofs.ArcFacts.{match_found}
 
 -- a T row has no symbol before its part, and one in it, but for the last
 pub record AreTold (L : LayeredMatrix) (G : Parts) : Type 0 where

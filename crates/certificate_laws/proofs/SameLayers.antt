@@ -10,9 +10,9 @@ use Rattle.linear_algebra_laws.proofs.Kernels.{kernel_of-agree, rank_of-kernel}
 use Rattle.mixed_matrices.specs.CanonicalParts.{AreCanonical, IsBlockBelow, IsHeldWith, IsLowerBlock, IsReadyAt}
 use Rattle.mixed_matrices.specs.Forms.{IsForm, Parts, diagonal_part, part_columns, part_rows, transformed}
 use Rattle.mixed_matrices.specs.LayeredMatrices.{AreSameLayers, LayeredMatrix}
-use Rattle.mixed_matrices.specs.SetFunctions.{IsMinimiser, IsRho, gamma, touches}
+use Rattle.mixed_matrices.specs.SetFunctions.{IsMinimiser, IsRho, gamma, touches_set}
 use Rattle.mixed_matrices.specs.StructuralRanks.{IsLayeredRank}
-use Rattle.mixed_pairs.proofs.SameEntries.{same-layers}
+use Rattle.mixed_pair_laws.proofs.SameEntries.{same-layers}
 
 -- L with other entries
 abbrev pub with_entries : LayeredMatrix → (ℕ → ℕ → ℕ) → (ℕ → ℕ → Bool) → LayeredMatrix
@@ -35,7 +35,7 @@ some_same (suc n) X Y same = either_same (some_below n X) (some_below n Y) (X n)
 
 same-gamma : (L : LayeredMatrix) (q : ℕ → ℕ → ℕ) (t : ℕ → ℕ → Bool) → ((i j : ℕ) → i < L.t_rows → j < L.columns → t i j ≡ L.t i j) →
     (X : ℕ → Bool) → gamma (with_entries L q t) X ≡ gamma L X
-same-gamma L q t same X = sum_on-same (touches (with_entries L q t) X) (touches L X) L.t_rows (λ _. 1)
+same-gamma L q t same X = sum_on-same (touches_set (with_entries L q t) X) (touches_set L X) L.t_rows (λ _. 1)
     (λ i il. some_same L.columns (both X (t i)) (both X (L.t i)) (λ j jl. ap (λ b. X j && b) (same i j il jl)))
 
 pub same-minimiser : (p : ℕ) (L : LayeredMatrix) (q : ℕ → ℕ → ℕ) (t : ℕ → ℕ → Bool) → Agree p L.q_rows L.columns L.q q →

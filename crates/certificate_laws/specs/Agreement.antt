@@ -15,7 +15,7 @@ lower_lists c = map (λ block. block.lower) c.blocks
 
 -- c and d have the same rank and T rows, and the same parts in one order. S, U, P, the pair, and which Q rows stand in
 -- a part may differ.
-pub record Agree (c d : Contents) : Type 0 where
+pub record AgreeInParts (c d : Contents) : Type 0 where
   pub shape : c.shape ≡ d.shape
   pub rank : c.rank ≡ d.rank
   pub t : c.t ≡ d.t
@@ -32,4 +32,4 @@ abbrev pub RightFormsAgree : Type 0
 RightFormsAgree =
     (p : ℕ) → IsPrime p → 2 < p → (M : MixedMatrix) (L K : LayeredMatrix) (O N : Origins) →
     IsLayeredMatrixOf M L O → IsLayeredMatrixOf M K N → (c d : Contents) → IsCcf p c → IsCcf p d →
-    IsRightCcf p M L O c → IsRightCcf p M K N d → Agree c d
+    IsRightCcf p M L O c → IsRightCcf p M K N d → AgreeInParts c d

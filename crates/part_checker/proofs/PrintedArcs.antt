@@ -7,7 +7,7 @@ use Rattle.cert_text.specs.Contents.{Contents}
 use Rattle.cert_text.specs.Ranges.{IsCcf}
 use Rattle.cert_text.specs.Readings.{has_column, matrix_of, pair_at, pattern_of, row_with, tableau_of}
 use Rattle.cert_text.proofs.PairLists.{has-found}
-use Rattle.form_arcs.specs.FormArcs.{printed_rows}
+use Rattle.part_arcs.specs.FormArcs.{printed_rows}
 use Rattle.part_checker.specs.Told.{IsPrintedBy}
 
 some-same : (n : ℕ) (X Y : ℕ → Bool) → ((j : ℕ) → j < n → X j ≡ Y j) → some_below n X ≡ some_below n Y

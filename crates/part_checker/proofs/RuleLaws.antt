@@ -15,12 +15,11 @@ use Rattle.cert_text.proofs.PrintedRules.{lower-before}
 use Rattle.part_rules.specs.Listed.{arc_in, inner, marked}
 use Rattle.part_rules.specs.Laws.{AreFalling}
 use Rattle.part_rules.specs.Parts.{AreNumbered}
-use Rattle.part_rules.specs.Rules as plain
 use Rattle.part_rules.specs.Tests.{ArcsAreDown, AreCovers, AreFirstPlaces, AreMet, AreSeeds, IsLeastFirst, TellsChains}
 use Rattle.part_rules.proofs.Numbering.{down-numbers, numbers-down}
 use Rattle.part_rules.proofs.Withins.{met-reasons, reasons-met}
 use Rattle.part_rules.proofs.Lists.{covers-lists, lists-covers, lists-least}
-use Rattle.part_tests.specs.Searched.{IsSearched}
+use Rattle.part_search.specs.Searched.{IsSearched}
 use Rattle.part_checker.specs.Told.{AreTold, IsPrintedBy, TellsParts}
 use Rattle.part_checker.specs.declared.telling.PartsTold.{PartsTold}
 use Rattle.part_checker.proofs.PartNumbers.{parts-numbered}
@@ -97,36 +96,15 @@ module _ (p : ℕ) (c : Contents) (is : IsCcf p c) (parts : List ℕ) (T : Tells
       arcs = λ x y xl yl h. A.arcs x y (from-parts x xl) (from-parts y yl) ((listed-leads x y (from-parts x xl) (from-parts y yl)).0 h);
     }
 
-    abbrev PlainDown : Type 0
-    PlainDown = plain.LeadsDown (leads_to p L (tableau_of c)) L.columns (is_free (tableau_of c))
-        (is_end p L (tableau_of c)) (in_first (parts_of c)) (in_last (parts_of c)) (block_of (parts_of c))
-        (length c.blocks) (lower_of c)
-
-    rule-down : LeadsDown p L c → PlainDown
-    rule-down R = record { starts_first = R.free_first; ends_last = R.ends_last; first_leads = R.first_leads; block_leads = R.block_leads }
-
-    down-rule : PlainDown → LeadsDown p L c
-    down-rule R = record { free_first = R.starts_first; ends_last = R.ends_last; first_leads = R.first_leads; block_leads = R.block_leads }
-
     pub rule-tested : LeadsDown p L c → Tested
     rule-tested R = down-tested (down-numbers L.columns (length c.blocks) (in_first (parts_of c))
         (in_last (parts_of c)) (block_of (parts_of c)) (slice_index parts) numbered (leads_to p L (tableau_of c))
-        (is_free (tableau_of c)) (is_end p L (tableau_of c)) (lower_of c) (rule-down R))
+        (is_free (tableau_of c)) (is_end p L (tableau_of c)) (lower_of c) R)
 
     pub tested-rule : Tested → LeadsDown p L c
-    tested-rule A = down-rule (numbers-down L.columns (length c.blocks) (in_first (parts_of c))
+    tested-rule A = numbers-down L.columns (length c.blocks) (in_first (parts_of c))
         (in_last (parts_of c)) (block_of (parts_of c)) (slice_index parts) numbered (leads_to p L (tableau_of c))
-        (is_free (tableau_of c)) (is_end p L (tableau_of c)) (lower_of c) (tested-down A))
-
-    abbrev PlainReasons : Type 0
-    PlainReasons = plain.HasReasons (leads_to p L (tableau_of c)) L.columns (is_free (tableau_of c))
-        (is_end p L (tableau_of c)) (in_first (parts_of c)) (in_last (parts_of c)) (block_of (parts_of c))
-
-    rule-reasons : HasReasons p L c → PlainReasons
-    rule-reasons R = record { first_from = R.first_from; last_to = R.last_to; block_mutual = R.block_mutual }
-
-    reasons-rule : PlainReasons → HasReasons p L c
-    reasons-rule R = record { first_from = R.first_from; last_to = R.last_to; block_mutual = R.block_mutual }
+        (is_free (tableau_of c)) (is_end p L (tableau_of c)) (lower_of c) (tested-down A)
 
     heads-first : AreFirstPlaces L.columns (slice_index parts) (length c.blocks) (slice_index t.heads.items)
     heads-first = subst (λ n. AreFirstPlaces n (slice_index parts) (length c.blocks) (slice_index t.heads.items)) (T.count ∙ sym P.columns) told.heads
@@ -140,18 +118,18 @@ module _ (p : ℕ) (c : Contents) (is : IsCcf p c) (parts : List ℕ) (T : Tells
           (slice_index t.heads.items) answer →
           IsTrue answer ↔ HasReasons p L c
       reasons-told answer S = (
-        λ h. reasons-rule (met-reasons (leads_to p L (tableau_of c)) L.columns (is_free (tableau_of c))
+        λ h. met-reasons (leads_to p L (tableau_of c)) L.columns (is_free (tableau_of c))
             (is_end p L (tableau_of c)) (in_first (parts_of c)) (in_last (parts_of c)) (block_of (parts_of c))
             (slice_index parts) (length c.blocks) (lower_of c)
             numbered falling down (inner (arc_in t.arcs.arcs.items) (slice_index parts)) insides
             (slice_index t.heads.items) S.low S.high S.from S.to heads-first.heads lows highs froms tos
-            (met-columns (S.told.0 h))),
+            (met-columns (S.told.0 h)),
         λ G. S.told.1 (met-parts (reasons-met (leads_to p L (tableau_of c)) L.columns (is_free (tableau_of c))
             (is_end p L (tableau_of c)) (in_first (parts_of c)) (in_last (parts_of c)) (block_of (parts_of c))
             (slice_index parts) (length c.blocks) (lower_of c)
             numbered falling down (inner (arc_in t.arcs.arcs.items) (slice_index parts)) insides
             (slice_index t.heads.items) S.low S.high S.from S.to heads-first.heads lows highs froms tos
-            (rule-reasons G))),
+            G)),
       )
         where
           size : length parts ≡ L.columns
@@ -224,39 +202,28 @@ module _ (p : ℕ) (c : Contents) (is : IsCcf p c) (parts : List ℕ) (T : Tells
                 × (slice_index parts y ≡ k + 2) × (arc_in t.arcs.arcs.items x y ≡ true)
             go k l (x, y, xl, yl, px, py, a) = (x, y, at-parts x xl, at-parts y yl, px, py, (listed-leads x y xl yl).1 a)
 
-        abbrev PlainLists : Type 0
-        PlainLists = plain.HasLowerLists (leads_to p L (tableau_of c)) L.columns (is_free (tableau_of c))
-            (is_end p L (tableau_of c)) (in_first (parts_of c)) (in_last (parts_of c)) (block_of (parts_of c))
-            (length c.blocks) (lower_of c)
-
-        rule-lists : HasLowerLists p L c → PlainLists
-        rule-lists R = record { below = R.below; order = R.order; lists = R.lists; least = R.least }
-
-        lists-rule : PlainLists → HasLowerLists p L c
-        lists-rule R = record { below = R.below; order = R.order; lists = R.lists; least = R.least }
-
         pub lists-listed : HasLowerLists p L c → AreCovers (arc_in t.arcs.arcs.items) (length parts)
             (slice_index parts) (length c.blocks) (arc_in t.lower.items)
         lists-listed K = subst (AreCovers (arc_in t.arcs.arcs.items) (length parts) (slice_index parts)
             (length c.blocks)) (sym lists-same) (covers-listed (lists-covers (leads_to p L (tableau_of c)) L.columns
             (is_free (tableau_of c)) (is_end p L (tableau_of c)) (in_first (parts_of c)) (in_last (parts_of c))
             (block_of (parts_of c)) (slice_index parts) (length c.blocks) (lower_of c)
-            numbered falling down (rule-reasons G) (rule-lists K)))
+            numbered falling down G K))
 
         pub lists-first : HasLowerLists p L c → IsLeastFirst (length c.blocks) (arc_in t.lower.items) (slice_index t.heads.items)
         lists-first K = subst (λ lower. IsLeastFirst (length c.blocks) lower (slice_index t.heads.items))
             (sym lists-same) (lists-least (leads_to p L (tableau_of c)) L.columns (is_free (tableau_of c))
             (is_end p L (tableau_of c)) (in_first (parts_of c)) (in_last (parts_of c)) (block_of (parts_of c))
             (slice_index parts) (length c.blocks) (lower_of c)
-            numbered falling down (rule-reasons G) (rule-lists K) (slice_index t.heads.items) heads-first)
+            numbered falling down G K (slice_index t.heads.items) heads-first)
 
         pub listed-lists : AreCovers (arc_in t.arcs.arcs.items) (length parts) (slice_index parts) (length c.blocks)
             (arc_in t.lower.items) → IsLeastFirst (length c.blocks) (arc_in t.lower.items)
             (slice_index t.heads.items) → HasLowerLists p L c
-        listed-lists C O = lists-rule (covers-lists (leads_to p L (tableau_of c)) L.columns (is_free (tableau_of c))
+        listed-lists C O = covers-lists (leads_to p L (tableau_of c)) L.columns (is_free (tableau_of c))
             (is_end p L (tableau_of c)) (in_first (parts_of c)) (in_last (parts_of c)) (block_of (parts_of c))
             (slice_index parts) (length c.blocks) (lower_of c)
-            numbered falling down (rule-reasons G)
+            numbered falling down G
             (listed-covers (subst (AreCovers (arc_in t.arcs.arcs.items) (length parts) (slice_index parts)
             (length c.blocks)) lists-same C)) (slice_index t.heads.items) heads-first
-            (subst (λ lower. IsLeastFirst (length c.blocks) lower (slice_index t.heads.items)) lists-same O) (bit_in t.below) chains-told)
+            (subst (λ lower. IsLeastFirst (length c.blocks) lower (slice_index t.heads.items)) lists-same O) (bit_in t.below) chains-told

@@ -2,7 +2,7 @@
 use Rattle.std.proofs.Common.{◌≡◌, ℕ, ◌↔◌, Bool, List, length, slice_index, subst}
 use Rattle.part_rules.specs.Listed.{arc_in, inner, marked}
 use Rattle.part_rules.specs.Tests.{ArcsAreDown, AreCovers, IsLeastFirst}
-use Rattle.part_tests.specs.Searched.{IsSearched}
+use Rattle.part_search.specs.Searched.{IsSearched}
 
 pub down-as : (arcs list : List (ℕ × ℕ)) (starts free ends stops : List Bool) (n : ℕ) (part : ℕ → ℕ) (b m : ℕ)
     (lower : ℕ → ℕ → Bool) → arcs ≡ list → starts ≡ free → ends ≡ stops → b ≡ m →

@@ -2,7 +2,7 @@
 use Rattle.std.specs.Prelude.{ℕ, ◌<◌, ◌≡◌, ◌↔◌, Bool, true, List, [], map, slice_index_or}
 use Rattle.residue_theory.specs.Sets.{has}
 use Rattle.cert_text.specs.declared.part.CcfBlock.{CcfBlock}
-use Rattle.block_orders.specs.Orders.{AreLowerItems}
+use Rattle.part_orders.specs.Orders.{AreLowerItems}
 use Rattle.part_rules.specs.Listed.{arc_in}
 
 -- block k is in the list of block l

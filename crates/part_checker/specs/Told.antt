@@ -1,10 +1,10 @@
 -- What the rules of the parts of a form are tried on.
 use Rattle.std.specs.Prelude.{ℕ, ◌+◌, ◌<◌, ◌≡◌, List, length, slice_index, vec_len}
 use Rattle.bit_table.specs.Bits.{bit_in}
-use Rattle.block_orders.specs.Orders.{AreLowerItems}
+use Rattle.part_orders.specs.Orders.{AreLowerItems}
 use Rattle.cert_text.specs.Contents.{Contents}
 use Rattle.cert_text.specs.Readings.{StandsOnce, column_lists, lower_of, pattern_of, place_of}
-use Rattle.form_arcs.specs.FormArcs.{AreArcsOf}
+use Rattle.part_arcs.specs.FormArcs.{AreArcsOf}
 use Rattle.mixed_matrices.specs.LayeredMatrices.{LayeredMatrix}
 use Rattle.part_checker.specs.declared.telling.PartsTold.{PartsTold}
 use Rattle.part_rules.specs.Listed.{arc_in}

@@ -6,10 +6,10 @@ ghost use Rattle.mixed_matrices.specs.LayeredMatrices.{LayeredMatrix};
 ghost use Rattle.part_checker.specs.Told.{AreTold, IsPrintedBy, TellsParts};
 
 use crate::telling::PartsTold;
-use block_orders::{are_covers, is_least_first};
 use cert_text::Ccf;
 use out_of_memory::NoMemory;
-use part_tests::{arcs_are_down, are_met};
+use part_orders::{are_covers, is_least_first};
+use part_search::{arcs_are_down, are_met};
 use residue_field::Field;
 use std::alloc::Global;
 

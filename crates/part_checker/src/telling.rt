@@ -6,10 +6,10 @@ ghost use Rattle.part_checker.specs.Told.{AreTold, TellsParts};
 
 use crate::items::lower_items;
 use bit_table::BitTable;
-use block_orders::{chains_of, first_places};
 use cert_text::Ccf;
-use form_arcs::{FormArcs, arcs_of};
 use out_of_memory::NoMemory;
+use part_arcs::{FormArcs, arcs_of};
+use part_orders::{chains_of, first_places};
 use residue_field::Field;
 use std::alloc::Global;
 

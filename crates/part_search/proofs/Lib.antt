@@ -3,3 +3,5 @@ pub mod ListLaws
 pub mod EntryLaws
 pub mod MarkLaws
 pub mod SearchLaws
+pub mod LeadLaws
+pub mod MetLaws

@@ -6,7 +6,7 @@ use Rattle.std.proofs.lemmas.List.Folds.{list_any_at, list_any-append}
 use Rattle.residue_theory.specs.Sets.{has}
 use Rattle.residue_theory.proofs.SumLaws.{nat_cases}
 use Rattle.residue_theory.proofs.SetLaws.{eqb_from}
-use Rattle.part_search.specs.Neighbours.{list_at, listed, IsEntered}
+use Rattle.part_search.specs.Neighbours.{list_at, listed, IsNeighbour}
 
 or-false : (b : Bool) → b || false ≡ b
 or-false true = refl
@@ -41,7 +41,7 @@ module _ {Z : Type 0} where
 
   -- one item more in the list at `from`
   pub entered : (lists : List (Vec ℕ Z)) (from to : ℕ) (v w : Vec ℕ Z) → from < length lists → v ≡ get_or lists from v →
-      w.items ≡ v.items ++ to ∷ [] → IsEntered lists (slice_set lists from w) from to
+      w.items ≡ v.items ++ to ∷ [] → IsNeighbour lists (slice_set lists from w) from to
   entered lists from to v w l e more = record {
     count = length-set lists from w;
     holds = λ x y. elim (nat_cases x from) [

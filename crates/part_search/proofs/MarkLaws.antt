@@ -11,7 +11,7 @@ use Rattle.residue_theory.proofs.SumLaws.{nat_cases, sum_on-same}
 use Rattle.residue_theory.proofs.CountLaws.{size-zero, sum-with_one}
 use Rattle.residue_theory.proofs.SetLaws.{differ, lt_cases, either_cases, either-first, either-second, eqb_true, eqb_from}
 use Rattle.part_rules.specs.Listed.{marked}
-use Rattle.part_search.specs.Markings.{IsQueue, IsGrown}
+use Rattle.part_search.specs.Markings.{IsQueue, AreMarkedToo}
 use Rattle.part_search.proofs.ListLaws.{has-last}
 
 pub mark-read : (marks : List Bool) (y : ℕ) (v : Bool) → y < length marks → v ≡ get_or marks y v → marked marks y ≡ v
@@ -30,7 +30,7 @@ queue-empty marks none = record {
 
 -- nothing more is marked
 pub grown-same : (X : ℕ → Bool) (marks : List Bool) (queue : List ℕ) → IsQueue marks queue →
-    ((y : ℕ) → X y ≡ true → marked marks y ≡ true) → IsGrown X marks queue marks queue
+    ((y : ℕ) → X y ≡ true → marked marks y ≡ true) → AreMarkedToo X marks queue marks queue
 grown-same X marks queue Q known = record {
   queued = Q;
   count = refl;
@@ -98,7 +98,7 @@ module _ (marks : List Bool) (queue : List ℕ) (place : ℕ) (Q : IsQueue marks
           ∙ (sum_on-same (marked (slice_set marks place true)) (with_one (marked marks) place) (length marks) (λ _. 1) (λ j _. marks-put j)
           ∙ sum-with_one (marked marks) (length marks) place (λ _. 1) l free)
 
-  pub grown-put : IsGrown (only place) marks queue (slice_set marks place true) (queue ++ place ∷ [])
+  pub grown-put : AreMarkedToo (only place) marks queue (slice_set marks place true) (queue ++ place ∷ [])
   grown-put = record {
     queued = queue-put;
     count = length-set marks place true;
@@ -109,8 +109,8 @@ module _ (marks : List Bool) (queue : List ℕ) (place : ℕ) (Q : IsQueue marks
 
 -- first X and then one place, which make Y
 pub grown-more : (X Y : ℕ → Bool) (place : ℕ) (marks middle now : List Bool) (queue between later : List ℕ) →
-    IsGrown X marks queue middle between → IsGrown (only place) middle between now later →
-    ((y : ℕ) → Y y ≡ X y || eqb place y) → IsGrown Y marks queue now later
+    AreMarkedToo X marks queue middle between → AreMarkedToo (only place) middle between now later →
+    ((y : ℕ) → Y y ≡ X y || eqb place y) → AreMarkedToo Y marks queue now later
 grown-more X Y place marks middle now queue between later G H sum = record {
   queued = H.queued;
   count = H.count ∙ G.count;
@@ -131,21 +131,21 @@ grown-more X Y place marks middle now queue between later G H sum = record {
 
 -- of a list one item more
 pub grown-item : (list : List ℕ) (k place : ℕ) (marks middle now : List Bool) (queue between later : List ℕ) → k < length list → get_or list k 0 ≡ place →
-    IsGrown (has (take k list)) marks queue middle between → IsGrown (only place) middle between now later →
-    IsGrown (has (take (k + 1) list)) marks queue now later
+    AreMarkedToo (has (take k list)) marks queue middle between → AreMarkedToo (only place) middle between now later →
+    AreMarkedToo (has (take (k + 1) list)) marks queue now later
 grown-item list k place marks middle now queue between later l at G H =
     grown-more (has (take k list)) (has (take (k + 1) list)) place marks middle now queue between later G H
     (λ y. ap (λ ys. has ys y) (take_more list k 0 l) ∙ (has-last (take k list) (get_or list k 0) y ∙ ap (λ z. has (take k list) y || eqb z y) at))
 
 pub grown-list : (list : List ℕ) (k : ℕ) (marks now : List Bool) (queue later : List ℕ) → length list ≤ k →
-    IsGrown (has (take k list)) marks queue now later → IsGrown (has list) marks queue now later
-grown-list list k marks now queue later l G = subst (λ ys. IsGrown (has ys) marks queue now later) (take_all k list l) G
+    AreMarkedToo (has (take k list)) marks queue now later → AreMarkedToo (has list) marks queue now later
+grown-list list k marks now queue later l G = subst (λ ys. AreMarkedToo (has ys) marks queue now later) (take_all k list l) G
 
 -- ---- the starts
 -- of the places below `place` the starts are marked
 module _ (starts marks : List Bool) (place : ℕ) (done : (y : ℕ) → y < place → marked marks y ≡ marked starts y) where
   pub starts-put : (now : List Bool) (queue later : List ℕ) → ((y : ℕ) → place ≤ y → marked marks y ≡ false) →
-      IsGrown (only place) marks queue now later → marked starts place ≡ true →
+      AreMarkedToo (only place) marks queue now later → marked starts place ≡ true →
       (y : ℕ) → y < place + 1 → marked now y ≡ marked starts y
   starts-put now queue later rest G h y l = elim (nat_cases y place) [
     | inl q ↦ subst (λ z. marked now z ≡ marked starts z) (sym q)
@@ -165,7 +165,7 @@ module _ (starts marks : List Bool) (place : ℕ) (done : (y : ℕ) → y < plac
     | inr ne ↦ done y (omega arith)
   ]
 
-pub rest-put : (marks now : List Bool) (queue later : List ℕ) (place : ℕ) → IsGrown (only place) marks queue now later →
+pub rest-put : (marks now : List Bool) (queue later : List ℕ) (place : ℕ) → AreMarkedToo (only place) marks queue now later →
     ((y : ℕ) → place ≤ y → marked marks y ≡ false) →
     (y : ℕ) → place + 1 ≤ y → marked now y ≡ false
 rest-put marks now queue later place G rest y l = G.marks_too y ∙ none (marked marks y) (eqb y place) (rest y (omega arith)) (apart y place (λ q. omega arith))

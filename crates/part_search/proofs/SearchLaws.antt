@@ -7,14 +7,14 @@ use Rattle.residue_theory.proofs.SetLaws.{either_cases, either-first, either-sec
 use Rattle.closed_sets.specs.Walks.{FromSome}
 use Rattle.closed_sets.proofs.WalkLaws.{from-arc, follows-reaches}
 use Rattle.part_rules.specs.Listed.{marked, AreReached}
-use Rattle.part_search.specs.Markings.{IsQueue, IsGrown, IsSearch}
+use Rattle.part_search.specs.Markings.{IsQueue, AreMarkedToo, IsMarking}
 
 -- the queue is no longer than there are places
 pub queue-within : (marks : List Bool) (queue : List ℕ) → IsQueue marks queue → length queue ≤ length marks
 queue-within marks queue Q = omega (arith, Q.size, size_on-within everything (marked marks) (length marks) (λ j _ _. refl), size-everything (length marks))
 
 pub search-first : (arc : ℕ → ℕ → Bool) (n : ℕ) (marks : List Bool) (queue : List ℕ) → length marks ≡ n →
-    IsQueue marks queue → IsSearch arc n (marked marks) marks queue 0
+    IsQueue marks queue → IsMarking arc n (marked marks) marks queue 0
 search-first arc n marks queue count Q = record {
   queued = Q;
   count = count;
@@ -25,8 +25,8 @@ search-first arc n marks queue count Q = record {
 }
 
 pub search-next : (arc : ℕ → ℕ → Bool) (n : ℕ) (starts : ℕ → Bool) (marks now : List Bool) (queue later : List ℕ)
-    (head place : ℕ) → IsSearch arc n starts marks queue head → head < length queue →
-    get_or queue head 0 ≡ place → IsGrown (arc place) marks queue now later → IsSearch arc n starts now later (head + 1)
+    (head place : ℕ) → IsMarking arc n starts marks queue head → head < length queue →
+    get_or queue head 0 ≡ place → AreMarkedToo (arc place) marks queue now later → IsMarking arc n starts now later (head + 1)
 search-next arc n starts marks now queue later head place S more at G = record {
   queued = G.queued;
   count = G.count ∙ S.count;
@@ -50,7 +50,7 @@ search-next arc n starts marks now queue later head place S more at G = record {
     still y h = G.marks_too y ∙ either-first (marked marks y) (arc place y) h
 
 pub search-last : (arc : ℕ → ℕ → Bool) (n : ℕ) (starts : ℕ → Bool) (marks : List Bool) (queue : List ℕ) (head : ℕ) →
-    IsSearch arc n starts marks queue head → length queue ≤ head → AreReached arc n starts marks
+    IsMarking arc n starts marks queue head → length queue ≤ head → AreReached arc n starts marks
 search-last arc n starts marks queue head S all = record {
   count = S.count;
   tells = λ y l. (S.sound y l, λ r. reached y l r);

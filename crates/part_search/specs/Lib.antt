@@ -1,2 +1,4 @@
 pub mod Neighbours
 pub mod Markings
+pub mod Steps
+pub mod Searched

@@ -12,7 +12,7 @@ pub record IsQueue (marks : List Bool) (queue : List ℕ) : Type 0 where
   pub holds_all : (y : ℕ) → marked marks y ≡ true → (i : ℕ) × (i < length queue) × (slice_index queue i ≡ y)
 
 -- the places of X are marked too, and stand in the queue behind those that stood there
-pub record IsGrown (X : ℕ → Bool) (marks : List Bool) (queue : List ℕ) (marks_now : List Bool) (queue_now : List ℕ)
+pub record AreMarkedToo (X : ℕ → Bool) (marks : List Bool) (queue : List ℕ) (marks_now : List Bool) (queue_now : List ℕ)
     : Type 0 where
   pub queued : IsQueue marks_now queue_now
   pub count : length marks_now ≡ length marks
@@ -21,7 +21,7 @@ pub record IsGrown (X : ℕ → Bool) (marks : List Bool) (queue : List ℕ) (ma
   pub same : (i : ℕ) → i < length queue → slice_index queue_now i ≡ slice_index queue i
 
 -- what is marked is reached from a start, the starts are, and all that the first `head` places of the queue lead to
-pub record IsSearch (arc : ℕ → ℕ → Bool) (n : ℕ) (starts : ℕ → Bool) (marks : List Bool) (queue : List ℕ) (head : ℕ)
+pub record IsMarking (arc : ℕ → ℕ → Bool) (n : ℕ) (starts : ℕ → Bool) (marks : List Bool) (queue : List ℕ) (head : ℕ)
     : Type 0 where
   pub queued : IsQueue marks queue
   pub count : length marks ≡ n

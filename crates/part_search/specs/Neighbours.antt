@@ -11,7 +11,7 @@ abbrev pub listed : {Z : Type 0} → List (Vec ℕ Z) → ℕ → ℕ → Bool
 listed lists x y = has (list_at lists x) y
 
 -- the list of `from` holds `to` too
-pub record IsEntered {Z : Type 0} (lists now : List (Vec ℕ Z)) (from to : ℕ) : Type 0 where
+pub record IsNeighbour {Z : Type 0} (lists now : List (Vec ℕ Z)) (from to : ℕ) : Type 0 where
   pub count : length now ≡ length lists
   pub holds : (x y : ℕ) → listed now x y ≡ listed lists x y || (eqb from x && eqb to y)
 

@@ -4,7 +4,7 @@ ghost use Rattle.std.specs.Prelude.{◌≡◌, ℕ, ◌<◌, ◌||◌, Bool, tru
 ghost use Rattle.residue_theory.specs.Sets.{has, only};
 ghost use Rattle.part_rules.specs.Listed.{marked, AreReached};
 ghost use Rattle.part_search.specs.Neighbours.{listed};
-ghost use Rattle.part_search.specs.Markings.{IsQueue, IsGrown, IsSearch};
+ghost use Rattle.part_search.specs.Markings.{IsQueue, AreMarkedToo, IsMarking};
 
 use crate::neighbours::Neighbours;
 use std::alloc::{AllocError, Global};
@@ -33,7 +33,7 @@ impl Marking {
     fn put(&mut self, place: usize) -> Result<(), AllocError>
         requires queued { IsQueue self.old.marks.items self.old.queue.items }
         requires place { place < vec_len self.old.marks }
-        ensures { OnOk result (IsGrown (only place) self.old.marks.items self.old.queue.items
+        ensures { OnOk result (AreMarkedToo (only place) self.old.marks.items self.old.queue.items
             self.new.marks.items self.new.queue.items) }
     {
         if !self.marks[place] {
@@ -63,7 +63,7 @@ impl Marking {
     fn look(&mut self, list: &[usize]) -> Result<(), AllocError>
         requires queued { IsQueue self.old.marks.items self.old.queue.items }
         requires below { (y : ℕ) → has list.now y ≡ true → y < vec_len self.old.marks }
-        ensures { OnOk result (IsGrown (has list.now) self.old.marks.items self.old.queue.items
+        ensures { OnOk result (AreMarkedToo (has list.now) self.old.marks.items self.old.queue.items
             self.new.marks.items self.new.queue.items) }
     {
         for place in list {

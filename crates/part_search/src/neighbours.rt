@@ -2,7 +2,7 @@
 
 ghost use Rattle.std.specs.Prelude.{◌≡◌, ℕ, ◌<◌, ◌||◌, ◌&&◌, Bool, false, length, vec_len, slice_index, IfOk, OnOk};
 ghost use Rattle.part_rules.specs.Listed.{arc_in, AreArcs, inner};
-ghost use Rattle.part_search.specs.Neighbours.{listed, IsEntered, AreLists};
+ghost use Rattle.part_search.specs.Neighbours.{listed, IsNeighbour, AreLists};
 
 use std::alloc::{AllocError, Global};
 
@@ -28,7 +28,7 @@ impl Neighbours {
     // Puts a place at the end of the list of another one.
     fn enter(&mut self, from: usize, to: usize) -> Result<(), AllocError>
         requires { from < vec_len self.old.lists }
-        ensures { OnOk result (IsEntered self.old.lists.items self.new.lists.items from to) }
+        ensures { OnOk result (IsNeighbour self.old.lists.items self.new.lists.items from to) }
     {
         self.lists[from].push(to)?;
         Ok(())

@@ -1,6 +1,6 @@
 use Rattle.std.proofs.Common.{MatchOption, refl, sym, subst, arith}
 use Rattle.residue_theory.proofs.SetLaws.{differ}
-use Rattle.sparse_layering.specs.Layers.{matrix_of_rows}
+use Rattle.mixed_model.specs.Layers.{layered_matrix_of}
 use Rattle.mixed_model.specs.Models.{mixed_matrix_of}
 use Rattle.cert_text.specs.Readings.{StandsOnce, column_lists}
 use Rattle.cert_checker.specs.Checking.{KeepsFirst}
@@ -11,37 +11,38 @@ use Rattle.cert_checker.proofs.checking.check_rows.Goals as goal
 
 pub has_inverse-requires : goal.has_inverse-requires
 has_inverse-requires g c = shape-sizes (mixed_matrix_of c.args.model.now)
-    (matrix_of_rows c.args.layered.now) c.args.form.now (c.if-not-has_shape.ensures.0 refl)
+    (layered_matrix_of c.args.layered.now) c.args.form.now (c.if-not-has_shape.ensures.0 refl)
 
 pub has_product-requires : goal.has_product-requires
 has_product-requires g c = shape-sizes (mixed_matrix_of c.args.model.now)
-    (matrix_of_rows c.args.layered.now) c.args.form.now (c.if-not-has_shape.ensures.0 refl)
+    (layered_matrix_of c.args.layered.now) c.args.form.now (c.if-not-has_shape.ensures.0 refl)
 
 pub has_unit_columns-requires : goal.has_unit_columns-requires
 has_unit_columns-requires g c = shape-sizes (mixed_matrix_of c.args.model.now)
-    (matrix_of_rows c.args.layered.now) c.args.form.now (c.if-not-has_shape.ensures.0 refl)
+    (layered_matrix_of c.args.layered.now) c.args.form.now (c.if-not-has_shape.ensures.0 refl)
 
 pub has_matching-requires : goal.has_matching-requires
 has_matching-requires g c = shape-sizes (mixed_matrix_of c.args.model.now)
-    (matrix_of_rows c.args.layered.now) c.args.form.now (c.if-not-has_shape.ensures.0 refl)
+    (layered_matrix_of c.args.layered.now) c.args.form.now (c.if-not-has_shape.ensures.0 refl)
 
 pub is_counted-requires : goal.is_counted-requires
-is_counted-requires g c = shape-sizes (mixed_matrix_of c.args.model.now) (matrix_of_rows c.args.layered.now) c.args.form.now (c.if-not-has_shape.ensures.0 refl)
+is_counted-requires g c = shape-sizes (mixed_matrix_of c.args.model.now) (layered_matrix_of c.args.layered.now) c.args.form.now
+    (c.if-not-has_shape.ensures.0 refl)
 
 pub column_places-requires : goal.column_places-requires
 column_places-requires g c = shape-sizes (mixed_matrix_of c.args.model.now)
-    (matrix_of_rows c.args.layered.now) c.args.form.now (c.if-not-has_shape.ensures.0 refl)
+    (layered_matrix_of c.args.layered.now) c.args.form.now (c.if-not-has_shape.ensures.0 refl)
 
 pub has_placed_rows-requires-clause-sizes : goal.has_placed_rows-requires-clause-sizes
 has_placed_rows-requires-clause-sizes g c = shape-sizes (mixed_matrix_of c.args.model.now)
-    (matrix_of_rows c.args.layered.now) c.args.form.now (c.if-not-has_shape.ensures.0 refl)
+    (layered_matrix_of c.args.layered.now) c.args.form.now (c.if-not-has_shape.ensures.0 refl)
 
 pub has_placed_rows-requires-clause-differ : goal.has_placed_rows-requires-clause-differ
 has_placed_rows-requires-clause-differ g c = (c.in_ok-has_matching.ensures.0 c.if-not-branch-4.false).differ
 
 pub has_placed_rows-requires-clause-places : goal.has_placed_rows-requires-clause-places
 has_placed_rows-requires-clause-places g c =
-    let L = matrix_of_rows c.args.layered.now in
+    let L = layered_matrix_of c.args.layered.now in
     let form = c.args.form.now in
     let told : TellsPlaces L.columns (column_lists form) c.in-Some.columns.items =
     subst (λ found. MatchOption found (Not (StandsOnce L.columns (column_lists form)))
@@ -52,7 +53,7 @@ pub returns-then-not-has_shape : goal.returns-then-not-has_shape
 returns-then-not-has_shape g c =
     let p = g.F.Field.modulus in
     let M = mixed_matrix_of c.args.model.now in
-    let L = matrix_of_rows c.args.layered.now in
+    let L = layered_matrix_of c.args.layered.now in
     let form = c.args.form.now in
     let kept-0 : KeepsFirst p M L form 0 = none-kept p M L form in
     record { kept = tt; broken = next-broken p M L form 0 2 refl (omega arith) kept-0 (λ h. absurd (differ refl (c.if-not-has_shape.ensures.1 h))) }
@@ -61,7 +62,7 @@ pub returns-then-not-branch : goal.returns-then-not-branch
 returns-then-not-branch g c =
     let p = g.F.Field.modulus in
     let M = mixed_matrix_of c.args.model.now in
-    let L = matrix_of_rows c.args.layered.now in
+    let L = layered_matrix_of c.args.layered.now in
     let form = c.args.form.now in
     let kept-0 : KeepsFirst p M L form 0 = none-kept p M L form in
     let kept-1 : KeepsFirst p M L form 1 = more-kept p M L form 0 1 refl kept-0 (c.if-not-has_shape.ensures.0 refl) in
@@ -75,7 +76,7 @@ pub returns-then-not-branch-2 : goal.returns-then-not-branch-2
 returns-then-not-branch-2 g c =
     let p = g.F.Field.modulus in
     let M = mixed_matrix_of c.args.model.now in
-    let L = matrix_of_rows c.args.layered.now in
+    let L = layered_matrix_of c.args.layered.now in
     let form = c.args.form.now in
     let kept-0 : KeepsFirst p M L form 0 = none-kept p M L form in
     let kept-1 : KeepsFirst p M L form 1 = more-kept p M L form 0 1 refl kept-0 (c.if-not-has_shape.ensures.0 refl) in
@@ -90,7 +91,7 @@ pub returns-then-not-branch-3 : goal.returns-then-not-branch-3
 returns-then-not-branch-3 g c =
     let p = g.F.Field.modulus in
     let M = mixed_matrix_of c.args.model.now in
-    let L = matrix_of_rows c.args.layered.now in
+    let L = layered_matrix_of c.args.layered.now in
     let form = c.args.form.now in
     let kept-0 : KeepsFirst p M L form 0 = none-kept p M L form in
     let kept-1 : KeepsFirst p M L form 1 = more-kept p M L form 0 1 refl kept-0 (c.if-not-has_shape.ensures.0 refl) in
@@ -106,7 +107,7 @@ pub returns-then-not-branch-4 : goal.returns-then-not-branch-4
 returns-then-not-branch-4 g c =
     let p = g.F.Field.modulus in
     let M = mixed_matrix_of c.args.model.now in
-    let L = matrix_of_rows c.args.layered.now in
+    let L = layered_matrix_of c.args.layered.now in
     let form = c.args.form.now in
     let kept-0 : KeepsFirst p M L form 0 = none-kept p M L form in
     let kept-1 : KeepsFirst p M L form 1 = more-kept p M L form 0 1 refl kept-0 (c.if-not-has_shape.ensures.0 refl) in
@@ -123,7 +124,7 @@ pub returns-then-not-is_counted : goal.returns-then-not-is_counted
 returns-then-not-is_counted g c =
     let p = g.F.Field.modulus in
     let M = mixed_matrix_of c.args.model.now in
-    let L = matrix_of_rows c.args.layered.now in
+    let L = layered_matrix_of c.args.layered.now in
     let form = c.args.form.now in
     let kept-0 : KeepsFirst p M L form 0 = none-kept p M L form in
     let kept-1 : KeepsFirst p M L form 1 = more-kept p M L form 0 1 refl kept-0 (c.if-not-has_shape.ensures.0 refl) in
@@ -137,7 +138,7 @@ pub returns-in_default : goal.returns-in_default
 returns-in_default g c =
     let p = g.F.Field.modulus in
     let M = mixed_matrix_of c.args.model.now in
-    let L = matrix_of_rows c.args.layered.now in
+    let L = layered_matrix_of c.args.layered.now in
     let form = c.args.form.now in
     let kept-0 : KeepsFirst p M L form 0 = none-kept p M L form in
     let kept-1 : KeepsFirst p M L form 1 = more-kept p M L form 0 1 refl kept-0 (c.if-not-has_shape.ensures.0 refl) in
@@ -155,7 +156,7 @@ pub returns-then-not-branch-5 : goal.returns-then-not-branch-5
 returns-then-not-branch-5 g c =
     let p = g.F.Field.modulus in
     let M = mixed_matrix_of c.args.model.now in
-    let L = matrix_of_rows c.args.layered.now in
+    let L = layered_matrix_of c.args.layered.now in
     let form = c.args.form.now in
     let kept-0 : KeepsFirst p M L form 0 = none-kept p M L form in
     let kept-1 : KeepsFirst p M L form 1 = more-kept p M L form 0 1 refl kept-0 (c.if-not-has_shape.ensures.0 refl) in
@@ -178,7 +179,7 @@ pub returns : goal.returns
 returns g c =
     let p = g.F.Field.modulus in
     let M = mixed_matrix_of c.args.model.now in
-    let L = matrix_of_rows c.args.layered.now in
+    let L = layered_matrix_of c.args.layered.now in
     let form = c.args.form.now in
     let kept-0 : KeepsFirst p M L form 0 = none-kept p M L form in
     let kept-1 : KeepsFirst p M L form 1 = more-kept p M L form 0 1 refl kept-0 (c.if-not-has_shape.ensures.0 refl) in

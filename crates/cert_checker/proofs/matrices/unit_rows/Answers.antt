@@ -1,8 +1,8 @@
 use Rattle.std.proofs.Common.{◌≡◌, ◌+◌, [], ◌∷◌, ◌++◌, subst, sym, ap, ◌∙◌, arith}
 use Rattle.linear_algebra.specs.Products.{identity}
 use Rattle.cert_text.specs.Contents.{numbered, numbered_rows}
-use Rattle.sparse_layering.specs.Matrices.{PrintsMatrix, PrintsRow}
-use Rattle.sparse_layering.proofs.PrintedRows.{rows-push}
+use Rattle.cert_text.specs.Printing.{PrintsMatrix, PrintsRow}
+use Rattle.cert_checker.proofs.PrintedRows.{rows-push}
 use Rattle.cert_checker.proofs.UnitRows.{unit-entry}
 use Rattle.cert_checker.proofs.matrices.unit_rows.Goals as goal
 

@@ -1,6 +1,6 @@
 use Rattle.linear_algebra.specs.Products.{identity}
 use Rattle.cert_text.specs.Contents.{numbered_rows}
-use Rattle.sparse_layering.specs.Matrices.{PrintsMatrix}
+use Rattle.cert_text.specs.Printing.{PrintsMatrix}
 use Rattle.cert_checker.proofs.matrices.unit_rows.Given as goal
 
 abbrev pub invariant-loop-row : goal.invariant-loop-row

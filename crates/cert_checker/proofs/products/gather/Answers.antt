@@ -2,10 +2,10 @@ use Rattle.std.proofs.Common.{◌≡◌, ℕ, ◌∷◌, [], ◌+◌, ◌*◌, �
 use Rattle.std.proofs.Common.{slice_index, slice_index_or, ap, sym, subst, refl, ◌∙◌, arith}
 use Rattle.residue_theory.specs.Sums.{sum_below}
 use Rattle.cert_text.specs.Contents.{numbered, numbered_rows}
-use Rattle.cert_text.specs.Ranges.{IsMatrix}
+use Rattle.cert_text.specs.Ranges.{IsPrintedMatrix}
 use Rattle.cert_text.specs.Readings.{entry_at, matrix_of}
 use Rattle.std.proofs.lemmas.List.{get_or-map, length-map}
-use Rattle.cert_checker.specs.Gathering.{IsAdded}
+use Rattle.cert_checker.specs.Gathering.{IsAddedRow}
 use Rattle.cert_checker.specs.WideRows.{AreValues, AreValuesOfRows}
 use Rattle.cert_checker.proofs.EntrySteps.{IsSumLeft, AreKeysRising, rising-drop, sum_left-step, sum_left-end}
 use Rattle.cert_checker.proofs.NumberedRows.{entry_count, named, next_entry, rising_entry, row_is, row_within, rows_count}
@@ -23,7 +23,7 @@ add_row-requires-clause-entries g c =
     let n = length c.loop-coefficient.row in
     let low : c.coefficient-item.result.0 < m = subst (λ (e : ℕ × g.row.F.Denot). e.0 < m)
     (sym c.coefficient-item.is) (c.requires.rows c.loop-coefficient.coefficient-index c.coefficient-item.result c.loop-coefficient-test.true) in
-    let matrix = subst (λ k. IsMatrix p m k (numbered_rows number c.args.matrix.now)) (sym c.loop-coefficient.auto.row) c.requires.matrix in
+    let matrix = subst (λ k. IsPrintedMatrix p m k (numbered_rows number c.args.matrix.now)) (sym c.loop-coefficient.auto.row) c.requires.matrix in
     row_within number p m n c.args.matrix.now c.coefficient-item.result.0 c.as_slice.result.now
     c.index-matrix-i.result matrix low c.as_slice.ensures c.index-matrix-i.is
 
@@ -70,7 +70,7 @@ loop-coefficient-preserved g c =
     (map number c.add_row.new.sum) (named number entry) (drop (k + 1) printed) want low
     (subst AreKeysRising cut (rising-drop k printed (rising_entry number c.args.coefficients.now c.requires.rising)))
     (λ j. ap (λ list. entry_at list j) (sym is))
-    (subst (λ size. IsAdded p size (number entry.1) (numbered number c.as_slice.result.now)
+    (subst (λ size. IsAddedRow p size (number entry.1) (numbered number c.as_slice.result.now)
     (map number c.loop-coefficient.row) (map number c.add_row.new.sum)) c.loop-coefficient.auto.row c.add_row.ensures)
     (subst (λ es. IsSumLeft p m n rows (map number c.loop-coefficient.row) es want) cut c.loop-coefficient.invariant)
 

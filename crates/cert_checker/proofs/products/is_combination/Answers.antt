@@ -1,7 +1,7 @@
 use Rattle.std.proofs.Common.{◌≡◌, ◌+◌, ◌%◌, length, map, sym, subst, ◌∙◌}
 use Rattle.cert_text.specs.Contents.{numbered, numbered_rows}
 use Rattle.cert_text.specs.Ranges.{AreEntries}
-use Rattle.cert_checker.specs.Gathering.{IsAdded, IsZeroRow}
+use Rattle.cert_checker.specs.Gathering.{IsAddedRow, IsZeroRow}
 use Rattle.cert_checker.proofs.NumberedRows.{entry_columns, entry_rising}
 use Rattle.cert_checker.proofs.ProductLaws.{nothing-left, left-nothing}
 use Rattle.cert_checker.proofs.products.is_combination.Goals as goal
@@ -32,7 +32,7 @@ returns-clause-answer g c =
     let sum = map number c.gather.new.row in
     let less = map number c.add_entries.new.row in
     let minus : (1 + f) % p ≡ 0 = subst (λ one. (one + f) % p ≡ 0) c.one.ensures c.neg.ensures.negative in
-    let added : IsAdded p n f entries sum less = subst (λ m. IsAdded p m f entries sum less) c.gather.auto.row c.add_entries.ensures in
+    let added : IsAddedRow p n f entries sum less = subst (λ m. IsAddedRow p m f entries sum less) c.gather.auto.row c.add_entries.ensures in
     let long : length c.add_entries.new.row ≡ n = c.add_entries.auto.row ∙ c.gather.auto.row in (
       λ h. nothing-left p (length c.args.matrix.now) n f minus (numbered number c.args.coefficients.now)
           (numbered_rows number c.args.matrix.now) entries

@@ -2,7 +2,7 @@ use Rattle.std.proofs.Common.{◌≡◌, [], ◌<◌, inl, inr, refl, ap, sym, s
 use Rattle.residue_theory.proofs.SumLaws.{nat_cases}
 use Rattle.cert_text.specs.Contents.{numbered, numbered_rows}
 use Rattle.cert_text.specs.Ranges.{AreEntries}
-use Rattle.cert_checker.specs.Gathering.{IsCombination, IsZeroRow}
+use Rattle.cert_checker.specs.Gathering.{IsRowCombination, IsZeroRow}
 use Rattle.cert_checker.proofs.NumberedRows.{rows_count, row_is, row_within}
 use Rattle.cert_checker.proofs.ProductLaws.{combination_as}
 use Rattle.cert_checker.proofs.WrittenBack.{written-back}
@@ -62,7 +62,7 @@ loop-i-preserved g c =
       zero = subst (λ xs. IsZeroRow p n (map number xs)) (sym written)
           (subst (λ m. IsZeroRow p m (map number new)) long (c.if-not-is_combination.ensures.zero refl));
       so_far = λ k kl. elim (nat_cases k i) [
-        | inl equal ↦ subst (λ r. IsCombination p (length c.args.b.now) n (slice_index_or first r []) rows (slice_index_or third r [])) (sym equal)
+        | inl equal ↦ subst (λ r. IsRowCombination p (length c.args.b.now) n (slice_index_or first r []) rows (slice_index_or third r [])) (sym equal)
             (combination_as p (length c.args.b.now) rows (length c.deref_mut.result.now) n
             (numbered number c.as_slice.result.now) (slice_index_or first i [])
             (numbered number c.as_slice-in-loop-i.result.now) (slice_index_or third i []) long

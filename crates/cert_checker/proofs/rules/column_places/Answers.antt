@@ -11,7 +11,7 @@ places_of-requires g c = c.columns.ensures ∙ sym c.requires.columns
 pub returns : goal.returns
 returns g c =
     let form = c.args.form.now in
-    let n = c.args.layered.now.symbols.width in
+    let n = c.args.layered.now.q.width in
     let width : c.columns.result ≡ n = c.columns.ensures in
     subst (λ lists. IfOk c.places_of.result (λ found. MatchOption found (Not (StandsOnce n lists))
     (λ places. TellsPlaces n lists places.items))) (columns-are form)

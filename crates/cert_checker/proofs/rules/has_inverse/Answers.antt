@@ -1,9 +1,10 @@
 use Rattle.std.proofs.Common.{◌≡◌, length, refl, subst, sym, ◌∙◌}
 use Rattle.std.proofs.lemmas.Result.{IfOk-weaker}
+use Rattle.dense_q.specs.Tables.{height}
 use Rattle.linear_algebra.specs.Products.{identity}
 use Rattle.cert_text.specs.Contents.{numbered_rows}
 use Rattle.cert_text.specs.Readings.{matrix_of}
-use Rattle.sparse_layering.specs.Matrices.{PrintsMatrix}
+use Rattle.cert_text.specs.Printing.{PrintsMatrix}
 use Rattle.cert_checker.proofs.FormSizes.{printed-count, printed-matrix, printed-rows}
 use Rattle.cert_checker.proofs.ProductLaws.{inverse-iff, product_as}
 use Rattle.cert_checker.proofs.rules.has_inverse.Goals as goal
@@ -53,7 +54,7 @@ returns g c =
     let u = printed-rows number c.u.result.now c.as_slice-2.result.now form.u c.as_slice-2.ensures c.u.ensures.u in
     let unit = printed-rows number c.in_ok-unit.unit c.as_slice-3.result.now (numbered_rows number c.in_ok-unit.unit) c.as_slice-3.ensures refl in
     let size = c.requires.q_rows in
-    let view : n ≡ length c.args.layered.now.constants = c.q_rows-n.ensures in
+    let view : n ≡ height c.args.layered.now.q = c.q_rows-n.ensures in
     let printed : PrintsMatrix p _ _ identity (numbered_rows number c.in_ok-unit.unit) =
     subst (λ k. PrintsMatrix p k k identity (numbered_rows number c.in_ok-unit.unit)) view c.in_ok-unit.ensures in
     let sizes = product_as p (numbered_rows number c.as_slice-3.result.now) (numbered_rows number c.in_ok-unit.unit)

@@ -1,7 +1,7 @@
 use Rattle.std.proofs.Common.{◌≡◌, ◌+◌, MatchOption, length, ap, subst, ◌∙◌, arith}
 use Rattle.std.proofs.lemmas.Result.{IfOk-weaker}
 use Rattle.residue_theory.proofs.SetLaws.{differ}
-use Rattle.sparse_layering.specs.Layers.{matrix_of_rows}
+use Rattle.mixed_model.specs.Layers.{layered_matrix_of}
 use Rattle.cert_text.specs.Readings.{StandsOnce, q_row_lists, t_row_lists}
 use Rattle.cert_checker.specs.Standing.{Not, TellsPlaces, lists_in}
 use Rattle.cert_checker.specs.declared.standing.Member.TheVariants.{QRow, TRow}
@@ -15,7 +15,7 @@ returns-in_default g c =
     subst (λ found. MatchOption found (Not (StandsOnce c.q_rows.result (lists_in QRow form)))
     (λ places. TellsPlaces c.q_rows.result (lists_in QRow form) places.items)) c.in_default.is c.in_ok-q_rows.ensures in (
       λ f. absurd (cc),
-      λ placed. absurd (q-never g.F.Field.modulus (matrix_of_rows c.args.layered.now) form c.q_rows.result c.q_rows.ensures never placed),
+      λ placed. absurd (q-never g.F.Field.modulus (layered_matrix_of c.args.layered.now) form c.q_rows.result c.q_rows.ensures never placed),
     )
 
 pub returns-in_default-2 : goal.returns-in_default-2
@@ -25,14 +25,14 @@ returns-in_default-2 g c =
     subst (λ found. MatchOption found (Not (StandsOnce c.t_rows.result (lists_in TRow form)))
     (λ places. TellsPlaces c.t_rows.result (lists_in TRow form) places.items)) c.in_default-2.is c.in_ok-t_rows.ensures in (
       λ f. absurd (cc),
-      λ placed. absurd (t-never g.F.Field.modulus (matrix_of_rows c.args.layered.now) form c.t_rows.result c.t_rows.ensures never placed),
+      λ placed. absurd (t-never g.F.Field.modulus (layered_matrix_of c.args.layered.now) form c.t_rows.result c.t_rows.ensures never placed),
     )
 
 pub returns-then-not-branch : goal.returns-then-not-branch
 returns-then-not-branch g c =
     let p = g.F.Field.modulus in
     let form = c.args.form.now in
-    let L = matrix_of_rows c.args.layered.now in
+    let L = layered_matrix_of c.args.layered.now in
     let q = c.in-Some.q_rows.items in
     let t = c.in-Some-2.t_rows.items in
     let q_told : TellsPlaces L.q_rows (q_row_lists form) q = q-told p L form c.q_rows.result q c.q_rows.ensures
@@ -54,7 +54,7 @@ pub returns : goal.returns
 returns g c =
     let p = g.F.Field.modulus in
     let form = c.args.form.now in
-    let L = matrix_of_rows c.args.layered.now in
+    let L = layered_matrix_of c.args.layered.now in
     let q = c.in-Some.q_rows.items in
     let t = c.in-Some-2.t_rows.items in
     let q_told : TellsPlaces L.q_rows (q_row_lists form) q = q-told p L form c.q_rows.result q c.q_rows.ensures

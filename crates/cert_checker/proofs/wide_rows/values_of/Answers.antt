@@ -2,7 +2,7 @@ use Rattle.std.proofs.Common.{◌≡◌, length, map, replicate, ap, sym, subst,
 use Rattle.std.proofs.lemmas.List.{length-map, length-replicate}
 use Rattle.cert_text.specs.Contents.{numbered}
 use Rattle.cert_text.specs.Ranges.{AreEntries}
-use Rattle.cert_checker.specs.Gathering.{IsAdded}
+use Rattle.cert_checker.specs.Gathering.{IsAddedRow}
 use Rattle.cert_checker.specs.WideRows.{AreValues}
 use Rattle.cert_checker.proofs.NumberedRows.{entry_columns, entry_rising}
 use Rattle.cert_checker.proofs.WideLaws.{values-made}
@@ -36,4 +36,4 @@ returns g c =
     subst (λ xs. AreValues p n entries (map number xs)) (sym written)
     (values-made p n (number c.one.result) entries (map number zeros) (map number new) none c.one.ensures
     (length-map new number ∙ same)
-    (subst (λ m. IsAdded p m (number c.one.result) entries (map number zeros) (map number new)) long c.add_entries.ensures))
+    (subst (λ m. IsAddedRow p m (number c.one.result) entries (map number zeros) (map number new)) long c.add_entries.ensures))

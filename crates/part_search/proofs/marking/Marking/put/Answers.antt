@@ -2,7 +2,7 @@ use Rattle.std.proofs.Common.{◌≡◌, ◌<◌, ℕ, List, true, length, slice
 use Rattle.residue_theory.specs.Sets.{only}
 use Rattle.residue_theory.proofs.SetLaws.{eqb_true}
 use Rattle.part_rules.specs.Listed.{marked}
-use Rattle.part_search.specs.Markings.{IsGrown}
+use Rattle.part_search.specs.Markings.{AreMarkedToo}
 use Rattle.part_search.proofs.MarkLaws.{grown-put, grown-same, mark-read}
 use Rattle.part_search.proofs.marking.Marking.put.Goals as goal
 
@@ -12,7 +12,7 @@ returns-in_ok-push c =
     let queue = c.args.self.now.queue.items in
     let place = c.args.place in
     let below : place < length marks = omega arith in
-    subst (λ (later : List ℕ). IsGrown (only place) marks queue (slice_set marks place true) later) (sym c.in_ok-push.ensures.items)
+    subst (λ (later : List ℕ). AreMarkedToo (only place) marks queue (slice_set marks place true) later) (sym c.in_ok-push.ensures.items)
     (grown-put marks queue place c.requires.queued below (mark-read marks place c.index.result.now below c.index.ensures ∙ c.if-not-index.true))
 
 pub returns-else-not-index : goal.returns-else-not-index

@@ -2,7 +2,7 @@ use Rattle.std.proofs.Common.{◌<◌, ◌∙◌, ℕ, List, length, vec_len, sy
 use Rattle.residue_theory.specs.Sets.{has}
 use Rattle.part_rules.specs.Listed.{marked}
 use Rattle.part_search.specs.Neighbours.{listed}
-use Rattle.part_search.specs.Markings.{IsGrown}
+use Rattle.part_search.specs.Markings.{AreMarkedToo}
 use Rattle.part_search.proofs.ListLaws.{list-read}
 use Rattle.part_search.proofs.MarkLaws.{item-read}
 use Rattle.part_search.proofs.SearchLaws.{search-first, search-next, search-last, queue-within}
@@ -39,7 +39,7 @@ loop-head-preserved c =
     let read = c.deref.ensures.value ∙ sym (list-read lists place c.index.result.now below c.index.ensures) in
     search-next (listed lists) (vec_len first.marks) (marked first.marks.items) old.marks.items now.marks.items
     old.queue.items now.queue.items head place S more at
-    (subst (λ (ys : List ℕ). IsGrown (has ys) old.marks.items old.queue.items now.marks.items now.queue.items) read c.in_ok-look.ensures)
+    (subst (λ (ys : List ℕ). AreMarkedToo (has ys) old.marks.items old.queue.items now.marks.items now.queue.items) read c.in_ok-look.ensures)
 
 pub loop-head-smaller : goal.loop-head-smaller
 loop-head-smaller c =

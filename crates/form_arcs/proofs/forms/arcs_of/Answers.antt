@@ -1,7 +1,0 @@
-use Rattle.form_arcs.proofs.FormLaws.{form-arcs}
-use Rattle.form_arcs.proofs.forms.arcs_of.Goals as goal
-
-pub returns : goal.returns
-returns g c = form-arcs g.F.Field.modulus c.args.form.now c.shape-shape.ensures.ccf c.requires
-    c.in_ok-arcs_in.field-0.items c.in_ok-arcs_in.ensures c.in_ok-free_in.field-0.items c.in_ok-ends_in.field-0.items
-    c.in_ok-free_in.ensures c.in_ok-ends_in.ensures

@@ -1,5 +1,0 @@
-use Rattle.form_arcs.specs.Marking.{AreOthers}
-use Rattle.form_arcs.proofs.marking.others.Given as goal
-
-abbrev pub invariant-loop-mark : goal.invariant-loop-mark
-invariant-loop-mark l = record { others : AreOthers l.marks l.mark-index l.now.items }

@@ -1,2 +1,0 @@
-pub mod LeadLaws
-pub mod MetLaws

@@ -1,5 +1,0 @@
-use Rattle.part_tests.specs.Steps.{HavePart}
-use Rattle.part_tests.proofs.leading.have_part.Given as goal
-
-abbrev pub invariant-loop-x : goal.invariant-loop-x
-invariant-loop-x l = record { have : HavePart l.marks l.parts l.part l.x }
