@@ -13,10 +13,10 @@ use Rattle.mixed_layering_laws.proofs.LayeringRank.{model_rank}
 use Rattle.mixed_layering.specs.Layers.{AreLayersOf, origins_of}
 use Rattle.mixed_model.specs.Layers.{Layers, AreLayers, layered_matrix_of, split_of}
 use Rattle.mixed_model.specs.Models.{MixedModel, IsModel, mixed_matrix_of}
-use Rattle.row_transform.specs.Tableaus.{State, IsTableau, IsBaseColumn}
+use Rattle.row_transform.specs.Tableaus.{TableauState, IsTableau, IsBaseColumn}
 use Rattle.independent_matching.specs.Engines.{layers}
 use Rattle.independent_matching.specs.Sides.{is_matched, mate_of, size_of}
-use Rattle.minimiser_lattice.specs.Parts.{Parts}
+use Rattle.minimiser_lattice.specs.Parts.{PlaceParts}
 use Rattle.cert_text.specs.Contents.{Contents}
 use Rattle.cert_text.specs.Ranges.{ArePairs, AreRising, IsCcf, IsPart, IsBlock, IsPattern}
 use Rattle.cert_text.specs.Readings.{matrix_of}
@@ -51,11 +51,11 @@ part-ranges q t n e u placing part c columns q_rows t_rows is = record {
 }
 
 module _ (p : ℕ) (prime : IsPrime p) (odd : 2 < p) (of : Layers) (layers_ok : AreLayers of)
-    (t : State) (matching : Matching) (reached : ℕ → Bool) (solution : IsSolution p of t matching reached) (tableau : IsTableau p t)
+    (t : TableauState) (matching : Matching) (reached : ℕ → Bool) (solution : IsSolution p of t matching reached) (tableau : IsTableau p t)
     (base mates : List (ℕ × ℕ)) (pair : ListsPair t matching (length of.t.rows) base mates)
     (s u P : List (List (ℕ × ℕ))) (prints : PrintsTableau p t s u P)
     (T : List (List ℕ)) (prints_t : PrintsPattern (length of.t.rows) of.t.width (touches of.t) T)
-    (v : Parts) (decomposed : IsDecomposition p t matching v)
+    (v : PlaceParts) (decomposed : IsDecomposition p t matching v)
     (first : CcfPart) (blocks : List CcfBlock) (last : CcfPart) (parts : PrintsParts v t.rows (length of.t.rows) base mates first blocks last) where
   -- the layered matrix on which the engine stands
   abbrev N : LayeredMatrix

@@ -16,4 +16,3 @@ pub mod NextBlock
 pub mod PartTables
 pub mod TakenLists
 pub mod PlacedParts
-pub mod EntryCounts

@@ -6,7 +6,7 @@ use Rattle.residue_theory.proofs.SumLaws.{nat_cases}
 use Rattle.minimiser_lattice.specs.declared.lattice.Part.{Part}
 use Rattle.minimiser_lattice.specs.declared.lattice.Part.TheVariants.{First, Block, Last}
 use Rattle.ccf_builder.specs.declared.part_lists.PartLists.{PartLists}
-use Rattle.ccf_builder.specs.Placings.{AreEmpty, IsEntered, ListsBelow, ListsParts}
+use Rattle.ccf_builder.specs.Placings.{AreEmpty, IsListedAtPart, ListsBelow, ListsParts}
 use Rattle.ccf_builder.proofs.MemberLists.{lists-more, lists-none, lists-same}
 
 abbrev code : Part → ℕ
@@ -41,7 +41,7 @@ module _ (parts : List Part) where
     block-same part j d is differs jb =
         lists-same (Of (Block j)) n (slice_index_or old.blocks.items j d).items (lists.blocks_are j d jb) (apart part (Block j) is differs)
 
-    pub entered-one : (new : PartLists) (part : Part) → Of part n → IsEntered old new part n → ListsParts parts (n + 1) b new
+    pub entered-one : (new : PartLists) (part : Part) → Of part n → IsListedAtPart old new part n → ListsParts parts (n + 1) b new
     entered-one new First is (first, blocks, last) = record {
       first = subst (ListsBelow (Of First) (n + 1)) (sym first) (lists-more (Of First) n old.first.items lists.first is);
       count = subst (λ (v : Vec (Vec ℕ)). length v.items ≡ b) (sym blocks) lists.count;

@@ -1,6 +1,6 @@
 -- What the lists of each part tell of one part.
 use Rattle.std.proofs.Common.{◌≡◌, ℕ, ◌<◌, List, length, sym, subst}
-use Rattle.minimiser_lattice.specs.Parts.{Parts}
+use Rattle.minimiser_lattice.specs.Parts.{PlaceParts}
 use Rattle.minimiser_lattice.specs.declared.lattice.Part.{Part}
 use Rattle.minimiser_lattice.specs.declared.lattice.Part.TheVariants.{First, Block, Last}
 use Rattle.cert_text.specs.declared.part.CcfPart.{CcfPart}
@@ -13,7 +13,7 @@ pub listed-same : (seen parts : List Part) (b blocks : ℕ) (lists : PartLists) 
 listed-same seen parts b blocks lists same many are =
     subst (λ n. ListsParts parts (length parts) n lists) many (subst (λ s. ListsParts s (length s) b lists) same are)
 
-module _ (v : Parts) (placing : Placing) (columns q_rows t_rows : PartLists)
+module _ (v : PlaceParts) (placing : Placing) (columns q_rows t_rows : PartLists)
     (columns_are : ListsParts placing.columns (length placing.columns) v.blocks columns)
     (q_are : ListsParts placing.q_rows (length placing.q_rows) v.blocks q_rows)
     (t_are : ListsParts placing.t_rows (length placing.t_rows) v.blocks t_rows) where

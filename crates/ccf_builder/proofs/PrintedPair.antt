@@ -10,18 +10,18 @@ use Rattle.mixed_matrices.specs.Arcs.{is_end, is_free, leads_to}
 use Rattle.mixed_matrices.specs.LayeredMatrices.{LayeredMatrix}
 use Rattle.mixed_matrices.specs.Tableaus.{Tableau}
 use Rattle.mixed_model.specs.Layers.{Layers}
-use Rattle.row_transform.specs.Tableaus.{State, IsTableau, IsBaseColumn}
+use Rattle.row_transform.specs.Tableaus.{TableauState, IsTableau, IsBaseColumn}
 use Rattle.independent_matching.specs.Engines.{IsSolved, layers}
-use Rattle.independent_matching.specs.Sides.{layers_of, tableau_of, is_matched, mate_of, size_of}
+use Rattle.independent_matching.specs.Sides.{layers_of, tableau_of_pair, is_matched, mate_of, size_of}
 use Rattle.independent_matching.proofs.EngineLaws.{same-arcs as kept-arcs, same-ends as kept-ends}
 use Rattle.cert_text.specs.Readings.{matrix_of, pair_at, has_column, row_with, ColumnsDiffer, IsUnitColumn}
 use Rattle.cert_text.specs.declared.part.CcfPart.{CcfPart}
 use Rattle.cert_text.specs.declared.part.CcfBlock.{CcfBlock}
-use Rattle.ccf_builder.specs.Matrices.{PrintsMatrix}
 use Rattle.ccf_builder.specs.Pairs.{ListsPairs, IsMate}
 use Rattle.ccf_builder.specs.Solutions.{IsSolution}
 use Rattle.ccf_builder.proofs.PairLists.{columns-differ, column-same, counted, row-same}
 use Rattle.ccf_builder.proofs.SameTableau.{same-arcs, same-ends, same-free}
+use Rattle.cert_text.specs.Printing.{PrintsMatrix}
 
 -- no rows and no columns
 no_part : CcfPart
@@ -30,14 +30,14 @@ no_part = record { columns = []; q_rows = []; t_rows = [] }
 no_block : CcfBlock
 no_block = record { part = no_part; lower = [] }
 
-module _ (p : ℕ) (of : Layers) (t : State) (M : Matching) (reached : ℕ → Bool) (solution : IsSolution p of t M reached) (tableau : IsTableau p t) where
+module _ (p : ℕ) (of : Layers) (t : TableauState) (M : Matching) (reached : ℕ → Bool) (solution : IsSolution p of t M reached) (tableau : IsTableau p t) where
   -- the layered matrix on which the engine stands
   abbrev pub L : LayeredMatrix
   L = layers (entry of.q) t M
 
   -- the tableau of the engine
   abbrev pub F : Tableau
-  F = tableau_of t M
+  F = tableau_of_pair t M
 
   pub solved : IsSolved p L F reached
   solved = subst (λ N. IsSolved p N F reached) (sym solution.layers_are) solution.solved

@@ -9,17 +9,17 @@ use Rattle.bipartite_matching.specs.Matchings.{Matching}
 use Rattle.closed_sets.specs.Blocks.{IsBelow}
 use Rattle.closed_sets.specs.Closed.{IsMiddle, NoEndReached}
 use Rattle.closed_sets.specs.Orders.{IsCover}
-use Rattle.closed_sets.specs.Rules.{KeepsRules as KeepsPlaces}
+use Rattle.closed_sets.specs.Rules.{KeepsPlaceRules as KeepsPlaces}
 use Rattle.mixed_matrices.specs.Arcs.{has_base, has_match, is_end, is_free, leads_to}
 use Rattle.mixed_matrices.specs.CheckerRules.{HasRows, KeepsPartRules, block_of, in_first, in_last}
 use Rattle.mixed_matrices.specs.Forms.{Parts as Forms}
 use Rattle.mixed_matrices.specs.LayeredMatrices.{LayeredMatrix}
 use Rattle.mixed_matrices.specs.Tableaus.{Tableau}
 use Rattle.mixed_model.specs.Layers.{Layers}
-use Rattle.row_transform.specs.Tableaus.{State, IsTableau, IsBaseColumn}
+use Rattle.row_transform.specs.Tableaus.{TableauState, IsTableau, IsBaseColumn}
 use Rattle.independent_matching.specs.Sides.{layers_of, is_matched, mate_of}
 use Rattle.independent_matching.proofs.EngineLaws.{same-arcs as kept-arcs, same-ends as kept-ends}
-use Rattle.minimiser_lattice.specs.Parts.{Parts, part_in}
+use Rattle.minimiser_lattice.specs.Parts.{PlaceParts, part_in}
 use Rattle.minimiser_lattice.specs.declared.lattice.Part.{Part}
 use Rattle.minimiser_lattice.specs.declared.lattice.Part.TheVariants.{First, Block, Last}
 use Rattle.residue_theory.specs.Sets.{has}
@@ -27,7 +27,6 @@ use Rattle.cert_text.specs.Readings.{has_column, row_with, place_of, StandsOnce}
 use Rattle.cert_text.specs.declared.part.CcfPart.{CcfPart}
 use Rattle.cert_text.specs.declared.part.CcfBlock.{CcfBlock}
 use Rattle.ccf_builder.specs.Decompositions.{IsDecomposition}
-use Rattle.ccf_builder.specs.Matrices.{PrintsMatrix}
 use Rattle.ccf_builder.specs.Pairs.{ListsPairs, IsMate}
 use Rattle.ccf_builder.specs.Placings.{PlacesColumns, PlacesRows, Placing, HasPart, HasBlock, ListsBelow, ListsPart}
 use Rattle.ccf_builder.specs.Solutions.{IsSolution}
@@ -38,6 +37,7 @@ use Rattle.ccf_builder.proofs.PrintedPair.{mate_low, printed-arc, printed-free, 
 use Rattle.ccf_builder.proofs.RowParts.{bare-part, column-part, part_of_row, row-bounded, row-part, row-with-below}
 use Rattle.ccf_builder.proofs.PartLists.{IsOfBlocks, once, place, place_of_part}
 use Rattle.ccf_builder.proofs.SameRules.{same-below, same-clear, same-rules}
+use Rattle.cert_text.specs.Printing.{PrintsMatrix}
 
 -- no rows and no columns
 abbrev pub no_part : CcfPart
@@ -83,11 +83,11 @@ module _ (list_of : CcfPart → List ℕ) (parts : List Part) (blocks : List Ccf
   middle-lists k kb = subst (λ list. ListsPart parts (Block k) list)
       (sym (get_or-map (λ (block : CcfBlock). list_of block.part) blocks k no_block [] kb)) (in_blocks k kb)
 
-module _ (p : ℕ) (of : Layers) (S : State) (M : Matching) (reached : ℕ → Bool) (solution : IsSolution p of S M reached) (tableau : IsTableau p S)
+module _ (p : ℕ) (of : Layers) (S : TableauState) (M : Matching) (reached : ℕ → Bool) (solution : IsSolution p of S M reached) (tableau : IsTableau p S)
     (base mates : List (ℕ × ℕ)) (bases : ListsPairs (IsBaseColumn S) S.rows base)
     (matched : ListsPairs (IsMate M S.columns) (L p of S M reached solution tableau).t_rows mates)
     (P : List (List (ℕ × ℕ))) (prints_p : PrintsMatrix p S.rows S.columns S.p P)
-    (v : Parts) (decomposed : IsDecomposition p S M v)
+    (v : PlaceParts) (decomposed : IsDecomposition p S M v)
     (placing : Placing) (of_columns : PlacesColumns v placing.columns) (of_q : PlacesRows S.rows base placing.columns placing.q_rows)
     (of_t : PlacesRows (L p of S M reached solution tableau).t_rows mates placing.columns placing.t_rows)
     (first last : CcfPart) (blocks : List CcfBlock) (of_first : HasPart placing First first) (count : length blocks ≡ v.blocks)

@@ -4,7 +4,7 @@ use Rattle.residue_theory.specs.Sets.{everything}
 use Rattle.residue_theory.proofs.SumLaws.{sum_on-ext}
 use Rattle.residue_theory.proofs.ResidueLaws.{agree-sum, agree-mul}
 use Rattle.linear_algebra.specs.Products.{product, Agree, IsInverse}
-use Rattle.row_transform.specs.Tableaus.{State, IsTableau}
+use Rattle.row_transform.specs.Tableaus.{TableauState, IsTableau}
 
 -- equal right factors give equal products
 product-right : (p k m n : ℕ) (S a b : ℕ → ℕ → ℕ) → Agree p k n a b → Agree p m n (product k S a) (product k S b)
@@ -24,5 +24,6 @@ product-entries p m n S T a P R s r same i j il jl = ap (λ x. x % p) (r i j il 
     (λ t tl _. ap (λ x. x * a t j) (sym (s i t il tl))))
 
 -- P is S times the matrix that the tableau came from
-pub transformed : (p : ℕ) (q : ℕ → ℕ → ℕ) (t : State) → Agree p t.rows t.columns t.q q → IsTableau p t → Agree p t.rows t.columns t.p (product t.rows t.s q)
+pub transformed : (p : ℕ) (q : ℕ → ℕ → ℕ) (t : TableauState) → Agree p t.rows t.columns t.q q → IsTableau p t → Agree p t.rows t.columns t.p
+    (product t.rows t.s q)
 transformed p q t entries tableau i j il jl = tableau.product_is i j il jl ∙ product-right p t.rows t.rows t.columns t.s t.q q entries i j il jl

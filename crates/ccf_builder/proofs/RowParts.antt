@@ -5,7 +5,7 @@ use Rattle.residue_theory.proofs.SumLaws.{nat_cases}
 use Rattle.residue_theory.proofs.SetLaws.{eqb_from, search_below, some_below-holds}
 use Rattle.cert_text.specs.Readings.{pair_at, has_column, row_with}
 use Rattle.cert_text.proofs.PairLists.{has-found}
-use Rattle.minimiser_lattice.specs.Parts.{Parts, part_in}
+use Rattle.minimiser_lattice.specs.Parts.{PlaceParts, part_in}
 use Rattle.minimiser_lattice.specs.declared.lattice.Part.{Part}
 use Rattle.minimiser_lattice.specs.declared.lattice.Part.TheVariants.{Last}
 use Rattle.ccf_builder.specs.Pairs.{ListsPairs}
@@ -17,7 +17,7 @@ use Rattle.ccf_builder.proofs.PartLists.{IsOfBlocks}
 module _ (Has : ℕ → ℕ → Type 0) (m n : ℕ) (pairs : List (ℕ × ℕ)) (lists : ListsPairs Has m pairs) (B : ℕ → Bool) (row : ℕ → ℕ)
     (told : (r y : ℕ) → Has r y → (y < n) × (B y ≡ true) × (row y ≡ r)) (has : (y : ℕ) → y < n → B y ≡ true →
     Has (row y) y) (low : (y : ℕ) → y < n → B y ≡ true → row y < m)
-    (v : Parts) (columns rows : List Part) (wide : v.places ≡ n) (of_columns : PlacesColumns v columns) (of_rows : PlacesRows m pairs columns rows)
+    (v : PlaceParts) (columns rows : List Part) (wide : v.places ≡ n) (of_columns : PlacesColumns v columns) (of_rows : PlacesRows m pairs columns rows)
     (bounded : (x : ℕ) → x < n → IsOfBlocks v.blocks (part_in v x)) where
   -- the part of a row
   abbrev pub part_of_row : ℕ → Part

@@ -2,7 +2,7 @@
 use Rattle.std.proofs.Common.{◌≡◌, ℕ, zero, suc, ◌<◌, ◌⊎◌, inl, inr, Bool, true, sym, ◌∙◌, subst}
 use Rattle.closed_sets.specs.Blocks.{IsBelow}
 use Rattle.closed_sets.specs.Closed.{IsMiddle, NoEndReached}
-use Rattle.closed_sets.specs.Rules.{InBlock, KeepsRules}
+use Rattle.closed_sets.specs.Rules.{InBlock, KeepsPlaceRules}
 use Rattle.closed_sets.specs.Walks.{Walk, Reaches, ReachesOn, FromSome, ToSome}
 
 pub same-walk : (arc brc : ℕ → ℕ → Bool) (n : ℕ) → ((x y : ℕ) → x < n → y < n → arc x y ≡ brc x y) → (k x y : ℕ) → y < n → Walk arc n x y k → Walk brc n x y k
@@ -79,10 +79,10 @@ module _ (arc brc : ℕ → ℕ → Bool) (n : ℕ) (S T E G : ℕ → Bool) (sa
     at : (x : ℕ) → InBlock n H K x → block x ≡ clock x
     at x is = blocks x (in_back x is)
 
-    module _ (rules : KeepsRules arc n S E F L block b lower) where
+    module _ (rules : KeepsPlaceRules arc n S E F L block b lower) where
       leads : (x y : ℕ) → InBlock n H K x → y < n → brc x y ≡ true →
           (H y ≡ true) ⊎ (InBlock n H K y × ((clock y ≡ clock x) ⊎ ReachesOn mower b (clock x) (clock y)))
-      leads x y is yl h = elim (rules.block_leads x y (in_back x is) yl (same x y is.below yl ∙ h)) [
+      leads x y is yl h = elim (rules.down.block_leads x y (in_back x is) yl (same x y is.below yl ∙ h)) [
         | inl in_first ↦ inl (sym (first y yl) ∙ in_first)
         | inr (other, inl equal) ↦ inr (in_block y other, inl (sym (blocks y other) ∙ equal ∙ at x is))
         | inr (other, inr chain) ↦ inr (
@@ -104,18 +104,22 @@ module _ (arc brc : ℕ → ℕ → Bool) (n : ℕ) (S T E G : ℕ → Bool) (sa
           ]) in
           (found.0, found.1, in_block found.0 found.2, sym (blocks found.0 found.2) ∙ found.3)
 
-      pub same-rules : KeepsRules brc n T G H K clock b mower
+      pub same-rules : KeepsPlaceRules brc n T G H K clock b mower
       same-rules = record {
         apart = λ x xl f l. rules.apart x xl (first x xl ∙ f) (last x xl ∙ l);
-        starts_first = λ x xl h. sym (first x xl) ∙ rules.starts_first x xl (starts x xl ∙ h);
-        ends_last = λ x xl h. sym (last x xl) ∙ rules.ends_last x xl (ends x xl ∙ h);
-        first_leads = λ x y xl yl f h. sym (first y yl) ∙ rules.first_leads x y xl yl (first x xl ∙ f) (same x y xl yl ∙ h);
-        block_leads = leads;
-        first_from = λ x xl f. same-from arc brc n S T same starts x xl (rules.first_from x xl (first x xl ∙ f));
-        last_to = λ x xl l. same-to arc brc n E G same ends x (rules.last_to x xl (last x xl ∙ l));
-        block_mutual = λ x y mx my e.
-            let both = rules.block_mutual x y (in_back x mx) (in_back y my) (at x mx ∙ e ∙ sym (at y my)) in
-            (same-reaches arc brc n same x y my.below both.0, same-reaches arc brc n same y x mx.below both.1);
+        down = record {
+          starts_first = λ x xl h. sym (first x xl) ∙ rules.down.starts_first x xl (starts x xl ∙ h);
+          ends_last = λ x xl h. sym (last x xl) ∙ rules.down.ends_last x xl (ends x xl ∙ h);
+          first_leads = λ x y xl yl f h. sym (first y yl) ∙ rules.down.first_leads x y xl yl (first x xl ∙ f) (same x y xl yl ∙ h);
+          block_leads = leads;
+        };
+        reasons = record {
+          first_from = λ x xl f. same-from arc brc n S T same starts x xl (rules.reasons.first_from x xl (first x xl ∙ f));
+          last_to = λ x xl l. same-to arc brc n E G same ends x (rules.reasons.last_to x xl (last x xl ∙ l));
+          block_mutual = λ x y mx my e.
+              let both = rules.reasons.block_mutual x y (in_back x mx) (in_back y my) (at x mx ∙ e ∙ sym (at y my)) in
+              (same-reaches arc brc n same x y my.below both.0, same-reaches arc brc n same y x mx.below both.1);
+        };
         number = λ x is. subst (λ k. k < b) (at x is) (rules.number x (in_back x is));
         member = λ k kl. let found = rules.member k kl in (found.0, in_block found.0 found.1, sym (blocks found.0 found.1) ∙ found.2);
         falling = falls;

@@ -1,4 +1,3 @@
-pub mod Choices
 pub mod Tabulations
 pub mod Promises
 pub mod Pairs

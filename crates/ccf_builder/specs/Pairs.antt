@@ -2,7 +2,7 @@
 use Rattle.std.specs.Prelude.{ℕ, ◌<◌, ◌≡◌, List, length}
 use Rattle.bipartite_matching.specs.Matchings.{Matching, HasPair}
 use Rattle.cert_text.specs.Readings.{pair_at}
-use Rattle.row_transform.specs.Tableaus.{State, IsBaseColumn}
+use Rattle.row_transform.specs.Tableaus.{TableauState, IsBaseColumn}
 
 -- each of the first m rows that has a column, with that column, by rising row; Has says of a row and a column that
 -- it has it
@@ -24,6 +24,6 @@ pub record IsMate (M : Matching) (n r y : ℕ) : Type 0 where
   pub below : y < n
 
 -- each Q row with its base column, and each of the T rows with its matched column
-pub record ListsPair (S : State) (M : Matching) (t_rows : ℕ) (base mates : List (ℕ × ℕ)) : Type 0 where
+pub record ListsPair (S : TableauState) (M : Matching) (t_rows : ℕ) (base mates : List (ℕ × ℕ)) : Type 0 where
   pub base_is : ListsPairs (IsBaseColumn S) S.rows base
   pub mates_are : ListsPairs (IsMate M S.columns) t_rows mates

@@ -8,12 +8,12 @@ use Rattle.cert_text.specs.declared.part.CcfPart.{CcfPart}
 use Rattle.cert_text.specs.declared.part.CcfBlock.{CcfBlock}
 use Rattle.ccf_builder.specs.Tabulations.{Tabulates}
 use Rattle.ccf_builder.specs.declared.part_lists.PartLists.{PartLists}
-use Rattle.minimiser_lattice.specs.Parts.{Parts, part_in}
+use Rattle.minimiser_lattice.specs.Parts.{PlaceParts, part_in}
 use Rattle.minimiser_lattice.specs.declared.lattice.Part.{Part}
 use Rattle.minimiser_lattice.specs.declared.lattice.Part.TheVariants.{First, Block, Last}
 
 -- the part of each column
-abbrev pub PlacesColumns : Parts → List Part → Type 0
+abbrev pub PlacesColumns : PlaceParts → List Part → Type 0
 PlacesColumns v columns = Tabulates (part_in v) v.places columns
 
 -- the part of each of m rows: that of its column, and the last one where it has none
@@ -55,12 +55,12 @@ pub record IsPushed (old new : List (Vec ℕ)) (k number : ℕ) : Type 0 where
   pub others : (j : ℕ) (d : Vec ℕ) → j ≢ k → slice_index_or new j d ≡ slice_index_or old j d
 
 -- the list of the part has the number at its end, and the others are as before
-abbrev pub IsEntered : PartLists → PartLists → Part → ℕ → Type 0
-IsEntered old new First number = (new.first.items ≡ old.first.items ++ number ∷ []) × (new.blocks ≡ old.blocks)
+abbrev pub IsListedAtPart : PartLists → PartLists → Part → ℕ → Type 0
+IsListedAtPart old new First number = (new.first.items ≡ old.first.items ++ number ∷ []) × (new.blocks ≡ old.blocks)
     × (new.last ≡ old.last)
-IsEntered old new (Block k) number = (new.first ≡ old.first) × IsPushed old.blocks.items new.blocks.items k number
+IsListedAtPart old new (Block k) number = (new.first ≡ old.first) × IsPushed old.blocks.items new.blocks.items k number
     × (new.last ≡ old.last)
-IsEntered old new Last number = (new.first ≡ old.first) × (new.blocks ≡ old.blocks)
+IsListedAtPart old new Last number = (new.first ≡ old.first) × (new.blocks ≡ old.blocks)
     × (new.last.items ≡ old.last.items ++ number ∷ [])
 
 -- the parts of the columns, the Q rows and the T rows
@@ -76,23 +76,24 @@ pub record HasPart (placing : Placing) (part : Part) (c : CcfPart) : Type 0 wher
   pub t_rows : ListsPart placing.t_rows part c.t_rows
 
 -- the blocks that block k covers
-abbrev pub ListsLower : Parts → ℕ → List ℕ → Type 0
+abbrev pub ListsLower : PlaceParts → ℕ → List ℕ → Type 0
 ListsLower v k = ListsBelow (λ j. v.covers k j ≡ true) k
 
 -- block k with list k of its columns, of its Q rows and of its T rows, and the blocks that it covers
-pub record IsBlockOf (v : Parts) (column_lists q_lists t_lists : List (Vec ℕ)) (k : ℕ) (block : CcfBlock) : Type 0 where
+pub record IsBlockOf (v : PlaceParts) (column_lists q_lists t_lists : List (Vec ℕ)) (k : ℕ) (block : CcfBlock)
+    : Type 0 where
   pub columns : (d : Vec ℕ) → block.part.columns ≡ (slice_index_or column_lists k d).items
   pub q_rows : (d : Vec ℕ) → block.part.q_rows ≡ (slice_index_or q_lists k d).items
   pub t_rows : (d : Vec ℕ) → block.part.t_rows ≡ (slice_index_or t_lists k d).items
   pub lower : ListsLower v k block.lower
 
 -- block k: its columns and rows, and the blocks that it covers
-pub record HasBlock (placing : Placing) (v : Parts) (k : ℕ) (block : CcfBlock) : Type 0 where
+pub record HasBlock (placing : Placing) (v : PlaceParts) (k : ℕ) (block : CcfBlock) : Type 0 where
   pub part : HasPart placing (Block k) block.part
   pub lower : ListsLower v k block.lower
 
 -- the parts: each column stands in its own, each row of q_rows and t_rows in that of its column, or in the last one
-pub record PrintsParts (v : Parts) (q_rows t_rows : ℕ) (base mates : List (ℕ × ℕ))
+pub record PrintsParts (v : PlaceParts) (q_rows t_rows : ℕ) (base mates : List (ℕ × ℕ))
     (first : CcfPart) (blocks : List CcfBlock) (last : CcfPart) : Type 0 where
   pub placing : Placing
   pub columns : PlacesColumns v placing.columns

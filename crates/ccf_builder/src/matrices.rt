@@ -1,10 +1,11 @@
 //! The printed rows of matrices and patterns.
 
 ghost use Rattle.std.specs.Prelude.{◌≡◌, ◌<◌, ◌≤◌, ℕ, IfOk, length};
-ghost use Rattle.row_transform.specs.Tableaus.{matrix_of, width_of};
+ghost use Rattle.row_transform.specs.Tableaus.{matrix_which, width_of};
 ghost use Rattle.sparse_t.specs.Incidences.{touches};
 ghost use Rattle.cert_text.specs.Contents.{numbered, numbered_rows};
-ghost use Rattle.ccf_builder.specs.Matrices.{PrintsMatrix, PrintsPattern, PrintsRow, PrintsTableau};
+ghost use Rattle.ccf_builder.specs.Matrices.{PrintsPattern, PrintsTableau};
+ghost use Rattle.cert_text.specs.Printing.{PrintsMatrix, PrintsRow};
 
 use cert_text::Items;
 use out_of_memory::NoMemory;
@@ -22,11 +23,11 @@ fn entries_of<F: Field, T: Tableau<F>>(
 ) -> Result<Items<(usize, F)>, NoMemory>
     requires { row < (T.state tableau.now).rows }
     ensures { IfOk result (λ entries.
-        PrintsRow F.modulus (width_of which (T.state tableau.now)) (matrix_of which (T.state tableau.now) row)
+        PrintsRow F.modulus (width_of which (T.state tableau.now)) (matrix_which which (T.state tableau.now) row)
         (numbered F.number entries)) }
 {
     // there are at most 8,192 rows and columns, so that the sum below fits
-    let (_rows, _columns) = (tableau.rows(), tableau.columns());
+    tableau.is_tableau();
     let mut entries = Vec::new(alloc);
     let mut at = 0;
     while let Some(entry) = tableau.next_in_row(which, row, at) {
@@ -46,7 +47,7 @@ fn rows_of<F: Field, T: Tableau<F>>(
 ) -> Result<Items<Items<(usize, F)>>, NoMemory>
     ensures { IfOk result (λ rows.
         PrintsMatrix F.modulus (T.state tableau.now).rows (width_of which (T.state tableau.now))
-        (matrix_of which (T.state tableau.now)) (numbered_rows F.number rows)) }
+        (matrix_which which (T.state tableau.now)) (numbered_rows F.number rows)) }
 {
     let mut rows = Vec::with_capacity(alloc, tableau.rows())?;
     for row in 0..tableau.rows() {

@@ -2,7 +2,7 @@
 
 ghost use Rattle.std.specs.Prelude.{◌≡◌, ◌≢◌, ◌<◌, ℕ, IfOk, OnOk, length, slice_index_or};
 ghost use Rattle.std.specs.Global.{Vec};
-ghost use Rattle.ccf_builder.specs.Placings.{AreEmpty, IsEntered, IsPushed, ListsParts};
+ghost use Rattle.ccf_builder.specs.Placings.{AreEmpty, IsListedAtPart, IsPushed, ListsParts};
 
 use cert_text::Items;
 use minimiser_lattice::Part;
@@ -48,7 +48,7 @@ impl PartLists {
 
     // Puts a number at the end of the list of its part.
     fn enter(&mut self, part: Part, number: usize) -> Result<(), NoMemory>
-        ensures { OnOk result (IsEntered self.old self.new part number) }
+        ensures { OnOk result (IsListedAtPart self.old self.new part number) }
     {
         match part {
             Part::First => self.first.push(number)?,

@@ -6,7 +6,7 @@ use Rattle.residue_theory.proofs.CountLaws.{size-zero, sum-with_one}
 use Rattle.residue_theory.proofs.SetLaws.{differ, not_true, with_one-member, with_one-new, with_one-other}
 use Rattle.residue_theory.proofs.SumLaws.{nat_cases}
 use Rattle.closed_sets.specs.Walks.{Walk}
-use Rattle.search_laws.specs.Searches.{State, IsSearch, HasStarts, NoEndBefore}
+use Rattle.search_laws.specs.Searches.{SearchState, IsSearch, HasStarts, NoEndBefore}
 use Rattle.search_laws.proofs.SearchLaws.{search-least}
 use Rattle.exchange_graph.specs.Counts.{AreLookedAt, IsWithinReach, counted_on}
 
@@ -39,7 +39,7 @@ first-size order n (suc h) le below distinct =
     sum-with_one (first_places order h) n (order h) (λ _. 1) (below h (omega arith)) waits in
     omega (arith, more, first-size order n h (omega arith) below distinct)
 
-module _ (arc : ℕ → ℕ → Bool) (n : ℕ) (starts ends : ℕ → Bool) (s : State) (head filled : ℕ)
+module _ (arc : ℕ → ℕ → Bool) (n : ℕ) (starts ends : ℕ → Bool) (s : SearchState) (head filled : ℕ)
     (S : IsSearch arc n s head filled) (F : HasStarts n starts s) (N : NoEndBefore ends s head) where
   -- a reached place is as many arcs away as it is deep
   deep : (d y : ℕ) → y < n → s.reached y ≡ true → s.depth y ≡ d → (v : ℕ) × (v < n) × (starts v ≡ true) × Walk arc n v y d

@@ -3,14 +3,14 @@ use Rattle.std.proofs.Common.{◌≡◌, ℕ, ◌+◌, ◌<◌, ◌≤◌, ◌�
 use Rattle.residue_theory.proofs.SumLaws.{nat_cases}
 use Rattle.residue_theory.proofs.SetLaws.{differ, eqb_from, eqb_true, lt_cases, not_true}
 use Rattle.residue_theory.specs.Sets.{only}
-use Rattle.search_laws.specs.Searches.{State, IsSearch, IsPut, IsGrown, HasStarts, NoEndBefore, IsShortest}
+use Rattle.search_laws.specs.Searches.{SearchState, IsSearch, IsPut, IsGrown, HasStarts, NoEndBefore, IsShortest}
 use Rattle.search_laws.proofs.SearchLaws.{search-put, search-next, grown-put, grown-same, grown-join, grown-starts}
 use Rattle.search_laws.proofs.SearchLaws.{grown-ends, ends-next, starts-put, trace-all}
 use Rattle.exchange_graph.specs.Looks.{IsLookingFrom, IsStartingFrom}
 use Rattle.exchange_graph.specs.Turns.{HasNextTurn, HaveHadTurns}
 
 -- a place that waits stands behind the reached ones
-pub waits-late : (arc : ℕ → ℕ → Bool) (n : ℕ) (s : State) (head filled i y : ℕ) → IsSearch arc n s head filled →
+pub waits-late : (arc : ℕ → ℕ → Bool) (n : ℕ) (s : SearchState) (head filled i y : ℕ) → IsSearch arc n s head filled →
     s.order i ≡ y → s.reached y ≡ false → filled ≤ i
 waits-late arc n s head filled i y S q w = elim (lt_cases i filled) [
   | inl less ↦ absurd (differ (subst (λ v. s.reached v ≡ false) (sym q) w) (S.done i less))
@@ -18,13 +18,13 @@ waits-late arc n s head filled i y S q w = elim (lt_cases i filled) [
 ]
 
 -- what was reached stays so
-put-still : (s t : State) (i filled x d y : ℕ) → IsPut s t i filled x d → s.reached y ≡ true → t.reached y ≡ true
+put-still : (s t : SearchState) (i filled x d y : ℕ) → IsPut s t i filled x d → s.reached y ≡ true → t.reached y ≡ true
 put-still s t i filled x d y P h = elim (nat_cases y (s.order i)) [
   | inl q ↦ subst (λ v. t.reached v ≡ true) (sym q) P.reached_new
   | inr ne ↦ P.reached_same y ne ∙ h
 ]
 
-pub looking-first : (arc : ℕ → ℕ → Bool) (turn : ℕ → ℕ → ℕ) (n : ℕ) (s : State) (head filled place d : ℕ) →
+pub looking-first : (arc : ℕ → ℕ → Bool) (turn : ℕ → ℕ → ℕ) (n : ℕ) (s : SearchState) (head filled place d : ℕ) →
     IsSearch arc n s head filled → head < filled → s.order head ≡ place → s.depth place ≡ d →
     IsLookingFrom arc turn n s s filled head filled 0 place (d + 1)
 looking-first arc turn n s head filled place d S ahead q e = record {
@@ -46,7 +46,7 @@ scanned-next test turn n from to next reached N old here y yl l h = elim (N.othe
   | inr q ↦ subst (λ v. reached v ≡ true) (sym q) here
 ]
 
-pub looking-skip : (arc : ℕ → ℕ → Bool) (turn : ℕ → ℕ → ℕ) (n : ℕ) (s₀ s : State)
+pub looking-skip : (arc : ℕ → ℕ → Bool) (turn : ℕ → ℕ → ℕ) (n : ℕ) (s₀ s : SearchState)
     (f₀ head filled from to next place depth : ℕ) → IsLookingFrom arc turn n s₀ s f₀ head filled from place depth →
     HasNextTurn (arc place) (turn place) n from to next → s.reached to ≡ true →
     IsLookingFrom arc turn n s₀ s f₀ head filled next place depth
@@ -60,7 +60,7 @@ looking-skip arc turn n s₀ s f₀ head filled from to next place depth L N her
   scanned = scanned-next (arc place) (turn place) n from to next s.reached N L.scanned here;
 }
 
-pub looking-put : (arc : ℕ → ℕ → Bool) (turn : ℕ → ℕ → ℕ) (n : ℕ) (s₀ s t : State)
+pub looking-put : (arc : ℕ → ℕ → Bool) (turn : ℕ → ℕ → ℕ) (n : ℕ) (s₀ s t : SearchState)
     (f₀ head filled more i from to next place depth : ℕ) →
     IsLookingFrom arc turn n s₀ s f₀ head filled from place depth →
     HasNextTurn (arc place) (turn place) n from to next → i < n → s.order i ≡ to → s.reached to ≡ false →
@@ -111,7 +111,7 @@ looking-put arc turn n s₀ s t f₀ head filled more i from to next place depth
       sym L.deeper,
     )
 
-pub looking-done : (arc : ℕ → ℕ → Bool) (turn : ℕ → ℕ → ℕ) (n : ℕ) (s₀ s : State)
+pub looking-done : (arc : ℕ → ℕ → Bool) (turn : ℕ → ℕ → ℕ) (n : ℕ) (s₀ s : SearchState)
     (f₀ head filled from place depth : ℕ) → IsLookingFrom arc turn n s₀ s f₀ head filled from place depth →
     HaveHadTurns (arc place) (turn place) n from → IsSearch arc n s (head + 1) filled
 looking-done arc turn n s₀ s f₀ head filled from place depth L all =
@@ -122,7 +122,7 @@ looking-done arc turn n s₀ s f₀ head filled from place depth L all =
     misses i g l a = let below = L.search.below i l in
         differ (L.search.waiting i g l) (L.scanned (s.order i) below (all (s.order i) below a) a)
 
-pub starting-first : (arc : ℕ → ℕ → Bool) (n : ℕ) (starts : ℕ → Bool) (s : State) (filled : ℕ) → filled ≡ 0 →
+pub starting-first : (arc : ℕ → ℕ → Bool) (n : ℕ) (starts : ℕ → Bool) (s : SearchState) (filled : ℕ) → filled ≡ 0 →
     IsSearch arc n s 0 0 → ((y : ℕ) → y < n → s.reached y ≡ false) →
     IsStartingFrom arc n starts s filled 0
 starting-first arc n starts s filled e S none = subst (λ m. IsStartingFrom arc n starts s m 0) (sym e) (record {
@@ -132,7 +132,7 @@ starting-first arc n starts s filled e S none = subst (λ m. IsStartingFrom arc 
   waiting = λ y _ l. none y l;
 })
 
-pub starting-put : (arc : ℕ → ℕ → Bool) (n : ℕ) (starts : ℕ → Bool) (s t : State) (filled more k i x : ℕ) →
+pub starting-put : (arc : ℕ → ℕ → Bool) (n : ℕ) (starts : ℕ → Bool) (s t : SearchState) (filled more k i x : ℕ) →
     IsStartingFrom arc n starts s filled i → i < n → k < n →
     s.order k ≡ i → starts i ≡ true → IsPut s t k filled x 0 → more ≡ filled + 1 → IsStartingFrom arc n starts t more (i + 1)
 starting-put arc n starts s t filled more k i x B il kl q a P e = subst (λ m. IsStartingFrom arc n starts t m (i + 1)) (sym e) (record {
@@ -152,7 +152,7 @@ starting-put arc n starts s t filled more k i x B il kl q a P e = subst (λ m. I
     above : (j : ℕ) → j < filled → s.depth (s.order j) ≤ 0
     above j l = omega (arith, (B.from (s.order j) (B.search.below j (omega (arith, B.search.filled_le))) (B.search.done j l)).0)
 
-pub starting-skip : (arc : ℕ → ℕ → Bool) (n : ℕ) (starts : ℕ → Bool) (s : State) (filled i : ℕ) →
+pub starting-skip : (arc : ℕ → ℕ → Bool) (n : ℕ) (starts : ℕ → Bool) (s : SearchState) (filled i : ℕ) →
     IsStartingFrom arc n starts s filled i → starts i ≡ false → IsStartingFrom arc n starts s filled (i + 1)
 starting-skip arc n starts s filled i B misses = record {
   search = B.search;
@@ -161,7 +161,7 @@ starting-skip arc n starts s filled i B misses = record {
   waiting = λ y g l. B.waiting y (omega arith) l;
 }
 
-pub starting-done : (arc : ℕ → ℕ → Bool) (n : ℕ) (starts : ℕ → Bool) (s : State) (filled i : ℕ) →
+pub starting-done : (arc : ℕ → ℕ → Bool) (n : ℕ) (starts : ℕ → Bool) (s : SearchState) (filled i : ℕ) →
     IsStartingFrom arc n starts s filled i → n ≤ i → HasStarts n starts s
 starting-done arc n starts s filled i B all = record {
   reached = λ y l h. B.scanned y (omega arith) h;
@@ -170,14 +170,14 @@ starting-done arc n starts s filled i B all = record {
 }
 
 -- one place alone is reached
-pub started-at : (arc : ℕ → ℕ → Bool) (n : ℕ) (s t : State) (filled more i x : ℕ) → IsSearch arc n s 0 0 →
+pub started-at : (arc : ℕ → ℕ → Bool) (n : ℕ) (s t : SearchState) (filled more i x : ℕ) → IsSearch arc n s 0 0 →
     filled ≡ 0 → more ≡ filled + 1 → i < n → IsPut s t i filled x 0 → IsSearch arc n t 0 more
 started-at arc n s t filled more i x S none e il P =
     subst (λ m. IsSearch arc n t 0 m) (sym (e ∙ ap (λ m. m + 1) none))
     (search-put arc n s t 0 0 i x 0 S (subst (λ m. IsPut s t i m x 0) none P) (omega arith) il
     (λ j l. absurd (omega arith)) (λ l. omega arith) (omega arith) (inl refl))
 
-pub started-starts : (n : ℕ) (s t : State) (filled i x : ℕ) → s.order i ≡ x →
+pub started-starts : (n : ℕ) (s t : SearchState) (filled i x : ℕ) → s.order i ≡ x →
     ((y : ℕ) → y < n → s.reached y ≡ false) → IsPut s t i filled x 0 → HasStarts n (only x) t
 started-starts n s t filled i x q none P = record {
   reached = λ y l h. subst (λ v. t.reached v ≡ true) (q ∙ sym (eqb_true y x h)) P.reached_new;
@@ -189,11 +189,11 @@ started-starts n s t filled i x q none P = record {
 }
 
 -- a look keeps what was known of the starts
-pub looked-starts : (n : ℕ) (starts : ℕ → Bool) (s t : State) (filled : ℕ) → IsGrown n s t filled → HasStarts n starts s → HasStarts n starts t
+pub looked-starts : (n : ℕ) (starts : ℕ → Bool) (s t : SearchState) (filled : ℕ) → IsGrown n s t filled → HasStarts n starts s → HasStarts n starts t
 looked-starts n starts s t filled G H = grown-starts (λ _ _. false) n s t filled starts G H
 
 -- a look at a place that is no end
-pub looked-ends : (arc : ℕ → ℕ → Bool) (n : ℕ) (ends : ℕ → Bool) (s t : State) (head filled place : ℕ) →
+pub looked-ends : (arc : ℕ → ℕ → Bool) (n : ℕ) (ends : ℕ → Bool) (s t : SearchState) (head filled place : ℕ) →
     IsSearch arc n s head filled → head < filled → IsGrown n s t filled → NoEndBefore ends s head →
     s.order head ≡ place → ends place ≡ false → NoEndBefore ends t (head + 1)
 looked-ends arc n ends s t head filled place S more G N q misses =
@@ -201,12 +201,12 @@ looked-ends arc n ends s t head filled place S more G N q misses =
     (ends-next arc n s head ends N (subst (λ v. ends v ≡ false) (sym q) misses))
 
 -- the next place is less deep than there are places
-pub depth-below : (arc : ℕ → ℕ → Bool) (n : ℕ) (s : State) (head filled place d : ℕ) → IsSearch arc n s head filled →
+pub depth-below : (arc : ℕ → ℕ → Bool) (n : ℕ) (s : SearchState) (head filled place d : ℕ) → IsSearch arc n s head filled →
     head < filled → s.order head ≡ place → s.depth place ≡ d → d < n
 depth-below arc n s head filled place d S more q e = omega (arith, S.filled_le, S.shallow head more, ap s.depth q)
 
 -- the walk that was written down is a shortest one
-pub found-shortest : (arc : ℕ → ℕ → Bool) (n : ℕ) (starts ends : ℕ → Bool) (s : State) (head filled place d : ℕ)
+pub found-shortest : (arc : ℕ → ℕ → Bool) (n : ℕ) (starts ends : ℕ → Bool) (s : SearchState) (head filled place d : ℕ)
     (at : ℕ → ℕ) → IsSearch arc n s head filled → HasStarts n starts s → NoEndBefore ends s head →
     head < filled → s.order head ≡ place → s.depth place ≡ d → ends place ≡ true → at d ≡ place →
     ((i : ℕ) → i < d → at i ≡ s.before (at (i + 1))) → IsShortest arc n starts ends at d

@@ -19,3 +19,10 @@ pub record AreLookedAt (arc : ℕ → ℕ → Bool) (n : ℕ) (starts ends : ℕ
 -- a count after so many more: at the greatest number that it holds it stays
 abbrev pub counted_on : ℕ → ℕ → ℕ
 counted_on count more = min (count + more) (2 ^ 64 - 1)
+
+-- so many looks were made, no more than there are places: as many steps, from `before` to `after`, and counted with all
+-- looks, from `all` to `now`
+pub record AreLooksTold (n looks before after all now : ℕ) : Type 0 where
+  pub told : after ≡ before + looks
+  pub all_looks : now ≡ counted_on all looks
+  pub few : looks ≤ n

@@ -6,3 +6,4 @@ pub mod Counts
 pub mod Results
 pub mod Sweeps
 pub mod SweepStates
+pub mod SearchAnswers

@@ -1,13 +1,14 @@
 //! Breadth-first search from several places at once, each place looked at once.
 
-ghost use Rattle.std.specs.Prelude.{◌≡◌, ℕ, ◌+◌, ◌<◌, ◌≤◌, Bool, true, false, length, IfOk, IfSome, IfNone, slice_index};
+ghost use Rattle.std.specs.Prelude.{◌≡◌, ℕ, ◌+◌, ◌<◌, ◌≤◌, Bool, true, false, length, IfOk, IfNone, slice_index};
 ghost use Rattle.residue_theory.specs.Sets.{only};
 ghost use Rattle.residue_theory.specs.Sums.{size_on};
-ghost use Rattle.closed_sets.specs.Closed.{IsClosed, IsReachedSet};
-ghost use Rattle.search_laws.specs.Searches.{IsShortest, IsSearch, IsPut, IsGrown, HasStarts};
-ghost use Rattle.exchange_graph.specs.Counts.{AreLookedAt, counted_on};
+ghost use Rattle.closed_sets.specs.Closed.{IsReachedSet};
+ghost use Rattle.search_laws.specs.Searches.{IsSearch, IsPut, IsGrown, HasStarts};
+ghost use Rattle.exchange_graph.specs.Counts.{AreLooksTold, counted_on};
 ghost use Rattle.exchange_graph.specs.Marks.{members_of};
-ghost use Rattle.exchange_graph.specs.Scans.{IsStored, places, state_of, walk_of, position_of};
+ghost use Rattle.exchange_graph.specs.Scans.{IsScan, KeepsWalk, scan_places, scan_state, walk_of, position_of};
+ghost use Rattle.exchange_graph.specs.SearchAnswers.{IsSearchAnswer};
 
 use crate::arcs::Arcs;
 use crate::steps::Steps;
@@ -34,8 +35,8 @@ pub struct Scan {
 impl Scan {
     /// Room for a search over the places below n.
     pub fn open(alloc: Global, n: usize) -> Result<Self, AllocError>
-        ensures stored { IfOk result (λ s. IsStored s) }
-        ensures places { IfOk result (λ s. places s ≡ n) }
+        ensures stored { IfOk result (λ s. IsScan s) }
+        ensures places { IfOk result (λ s. scan_places s ≡ n) }
         ensures looks { IfOk result (λ s. s.looks ≡ 0) }
         ensures all_looks { IfOk result (λ s. s.all_looks ≡ 0) }
     {
@@ -68,19 +69,17 @@ impl Scan {
 
     /// Puts a place that waits at the end of the reached ones.
     pub fn put(&mut self, place: usize, from: usize, depth: usize)
-        requires stored { IsStored self.old }
-        requires place { place < places self.old }
+        requires stored { IsScan self.old }
+        requires place { place < scan_places self.old }
         requires waits { members_of self.old.reached.items place ≡ false }
         requires room { self.old.filled ≤ position_of self.old place }
-        requires from { from < places self.old }
-        ensures put { IsPut (state_of self.old) (state_of self.new) (position_of self.old place)
+        requires from { from < scan_places self.old }
+        ensures put { IsPut (scan_state self.old) (scan_state self.new) (position_of self.old place)
             self.old.filled from depth }
         ensures filled { self.new.filled ≡ self.old.filled + 1 }
-        ensures looks { self.new.looks ≡ self.old.looks }
-        ensures walk { self.new.walk ≡ self.old.walk }
+        ensures kept { KeepsWalk self.old self.new }
         ensures all_looks { self.new.all_looks ≡ self.old.all_looks }
-        ensures stored { IsStored self.new }
-        ensures places { places self.new ≡ places self.old }
+        ensures stored { IsScan self.new }
     {
         let at = self.position[place];
         let filled = self.filled;
@@ -97,14 +96,12 @@ impl Scan {
 
     /// Reaches no place: takes back those that are reached, and goes over no other.
     pub fn clear(&mut self)
-        requires { IsStored self.old }
-        ensures reached { (y : ℕ) → y < places self.old → members_of self.new.reached.items y ≡ false }
+        requires { IsScan self.old }
+        ensures reached { (y : ℕ) → y < scan_places self.old → members_of self.new.reached.items y ≡ false }
         ensures filled { self.new.filled ≡ 0 }
-        ensures looks { self.new.looks ≡ self.old.looks }
-        ensures walk { self.new.walk ≡ self.old.walk }
+        ensures kept { KeepsWalk self.old self.new }
         ensures all_looks { self.new.all_looks ≡ self.old.all_looks }
-        ensures stored { IsStored self.new }
-        ensures places { places self.new ≡ places self.old }
+        ensures stored { IsScan self.new }
     {
         for at in 0..self.filled {
             let place = self.order[at];
@@ -115,15 +112,14 @@ impl Scan {
 
     /// Starts over: reaches the starts alone.
     pub fn start(&mut self, starts: &[bool])
-        requires stored { IsStored self.old }
-        requires starts { length starts.now ≡ places self.old }
-        ensures search { (arc : ℕ → ℕ → Bool) → IsSearch arc (places self.old) (state_of self.new) 0 self.new.filled }
-        ensures starts { HasStarts (places self.old) (members_of starts.now) (state_of self.new) }
-        ensures looks { self.new.looks ≡ self.old.looks }
-        ensures walk { self.new.walk ≡ self.old.walk }
+        requires stored { IsScan self.old }
+        requires starts { length starts.now ≡ scan_places self.old }
+        ensures search { (arc : ℕ → ℕ → Bool) → IsSearch arc (scan_places self.old) (scan_state self.new) 0
+            self.new.filled }
+        ensures starts { HasStarts (scan_places self.old) (members_of starts.now) (scan_state self.new) }
+        ensures kept { KeepsWalk self.old self.new }
         ensures all_looks { self.new.all_looks ≡ self.old.all_looks }
-        ensures stored { IsStored self.new }
-        ensures places { places self.new ≡ places self.old }
+        ensures stored { IsScan self.new }
     {
         self.clear();
         for (place, is_start) in starts.iter().enumerate() {
@@ -135,15 +131,14 @@ impl Scan {
 
     // Starts over: reaches one place alone.
     fn start_at(&mut self, place: usize)
-        requires stored { IsStored self.old }
-        requires place { place < places self.old }
-        ensures search { (arc : ℕ → ℕ → Bool) → IsSearch arc (places self.old) (state_of self.new) 0 self.new.filled }
-        ensures starts { HasStarts (places self.old) (only place) (state_of self.new) }
-        ensures looks { self.new.looks ≡ self.old.looks }
-        ensures walk { self.new.walk ≡ self.old.walk }
+        requires stored { IsScan self.old }
+        requires place { place < scan_places self.old }
+        ensures search { (arc : ℕ → ℕ → Bool) → IsSearch arc (scan_places self.old) (scan_state self.new) 0
+            self.new.filled }
+        ensures starts { HasStarts (scan_places self.old) (only place) (scan_state self.new) }
+        ensures kept { KeepsWalk self.old self.new }
         ensures all_looks { self.new.all_looks ≡ self.old.all_looks }
-        ensures stored { IsStored self.new }
-        ensures places { places self.new ≡ places self.old }
+        ensures stored { IsScan self.new }
     {
         self.clear();
         self.put(place, place, 0);
@@ -151,17 +146,17 @@ impl Scan {
 
     /// Looks at the place at `head` of the order: reaches all that it leads to.
     pub fn look<A: Arcs>(&mut self, arcs: &A, head: usize)
-        requires stored { IsStored self.old }
-        requires places { A.places arcs.now ≡ places self.old }
+        requires stored { IsScan self.old }
+        requires places { A.places arcs.now ≡ scan_places self.old }
         requires head { head < self.old.filled }
-        requires search { IsSearch (A.leads arcs.now) (places self.old) (state_of self.old) head self.old.filled }
-        ensures search { IsSearch (A.leads arcs.now) (places self.old) (state_of self.new) (head + 1) self.new.filled }
-        ensures grown { IsGrown (places self.old) (state_of self.old) (state_of self.new) self.old.filled }
-        ensures looks { self.new.looks ≡ self.old.looks }
-        ensures walk { self.new.walk ≡ self.old.walk }
+        requires search { IsSearch (A.leads arcs.now) (scan_places self.old) (scan_state self.old) head
+            self.old.filled }
+        ensures search { IsSearch (A.leads arcs.now) (scan_places self.old) (scan_state self.new) (head + 1)
+            self.new.filled }
+        ensures grown { IsGrown (scan_places self.old) (scan_state self.old) (scan_state self.new) self.old.filled }
+        ensures kept { KeepsWalk self.old self.new }
         ensures all_looks { self.new.all_looks ≡ counted_on self.old.all_looks 1 }
-        ensures stored { IsStored self.new }
-        ensures places { places self.new ≡ places self.old }
+        ensures stored { IsScan self.new }
     {
         let place = self.order[head];
         let depth = self.depth[place] + 1;
@@ -177,14 +172,14 @@ impl Scan {
 
     /// Writes down the walk to a place, from its end backwards.
     pub fn trace(&mut self, end: usize, depth: usize)
-        requires stored { IsStored self.old }
-        requires end { end < places self.old }
-        requires depth { depth < places self.old }
+        requires stored { IsScan self.old }
+        requires end { end < scan_places self.old }
+        requires depth { depth < scan_places self.old }
         ensures last { walk_of self.new depth ≡ end }
         ensures back { (i : ℕ) → i < depth → walk_of self.new i
             ≡ slice_index self.old.before.items (walk_of self.new (i + 1)) }
         ensures kept { self.new ≡ record self.old { walk = self.new.walk } }
-        ensures stored { IsStored self.new }
+        ensures stored { IsScan self.new }
     {
         let mut at = depth;
         let mut place = end;
@@ -198,17 +193,15 @@ impl Scan {
 
     /// Reaches all that the starts lead to.
     pub fn reach<A: Arcs>(&mut self, arcs: &A, starts: &[bool])
-        requires stored { IsStored self.old }
-        requires places { A.places arcs.now ≡ places self.old }
-        requires starts { length starts.now ≡ places self.old }
-        ensures reached { IsReachedSet (A.leads arcs.now) (places self.old) (members_of starts.now)
+        requires stored { IsScan self.old }
+        requires places { A.places arcs.now ≡ scan_places self.old }
+        requires starts { length starts.now ≡ scan_places self.old }
+        ensures reached { IsReachedSet (A.leads arcs.now) (scan_places self.old) (members_of starts.now)
             (members_of self.new.reached.items) }
-        ensures looks { self.new.looks ≡ self.old.looks }
-        ensures walk { self.new.walk ≡ self.old.walk }
+        ensures kept { KeepsWalk self.old self.new }
         ensures all_looks { self.new.all_looks
-            ≡ counted_on self.old.all_looks (size_on (members_of self.new.reached.items) (places self.old)) }
-        ensures stored { IsStored self.new }
-        ensures places { places self.new ≡ places self.old }
+            ≡ counted_on self.old.all_looks (size_on (members_of self.new.reached.items) (scan_places self.old)) }
+        ensures stored { IsScan self.new }
     {
         self.start(starts);
         let mut head = 0;
@@ -225,32 +218,20 @@ impl Scan {
         ends: &[bool],
         steps: &mut Steps<L>,
     ) -> Option<usize>
-        requires stored { IsStored self.old }
-        requires places { A.places arcs.now ≡ places self.old }
-        requires ends { length ends.now ≡ places self.old }
-        requires search { IsSearch (A.leads arcs.now) (places self.old) (state_of self.old) 0 self.old.filled }
-        ensures found { (starts : ℕ → Bool) → HasStarts (places self.old) starts (state_of self.old) →
-            IfSome result (λ k. IsShortest (A.leads arcs.now) (places self.old) starts (members_of ends.now)
-            (walk_of self.new) k) }
-        ensures closed { (starts : ℕ → Bool) → HasStarts (places self.old) starts (state_of self.old) →
-            IfNone result (IsClosed (A.leads arcs.now) (places self.old) starts (members_of ends.now)
-            (members_of self.new.reached.items)) }
-        ensures reached { (starts : ℕ → Bool) → HasStarts (places self.old) starts (state_of self.old) →
-            IfNone result (IsReachedSet (A.leads arcs.now) (places self.old) starts
-            (members_of self.new.reached.items)) }
-        ensures looked { (starts : ℕ → Bool) → HasStarts (places self.old) starts (state_of self.old) →
-            IfSome result (λ k. AreLookedAt (A.leads arcs.now) (places self.old) starts (members_of ends.now)
-            k self.new.looks) }
-        ensures size { IfNone result (size_on (members_of self.new.reached.items) (places self.old)
-            ≡ self.new.looks) }
+        requires stored { IsScan self.old }
+        requires places { A.places arcs.now ≡ scan_places self.old }
+        requires ends { length ends.now ≡ scan_places self.old }
+        requires search { IsSearch (A.leads arcs.now) (scan_places self.old) (scan_state self.old) 0 self.old.filled }
+        ensures answer { (starts : ℕ → Bool) → HasStarts (scan_places self.old) starts (scan_state self.old) →
+            IsSearchAnswer (A.leads arcs.now) (scan_places self.old) starts (members_of ends.now) (walk_of self.new)
+            (members_of self.new.reached.items) self.new.looks result }
         ensures listed { IfNone result ((i : ℕ) → i < self.new.filled →
             members_of self.new.reached.items (slice_index self.new.order.items i) ≡ true) }
-        ensures told { steps.new ≡ steps.old + self.new.looks }
+        ensures counted { AreLooksTold (scan_places self.old) self.new.looks steps.old steps.new self.old.all_looks
+            self.new.all_looks }
         ensures walk { IfNone result (self.new.walk ≡ self.old.walk) }
-        ensures all_looks { self.new.all_looks ≡ counted_on self.old.all_looks self.new.looks }
-        ensures few { self.new.looks ≤ places self.old }
-        ensures stored { IsStored self.new }
-        ensures places { places self.new ≡ places self.old }
+        ensures stored { IsScan self.new }
+        ensures places { scan_places self.new ≡ scan_places self.old }
     {
         let mut head = 0;
         while head < self.filled {
@@ -277,26 +258,17 @@ impl Scan {
         ends: &[bool],
         steps: &mut Steps<L>,
     ) -> Option<usize>
-        requires stored { IsStored self.old }
-        requires places { A.places arcs.now ≡ places self.old }
-        requires starts { length starts.now ≡ places self.old }
-        requires ends { length ends.now ≡ places self.old }
-        ensures found { IfSome result (λ k. IsShortest (A.leads arcs.now) (places self.old) (members_of starts.now)
-            (members_of ends.now) (walk_of self.new) k) }
-        ensures closed { IfNone result (IsClosed (A.leads arcs.now) (places self.old) (members_of starts.now)
-            (members_of ends.now) (members_of self.new.reached.items)) }
-        ensures reached { IfNone result (IsReachedSet (A.leads arcs.now) (places self.old) (members_of starts.now)
-            (members_of self.new.reached.items)) }
-        ensures size { IfNone result (size_on (members_of self.new.reached.items) (places self.old)
-            ≡ self.new.looks) }
-        ensures told { steps.new ≡ steps.old + self.new.looks }
-        ensures looked { IfSome result (λ k. AreLookedAt (A.leads arcs.now) (places self.old) (members_of starts.now)
-            (members_of ends.now) k self.new.looks) }
+        requires stored { IsScan self.old }
+        requires places { A.places arcs.now ≡ scan_places self.old }
+        requires starts { length starts.now ≡ scan_places self.old }
+        requires ends { length ends.now ≡ scan_places self.old }
+        ensures answer { IsSearchAnswer (A.leads arcs.now) (scan_places self.old) (members_of starts.now)
+            (members_of ends.now) (walk_of self.new) (members_of self.new.reached.items) self.new.looks result }
+        ensures counted { AreLooksTold (scan_places self.old) self.new.looks steps.old steps.new self.old.all_looks
+            self.new.all_looks }
         ensures walk { IfNone result (self.new.walk ≡ self.old.walk) }
-        ensures all_looks { self.new.all_looks ≡ counted_on self.old.all_looks self.new.looks }
-        ensures few { self.new.looks ≤ places self.old }
-        ensures stored { IsStored self.new }
-        ensures places { places self.new ≡ places self.old }
+        ensures stored { IsScan self.new }
+        ensures places { scan_places self.new ≡ scan_places self.old }
     {
         self.start(starts);
         self.follow(arcs, ends, steps)
@@ -311,28 +283,19 @@ impl Scan {
         ends: &[bool],
         steps: &mut Steps<L>,
     ) -> Option<usize>
-        requires stored { IsStored self.old }
-        requires places { A.places arcs.now ≡ places self.old }
-        requires start { start < places self.old }
-        requires ends { length ends.now ≡ places self.old }
-        ensures found { IfSome result (λ k. IsShortest (A.leads arcs.now) (places self.old) (only start)
-            (members_of ends.now) (walk_of self.new) k) }
-        ensures closed { IfNone result (IsClosed (A.leads arcs.now) (places self.old) (only start)
-            (members_of ends.now) (members_of self.new.reached.items)) }
-        ensures reached { IfNone result (IsReachedSet (A.leads arcs.now) (places self.old) (only start)
-            (members_of self.new.reached.items)) }
-        ensures size { IfNone result (size_on (members_of self.new.reached.items) (places self.old)
-            ≡ self.new.looks) }
+        requires stored { IsScan self.old }
+        requires places { A.places arcs.now ≡ scan_places self.old }
+        requires start { start < scan_places self.old }
+        requires ends { length ends.now ≡ scan_places self.old }
+        ensures answer { IsSearchAnswer (A.leads arcs.now) (scan_places self.old) (only start) (members_of ends.now)
+            (walk_of self.new) (members_of self.new.reached.items) self.new.looks result }
         ensures listed { IfNone result ((i : ℕ) → i < self.new.filled →
             members_of self.new.reached.items (slice_index self.new.order.items i) ≡ true) }
-        ensures told { steps.new ≡ steps.old + self.new.looks }
-        ensures looked { IfSome result (λ k. AreLookedAt (A.leads arcs.now) (places self.old) (only start)
-            (members_of ends.now) k self.new.looks) }
+        ensures counted { AreLooksTold (scan_places self.old) self.new.looks steps.old steps.new self.old.all_looks
+            self.new.all_looks }
         ensures walk { IfNone result (self.new.walk ≡ self.old.walk) }
-        ensures all_looks { self.new.all_looks ≡ counted_on self.old.all_looks self.new.looks }
-        ensures few { self.new.looks ≤ places self.old }
-        ensures stored { IsStored self.new }
-        ensures places { places self.new ≡ places self.old }
+        ensures stored { IsScan self.new }
+        ensures places { scan_places self.new ≡ scan_places self.old }
     {
         self.start_at(start);
         self.follow(arcs, ends, steps)

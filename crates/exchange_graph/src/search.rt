@@ -1,14 +1,13 @@
 //! Shortest walks and reached sets, by breadth-first search.
 
-ghost use Rattle.std.specs.Prelude.{◌≡◌, ℕ, ◌+◌, ◌<◌, ◌≤◌, ◌↔◌, Bool, false, length, IfOk, IfSome, IfNone, IsNone};
-ghost use Rattle.residue_theory.specs.Sets.{IsWithin};
+ghost use Rattle.std.specs.Prelude.{◌≡◌, ℕ, ◌<◌, ◌↔◌, Bool, false, length, IfOk, IfNone, IsNone};
 ghost use Rattle.residue_theory.specs.Sums.{size_on};
-ghost use Rattle.closed_sets.specs.Closed.{IsClosed, IsReachedSet, NoEndReached};
-ghost use Rattle.search_laws.specs.Searches.{IsShortest};
-ghost use Rattle.exchange_graph.specs.Counts.{AreLookedAt, counted_on};
+ghost use Rattle.closed_sets.specs.Closed.{IsReachedSet, NoEndReached};
+ghost use Rattle.exchange_graph.specs.Counts.{AreLooksTold, counted_on};
 ghost use Rattle.exchange_graph.specs.Marks.{members_of};
 ghost use Rattle.exchange_graph.specs.Results.{Found, reached_of, step_of, vain_of};
-ghost use Rattle.exchange_graph.specs.Sweeps.{AreLookedAtInVain, IsLeftOut, IsShortestFromOne};
+ghost use Rattle.exchange_graph.specs.SearchAnswers.{HasLeftOut, IsAnswerInTurn, IsSearchAnswer};
+ghost use Rattle.exchange_graph.specs.Sweeps.{IsLeftOut};
 
 use crate::arcs::Arcs;
 use crate::steps::Steps;
@@ -25,13 +24,13 @@ pub struct Search {
 }
 
 impl Model for Search {
-    ghost use Rattle.exchange_graph.specs.SweepStates.{IsStored, places};
+    ghost use Rattle.exchange_graph.specs.SweepStates.{HasMarks, sweep_places};
     ghost use Rattle.exchange_graph.specs.Results.{Found};
 
     ghost Value = { Found };
 
     ghost view = { λ s. record {
-      places = places s.sweep;
+      places = sweep_places s.sweep;
       marks = s.sweep.scan.reached.items;
       vain = s.sweep.left.items;
       next = s.sweep.next;
@@ -40,7 +39,7 @@ impl Model for Search {
       all_looks = s.sweep.scan.all_looks;
     } };
 
-    ghost invariant = { λ s. IsStored s.sweep };
+    ghost invariant = { λ s. HasMarks s.sweep };
 }
 
 impl Search {
@@ -75,22 +74,13 @@ impl Search {
         requires ends { length ends.now ≡ self.old.places }
         ensures none { IsNone result ↔ NoEndReached (A.leads arcs.now) self.old.places (members_of starts.now)
             (members_of ends.now) }
-        ensures found { IfSome result (λ k. IsShortest (A.leads arcs.now) self.old.places (members_of starts.now)
-            (members_of ends.now) (step_of self.new) k) }
-        ensures closed { IfNone result (IsClosed (A.leads arcs.now) self.old.places (members_of starts.now)
-            (members_of ends.now) (reached_of self.new)) }
-        ensures reached { IfNone result (IsReachedSet (A.leads arcs.now) self.old.places (members_of starts.now)
-            (reached_of self.new)) }
-        ensures looks { IfNone result (steps.new ≡ steps.old + size_on (reached_of self.new) self.old.places) }
-        ensures count { steps.new ≤ steps.old + self.old.places }
-        ensures told { steps.new ≡ steps.old + self.new.looks }
-        ensures looked { IfSome result (λ k. AreLookedAt (A.leads arcs.now) self.old.places (members_of starts.now)
-            (members_of ends.now) k self.new.looks) }
+        ensures answer { IsSearchAnswer (A.leads arcs.now) self.old.places (members_of starts.now)
+            (members_of ends.now) (step_of self.new) (reached_of self.new) self.new.looks result }
+        ensures counted { AreLooksTold self.old.places self.new.looks steps.old steps.new self.old.all_looks
+            self.new.all_looks }
         ensures walk { IfNone result (self.new.walk ≡ self.old.walk) }
-        ensures all_looks { self.new.all_looks ≡ counted_on self.old.all_looks self.new.looks }
         ensures vain { self.new.vain ≡ self.old.vain }
         ensures next { self.new.next ≡ self.old.next }
-        ensures few { self.new.looks ≤ self.old.places }
         ensures places { self.new.places ≡ self.old.places }
     {
         self.sweep.scan.shortest(arcs, starts, ends, steps)
@@ -119,25 +109,13 @@ impl Search {
             (vain_of self.old) self.old.next }
         ensures none { IsNone result ↔ NoEndReached (A.leads arcs.now) self.old.places (members_of starts.now)
             (members_of ends.now) }
-        ensures found { IfSome result (λ k. IsShortestFromOne (A.leads arcs.now) self.old.places
-            (members_of starts.now) (members_of ends.now) (step_of self.new) k) }
-        ensures first { IfSome result (λ k. step_of self.new 0 ≡ self.new.next) }
-        ensures closed { IfNone result (IsClosed (A.leads arcs.now) self.old.places (members_of starts.now)
-            (members_of ends.now) (vain_of self.new)) }
-        ensures reached { IfNone result (IsReachedSet (A.leads arcs.now) self.old.places (members_of starts.now)
-            (vain_of self.new)) }
-        ensures left { IsLeftOut (A.leads arcs.now) self.old.places (members_of starts.now) (members_of ends.now)
-            (vain_of self.new) self.new.next }
-        ensures grown { IsWithin self.old.places (vain_of self.old) (vain_of self.new) }
-        ensures looks { IfNone result (size_on (vain_of self.new) self.old.places
-            ≡ size_on (vain_of self.old) self.old.places + self.new.looks) }
-        ensures count { steps.new ≤ steps.old + self.old.places }
-        ensures told { steps.new ≡ steps.old + self.new.looks }
-        ensures looked { AreLookedAtInVain (A.leads arcs.now) self.old.places (members_of starts.now)
-            (members_of ends.now) (vain_of self.old) self.new.looks }
+        ensures answer { IsAnswerInTurn (A.leads arcs.now) self.old.places (members_of starts.now)
+            (members_of ends.now) (step_of self.new) (vain_of self.new) self.new.next result }
+        ensures left { HasLeftOut (A.leads arcs.now) self.old.places (members_of starts.now) (members_of ends.now)
+            (vain_of self.old) (vain_of self.new) self.new.next self.new.looks result }
+        ensures counted { AreLooksTold self.old.places self.new.looks steps.old steps.new self.old.all_looks
+            self.new.all_looks }
         ensures walk { IfNone result (self.new.walk ≡ self.old.walk) }
-        ensures all_looks { self.new.all_looks ≡ counted_on self.old.all_looks self.new.looks }
-        ensures few { self.new.looks ≤ self.old.places }
         ensures places { self.new.places ≡ self.old.places }
     {
         self.sweep.search(arcs, starts, ends, steps)

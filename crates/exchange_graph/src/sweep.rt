@@ -2,16 +2,16 @@
 //! all searches together look at each place of it once.
 
 ghost use Rattle.std.specs.Prelude.{◌≡◌, ℕ, ◌+◌, ◌<◌, ◌≤◌, Bool, true, false, length, vec_len, slice_index, IfOk, IfSome, IfNone};
-ghost use Rattle.residue_theory.specs.Sets.{IsWithin, either, only};
+ghost use Rattle.residue_theory.specs.Sets.{either, only};
 ghost use Rattle.residue_theory.specs.Sums.{size_on};
-ghost use Rattle.closed_sets.specs.Closed.{IsClosed, IsReachedSet};
 ghost use Rattle.search_laws.specs.Outside.{IsReachedInVain, leads_outside};
-ghost use Rattle.search_laws.specs.Searches.{IsShortest};
-ghost use Rattle.exchange_graph.specs.Counts.{AreLookedAt, counted_on};
+ghost use Rattle.exchange_graph.specs.Counts.{AreLooksTold};
 ghost use Rattle.exchange_graph.specs.Marks.{members_of};
 ghost use Rattle.exchange_graph.specs.Scans.{walk_of};
-ghost use Rattle.exchange_graph.specs.Sweeps.{AreLookedAtInVain, IsLeftOut, IsShortestFromOne};
-ghost use Rattle.exchange_graph.specs.SweepStates.{IsStored, IsSweeping, left_by, places};
+ghost use Rattle.exchange_graph.specs.SearchAnswers.{HasLeftOut, IsAnswerInTurn, IsSearchAnswer};
+ghost use Rattle.exchange_graph.specs.Sweeps.{AreLookedAtInVain, IsLeftOut};
+ghost use Rattle.exchange_graph.specs.SweepStates.{HasFoundFrom, HasPassed, HasSweptOn, HasMarks, IsSweeping};
+ghost use Rattle.exchange_graph.specs.SweepStates.{left_by, sweep_places};
 
 use crate::arcs::Arcs;
 use crate::outside::Outside;
@@ -32,8 +32,8 @@ pub struct Sweep {
 impl Sweep {
     /// Room for sweeps over the places below n. Nothing is left out.
     pub fn open(alloc: Global, n: usize) -> Result<Self, AllocError>
-        ensures stored { IfOk result (λ s. IsStored s) }
-        ensures places { IfOk result (λ s. places s ≡ n) }
+        ensures stored { IfOk result (λ s. HasMarks s) }
+        ensures places { IfOk result (λ s. sweep_places s ≡ n) }
         ensures left { IfOk result (λ s. (y : ℕ) → left_by s y ≡ false) }
         ensures next { IfOk result (λ s. s.next ≡ 0) }
         ensures looks { IfOk result (λ s. s.scan.looks ≡ 0) }
@@ -48,13 +48,13 @@ impl Sweep {
 
     // Leaves out what the last search reached.
     fn leave(&mut self)
-        requires stored { IsStored self.old }
+        requires stored { HasMarks self.old }
         requires listed { (i : ℕ) → i < self.old.scan.filled →
             members_of self.old.scan.reached.items (slice_index self.old.scan.order.items i) ≡ true }
-        ensures left { (y : ℕ) → y < places self.old →
+        ensures left { (y : ℕ) → y < sweep_places self.old →
             left_by self.new y ≡ either (left_by self.old) (members_of self.old.scan.reached.items) y }
         ensures kept { self.new ≡ record self.old { left = self.new.left } }
-        ensures stored { IsStored self.new }
+        ensures stored { HasMarks self.new }
     {
         for at in 0..self.scan.filled {
             let place = self.scan.order[at];
@@ -64,14 +64,14 @@ impl Sweep {
 
     // Counts the looks of the searches before the last one too.
     fn count(&mut self, before: usize)
-        requires stored { IsStored self.old }
-        requires few { self.old.scan.looks + before ≤ places self.old }
+        requires stored { HasMarks self.old }
+        requires few { self.old.scan.looks + before ≤ sweep_places self.old }
         ensures kept { self.new ≡ record self.old {
           scan = record self.old.scan {
             looks = self.old.scan.looks + before;
           };
         } }
-        ensures stored { IsStored self.new }
+        ensures stored { HasMarks self.new }
     {
         self.scan.looks += before;
     }
@@ -84,30 +84,22 @@ impl Sweep {
         ends: &[bool],
         steps: &mut Steps<L>,
     ) -> Option<usize>
-        requires stored { IsStored self.old }
-        requires places { A.places arcs.now ≡ places self.old }
-        requires ends { length ends.now ≡ places self.old }
-        requires start { start < places self.old }
-        ensures found { IfSome result (λ k. IsShortest (leads_outside (A.leads arcs.now) (left_by self.old))
-            (places self.old) (only start) (members_of ends.now) (walk_of self.new.scan) k) }
-        ensures looked { IfSome result (λ k. AreLookedAt (leads_outside (A.leads arcs.now) (left_by self.old))
-            (places self.old) (only start) (members_of ends.now) k self.new.scan.looks) }
-        ensures closed { IfNone result (IsClosed (leads_outside (A.leads arcs.now) (left_by self.old))
-            (places self.old) (only start) (members_of ends.now) (members_of self.new.scan.reached.items)) }
-        ensures reached { IfNone result (IsReachedSet (leads_outside (A.leads arcs.now) (left_by self.old))
-            (places self.old) (only start) (members_of self.new.scan.reached.items)) }
-        ensures size { IfNone result (size_on (members_of self.new.scan.reached.items) (places self.old)
-            ≡ self.new.scan.looks) }
+        requires stored { HasMarks self.old }
+        requires places { A.places arcs.now ≡ sweep_places self.old }
+        requires ends { length ends.now ≡ sweep_places self.old }
+        requires start { start < sweep_places self.old }
+        ensures answer { IsSearchAnswer (leads_outside (A.leads arcs.now) (left_by self.old)) (sweep_places self.old)
+            (only start) (members_of ends.now) (walk_of self.new.scan) (members_of self.new.scan.reached.items)
+            self.new.scan.looks result }
         ensures listed { IfNone result ((i : ℕ) → i < self.new.scan.filled →
             members_of self.new.scan.reached.items (slice_index self.new.scan.order.items i) ≡ true) }
+        ensures counted { AreLooksTold (sweep_places self.old) self.new.scan.looks steps.old steps.new
+            self.old.scan.all_looks self.new.scan.all_looks }
         ensures walk { IfNone result (self.new.scan.walk ≡ self.old.scan.walk) }
-        ensures told { steps.new ≡ steps.old + self.new.scan.looks }
-        ensures all_looks { self.new.scan.all_looks ≡ counted_on self.old.scan.all_looks self.new.scan.looks }
-        ensures few { self.new.scan.looks ≤ places self.old }
         ensures left { self.new.left ≡ self.old.left }
         ensures next { self.new.next ≡ self.old.next }
-        ensures stored { IsStored self.new }
-        ensures places { places self.new ≡ places self.old }
+        ensures stored { HasMarks self.new }
+        ensures places { sweep_places self.new ≡ sweep_places self.old }
     {
         let outside = Outside {
             arcs,
@@ -126,33 +118,24 @@ impl Sweep {
         ends: &[bool],
         steps: &mut Steps<L>,
     ) -> Option<usize>
-        requires stored { IsStored self.old }
-        requires places { A.places arcs.now ≡ places self.old }
-        requires starts { length starts.now ≡ places self.old }
-        requires ends { length ends.now ≡ places self.old }
-        requires start { start < places self.old }
-        requires vain { IsReachedInVain (A.leads arcs.now) (places self.old) (members_of starts.now)
+        requires stored { HasMarks self.old }
+        requires places { A.places arcs.now ≡ sweep_places self.old }
+        requires starts { length starts.now ≡ sweep_places self.old }
+        requires ends { length ends.now ≡ sweep_places self.old }
+        requires start { start < sweep_places self.old }
+        requires vain { IsReachedInVain (A.leads arcs.now) (sweep_places self.old) (members_of starts.now)
             (members_of ends.now) (left_by self.old) }
-        requires few { self.old.scan.looks ≤ size_on (left_by self.old) (places self.old) }
-        ensures found { IfSome result (λ k. IsShortestFromOne (A.leads arcs.now) (places self.old)
-            (members_of starts.now) (members_of ends.now) (walk_of self.new.scan) k) }
-        ensures first { IfSome result (λ k. walk_of self.new.scan 0 ≡ start) }
-        ensures looked { (before : ℕ → Bool) → IsSweeping (A.leads arcs.now) (places self.old) (members_of starts.now)
-            (members_of ends.now) before self.old → AreLookedAtInVain (A.leads arcs.now) (places self.old)
+        requires few { self.old.scan.looks ≤ size_on (left_by self.old) (sweep_places self.old) }
+        ensures found { IfSome result (HasFoundFrom (A.leads arcs.now) (sweep_places self.old) (members_of starts.now)
+            (members_of ends.now) start self.old self.new) }
+        ensures passed { IfNone result (HasPassed (A.leads arcs.now) (sweep_places self.old) (members_of starts.now)
+            (members_of ends.now) start self.old self.new) }
+        ensures looked { (before : ℕ → Bool) → IsSweeping (A.leads arcs.now) (sweep_places self.old)
+            (members_of starts.now)
+            (members_of ends.now) before self.old → AreLookedAtInVain (A.leads arcs.now) (sweep_places self.old)
             (members_of starts.now) (members_of ends.now) before self.new.scan.looks }
-        ensures left { IfSome result (λ k. self.new.left ≡ self.old.left) }
-        ensures sweeping { (before : ℕ → Bool) → IsSweeping (A.leads arcs.now) (places self.old)
-            (members_of starts.now) (members_of ends.now) before self.old → IfNone result (IsSweeping
-            (A.leads arcs.now) (places self.old) (members_of starts.now) (members_of ends.now) before self.new) }
-        ensures held { IfNone result (members_of starts.now start ≡ true → left_by self.new start ≡ true) }
-        ensures grown { IsWithin (places self.old) (left_by self.old) (left_by self.new) }
-        ensures next { self.new.next ≡ self.old.next }
-        ensures walk { IfNone result (self.new.scan.walk ≡ self.old.scan.walk) }
-        ensures told { steps.new + self.old.scan.looks ≡ steps.old + self.new.scan.looks }
-        ensures all_looks { (first : ℕ) → self.old.scan.all_looks ≡ counted_on first self.old.scan.looks →
-            self.new.scan.all_looks ≡ counted_on first self.new.scan.looks }
-        ensures stored { IsStored self.new }
-        ensures places { places self.new ≡ places self.old }
+        ensures swept { HasSweptOn self.old self.new steps.old steps.new }
+        ensures stored { HasMarks self.new }
     {
         if !starts[start] || self.left[start] {
             return None;
@@ -180,31 +163,23 @@ impl Sweep {
         ends: &[bool],
         steps: &mut Steps<L>,
     ) -> Option<usize>
-        requires stored { IsStored self.old }
-        requires places { A.places arcs.now ≡ places self.old }
-        requires starts { length starts.now ≡ places self.old }
-        requires ends { length ends.now ≡ places self.old }
-        requires left { IsLeftOut (A.leads arcs.now) (places self.old) (members_of starts.now) (members_of ends.now)
+        requires stored { HasMarks self.old }
+        requires places { A.places arcs.now ≡ sweep_places self.old }
+        requires starts { length starts.now ≡ sweep_places self.old }
+        requires ends { length ends.now ≡ sweep_places self.old }
+        requires left { IsLeftOut (A.leads arcs.now) (sweep_places self.old) (members_of starts.now)
+            (members_of ends.now)
             (left_by self.old) self.old.next }
-        ensures found { IfSome result (λ k. IsShortestFromOne (A.leads arcs.now) (places self.old)
-            (members_of starts.now) (members_of ends.now) (walk_of self.new.scan) k) }
-        ensures first { IfSome result (λ k. walk_of self.new.scan 0 ≡ self.new.next) }
-        ensures looked { AreLookedAtInVain (A.leads arcs.now) (places self.old) (members_of starts.now)
-            (members_of ends.now) (left_by self.old) self.new.scan.looks }
-        ensures left { IsLeftOut (A.leads arcs.now) (places self.old) (members_of starts.now) (members_of ends.now)
-            (left_by self.new) self.new.next }
-        ensures grown { IsWithin (places self.old) (left_by self.old) (left_by self.new) }
-        ensures closed { IfNone result (IsClosed (A.leads arcs.now) (places self.old) (members_of starts.now)
-            (members_of ends.now) (left_by self.new)) }
-        ensures reached { IfNone result (IsReachedSet (A.leads arcs.now) (places self.old) (members_of starts.now)
-            (left_by self.new)) }
-        ensures size { IfNone result (size_on (left_by self.new) (places self.old)
-            ≡ size_on (left_by self.old) (places self.old) + self.new.scan.looks) }
+        ensures answer { IsAnswerInTurn (A.leads arcs.now) (sweep_places self.old) (members_of starts.now)
+            (members_of ends.now) (walk_of self.new.scan) (left_by self.new) self.new.next result }
+        ensures left { HasLeftOut (A.leads arcs.now) (sweep_places self.old) (members_of starts.now)
+            (members_of ends.now)
+            (left_by self.old) (left_by self.new) self.new.next self.new.scan.looks result }
+        ensures counted { AreLooksTold (sweep_places self.old) self.new.scan.looks steps.old steps.new
+            self.old.scan.all_looks self.new.scan.all_looks }
         ensures walk { IfNone result (self.new.scan.walk ≡ self.old.scan.walk) }
-        ensures told { steps.new ≡ steps.old + self.new.scan.looks }
-        ensures all_looks { self.new.scan.all_looks ≡ counted_on self.old.scan.all_looks self.new.scan.looks }
-        ensures stored { IsStored self.new }
-        ensures places { places self.new ≡ places self.old }
+        ensures stored { HasMarks self.new }
+        ensures places { sweep_places self.new ≡ sweep_places self.old }
     {
         self.scan.looks = 0;
         let places = self.left.len();

@@ -6,27 +6,29 @@ use Rattle.linear_algebra_laws.proofs.Kernels.{kernel-sym, kernel-trans, kernel_
 use Rattle.linear_algebra.specs.Products.{Agree}
 use Rattle.residue_theory.specs.Residues.{IsPrime}
 use Rattle.bipartite_matching.specs.Matchings.{Matching}
-use Rattle.row_transform.specs.Tableaus.{State}
+use Rattle.row_transform.specs.Tableaus.{TableauState}
 use Rattle.mixed_matrices.specs.Arcs.{HasNoWalk, IsClosedIn, IsReachedFromFree, has_base, has_match, is_end, is_free, leads_to}
 use Rattle.mixed_matrices.specs.LayeredMatrices.{LayeredMatrix}
 use Rattle.mixed_matrices.specs.Tableaus.{Tableau, HasTableau}
-use Rattle.mixed_pairs.proofs.Minimisers.{closed-best, closed-minimiser, least_set, least_set-closed, minimiser-closed}
-use Rattle.mixed_pairs.proofs.PairRank.{closed-rank}
-use Rattle.independent_matching.specs.Engines.{AreEntries, IsSolved, layers}
-use Rattle.independent_matching.specs.Sides.{layers_of, tableau_of}
+use Rattle.mixed_pair_laws.proofs.Minimisers.{closed-best, closed-minimiser, least_set, least_set-closed, minimiser-closed}
+use Rattle.mixed_pair_laws.proofs.PairRank.{closed-rank}
+use Rattle.independent_matching.specs.Engines.{AreOpenedEntries, IsSolved, layers}
+use Rattle.independent_matching.specs.Sides.{layers_of, tableau_of_pair}
 
 -- arcs and ends are read from P, and not from the entries that it came from
-pub same-arcs : (p : ℕ) (q : ℕ → ℕ → ℕ) (S : State) (M : Matching) → leads_to p (layers q S M) (tableau_of S M) ≡ leads_to p (layers_of S M) (tableau_of S M)
+pub same-arcs : (p : ℕ) (q : ℕ → ℕ → ℕ) (S : TableauState) (M : Matching) → leads_to p (layers q S M) (tableau_of_pair S M) ≡ leads_to p (layers_of S M)
+    (tableau_of_pair S M)
 unfolding leads_to
 same-arcs p q S M = refl
 
-pub same-ends : (p : ℕ) (q : ℕ → ℕ → ℕ) (S : State) (M : Matching) → is_end p (layers q S M) (tableau_of S M) ≡ is_end p (layers_of S M) (tableau_of S M)
+pub same-ends : (p : ℕ) (q : ℕ → ℕ → ℕ) (S : TableauState) (M : Matching) → is_end p (layers q S M) (tableau_of_pair S M) ≡ is_end p (layers_of S M)
+    (tableau_of_pair S M)
 unfolding is_end has_base has_match
 same-ends p q S M = refl
 
 -- what is a tableau for the kept entries is one for entries that agree with them
-pub entries-tableau : (p : ℕ) (q : ℕ → ℕ → ℕ) (S : State) (M : Matching) → AreEntries p S q →
-    HasTableau p (layers_of S M) (tableau_of S M) → HasTableau p (layers q S M) (tableau_of S M)
+pub entries-tableau : (p : ℕ) (q : ℕ → ℕ → ℕ) (S : TableauState) (M : Matching) → AreOpenedEntries p S q →
+    HasTableau p (layers_of S M) (tableau_of_pair S M) → HasTableau p (layers q S M) (tableau_of_pair S M)
 entries-tableau p q S M agree tableau = record {
   kernel = kernel-trans p S.rows S.columns q S.q S.p (kernel-sym p S.rows S.columns S.q q (kernel_of-agree p S.rows S.columns S.q q agree)) tableau.kernel;
   base = tableau.base;
@@ -34,14 +36,14 @@ entries-tableau p q S M agree tableau = record {
   apart = tableau.apart;
 }
 
-module _ (p : ℕ) (prime : IsPrime p) (S : State) (M : Matching) (kept : HasTableau p (layers_of S M)
-    (tableau_of S M)) (clear : HasNoWalk p (layers_of S M) (tableau_of S M))
-    (X : ℕ → Bool) (from_free : IsReachedFromFree p (layers_of S M) (tableau_of S M) X) (q : ℕ → ℕ → ℕ) (agree : AreEntries p S q) where
+module _ (p : ℕ) (prime : IsPrime p) (S : TableauState) (M : Matching) (kept : HasTableau p (layers_of S M)
+    (tableau_of_pair S M)) (clear : HasNoWalk p (layers_of S M) (tableau_of_pair S M))
+    (X : ℕ → Bool) (from_free : IsReachedFromFree p (layers_of S M) (tableau_of_pair S M) X) (q : ℕ → ℕ → ℕ) (agree : AreOpenedEntries p S q) where
   abbrev L : LayeredMatrix
   L = layers q S M
 
   abbrev F : Tableau
-  F = tableau_of S M
+  F = tableau_of_pair S M
 
   tableau : HasTableau p L F
   tableau = entries-tableau p q S M agree kept
@@ -70,8 +72,9 @@ module _ (p : ℕ) (prime : IsPrime p) (S : State) (M : Matching) (kept : HasTab
   }
 
 -- where the layered matrix stays, it does with other entries, and the entries that it came from stay
-pub layers-kept : (q : ℕ → ℕ → ℕ) (S S₀ : State) (M M₀ : Matching) → layers_of S M ≡ layers_of S₀ M₀ → layers q S M ≡ layers q S₀ M₀
+pub layers-kept : (q : ℕ → ℕ → ℕ) (S S₀ : TableauState) (M M₀ : Matching) → layers_of S M ≡ layers_of S₀ M₀ → layers q S M ≡ layers q S₀ M₀
 layers-kept q S S₀ M M₀ same = ap (λ (L : LayeredMatrix). record L { q = q }) same
 
-pub entries-kept : (p : ℕ) (q : ℕ → ℕ → ℕ) (S S₀ : State) (M M₀ : Matching) → layers_of S M ≡ layers_of S₀ M₀ → AreEntries p S₀ q → AreEntries p S q
+pub entries-kept : (p : ℕ) (q : ℕ → ℕ → ℕ) (S S₀ : TableauState) (M M₀ : Matching) → layers_of S M ≡ layers_of S₀ M₀ → AreOpenedEntries p S₀ q →
+    AreOpenedEntries p S q
 entries-kept p q S S₀ M M₀ same = subst (λ (L : LayeredMatrix). Agree p L.q_rows L.columns L.q q) (sym same)

@@ -3,12 +3,12 @@ use Rattle.std.proofs.Common.{◌≡◌, ◌≢◌, ◌<◌, ◌∙◌, ◌↔�
 use Rattle.residue_theory.proofs.SetLaws.{differ}
 use Rattle.residue_theory.proofs.SumLaws.{nat_cases}
 use Rattle.bipartite_matching.specs.Matchings.{Matching}
-use Rattle.row_transform.specs.Tableaus.{State}
-use Rattle.mixed_augmentation.proofs.Moves.{test_cases}
+use Rattle.row_transform.specs.Tableaus.{TableauState}
+use Rattle.mixed_augmentation_laws.proofs.Moves.{test_cases}
 use Rattle.mixed_matrices.specs.Tableaus.{Tableau}
 use Rattle.independent_matching.specs.declared.row.Row.{Row}
 use Rattle.independent_matching.specs.declared.row.Row.TheVariants.{Q, T}
-use Rattle.independent_matching.specs.Sides.{AreRowsLeft, AreRowsMoving, HasNoMate, Takes, in_q, is_matched, layers_of, mate_of, number, row_had, tableau_of}
+use Rattle.independent_matching.specs.Sides.{AreRowsLeft, AreRowsMoving, HasNoMate, Takes, in_q, is_matched, layers_of, mate_of, number, row_had, tableau_of_pair}
 use Rattle.independent_matching.proofs.MoveLaws.{had-base, had-mate, had-none}
 
 some_is_no_none : {A : Type 0} (a : A) → None ≡ Some a → ⊥
@@ -42,11 +42,12 @@ pub moved-rows : (M₀ M : Matching) (end : Row) (next : Option Row) → next �
 moved-rows M₀ M end next done rows row = (λ h. (rows row).0 (h, λ e. some_is_no_none (T row) (sym done ∙ e)), λ h. ((rows row).1 h).0)
 
 -- column v moves
-module _ (p : ℕ) (S S' : State) (M M' : Matching) (width : M.pattern.width ≡ S.columns)
+module _ (p : ℕ) (S S' : TableauState) (M M' : Matching) (width : M.pattern.width ≡ S.columns)
     (same_width : M'.pattern.width ≡ M.pattern.width) (v : ℕ) (below : v < S.columns)
-    (apart : S.base v ≡ true → is_matched M v ≡ true → ⊥) (taken : Row) (takes : Takes p (layers_of S M) (tableau_of S M) (tableau_of S' M') taken v) where
+    (apart : S.base v ≡ true → is_matched M v ≡ true → ⊥) (taken : Row) (takes : Takes p (layers_of S M) (tableau_of_pair S M) (tableau_of_pair S' M') taken
+    v) where
   abbrev next : Option Row
-  next = row_had (tableau_of S M) v
+  next = row_had (tableau_of_pair S M) v
 
   now : (y : ℕ) → y < M.pattern.width → y < M'.pattern.width
   now y l = omega (arith, l, same_width)
@@ -62,13 +63,13 @@ module _ (p : ℕ) (S S' : State) (M M' : Matching) (width : M.pattern.width ≡
 
   -- the row that v leaves is the one that comes next
   next-row : (row : ℕ) → is_matched M v ≡ true → mate_of M v ≡ row → next ≡ Some (T row)
-  next-row row m e = had-mate (tableau_of S M) v no_base m ∙ ap (λ r. Some (T r)) e
+  next-row row m e = had-mate (tableau_of_pair S M) v no_base m ∙ ap (λ r. Some (T r)) e
     where
       no_base : S.base v ≡ false
       no_base = elim (test_cases (S.base v)) [ inl b ↦ absurd (apart b m) | inr n ↦ n ]
 
   not-next : (row : ℕ) → HasNoMate M row → next ≢ Some (T row)
-  not-next row loose e = let h = had-t (tableau_of S M) v row e in loose v v_here h.0 h.1
+  not-next row loose e = let h = had-t (tableau_of_pair S M) v row e in loose v v_here h.0 h.1
 
   -- where the others keep their rows
   module _ (tests : (y : ℕ) → y < S.columns → y ≢ v → is_matched M' y ≡ is_matched M y) (mates : (y : ℕ) →

@@ -2,20 +2,20 @@
 use Rattle.std.proofs.Common.{◌≡◌, ◌≢◌, ◌%◌, ◌<◌, ◌∙◌, ◌||◌, ℕ, Bool, true, false, List, Option, is_some, inl, inr, sym, ap, subst}
 use Rattle.residue_theory.proofs.SetLaws.{differ, zero_cases}
 use Rattle.residue_theory.proofs.SumLaws.{nat_cases}
-use Rattle.sparse_t.specs.Incidences.{row_count, touches}
+use Rattle.sparse_t.specs.Incidences.{incidence_rows, touches}
 use Rattle.bipartite_matching.specs.Matchings.{Matching}
-use Rattle.row_transform.specs.Tableaus.{State}
+use Rattle.row_transform.specs.Tableaus.{TableauState}
 use Rattle.exchange_graph.specs.Marks.{members_of}
-use Rattle.mixed_augmentation.specs.Moves.{TakesRow, TakesMate}
+use Rattle.mixed_augmentation_laws.specs.Moves.{TakesRow, TakesMate}
 use Rattle.mixed_matrices.specs.LayeredMatrices.{LayeredMatrix}
 use Rattle.independent_matching.specs.declared.marks.Marks.{Marks}
 use Rattle.independent_matching.specs.declared.resting.Resting.{Resting}
 use Rattle.independent_matching.specs.declared.row.Row.{Row}
-use Rattle.independent_matching.specs.Marks.{AreTouched, IsChangedAt, IsEndMark, IsQMark, IsTMark, IsTouched, row_at}
-use Rattle.independent_matching.specs.Sides.{AreRowsLeft, IsFreeQRow, in_q, layers_of, number, tableau_of}
+use Rattle.independent_matching.specs.Marks.{AreTouchedByRow, IsChangedAt, IsEndMark, IsQMark, IsTMark, IsTouched, marked_row}
+use Rattle.independent_matching.specs.Sides.{AreRowsLeft, IsFreeQRow, in_q, layers_of, number, tableau_of_pair}
 
 -- ---- a column takes a row
-module _ (p : ℕ) (S S' : State) (M M' : Matching) (v : ℕ) (below : v < S.columns) (layers : layers_of S' M' ≡ layers_of S M) (row : ℕ) where
+module _ (p : ℕ) (S S' : TableauState) (M M' : Matching) (v : ℕ) (below : v < S.columns) (layers : layers_of S' M' ≡ layers_of S M) (row : ℕ) where
   same_rows : S'.rows ≡ S.rows
   same_rows = ap (λ (L : LayeredMatrix). L.q_rows) layers
 
@@ -31,7 +31,7 @@ module _ (p : ℕ) (S S' : State) (M M' : Matching) (v : ℕ) (below : v < S.col
   }
 
   -- no pivot, and all stays
-  pub mate-mark : TakesMate (layers_of S M) (tableau_of S M) (tableau_of S' M') row v →
+  pub mate-mark : TakesMate (layers_of S M) (tableau_of_pair S M) (tableau_of_pair S' M') row v →
       (by_q : List (Option ℕ)) (x : ℕ) → IsQMark p S by_q x → IsQMark p S' by_q x
   mate-mark K by_q x = kept-mark by_q x
       (λ i E. record {
@@ -46,7 +46,7 @@ module _ (p : ℕ) (S S' : State) (M M' : Matching) (v : ℕ) (below : v < S.col
       })
 
   -- a column without an entry in the pivot's row stays, and the other rows without base stay so
-  module _ (no_base : S.base v ≡ false) (K : TakesRow p (layers_of S M) (tableau_of S M) (tableau_of S' M') row v) where
+  module _ (no_base : S.base v ≡ false) (K : TakesRow p (layers_of S M) (tableau_of_pair S M) (tableau_of_pair S' M') row v) where
     module _ (x : ℕ) (xl : x < S.columns) (zero : S.p row x % p ≡ 0) where
       still-free : (i : ℕ) → IsFreeQRow p S x i → IsFreeQRow p S' x i
       still-free i E = record {
@@ -77,7 +77,7 @@ module _ (p : ℕ) (S S' : State) (M M' : Matching) (v : ℕ) (below : v < S.col
           other : i ≢ row
           other q = E.bare v (subst (λ n. v < n) (sym same_columns) below) K.taken.member (K.taken.at_row ∙ sym q)
 
-    pub untouched-mark : (by_q : List (Option ℕ)) (m : Marks) → AreTouched p S m row → (x : ℕ) →
+    pub untouched-mark : (by_q : List (Option ℕ)) (m : Marks) → AreTouchedByRow p S m row → (x : ℕ) →
         x < S.columns → (IsTouched m x → ⊥) → IsQMark p S by_q x → IsQMark p S' by_q x
     untouched-mark by_q m A x l none mark = elim (zero_cases (S.p row x % p)) [
       | inl zero ↦ kept-mark by_q x (still-free x l zero) (was-free x l zero) mark
@@ -85,8 +85,8 @@ module _ (p : ℕ) (S S' : State) (M M' : Matching) (v : ℕ) (below : v < S.col
     ]
 
 -- ---- the marks for T after a walk
-module _ (S S' : State) (M M' : Matching) (layers : layers_of S' M' ≡ layers_of S M) (end : Row) (rows : AreRowsLeft M M' end) where
-  same_height : row_count M'.pattern ≡ row_count M.pattern
+module _ (S S' : TableauState) (M M' : Matching) (layers : layers_of S' M' ≡ layers_of S M) (end : Row) (rows : AreRowsLeft M M' end) where
+  same_height : incidence_rows M'.pattern ≡ incidence_rows M.pattern
   same_height = ap (λ (L : LayeredMatrix). L.t_rows) layers
 
   same_touches : (i x : ℕ) → touches M'.pattern i x ≡ touches M.pattern i x
@@ -113,13 +113,13 @@ module _ (S S' : State) (M M' : Matching) (layers : layers_of S' M' ≡ layers_o
     });
   }
 
-pub same-q : (p : ℕ) (S : State) (by_q now : List (Option ℕ)) (x : ℕ) → row_at now x ≡ row_at by_q x → IsQMark p S by_q x → IsQMark p S now x
+pub same-q : (p : ℕ) (S : TableauState) (by_q now : List (Option ℕ)) (x : ℕ) → marked_row now x ≡ marked_row by_q x → IsQMark p S by_q x → IsQMark p S now x
 same-q p S by_q now x e mark = record { some = λ i h. mark.some i (sym e ∙ h); none = λ h. mark.none (sym e ∙ h) }
 
 -- ---- one column's marks change
 module _ (r r' : Resting) (m now : Marks) (x : ℕ) (C : IsChangedAt r r' m now x) (y : ℕ) (ne : y ≢ x) where
   pub other-end : IsEndMark r m y → IsEndMark r' now y
-  other-end h = C.ends y ne ∙ h ∙ ap (λ t. t || is_some (row_at m.by_q.items y)) (sym (C.by_t y ne))
+  other-end h = C.ends y ne ∙ h ∙ ap (λ t. t || is_some (marked_row m.by_q.items y)) (sym (C.by_t y ne))
       ∙ ap (λ o. members_of r'.by_t.items y || is_some o) (sym (C.by_q y ne))
 
   pub other-t : (M : Matching) → IsTMark M r.by_t.items y → IsTMark M r'.by_t.items y
@@ -128,5 +128,5 @@ module _ (r r' : Resting) (m now : Marks) (x : ℕ) (C : IsChangedAt r r' m now 
     none = λ h. mark.none (sym (C.by_t y ne) ∙ h);
   }
 
-  pub other-q : (p : ℕ) (S : State) → IsQMark p S m.by_q.items y → IsQMark p S now.by_q.items y
+  pub other-q : (p : ℕ) (S : TableauState) → IsQMark p S m.by_q.items y → IsQMark p S now.by_q.items y
   other-q p S = same-q p S m.by_q.items now.by_q.items y (C.by_q y ne)

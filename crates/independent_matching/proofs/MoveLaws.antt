@@ -4,20 +4,20 @@ use Rattle.std.proofs.Common.{Option, Some, None, cond, inl, inr, refl, sym, ap,
 use Rattle.residue_theory.proofs.SetLaws.{differ}
 use Rattle.residue_theory.specs.Sums.{size_on}
 use Rattle.bipartite_matching.specs.Matchings.{Matching}
-use Rattle.row_transform.specs.Tableaus.{State}
+use Rattle.row_transform.specs.Tableaus.{TableauState}
 use Rattle.mixed_matrices.specs.Arcs.{is_free}
 use Rattle.mixed_matrices.specs.LayeredMatrices.{LayeredMatrix}
 use Rattle.mixed_matrices.specs.Pairs.{pair_size}
 use Rattle.mixed_matrices.specs.Tableaus.{Tableau, HasTableau}
-use Rattle.mixed_augmentation.specs.Moves.{Route, IsRoute, IsStage, TakesRow, TakesMate, route}
-use Rattle.mixed_augmentation.proofs.Moves.{end-size, end-tableau, row-entry, row-no_base, stage-mate, stage-row, stage-start, test_cases}
-use Rattle.mixed_augmentation.proofs.Routes.{route-last_row, route-last_to}
-use Rattle.mixed_augmentation.proofs.Counting.{route-pivots}
-use Rattle.mixed_augmentation.specs.Sealed.{KeepsSealed}
-use Rattle.mixed_augmentation.proofs.Sealed.{mate-keeps, row-keeps}
+use Rattle.mixed_augmentation_laws.specs.Moves.{Route, IsRoute, IsStage, TakesRow, TakesMate, route}
+use Rattle.mixed_augmentation_laws.proofs.Moves.{end-size, end-tableau, row-entry, row-no_base, stage-mate, stage-row, stage-start, test_cases}
+use Rattle.mixed_augmentation_laws.proofs.Routes.{route-last_row, route-last_to}
+use Rattle.mixed_augmentation_laws.proofs.Counting.{route-pivots}
+use Rattle.mixed_augmentation_laws.specs.Sealed.{KeepsSealed}
+use Rattle.mixed_augmentation_laws.proofs.Sealed.{mate-keeps, row-keeps}
 use Rattle.independent_matching.specs.declared.row.Row.{Row}
 use Rattle.independent_matching.specs.declared.row.Row.TheVariants.{Q, T}
-use Rattle.independent_matching.specs.Sides.{CanTake, IsFreeTaken, IsMoving, Takes, in_q, layers_of, number, row_had, size_of, tableau_of}
+use Rattle.independent_matching.specs.Sides.{CanTake, IsFreeTaken, IsMoving, Takes, in_q, layers_of, number, row_had, size_of, tableau_of_pair}
 
 some_is_no_none : {A : Type 0} (a : A) → Some a ≡ None → ⊥
 some_is_no_none a e = cc
@@ -43,10 +43,10 @@ free-used F x = neither (F.base x) (F.matched x)
     neither : (a b : Bool) → (not a && not b) ≡ not (a || b)
     neither a b = grind arith
 
-module _ (p : ℕ) (S₀ : State) (M₀ : Matching) (tableau : HasTableau p (layers_of S₀ M₀) (tableau_of S₀ M₀)) (at : ℕ → ℕ) (last : ℕ) (end : Row)
-    (W : IsRoute p (layers_of S₀ M₀) (tableau_of S₀ M₀) (route (tableau_of S₀ M₀) at last (in_q end) (number end))) where
+module _ (p : ℕ) (S₀ : TableauState) (M₀ : Matching) (tableau : HasTableau p (layers_of S₀ M₀) (tableau_of_pair S₀ M₀)) (at : ℕ → ℕ) (last : ℕ) (end : Row)
+    (W : IsRoute p (layers_of S₀ M₀) (tableau_of_pair S₀ M₀) (route (tableau_of_pair S₀ M₀) at last (in_q end) (number end))) where
   abbrev F₀ : Tableau
-  F₀ = tableau_of S₀ M₀
+  F₀ = tableau_of_pair S₀ M₀
 
   abbrev L₀ : LayeredMatrix
   L₀ = layers_of S₀ M₀
@@ -69,7 +69,7 @@ module _ (p : ℕ) (S₀ : State) (M₀ : Matching) (tableau : HasTableau p (lay
     );
   }
 
-  module _ (S : State) (M : Matching) (next : Option Row) (row : Row) (left : ℕ) (V : IsMoving p S₀ M₀ R S M next left) (is : next ≡ Some row) where
+  module _ (S : TableauState) (M : Matching) (next : Option Row) (row : Row) (left : ℕ) (V : IsMoving p S₀ M₀ R S M next left) (is : next ≡ Some row) where
     pub moving-positive : 0 < left
     moving-positive = go left V.none
       where
@@ -79,8 +79,8 @@ module _ (p : ℕ) (S₀ : State) (M₀ : Matching) (tableau : HasTableau p (lay
 
     -- column at i moves
     module _ (i : ℕ) (at_left : i + 1 ≡ left) where
-      stage_now : IsStage p L₀ F₀ R (suc i) (tableau_of S M)
-      stage_now = subst (λ k. IsStage p L₀ F₀ R k (tableau_of S M)) {x = left} (omega (arith, at_left)) V.stage
+      stage_now : IsStage p L₀ F₀ R (suc i) (tableau_of_pair S M)
+      stage_now = subst (λ k. IsStage p L₀ F₀ R k (tableau_of_pair S M)) {x = left} (omega (arith, at_left)) V.stage
 
       i_le : i ≤ last
       i_le = omega (arith, stage_now.le)
@@ -88,7 +88,7 @@ module _ (p : ℕ) (S₀ : State) (M₀ : Matching) (tableau : HasTableau p (lay
       pub moving-below : at i < S₀.columns
       moving-below = W.below i i_le
 
-      pub moving-apart : S.base (at i) ≡ true → (tableau_of S M).matched (at i) ≡ true → ⊥
+      pub moving-apart : S.base (at i) ≡ true → (tableau_of_pair S M).matched (at i) ≡ true → ⊥
       moving-apart b m = differ (tableau.apart (at i) moving-below (sym (stage_now.same_base i (omega arith)) ∙ b))
           (sym (stage_now.same_match i (omega arith)) ∙ m)
 
@@ -107,12 +107,12 @@ module _ (p : ℕ) (S₀ : State) (M₀ : Matching) (tableau : HasTableau p (lay
       number_is : R.row i ≡ number row
       number_is = sym (subst (λ r. number r ≡ R.row i) same_row takes_row.3)
 
-      pub can-take : CanTake p (layers_of S M) (tableau_of S M) row (at i)
-      can-take = subst (λ L. CanTake p L (tableau_of S M) row (at i)) (sym V.layers) (record {
+      pub can-take : CanTake p (layers_of S M) (tableau_of_pair S M) row (at i)
+      can-take = subst (λ L. CanTake p L (tableau_of_pair S M) row (at i)) (sym V.layers) (record {
         of_q = λ q. (
           subst (λ r. r < L₀.q_rows) number_is (W.row_below i i_le (sym in_q_is ∙ q)),
-          subst (λ r. S.p r (at i) % p ≢ 0) number_is (row-entry p L₀ F₀ R tableau W i (tableau_of S M) (tableau_of S M) stage_now (sym in_q_is ∙ q)),
-          row-no_base p L₀ F₀ R tableau W i (tableau_of S M) (tableau_of S M) stage_now (sym in_q_is ∙ q),
+          subst (λ r. S.p r (at i) % p ≢ 0) number_is (row-entry p L₀ F₀ R tableau W i (tableau_of_pair S M) (tableau_of_pair S M) stage_now (sym in_q_is ∙ q)),
+          row-no_base p L₀ F₀ R tableau W i (tableau_of_pair S M) (tableau_of_pair S M) stage_now (sym in_q_is ∙ q),
         );
         of_t = λ t. (
           subst (λ r. r < L₀.t_rows) number_is (W.mate_below i i_le (sym in_q_is ∙ t)),
@@ -124,56 +124,56 @@ module _ (p : ℕ) (S₀ : State) (M₀ : Matching) (tableau : HasTableau p (lay
       pub moving-count : size_on R.in_q left ≡ size_on R.in_q i + cond (in_q row) 1 0
       moving-count = ap (λ k. size_on R.in_q k) {x = left} {y = suc i} (omega (arith, at_left)) ∙ ap (λ c. size_on R.in_q i + cond c 1 0) (sym in_q_is)
 
-      module _ (S' : State) (M' : Matching) (same : layers_of S' M' ≡ layers_of S M) (pattern : M'.pattern ≡ M.pattern)
-          (takes : Takes p (layers_of S M) (tableau_of S M) (tableau_of S' M') row (at i)) where
-        takes_here : Takes p L₀ (tableau_of S M) (tableau_of S' M') row (at i)
-        takes_here = subst (λ L. Takes p L (tableau_of S M) (tableau_of S' M') row (at i)) V.layers takes
+      module _ (S' : TableauState) (M' : Matching) (same : layers_of S' M' ≡ layers_of S M) (pattern : M'.pattern ≡ M.pattern)
+          (takes : Takes p (layers_of S M) (tableau_of_pair S M) (tableau_of_pair S' M') row (at i)) where
+        takes_here : Takes p L₀ (tableau_of_pair S M) (tableau_of_pair S' M') row (at i)
+        takes_here = subst (λ L. Takes p L (tableau_of_pair S M) (tableau_of_pair S' M') row (at i)) V.layers takes
 
-        stage_next : (b : Bool) → in_q row ≡ b → IsStage p L₀ F₀ R i (tableau_of S' M')
-        stage_next true q = stage-row p L₀ F₀ R tableau W i (tableau_of S M) (tableau_of S' M') stage_now (sym in_q_is ∙ q)
-            (subst (λ r. TakesRow p L₀ (tableau_of S M) (tableau_of S' M') r (at i)) (sym number_is) (takes_here.of_q q))
-        stage_next false t = stage-mate p L₀ F₀ R tableau W i (tableau_of S M) (tableau_of S' M') stage_now (sym in_q_is ∙ t)
-            (subst (λ r. TakesMate L₀ (tableau_of S M) (tableau_of S' M') r (at i)) (sym number_is) (takes_here.of_t t))
+        stage_next : (b : Bool) → in_q row ≡ b → IsStage p L₀ F₀ R i (tableau_of_pair S' M')
+        stage_next true q = stage-row p L₀ F₀ R tableau W i (tableau_of_pair S M) (tableau_of_pair S' M') stage_now (sym in_q_is ∙ q)
+            (subst (λ r. TakesRow p L₀ (tableau_of_pair S M) (tableau_of_pair S' M') r (at i)) (sym number_is) (takes_here.of_q q))
+        stage_next false t = stage-mate p L₀ F₀ R tableau W i (tableau_of_pair S M) (tableau_of_pair S' M') stage_now (sym in_q_is ∙ t)
+            (subst (λ r. TakesMate L₀ (tableau_of_pair S M) (tableau_of_pair S' M') r (at i)) (sym number_is) (takes_here.of_t t))
 
         -- the columns from which no end is reached stay
-        pub moving-keeps : KeepsSealed p L₀ F₀ (tableau_of S M) → KeepsSealed p L₀ F₀ (tableau_of S' M')
+        pub moving-keeps : KeepsSealed p L₀ F₀ (tableau_of_pair S M) → KeepsSealed p L₀ F₀ (tableau_of_pair S' M')
         moving-keeps K = go (in_q row) refl
           where
-            go : (b : Bool) → in_q row ≡ b → KeepsSealed p L₀ F₀ (tableau_of S' M')
-            go true q = row-keeps p L₀ F₀ R tableau W i i_le (tableau_of S M) (tableau_of S' M') K (sym in_q_is ∙ q)
-                (subst (λ r. TakesRow p L₀ (tableau_of S M) (tableau_of S' M') r (at i)) (sym number_is) (takes_here.of_q q))
-            go false t = mate-keeps p L₀ F₀ R tableau W i i_le (tableau_of S M) (tableau_of S' M') K (sym in_q_is ∙ t)
-                (subst (λ r. TakesMate L₀ (tableau_of S M) (tableau_of S' M') r (at i)) (sym number_is) (takes_here.of_t t))
+            go : (b : Bool) → in_q row ≡ b → KeepsSealed p L₀ F₀ (tableau_of_pair S' M')
+            go true q = row-keeps p L₀ F₀ R tableau W i i_le (tableau_of_pair S M) (tableau_of_pair S' M') K (sym in_q_is ∙ q)
+                (subst (λ r. TakesRow p L₀ (tableau_of_pair S M) (tableau_of_pair S' M') r (at i)) (sym number_is) (takes_here.of_q q))
+            go false t = mate-keeps p L₀ F₀ R tableau W i i_le (tableau_of_pair S M) (tableau_of_pair S' M') K (sym in_q_is ∙ t)
+                (subst (λ r. TakesMate L₀ (tableau_of_pair S M) (tableau_of_pair S' M') r (at i)) (sym number_is) (takes_here.of_t t))
 
-        none_left : i ≡ 0 → row_had (tableau_of S M) (at i) ≡ None
-        none_left e = had-none (tableau_of S M) (at i)
+        none_left : i ≡ 0 → row_had (tableau_of_pair S M) (at i) ≡ None
+        none_left e = had-none (tableau_of_pair S M) (at i)
             (stage_now.same_base i (omega arith) ∙ ap (λ k. F₀.base (at k)) e ∙ W.first.0)
             (stage_now.same_match i (omega arith) ∙ ap (λ k. F₀.matched (at k)) e ∙ W.first.1)
 
-        row_left : (j : ℕ) → j + 1 ≡ i → (r : Row) × (row_had (tableau_of S M) (at i) ≡ Some r) × (in_q r ≡ R.in_q j) × (number r ≡ R.row j)
+        row_left : (j : ℕ) → j + 1 ≡ i → (r : Row) × (row_had (tableau_of_pair S M) (at i) ≡ Some r) × (in_q r ≡ R.in_q j) × (number r ≡ R.row j)
         row_left j e = elim (test_cases (R.in_q j)) [ inl q ↦ base_case q | inr t ↦ mate_case t ]
           where
             next_is : suc j ≡ i
             next_is = omega (arith, e)
 
-            base_case : R.in_q j ≡ true → (r : Row) × (row_had (tableau_of S M) (at i) ≡ Some r) × (in_q r ≡ R.in_q j) × (number r ≡ R.row j)
+            base_case : R.in_q j ≡ true → (r : Row) × (row_had (tableau_of_pair S M) (at i) ≡ Some r) × (in_q r ≡ R.in_q j) × (number r ≡ R.row j)
             base_case q =
                 let held : (F₀.base (at i) ≡ true) × (F₀.row (at i) ≡ R.row j) = subst (λ k. (F₀.base (at k) ≡ true)
                 × (F₀.row (at k) ≡ R.row j)) next_is (W.row_left j (omega (arith, i_le, e)) q) in (
                   Q (S.row (at i)),
-                  had-base (tableau_of S M) (at i) (stage_now.same_base i (omega arith)
+                  had-base (tableau_of_pair S M) (at i) (stage_now.same_base i (omega arith)
                       ∙ held.0),
                   sym q,
                   stage_now.same_row i (omega arith) held.0 ∙ held.1,
                 )
 
-            mate_case : R.in_q j ≡ false → (r : Row) × (row_had (tableau_of S M) (at i) ≡ Some r) × (in_q r ≡ R.in_q j) × (number r ≡ R.row j)
+            mate_case : R.in_q j ≡ false → (r : Row) × (row_had (tableau_of_pair S M) (at i) ≡ Some r) × (in_q r ≡ R.in_q j) × (number r ≡ R.row j)
             mate_case t =
                 let held : (F₀.matched (at i) ≡ true) × (F₀.mate (at i) ≡ R.row j) =
                 subst (λ k. (F₀.matched (at k) ≡ true) × (F₀.mate (at k) ≡ R.row j)) next_is
                 (W.mate_left j (omega (arith, i_le, e)) t) in (
-                  T ((tableau_of S M).mate (at i)),
-                  had-mate (tableau_of S M) (at i)
+                  T ((tableau_of_pair S M).mate (at i)),
+                  had-mate (tableau_of_pair S M) (at i)
                       (stage_now.same_base i (omega arith) ∙ no_base held.0) (stage_now.same_match i (omega arith)
                       ∙ held.0),
                   sym t,
@@ -183,7 +183,7 @@ module _ (p : ℕ) (S₀ : State) (M₀ : Matching) (tableau : HasTableau p (lay
                 no_base : F₀.matched (at i) ≡ true → F₀.base (at i) ≡ false
                 no_base m = elim (test_cases (F₀.base (at i))) [ inl b ↦ absurd (differ (tableau.apart (at i) moving-below b) m) | inr n ↦ n ]
 
-        pub moving-next : IsMoving p S₀ M₀ R S' M' (row_had (tableau_of S M) (at i)) i
+        pub moving-next : IsMoving p S₀ M₀ R S' M' (row_had (tableau_of_pair S M) (at i)) i
         moving-next = record {
           layers = same ∙ V.layers;
           width = ap (λ m. m.width) pattern ∙ V.width;
@@ -196,7 +196,7 @@ module _ (p : ℕ) (S₀ : State) (M₀ : Matching) (tableau : HasTableau p (lay
     pub step-below : (x : ℕ) → x ≡ at (left - 1) → x < S₀.columns
     step-below x e = subst (λ y. y < S₀.columns) (sym e) (moving-below (left - 1) (omega (arith, moving-positive)))
 
-  module _ (S : State) (M : Matching) (next : Option Row) (left : ℕ) (V : IsMoving p S₀ M₀ R S M next left) (done : next ≡ None) where
+  module _ (S : TableauState) (M : Matching) (next : Option Row) (left : ℕ) (V : IsMoving p S₀ M₀ R S M next left) (done : next ≡ None) where
     moving-done : left ≡ 0
     moving-done = go left V.some
       where
@@ -204,19 +204,20 @@ module _ (p : ℕ) (S₀ : State) (M₀ : Matching) (tableau : HasTableau p (lay
         go zero some = refl
         go (suc n) some = let (r, is, _, _) = some n (omega arith) in absurd (some_is_no_none r (sym is ∙ done))
 
-    stage_end : IsStage p L₀ F₀ R 0 (tableau_of S M)
-    stage_end = subst (λ k. IsStage p L₀ F₀ R k (tableau_of S M)) moving-done V.stage
+    stage_end : IsStage p L₀ F₀ R 0 (tableau_of_pair S M)
+    stage_end = subst (λ k. IsStage p L₀ F₀ R k (tableau_of_pair S M)) moving-done V.stage
 
-    pub moving-tableau : HasTableau p L₀ (tableau_of S M)
-    moving-tableau = end-tableau p L₀ F₀ R tableau W (tableau_of S M) stage_end
+    pub moving-tableau : HasTableau p L₀ (tableau_of_pair S M)
+    moving-tableau = end-tableau p L₀ F₀ R tableau W (tableau_of_pair S M) stage_end
 
     pub moving-size : size_of S M ≡ size_of S₀ M₀ + 1
-    moving-size = ap (λ (L : LayeredMatrix). pair_size L S.base (tableau_of S M).matched) V.layers ∙ end-size p L₀ F₀ R tableau W (tableau_of S M) stage_end
+    moving-size = ap (λ (L : LayeredMatrix). pair_size L S.base (tableau_of_pair S M).matched) V.layers ∙ end-size p L₀ F₀ R tableau W (tableau_of_pair S M)
+        stage_end
 
-    pub moving-taken : IsFreeTaken S₀.columns F₀ (tableau_of S M) (at 0)
+    pub moving-taken : IsFreeTaken S₀.columns F₀ (tableau_of_pair S M) (at 0)
     moving-taken = record {
-      here = free-used (tableau_of S M) (at 0) ∙ ap not (stage_end.used_first refl);
-      others = λ y l ne. free-used (tableau_of S M) y ∙ ap not (stage_end.used y l (inr ne)) ∙ sym (free-used F₀ y);
+      here = free-used (tableau_of_pair S M) (at 0) ∙ ap not (stage_end.used_first refl);
+      others = λ y l ne. free-used (tableau_of_pair S M) y ∙ ap not (stage_end.used y l (inr ne)) ∙ sym (free-used F₀ y);
     }
 
     pub moving-none : size_on R.in_q left ≡ 0

@@ -3,14 +3,14 @@ use Rattle.std.proofs.Common.{◌≡◌, ◌≢◌, ◌<◌, ◌≤◌, ◌∙�
 use Rattle.std.proofs.Common.{length, slice_index, inl, inr, refl, sym, subst, arith}
 use Rattle.std.proofs.lemmas.Bool.Decides.{nat_tests}
 use Rattle.residue_theory.proofs.SetLaws.{both-first, both-second, both_true, differ, either_cases, either-first, either-second, lt_cases}
-use Rattle.sparse_t.specs.Incidences.{touches, AreRowsOf}
+use Rattle.sparse_t.specs.Incidences.{touches, AreRowsAt}
 use Rattle.sparse_t.proofs.ListLaws.{has-at, has-member}
 use Rattle.bipartite_matching.specs.Matchings.{Matching, HasPair, IsMatching}
 use Rattle.bipartite_matching.proofs.MateLaws.{matched-pair, pair-matched}
 use Rattle.exchange_graph.specs.Turns.{HasNextTurn, HaveHadTurns}
-use Rattle.row_transform.specs.Tableaus.{State, has_entry}
+use Rattle.row_transform.specs.Tableaus.{TableauState, has_entry}
 use Rattle.mixed_matrices.specs.Arcs.{leads_to}
-use Rattle.independent_matching.specs.Sides.{common_columns, is_matched, layers_of, mate_of, q_arc, t_arc, tableau_of}
+use Rattle.independent_matching.specs.Sides.{common_columns, is_matched, layers_of, mate_of, q_arc, t_arc, tableau_of_pair}
 use Rattle.independent_matching.specs.Turns.{t_rows_before, t_turn, t_turns, turn_of}
 use Rattle.independent_matching.proofs.RisingLaws.{all-items, before-item}
 
@@ -21,7 +21,7 @@ other_tells : (x y : ℕ) → not (eqb x y) ≡ true → y ≢ x
 other_tells x y h = grind (arith, nat_tests)
 
 -- ---- by T rows
-module _ (M : Matching) (matching : IsMatching M) (x : ℕ) (list : List ℕ) (rows : AreRowsOf M.pattern x list) where
+module _ (M : Matching) (matching : IsMatching M) (x : ℕ) (list : List ℕ) (rows : AreRowsAt M.pattern x list) where
   t_arc-of : (k : ℕ) → k < length list → (y : ℕ) → HasPair M (slice_index list k) y → y ≢ x → t_arc M x y ≡ true
   t_arc-of k l y h ne =
       let row : ℕ = slice_index list k in
@@ -87,9 +87,9 @@ module _ (M : Matching) (matching : IsMatching M) (x : ℕ) (list : List ℕ) (r
   }
 
 -- ---- by T and Q rows
-module _ (p : ℕ) (S : State) (M : Matching) (x : ℕ) where
+module _ (p : ℕ) (S : TableauState) (M : Matching) (x : ℕ) where
   abbrev arc : ℕ → Bool
-  arc = leads_to p (layers_of S M) (tableau_of S M) x
+  arc = leads_to p (layers_of S M) (tableau_of_pair S M) x
 
   abbrev turn : ℕ → ℕ
   turn = turn_of S M x
@@ -161,6 +161,6 @@ module _ (p : ℕ) (S : State) (M : Matching) (x : ℕ) where
       }
 
 -- what is below the common columns
-pub common-below : (S : State) (M : Matching) (x : ℕ) → x < common_columns S M →
+pub common-below : (S : TableauState) (M : Matching) (x : ℕ) → x < common_columns S M →
     (common_columns S M ≡ S.columns) × (common_columns S M ≡ M.pattern.width)
 common-below S M x l = grind (arith, nat_tests)

@@ -4,7 +4,7 @@ use Rattle.std.specs.List.Sorted.{IsStrictlyIncreasing}
 use Rattle.residue_theory.specs.Sets.{has}
 use Rattle.residue_theory.specs.Sums.{size_on}
 use Rattle.residue_theory.proofs.SetLaws.{differ, lt_cases}
-use Rattle.sparse_t.specs.Lists.{IsBelow}
+use Rattle.sparse_t.specs.Lists.{AreAllBelow}
 use Rattle.sparse_t.proofs.ListLaws.{has-at, has-member, rises}
 
 module _ (list : List ℕ) (up : IsStrictlyIncreasing list) (X : ℕ → Bool) (n : ℕ)
@@ -70,7 +70,7 @@ module _ (list : List ℕ) (up : IsStrictlyIncreasing list) (X : ℕ → Bool) (
           rw h omega (arith, rest j B', last)
       go false h rest = rw h omega (arith, rest k (below-other k r B (differ (exact r here ∙ h))))
 
-  module _ (below : IsBelow n list) where
+  module _ (below : AreAllBelow n list) where
     -- before an item, those before it in the list
     pub before-item : (k : ℕ) → k < length list → size_on X (get_or list k 0) ≡ k
     before-item k l = count-below k (get_or list k 0) (omega (arith, below k l)) (record {

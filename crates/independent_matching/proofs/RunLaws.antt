@@ -7,17 +7,17 @@ use Rattle.residue_theory.proofs.CountLaws.{size-either, size-everything}
 use Rattle.residue_theory.proofs.SumLaws.{size_on-within}
 use Rattle.closed_sets.proofs.SetLaws.{size_on-bound}
 use Rattle.bipartite_matching.specs.Matchings.{Matching}
-use Rattle.row_transform.specs.Tableaus.{State}
+use Rattle.row_transform.specs.Tableaus.{TableauState}
 use Rattle.mixed_matrices.specs.Tableaus.{HasTableau}
 use Rattle.exchange_graph.specs.Counts.{counted_on}
 use Rattle.exchange_graph.specs.Results.{Found, vain_of}
 use Rattle.mixed_matrices.specs.LayeredMatrices.{LayeredMatrix}
-use Rattle.independent_matching.specs.Engines.{AreEntries, AreFewLooks, AreFewPivots, AreFewSteps, AreLooksOfSearch, AreLooksOfSearches, ArePivotsMade}
+use Rattle.independent_matching.specs.Engines.{AreOpenedEntries, AreFewLooks, AreFewPivots, AreFewSteps, AreLooksOfSearch, AreLooksOfSearches, ArePivotsMade}
 use Rattle.independent_matching.specs.Engines.{HasGrown, HasRun, HasStayed, Standing, layers}
-use Rattle.independent_matching.specs.Sides.{is_matched, layers_of, size_of, tableau_of}
+use Rattle.independent_matching.specs.Sides.{is_matched, layers_of, size_of, tableau_of_pair}
 use Rattle.independent_matching.proofs.MadeLaws.{more-made, none-made}
 
-pub size-bound : (p : ℕ) (S : State) (M : Matching) → HasTableau p (layers_of S M) (tableau_of S M) → size_of S M ≤ S.columns
+pub size-bound : (p : ℕ) (S : TableauState) (M : Matching) → HasTableau p (layers_of S M) (tableau_of_pair S M) → size_of S M ≤ S.columns
 size-bound p S M tableau = omega (
   arith,
   size-either S.base (is_matched M) S.columns tableau.apart,
@@ -25,7 +25,7 @@ size-bound p S M tableau = omega (
   size-everything S.columns,
 )
 
-pub base-bound : (S : State) (M : Matching) → size_on S.base S.columns ≤ size_of S M
+pub base-bound : (S : TableauState) (M : Matching) → size_on S.base S.columns ≤ size_of S M
 base-bound S M = omega arith
 
 -- a search that succeeds
@@ -89,10 +89,10 @@ looks-last found now next before between after (k, e, h) all some =
     (k + next.looks, omega (arith, e, some), all ∙ h next.looks)
 
 -- while a pair grows: `made` searches, one for each column that it gained and one that comes next
-pub record IsGrowing (A : Type 0) (state : A → State) (count : A → ℕ) (p : ℕ) (old now : Standing A)
+pub record IsGrowing (A : Type 0) (state : A → TableauState) (count : A → ℕ) (p : ℕ) (old now : Standing A)
     (made before after : ℕ) : Type 0 where
   pub same : (q : ℕ → ℕ → ℕ) → layers q (state now.tableau) now.matching ≡ layers q (state old.tableau) old.matching
-  pub entries : (q : ℕ → ℕ → ℕ) → AreEntries p (state old.tableau) q → AreEntries p (state now.tableau) q
+  pub entries : (q : ℕ → ℕ → ℕ) → AreOpenedEntries p (state old.tableau) q → AreOpenedEntries p (state now.tableau) q
   pub steps : after + (size_of (state old.tableau) old.matching * (state old.tableau).columns
       + size_of (state old.tableau) old.matching * size_of (state old.tableau) old.matching)
       ≤ before + size_of (state now.tableau) now.matching * (state old.tableau).columns
@@ -108,7 +108,7 @@ pub record IsGrowing (A : Type 0) (state : A → State) (count : A → ℕ) (p :
   pub looked : AreLooksSoFar old.found now.found old.looks now.looks
   pub searched : made + size_of (state old.tableau) old.matching ≡ size_of (state now.tableau) now.matching + 1
 
-module _ (A : Type 0) (state : A → State) (count : A → ℕ) (p : ℕ) (old : Standing A) where
+module _ (A : Type 0) (state : A → TableauState) (count : A → ℕ) (p : ℕ) (old : Standing A) where
   abbrev N : ℕ
   N = (state old.tableau).columns
 
@@ -139,7 +139,7 @@ module _ (A : Type 0) (state : A → State) (count : A → ℕ) (p : ℕ) (old :
   -- an improvement of a pair that has grown
   module _ (now next : Standing A) (made before between after : ℕ) (G : IsGrowing A state count p old now made before between)
       (same : (q : ℕ → ℕ → ℕ) → layers q (state next.tableau) next.matching ≡ layers q (state now.tableau) now.matching)
-      (entries : (q : ℕ → ℕ → ℕ) → AreEntries p (state now.tableau) q → AreEntries p (state next.tableau) q) where
+      (entries : (q : ℕ → ℕ → ℕ) → AreOpenedEntries p (state now.tableau) q → AreOpenedEntries p (state next.tableau) q) where
     abbrev base : ℕ
     base = size_on (state now.tableau).base (state now.tableau).columns
 

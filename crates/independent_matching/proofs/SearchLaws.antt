@@ -4,7 +4,7 @@ use Rattle.residue_theory.proofs.SetLaws.{both-first, both-second, both_true, di
 use Rattle.closed_sets.specs.Closed.{IsReachedSet, NoEndReached}
 use Rattle.closed_sets.specs.Walks.{FromSome}
 use Rattle.bipartite_matching.specs.Matchings.{Matching}
-use Rattle.row_transform.specs.Tableaus.{State}
+use Rattle.row_transform.specs.Tableaus.{TableauState}
 use Rattle.search_laws.specs.Searches.{IsShortest}
 use Rattle.residue_theory.specs.Sets.{only}
 use Rattle.exchange_graph.specs.Marks.{members_of}
@@ -12,17 +12,17 @@ use Rattle.exchange_graph.specs.Sweeps.{IsLeftOut, IsShortestFromOne}
 use Rattle.mixed_matrices.specs.Arcs.{HasNoWalk, IsReachedFromFree, is_end, is_free, leads_to}
 use Rattle.mixed_matrices.specs.LayeredMatrices.{LayeredMatrix}
 use Rattle.mixed_matrices.specs.Tableaus.{Tableau, HasTableau}
-use Rattle.mixed_augmentation.specs.Moves.{IsFreeRow, IsRoute, route}
-use Rattle.mixed_augmentation.proofs.Routes.{shortest_from-route}
+use Rattle.mixed_augmentation_laws.specs.Moves.{IsFreeRow, IsRoute, route}
+use Rattle.mixed_augmentation_laws.proofs.Routes.{shortest_from-route}
 use Rattle.independent_matching.specs.declared.row.Row.{Row}
 use Rattle.independent_matching.specs.declared.marks.Marks.{Marks}
 use Rattle.independent_matching.specs.declared.resting.Resting.{Resting}
 use Rattle.independent_matching.specs.Marks.{AreMarks}
 use Rattle.independent_matching.proofs.SideLaws.{mark-end}
-use Rattle.independent_matching.specs.Sides.{in_q, layers_of, number, tableau_of}
+use Rattle.independent_matching.specs.Sides.{in_q, layers_of, number, tableau_of_pair}
 use Rattle.std.specs.Prelude.{List}
 
-module _ (p : ℕ) (S : State) (M : Matching) (width : M.pattern.width ≡ S.columns) (r : Resting) (m : Marks)
+module _ (p : ℕ) (S : TableauState) (M : Matching) (width : M.pattern.width ≡ S.columns) (r : Resting) (m : Marks)
     (marks : AreMarks p S M r m) (n : ℕ) (same : n ≡ S.columns) where
   abbrev free : List Bool
   free = r.free.items
@@ -31,7 +31,7 @@ module _ (p : ℕ) (S : State) (M : Matching) (width : M.pattern.width ≡ S.col
   ends = m.ends.items
 
   abbrev F : Tableau
-  F = tableau_of S M
+  F = tableau_of_pair S M
 
   abbrev L : LayeredMatrix
   L = layers_of S M

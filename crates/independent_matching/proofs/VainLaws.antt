@@ -6,8 +6,8 @@ use Rattle.exchange_graph.specs.Sweeps.{IsLeftOut}
 use Rattle.mixed_matrices.specs.Arcs.{is_end, is_free, leads_to}
 use Rattle.mixed_matrices.specs.LayeredMatrices.{LayeredMatrix}
 use Rattle.mixed_matrices.specs.Tableaus.{Tableau, HasTableau}
-use Rattle.mixed_augmentation.specs.Sealed.{HaveStayed, KeepsSealed, IsRooted}
-use Rattle.mixed_augmentation.proofs.Sealed.{stayed-rooted, stayed-sealed}
+use Rattle.mixed_augmentation_laws.specs.Sealed.{HaveStayed, KeepsSealed, IsRooted}
+use Rattle.mixed_augmentation_laws.proofs.Sealed.{stayed-rooted, stayed-sealed}
 use Rattle.independent_matching.specs.Sides.{IsFreeTaken}
 
 module _ (p : ℕ) (L : LayeredMatrix) (F G : Tableau) (before : HasTableau p L F) (after : HasTableau p L G)

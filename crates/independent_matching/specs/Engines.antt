@@ -7,14 +7,14 @@ use Rattle.bipartite_matching.specs.Matchings.{Matching}
 use Rattle.exchange_graph.specs.Counts.{counted_on}
 use Rattle.exchange_graph.specs.Results.{Found, vain_of}
 use Rattle.row_transform.specs.Bases.{raised}
-use Rattle.row_transform.specs.Tableaus.{State}
+use Rattle.row_transform.specs.Tableaus.{TableauState}
 use Rattle.mixed_matrices.specs.Arcs.{HasNoWalk, IsClosedIn, IsReachedFromFree}
 use Rattle.mixed_matrices.specs.LayeredMatrices.{LayeredMatrix}
 use Rattle.mixed_matrices.specs.Pairs.{IsBest, pair_size}
 use Rattle.mixed_matrices.specs.SetFunctions.{IsMinimiser}
 use Rattle.mixed_matrices.specs.StructuralRanks.{IsLayeredRank}
 use Rattle.mixed_matrices.specs.Tableaus.{Tableau, HasTableau}
-use Rattle.independent_matching.specs.Sides.{layers_of, size_of, tableau_of}
+use Rattle.independent_matching.specs.Sides.{layers_of, size_of, tableau_of_pair}
 
 -- the tableau of Q, the matching in T, what the last search found, how many pivots and looks there were, and how many
 -- searches the last run made
@@ -27,12 +27,12 @@ pub record Standing (A : Type 0) : Type 0 where
   pub searches : ℕ
 
 -- the layered matrix with the entries q in place of those that the tableau keeps
-abbrev pub layers : (ℕ → ℕ → ℕ) → State → Matching → LayeredMatrix
+abbrev pub layers : (ℕ → ℕ → ℕ) → TableauState → Matching → LayeredMatrix
 layers q S M = record (layers_of S M) { q = q }
 
 -- the entries q are those that the tableau came from, modulo p
-abbrev pub AreEntries : ℕ → State → (ℕ → ℕ → ℕ) → Type 0
-AreEntries p S q = Agree p S.rows S.columns S.q q
+abbrev pub AreOpenedEntries : ℕ → TableauState → (ℕ → ℕ → ℕ) → Type 0
+AreOpenedEntries p S q = Agree p S.rows S.columns S.q q
 
 -- nothing was looked at, and nothing is left out
 pub record IsFresh (found : Found) : Type 0 where
@@ -41,8 +41,19 @@ pub record IsFresh (found : Found) : Type 0 where
   pub none_left_out : (y : ℕ) → vain_of found y ≡ false
   pub next : found.next ≡ 0
 
+-- as it is opened, with the layered matrix L, in which the tableau has the entries q: the pair is empty, no pivot was
+-- made, and nothing was looked at or left out
+pub record IsOpenedOver (A : Type 0) (state : A → TableauState) (p : ℕ) (q : ℕ → ℕ → ℕ) (L : LayeredMatrix)
+    (e : Standing A)
+    : Type 0 where
+  pub layers_are : layers q (state e.tableau) e.matching ≡ L
+  pub entries : AreOpenedEntries p (state e.tableau) q
+  pub empty : size_of (state e.tableau) e.matching ≡ 0
+  pub none_told : (e.pivots ≡ 0) × (e.looks ≡ 0) × (e.searches ≡ 0)
+  pub fresh : IsFresh e.found
+
 -- S is a tableau of the matrix q, with m rows and n columns, that has no base column
-pub record IsBareOver (p m n : ℕ) (q : ℕ → ℕ → ℕ) (S : State) : Type 0 where
+pub record IsBareOver (p m n : ℕ) (q : ℕ → ℕ → ℕ) (S : TableauState) : Type 0 where
   pub rows_are : S.rows ≡ m
   pub columns_are : S.columns ≡ n
   pub q_is : Agree p m n S.q q
@@ -85,6 +96,14 @@ AreFewPivots s m before after = after + s * s ≤ before + m * m
 abbrev pub ArePivotsMade : ℕ → ℕ → ℕ → ℕ → Type 0
 ArePivotsMade count now before after = (k : ℕ) × (after ≡ before + k) × (now ≡ raised count k)
 
+-- the steps from `before` to `after` are at most so many, and they are pivots: those that were told, from `old` to
+-- `now`,
+-- and those that the tableau made, whose own count rose from `count` to `made`
+pub record ArePivotSteps (most before after old now count made : ℕ) : Type 0 where
+  pub few : after ≤ before + most
+  pub told : after + old ≡ before + now
+  pub all : ArePivotsMade count made old now
+
 -- while a pair grows from s columns to m, over n columns, and what is left out from `left` columns to `now`: the looks,
 -- for each column that the pair gains at most n, and one for each column that is left out
 abbrev pub AreFewLooks : ℕ → ℕ → ℕ → ℕ → ℕ → ℕ → ℕ → Type 0
@@ -92,14 +111,15 @@ AreFewLooks n s m left now before after = after + s * n + left ≤ before + m * 
 
 -- what a run makes of an engine, over tableaus of type A that tell a state and a count of their pivots, while it takes
 -- the steps from `before` to `after`
-pub record HasRun (A : Type 0) (state : A → State) (count : A → ℕ) (p : ℕ) (old now : Standing A) (before after : ℕ)
+pub record HasRun (A : Type 0) (state : A → TableauState) (count : A → ℕ) (p : ℕ) (old now : Standing A)
+    (before after : ℕ)
     : Type 0 where
   -- the layered matrix is as before, and so are the entries that the tableau came from
   pub same : (q : ℕ → ℕ → ℕ) → layers q (state now.tableau) now.matching ≡ layers q (state old.tableau) old.matching
-  pub entries : (q : ℕ → ℕ → ℕ) → AreEntries p (state old.tableau) q → AreEntries p (state now.tableau) q
+  pub entries : (q : ℕ → ℕ → ℕ) → AreOpenedEntries p (state old.tableau) q → AreOpenedEntries p (state now.tableau) q
   -- the pair is best, and what the last search reached is the least minimiser
-  pub solved : (q : ℕ → ℕ → ℕ) → AreEntries p (state now.tableau) q →
-      IsSolved p (layers q (state now.tableau) now.matching) (tableau_of (state now.tableau) now.matching)
+  pub solved : (q : ℕ → ℕ → ℕ) → AreOpenedEntries p (state now.tableau) q →
+      IsSolved p (layers q (state now.tableau) now.matching) (tableau_of_pair (state now.tableau) now.matching)
       (vain_of now.found)
   -- what was left out is left out for good
   pub kept : IsWithin (state old.tableau).columns (vain_of old.found) (vain_of now.found)
@@ -120,7 +140,7 @@ pub record HasRun (A : Type 0) (state : A → State) (count : A → ℕ) (p : �
   pub searches : now.searches + size_of (state old.tableau) old.matching ≡ size_of (state now.tableau) now.matching + 1
 
 -- the pair has grown by a column, while an improvement took the steps from `before` to `after`
-pub record HasGrown (A : Type 0) (state : A → State) (count : A → ℕ) (old now : Standing A) (before after : ℕ)
+pub record HasGrown (A : Type 0) (state : A → TableauState) (count : A → ℕ) (old now : Standing A) (before after : ℕ)
     : Type 0 where
   pub size : size_of (state now.tableau) now.matching ≡ size_of (state old.tableau) old.matching + 1
   -- what was left out is left out for good
@@ -134,9 +154,10 @@ pub record HasGrown (A : Type 0) (state : A → State) (count : A → ℕ) (old 
   pub searched : AreLooksOfSearch old.found now.found old.looks now.looks
 
 -- the pair is best and stays, which an improvement found by the steps from `before` to `after`
-pub record HasStayed (A : Type 0) (state : A → State) (p : ℕ) (old now : Standing A) (before after : ℕ) : Type 0 where
-  pub solved : (q : ℕ → ℕ → ℕ) → AreEntries p (state now.tableau) q →
-      IsSolved p (layers q (state now.tableau) now.matching) (tableau_of (state now.tableau) now.matching)
+pub record HasStayed (A : Type 0) (state : A → TableauState) (p : ℕ) (old now : Standing A) (before after : ℕ)
+    : Type 0 where
+  pub solved : (q : ℕ → ℕ → ℕ) → AreOpenedEntries p (state now.tableau) q →
+      IsSolved p (layers q (state now.tableau) now.matching) (tableau_of_pair (state now.tableau) now.matching)
       (vain_of now.found)
   pub tableau : now.tableau ≡ old.tableau
   pub matching : now.matching ≡ old.matching

@@ -4,7 +4,7 @@ use Rattle.std.specs.Prelude.{ℕ, ◌+◌, ◌*◌, ◌<◌, ◌≤◌, ◌≡�
 use Rattle.std.specs.Prelude.{None, is_some, length, slice_index, slice_index_or}
 use Rattle.residue_theory.specs.Sums.{size_on}
 use Rattle.bipartite_matching.specs.Matchings.{Matching}
-use Rattle.row_transform.specs.Tableaus.{State}
+use Rattle.row_transform.specs.Tableaus.{TableauState}
 use Rattle.exchange_graph.specs.Marks.{members_of}
 use Rattle.exchange_graph.specs.Results.{Found, vain_of}
 use Rattle.exchange_graph.specs.Sweeps.{IsLeftOut}
@@ -12,11 +12,11 @@ use Rattle.mixed_matrices.specs.Arcs.{is_end, is_free, leads_to}
 use Rattle.mixed_matrices.specs.Tableaus.{HasTableau}
 use Rattle.independent_matching.specs.declared.marks.Marks.{Marks}
 use Rattle.independent_matching.specs.declared.resting.Resting.{Resting}
-use Rattle.independent_matching.specs.Sides.{IsFreeQRow, IsFreeTRow, layers_of, size_of, tableau_of}
+use Rattle.independent_matching.specs.Sides.{IsFreeQRow, IsFreeTRow, layers_of, size_of, tableau_of_pair}
 
 -- the Q row that is told for x
-abbrev pub row_at : List (Option ℕ) → ℕ → Option ℕ
-row_at rows x = slice_index_or rows x None
+abbrev pub marked_row : List (Option ℕ) → ℕ → Option ℕ
+marked_row rows x = slice_index_or rows x None
 
 abbrev pub touched_at : Marks → ℕ → ℕ
 touched_at m i = slice_index m.touched.items i
@@ -32,7 +32,7 @@ pub record AreNoted (columns : ℕ) (m : Marks) : Type 0 where
   pub few : m.count ≤ columns
 
 -- each list has an item for each of the columns, and no column before the first is free and an end
-pub record IsKept (columns : ℕ) (r : Resting) (m : Marks) : Type 0 where
+pub record AreKeptMarks (columns : ℕ) (r : Resting) (m : Marks) : Type 0 where
   pub free_count : length r.free.items ≡ columns
   pub end_count : length m.ends.items ≡ columns
   pub t_count : length r.by_t.items ≡ columns
@@ -46,52 +46,52 @@ pub record IsTMark (M : Matching) (by_t : List Bool) (x : ℕ) : Type 0 where
   pub none : members_of by_t x ≡ false → (row : ℕ) → IsFreeTRow M x row → ⊥
 
 -- for x a Q row is told that no column has and where P has an entry in x, if there is one
-pub record IsQMark (p : ℕ) (S : State) (by_q : List (Option ℕ)) (x : ℕ) : Type 0 where
-  pub some : (row : ℕ) → row_at by_q x ≡ Some row → IsFreeQRow p S x row
-  pub none : row_at by_q x ≡ None → (row : ℕ) → IsFreeQRow p S x row → ⊥
+pub record IsQMark (p : ℕ) (S : TableauState) (by_q : List (Option ℕ)) (x : ℕ) : Type 0 where
+  pub some : (row : ℕ) → marked_row by_q x ≡ Some row → IsFreeQRow p S x row
+  pub none : marked_row by_q x ≡ None → (row : ℕ) → IsFreeQRow p S x row → ⊥
 
 -- x is marked as an end where a row is told for it or it is marked for T
 abbrev pub IsEndMark : Resting → Marks → ℕ → Type 0
-IsEndMark r m x = members_of m.ends.items x ≡ (members_of r.by_t.items x || is_some (row_at m.by_q.items x))
+IsEndMark r m x = members_of m.ends.items x ≡ (members_of r.by_t.items x || is_some (marked_row m.by_q.items x))
 
 -- the marks for Q are right, and with those for T they tell the ends
-pub record AreMarksOfQ (p : ℕ) (S : State) (r : Resting) (m : Marks) : Type 0 where
-  pub sized : IsKept S.columns r m
+pub record AreMarksOfQ (p : ℕ) (S : TableauState) (r : Resting) (m : Marks) : Type 0 where
+  pub sized : AreKeptMarks S.columns r m
   pub by_q : (x : ℕ) → x < S.columns → IsQMark p S m.by_q.items x
   pub ends : (x : ℕ) → x < S.columns → IsEndMark r m x
 
 -- all marks are right
-pub record AreMarks (p : ℕ) (S : State) (M : Matching) (r : Resting) (m : Marks) : Type 0 where
+pub record AreMarks (p : ℕ) (S : TableauState) (M : Matching) (r : Resting) (m : Marks) : Type 0 where
   pub of_q : AreMarksOfQ p S r m
   pub by_t : (x : ℕ) → x < S.columns → IsTMark M r.by_t.items x
-  pub free : (x : ℕ) → x < S.columns → members_of r.free.items x ≡ is_free (tableau_of S M) x
+  pub free : (x : ℕ) → x < S.columns → members_of r.free.items x ≡ is_free (tableau_of_pair S M) x
 
 -- the marks of x alone may differ
 pub record IsChangedAt (r r' : Resting) (m now : Marks) (x : ℕ) : Type 0 where
   pub ends : (y : ℕ) → y ≢ x → members_of now.ends.items y ≡ members_of m.ends.items y
   pub by_t : (y : ℕ) → y ≢ x → members_of r'.by_t.items y ≡ members_of r.by_t.items y
-  pub by_q : (y : ℕ) → y ≢ x → row_at now.by_q.items y ≡ row_at m.by_q.items y
+  pub by_q : (y : ℕ) → y ≢ x → marked_row now.by_q.items y ≡ marked_row m.by_q.items y
 
 -- each column in which P has an entry in the row is touched
-abbrev pub AreTouched : ℕ → State → Marks → ℕ → Type 0
-AreTouched p S m row = (x : ℕ) → x < S.columns → S.p row x % p ≢ 0 → IsTouched m x
+abbrev pub AreTouchedByRow : ℕ → TableauState → Marks → ℕ → Type 0
+AreTouchedByRow p S m row = (x : ℕ) → x < S.columns → S.p row x % p ≢ 0 → IsTouched m x
 
 -- the base and the matched columns are a pair, the marks that a pivot may change are right, and there were few pivots
-pub record IsInOrder (p : ℕ) (S : State) (M : Matching) (r : Resting) (m : Marks) (pivots : ℕ) : Type 0 where
-  pub pair : HasTableau p (layers_of S M) (tableau_of S M)
+pub record IsInOrder (p : ℕ) (S : TableauState) (M : Matching) (r : Resting) (m : Marks) (pivots : ℕ) : Type 0 where
+  pub pair : HasTableau p (layers_of S M) (tableau_of_pair S M)
   pub width : M.pattern.width ≡ S.columns
   pub marks : AreMarksOfQ p S r m
   pub few : pivots ≤ size_of S M * size_of S M
 
 -- the base and the matched columns are a pair of that size, the marks are right, what the search leaves out reaches no
 -- end, and there were few pivots and looks
-pub record IsReady (p : ℕ) (S : State) (M : Matching) (found : Found) (r : Resting) (m : Marks)
+pub record IsReadyPair (p : ℕ) (S : TableauState) (M : Matching) (found : Found) (r : Resting) (m : Marks)
     (size pivots looks : ℕ) : Type 0 where
-  pub pair : HasTableau p (layers_of S M) (tableau_of S M)
+  pub pair : HasTableau p (layers_of S M) (tableau_of_pair S M)
   pub width : M.pattern.width ≡ S.columns
   pub search : found.places ≡ S.columns
-  pub left : IsLeftOut (leads_to p (layers_of S M) (tableau_of S M)) S.columns (is_free (tableau_of S M))
-      (is_end p (layers_of S M) (tableau_of S M)) (vain_of found) found.next
+  pub left : IsLeftOut (leads_to p (layers_of S M) (tableau_of_pair S M)) S.columns (is_free (tableau_of_pair S M))
+      (is_end p (layers_of S M) (tableau_of_pair S M)) (vain_of found) found.next
   pub marks : AreMarks p S M r m
   pub count : size ≡ size_of S M
   pub few : pivots ≤ size * size

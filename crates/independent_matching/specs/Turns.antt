@@ -2,9 +2,9 @@
 -- by Q rows, in the order of all Q rows.
 use Rattle.std.specs.Prelude.{ℕ, ◌+◌, cond}
 use Rattle.residue_theory.specs.Sums.{size_on}
-use Rattle.sparse_t.specs.Incidences.{row_count, touches}
+use Rattle.sparse_t.specs.Incidences.{incidence_rows, touches}
 use Rattle.bipartite_matching.specs.Matchings.{Matching}
-use Rattle.row_transform.specs.Tableaus.{State}
+use Rattle.row_transform.specs.Tableaus.{TableauState}
 use Rattle.independent_matching.specs.Sides.{mate_of, t_arc}
 
 -- how many of the T rows before this one touch x
@@ -17,8 +17,8 @@ t_turn M x y = t_rows_before M x (mate_of M y)
 
 -- how many T rows touch x
 abbrev pub t_turns : Matching → ℕ → ℕ
-t_turns M x = t_rows_before M x (row_count M.pattern)
+t_turns M x = t_rows_before M x (incidence_rows M.pattern)
 
 -- the turn of y, by its T row where x leads to it by that
-abbrev pub turn_of : State → Matching → ℕ → ℕ → ℕ
+abbrev pub turn_of : TableauState → Matching → ℕ → ℕ → ℕ
 turn_of S M x y = cond (t_arc M x y) (t_turn M x y) (t_turns M x + S.row y)

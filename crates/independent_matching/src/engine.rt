@@ -3,7 +3,7 @@
 
 ghost use Rattle.std.specs.Prelude.{◌≡◌, ◌≤◌, ℕ, ◌+◌, ◌*◌, ◌<◌, true, IfOk, IsTrue, IsFalse, is_some, Option, length, IfSome, IfNone};
 ghost use Rattle.dense_q.specs.Tables.{entry, height};
-ghost use Rattle.sparse_t.specs.Incidences.{row_count};
+ghost use Rattle.sparse_t.specs.Incidences.{incidence_rows};
 ghost use Rattle.bipartite_matching.specs.Matchings.{HasPair, IsMatching, IsRowFree, mate_at};
 ghost use Rattle.residue_theory.specs.Sums.{size_on};
 ghost use Rattle.mixed_matrices.specs.Arcs.{is_end, is_free, leads_to};
@@ -11,8 +11,9 @@ ghost use Rattle.exchange_graph.specs.Marks.{members_of};
 ghost use Rattle.exchange_graph.specs.Results.{vain_of};
 ghost use Rattle.mixed_matrices.specs.Tableaus.{HasTableau};
 ghost use Rattle.mixed_model.specs.Layers.{layered_matrix_of};
-ghost use Rattle.independent_matching.specs.Engines.{Standing, AreEntries, HasGrown, HasRun, HasStayed, IsBareOver, IsFresh, layers};
-ghost use Rattle.independent_matching.specs.Sides.{layers_of, size_of, tableau_of};
+ghost use Rattle.independent_matching.specs.Engines.{Standing, AreOpenedEntries, HasGrown, HasRun, HasStayed};
+ghost use Rattle.independent_matching.specs.Engines.{IsBareOver, IsOpenedOver, layers};
+ghost use Rattle.independent_matching.specs.Sides.{layers_of, size_of, tableau_of_pair};
 ghost use Rattle.independent_matching.specs.Turns.{turn_of};
 
 use crate::marks::Marks;
@@ -46,7 +47,7 @@ pub struct Engine<F: Field, T: Tableau<F> = DenseTableau<F>> {
 
 impl<F: Field, T: Tableau<F>> Model for Engine<F, T> {
     ghost use Rattle.independent_matching.specs.Engines.{Standing};
-    ghost use Rattle.independent_matching.specs.Marks.{IsReady};
+    ghost use Rattle.independent_matching.specs.Marks.{IsReadyPair};
 
     ghost Value = { Standing T };
 
@@ -59,7 +60,7 @@ impl<F: Field, T: Tableau<F>> Model for Engine<F, T> {
       searches = e.searches;
     } };
 
-    ghost invariant = { λ e. IsReady F.modulus (T.state e.mover.pair.tableau) e.mover.pair.mates
+    ghost invariant = { λ e. IsReadyPair F.modulus (T.state e.mover.pair.tableau) e.mover.pair.mates
         e.search e.resting e.mover.marks e.size e.mover.pivots e.looks };
 }
 
@@ -67,12 +68,7 @@ impl<F: Field, T: Tableau<F>> Engine<F, T> {
     /// The empty pair of a layered matrix, over a tableau that this opens. No pivot was made, and nothing was looked at
     /// or left out. It takes all the memory that the engine will use.
     pub fn open(alloc: Global, l: &Layered<F>) -> Result<Self, NoMemory>
-        ensures layers { IfOk result (λ e.
-            layers (entry l.now.q) (T.state e.tableau) e.matching ≡ layered_matrix_of l.now) }
-        ensures entries { IfOk result (λ e. AreEntries F.modulus (T.state e.tableau) (entry l.now.q)) }
-        ensures empty { IfOk result (λ e. size_of (T.state e.tableau) e.matching ≡ 0) }
-        ensures none_told { IfOk result (λ e. (e.pivots ≡ 0) × (e.looks ≡ 0) × (e.searches ≡ 0)) }
-        ensures fresh { IfOk result (λ e. IsFresh e.found) }
+        ensures opened { IfOk result (IsOpenedOver T T.state F.modulus (entry l.now.q) (layered_matrix_of l.now)) }
         ensures no_pivot { IfOk result (λ e. T.pivots e.tableau ≡ 0) }
     {
         let tableau = T::open(alloc, &l.q)?;
@@ -84,17 +80,11 @@ impl<F: Field, T: Tableau<F>> Engine<F, T> {
     /// use; where that is refused, the tableau is given up.
     pub fn open_on(alloc: Global, l: &Layered<F>, tableau: T) -> Result<Self, NoMemory>
         requires { IsBareOver F.modulus (height l.now.q) l.now.q.width (entry l.now.q) (T.state tableau) }
-        ensures layers { IfOk result (λ e.
-            layers (entry l.now.q) (T.state e.tableau) e.matching ≡ layered_matrix_of l.now) }
-        ensures entries { IfOk result (λ e. AreEntries F.modulus (T.state e.tableau) (entry l.now.q)) }
-        ensures empty { IfOk result (λ e. size_of (T.state e.tableau) e.matching ≡ 0) }
-        ensures none_told { IfOk result (λ e. (e.pivots ≡ 0) × (e.looks ≡ 0) × (e.searches ≡ 0)) }
-        ensures fresh { IfOk result (λ e. IsFresh e.found) }
+        ensures opened { IfOk result (IsOpenedOver T T.state F.modulus (entry l.now.q) (layered_matrix_of l.now)) }
         ensures tableau { IfOk result (λ e. e.tableau ≡ tableau) }
     {
         l.are_layers();
-        // what it tells is a tableau
-        let _rows = tableau.rows();
+        tableau.is_tableau();
         let columns = tableau.columns();
         let pair = Pair {
             mates: Match::open(alloc, &l.t)?,
@@ -131,8 +121,8 @@ impl<F: Field, T: Tableau<F>> Engine<F, T> {
     ) -> bool
         ensures same { (q : ℕ → ℕ → ℕ) → layers q (T.state self.new.tableau) self.new.matching
             ≡ layers q (T.state self.old.tableau) self.old.matching }
-        ensures entries { (q : ℕ → ℕ → ℕ) → AreEntries F.modulus (T.state self.old.tableau) q →
-            AreEntries F.modulus (T.state self.new.tableau) q }
+        ensures entries { (q : ℕ → ℕ → ℕ) → AreOpenedEntries F.modulus (T.state self.old.tableau) q →
+            AreOpenedEntries F.modulus (T.state self.new.tableau) q }
         ensures grown { IsTrue result → HasGrown T T.state T.pivots self.old self.new steps.old steps.new }
         ensures best { IsFalse result → HasStayed T T.state F.modulus self.old self.new steps.old steps.new }
         ensures searches { searches.new ≡ searches.old + 1 }
@@ -151,9 +141,9 @@ impl<F: Field, T: Tableau<F>> Engine<F, T> {
     // Makes the pair larger by the free column x, which is an end.
     fn grow<L: Ledger>(&mut self, x: usize, steps: &mut Steps<L>)
         requires x { x < (T.state self.old.tableau).columns }
-        requires free { is_free (tableau_of (T.state self.old.tableau) self.old.matching) x ≡ true }
+        requires free { is_free (tableau_of_pair (T.state self.old.tableau) self.old.matching) x ≡ true }
         requires end { is_end F.modulus (layers_of (T.state self.old.tableau) self.old.matching)
-            (tableau_of (T.state self.old.tableau) self.old.matching) x ≡ true }
+            (tableau_of_pair (T.state self.old.tableau) self.old.matching) x ≡ true }
         ensures layers { layers_of (T.state self.new.tableau) self.new.matching
             ≡ layers_of (T.state self.old.tableau) self.old.matching }
         ensures grown { HasGrown T T.state T.pivots self.old self.new steps.old steps.new }
@@ -176,7 +166,7 @@ impl<F: Field, T: Tableau<F>> Engine<F, T> {
         ensures searches { self.new.searches ≡ self.old.searches }
     {
         // there are at most 8,192 columns, so that the counts fit
-        let _columns = self.mover.pair.tableau.columns();
+        self.mover.pair.tableau.is_tableau();
         let walk = self.search.shortest_in_turn(
             &self.mover.pair,
             &self.resting.free,
@@ -232,7 +222,7 @@ impl<F: Field, T: Tableau<F>> Engine<F, T> {
         ensures counted { searches.new ≡ searches.old + self.new.searches }
     {
         // there are at most 8,192 columns, so that the count fits
-        let _columns = self.mover.pair.tableau.columns();
+        self.mover.pair.tableau.is_tableau();
         let before = self.size;
         let mut made = 1;
         while self.improve(searches, steps) {
@@ -245,9 +235,9 @@ impl<F: Field, T: Tableau<F>> Engine<F, T> {
     /// How many columns the pair has.
     pub fn size(&self) -> usize
         ensures size { result ≡ size_of (T.state self.now.tableau) self.now.matching }
-        ensures pair { (q : ℕ → ℕ → ℕ) → AreEntries F.modulus (T.state self.now.tableau) q →
+        ensures pair { (q : ℕ → ℕ → ℕ) → AreOpenedEntries F.modulus (T.state self.now.tableau) q →
             HasTableau F.modulus (layers q (T.state self.now.tableau) self.now.matching)
-            (tableau_of (T.state self.now.tableau) self.now.matching) }
+            (tableau_of_pair (T.state self.now.tableau) self.now.matching) }
     {
         self.size
     }
@@ -284,7 +274,7 @@ impl<F: Field, T: Tableau<F>> Engine<F, T> {
     /// Whether the column is one of the pair's independent columns of Q.
     pub fn in_q(&self, col: usize) -> bool
         requires { col < (T.state self.now.tableau).columns }
-        ensures { result ≡ (tableau_of (T.state self.now.tableau) self.now.matching).base col }
+        ensures { result ≡ (tableau_of_pair (T.state self.now.tableau) self.now.matching).base col }
     {
         self.mover.pair.tableau.row_of(col).is_some()
     }
@@ -299,7 +289,7 @@ impl<F: Field, T: Tableau<F>> Engine<F, T> {
 
     /// The column that the T row is matched with, if it is.
     pub fn mate_of_row(&self, row: usize) -> Option<usize>
-        requires { row < row_count self.now.matching.pattern }
+        requires { row < incidence_rows self.now.matching.pattern }
         ensures some { IfSome result (λ col. HasPair self.now.matching row col) }
         ensures below { IfSome result (λ col. col < (T.state self.now.tableau).columns) }
         ensures none { IfNone result (IsRowFree self.now.matching row) }
@@ -311,7 +301,7 @@ impl<F: Field, T: Tableau<F>> Engine<F, T> {
     /// Whether the column is free: not in the pair.
     pub fn free(&self, col: usize) -> bool
         requires { col < (T.state self.now.tableau).columns }
-        ensures { result ≡ is_free (tableau_of (T.state self.now.tableau) self.now.matching) col }
+        ensures { result ≡ is_free (tableau_of_pair (T.state self.now.tableau) self.now.matching) col }
     {
         self.resting.free[col]
     }
@@ -321,7 +311,7 @@ impl<F: Field, T: Tableau<F>> Engine<F, T> {
     pub fn end(&self, col: usize) -> bool
         requires { col < (T.state self.now.tableau).columns }
         ensures { result ≡ is_end F.modulus (layers_of (T.state self.now.tableau) self.now.matching)
-            (tableau_of (T.state self.now.tableau) self.now.matching) col }
+            (tableau_of_pair (T.state self.now.tableau) self.now.matching) col }
     {
         self.mover.marks.ends[col]
     }
@@ -330,7 +320,7 @@ impl<F: Field, T: Tableau<F>> Engine<F, T> {
     pub fn free_columns(&self) -> &[bool]
         ensures length { length result.now ≡ (T.state self.now.tableau).columns }
         ensures marks { (col : ℕ) → col < (T.state self.now.tableau).columns →
-            members_of result.now col ≡ is_free (tableau_of (T.state self.now.tableau) self.now.matching) col }
+            members_of result.now col ≡ is_free (tableau_of_pair (T.state self.now.tableau) self.now.matching) col }
     {
         &self.resting.free
     }
@@ -340,7 +330,7 @@ impl<F: Field, T: Tableau<F>> Engine<F, T> {
         ensures length { length result.now ≡ (T.state self.now.tableau).columns }
         ensures marks { (col : ℕ) → col < (T.state self.now.tableau).columns →
             members_of result.now col ≡ is_end F.modulus (layers_of (T.state self.now.tableau) self.now.matching)
-            (tableau_of (T.state self.now.tableau) self.now.matching) col }
+            (tableau_of_pair (T.state self.now.tableau) self.now.matching) col }
     {
         &self.mover.marks.ends
     }
@@ -365,7 +355,7 @@ impl<F: Field, T: Tableau<F>> Arcs for Engine<F, T> {
     ghost places = { λ e. (T.state e.tableau).columns };
 
     ghost leads = { λ e. leads_to F.modulus (layers_of (T.state e.tableau) e.matching)
-        (tableau_of (T.state e.tableau) e.matching) };
+        (tableau_of_pair (T.state e.tableau) e.matching) };
 
     ghost turn = { λ e. turn_of (T.state e.tableau) e.matching };
 

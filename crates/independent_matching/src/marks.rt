@@ -1,13 +1,13 @@
 //! What makes a column an end, kept up to date from pivot to pivot.
 
 ghost use Rattle.std.specs.Prelude.{◌≡◌, ◌≢◌, ℕ, ◌+◌, ◌<◌, Bool, true, false, Some, IfOk, IfSome, is_some, length};
-ghost use Rattle.sparse_t.specs.Incidences.{row_count, touches};
+ghost use Rattle.sparse_t.specs.Incidences.{incidence_rows, touches};
 ghost use Rattle.exchange_graph.specs.Marks.{members_of};
-ghost use Rattle.mixed_augmentation.specs.Moves.{IsFreeRow};
+ghost use Rattle.mixed_augmentation_laws.specs.Moves.{IsFreeRow};
 ghost use Rattle.mixed_matrices.specs.Arcs.{is_end, is_free};
-ghost use Rattle.independent_matching.specs.Marks.{AreMarks, AreMarksOfQ, AreNoted, AreTouched, IsChangedAt};
-ghost use Rattle.independent_matching.specs.Marks.{IsEndMark, IsKept, IsQMark, IsTMark, IsTouched, touched_at};
-ghost use Rattle.independent_matching.specs.Sides.{in_q, layers_of, number, tableau_of};
+ghost use Rattle.independent_matching.specs.Marks.{AreMarks, AreMarksOfQ, AreNoted, AreTouchedByRow, IsChangedAt};
+ghost use Rattle.independent_matching.specs.Marks.{IsEndMark, AreKeptMarks, IsQMark, IsTMark, IsTouched, touched_at};
+ghost use Rattle.independent_matching.specs.Sides.{in_q, layers_of, number, tableau_of_pair};
 
 use crate::pair::Pair;
 use crate::resting::Resting;
@@ -31,7 +31,7 @@ pub struct Marks {
 impl Marks {
     // So many free columns, none of them an end.
     fn empty(alloc: Global, columns: usize) -> Result<(Resting, Self), NoMemory>
-        ensures sized { IfOk result (λ (r, m). IsKept columns r m) }
+        ensures sized { IfOk result (λ (r, m). AreKeptMarks columns r m) }
         ensures free { IfOk result (λ (r, m). (x : ℕ) → x < columns → members_of r.free.items x ≡ true) }
     {
         let resting = Resting {
@@ -55,7 +55,7 @@ impl Marks {
     ) -> Result<(Resting, Self), NoMemory>
         requires width { pair.now.mates.pattern.width ≡ (T.state pair.now.tableau).columns }
         requires free { (x : ℕ) → x < (T.state pair.now.tableau).columns →
-            is_free (tableau_of (T.state pair.now.tableau) pair.now.mates) x ≡ true }
+            is_free (tableau_of_pair (T.state pair.now.tableau) pair.now.mates) x ≡ true }
         ensures { IfOk result (λ (r, m). AreMarks F.modulus (T.state pair.now.tableau) pair.now.mates r m) }
     {
         let columns = pair.tableau.columns();
@@ -69,12 +69,12 @@ impl Marks {
 
     // Marks x as an end, or as none.
     fn mark_end(&mut self, resting: &Resting, x: usize, end: bool)
-        requires sized { IsKept (length resting.now.free.items) resting.now self.old }
+        requires sized { AreKeptMarks (length resting.now.free.items) resting.now self.old }
         requires x { x < length resting.now.free.items }
         ensures here { members_of self.new.ends.items x ≡ end }
         ensures others { (y : ℕ) → y ≢ x → members_of self.new.ends.items y ≡ members_of self.old.ends.items y }
         ensures rest { self.new ≡ record self.old { ends = self.new.ends; first = self.new.first } }
-        ensures sized { IsKept (length resting.now.free.items) resting.now self.new }
+        ensures sized { AreKeptMarks (length resting.now.free.items) resting.now self.new }
     {
         self.ends[x] = end;
         if end && x < self.first && resting.free[x] {
@@ -89,14 +89,14 @@ impl Marks {
         pair: &Pair<F, T>,
         x: usize,
     )
-        requires sized { IsKept pair.now.mates.pattern.width resting.old self.old }
+        requires sized { AreKeptMarks pair.now.mates.pattern.width resting.old self.old }
         requires x { x < pair.now.mates.pattern.width }
         ensures found { IsTMark pair.now.mates resting.new.by_t.items x }
         ensures end { IsEndMark resting.new self.new x }
         ensures free { resting.new.free ≡ resting.old.free }
         ensures by_q { self.new.by_q ≡ self.old.by_q }
         ensures others { IsChangedAt resting.old resting.new self.old self.new x }
-        ensures sized { IsKept pair.now.mates.pattern.width resting.new self.new }
+        ensures sized { AreKeptMarks pair.now.mates.pattern.width resting.new self.new }
     {
         let by_t = pair.free_t_row(x).is_some();
         resting.by_t[x] = by_t;
@@ -113,14 +113,14 @@ impl Marks {
         x: usize,
         from: usize,
     )
-        requires sized { IsKept (T.state pair.now.tableau).columns resting.now self.old }
+        requires sized { AreKeptMarks (T.state pair.now.tableau).columns resting.now self.old }
         requires x { x < (T.state pair.now.tableau).columns }
         ensures found { IsQMark F.modulus (T.state pair.now.tableau) self.new.by_q.items x }
         ensures end { IsEndMark resting.now self.new x }
         ensures touched { self.new.touched ≡ self.old.touched }
         ensures count { self.new.count ≡ self.old.count }
         ensures others { IsChangedAt resting.now resting.now self.old self.new x }
-        ensures sized { IsKept (T.state pair.now.tableau).columns resting.now self.new }
+        ensures sized { AreKeptMarks (T.state pair.now.tableau).columns resting.now self.new }
     {
         let by_q = match self.by_q[x] {
             Some(row) if pair.is_free_q_row(row, x) => Some(row),
@@ -139,9 +139,9 @@ impl Marks {
         requires marks { (y : ℕ) → y < (T.state pair.now.tableau).columns →
             IsQMark F.modulus (T.state pair.now.tableau) self.now.by_q.items y }
         ensures free { IfSome result (λ row. IsFreeRow F.modulus (layers_of (T.state pair.now.tableau) pair.now.mates)
-            (tableau_of (T.state pair.now.tableau) pair.now.mates) x (in_q row) (number row)) }
+            (tableau_of_pair (T.state pair.now.tableau) pair.now.mates) x (in_q row) (number row)) }
         ensures end { is_some result ≡ is_end F.modulus (layers_of (T.state pair.now.tableau) pair.now.mates)
-            (tableau_of (T.state pair.now.tableau) pair.now.mates) x }
+            (tableau_of_pair (T.state pair.now.tableau) pair.now.mates) x }
     {
         match (pair.free_t_row(x), self.by_q[x]) {
             (Some(row), _) => Some(Row::T(row)),
@@ -153,12 +153,12 @@ impl Marks {
     /// A free column that is an end: a walk of one column. The columns that were passed over before are not looked at
     /// again.
     pub fn free_end(&mut self, resting: &Resting) -> Option<usize>
-        requires sized { IsKept (length resting.now.free.items) resting.now self.old }
+        requires sized { AreKeptMarks (length resting.now.free.items) resting.now self.old }
         ensures below { IfSome result (λ x. x < length resting.now.free.items) }
         ensures free { IfSome result (λ x. members_of resting.now.free.items x ≡ true) }
         ensures end { IfSome result (λ x. members_of self.old.ends.items x ≡ true) }
         ensures rest { self.new ≡ record self.old { first = self.new.first } }
-        ensures sized { IsKept (length resting.now.free.items) resting.now self.new }
+        ensures sized { AreKeptMarks (length resting.now.free.items) resting.now self.new }
     {
         while self.first < resting.free.len() {
             let x = self.first;
@@ -186,12 +186,12 @@ impl Marks {
     pub fn touch<F: Field, T: Tableau<F>>(&mut self, pair: &Pair<F, T>, row: usize)
         requires row { row < (T.state pair.now.tableau).rows }
         requires room { length self.old.touched.items ≡ (T.state pair.now.tableau).columns }
-        ensures touched { AreTouched F.modulus (T.state pair.now.tableau) self.new row }
+        ensures touched { AreTouchedByRow F.modulus (T.state pair.now.tableau) self.new row }
         ensures noted { AreNoted (T.state pair.now.tableau).columns self.new }
         ensures rest { self.new ≡ record self.old { touched = self.new.touched; count = self.new.count } }
     {
         // there are at most 8,192 columns, so that the sum below fits
-        let _columns = pair.tableau.columns();
+        pair.tableau.is_tableau();
         self.count = 0;
         let mut from = 0;
         while let Some(entry) = pair.tableau.next_in_row(Which::P, row, from) {
@@ -207,7 +207,7 @@ impl Marks {
         pair: &Pair<F, T>,
         row: usize,
     )
-        requires sized { IsKept (T.state pair.now.tableau).columns resting.now self.old }
+        requires sized { AreKeptMarks (T.state pair.now.tableau).columns resting.now self.old }
         requires others { (x : ℕ) → x < (T.state pair.now.tableau).columns → (IsTouched self.old x → ⊥) →
             IsQMark F.modulus (T.state pair.now.tableau) self.old.by_q.items x }
         requires ends { (x : ℕ) → x < (T.state pair.now.tableau).columns → IsEndMark resting.now self.old x }
@@ -229,14 +229,15 @@ impl Marks {
     )
         requires width { pair.now.mates.pattern.width ≡ (T.state pair.now.tableau).columns }
         requires first { first < (T.state pair.now.tableau).columns }
-        requires row { in_q end ≡ false → number end < row_count pair.now.mates.pattern }
+        requires row { in_q end ≡ false → number end < incidence_rows pair.now.mates.pattern }
         requires of_q { AreMarksOfQ F.modulus (T.state pair.now.tableau) resting.old self.old }
         requires by_t { (x : ℕ) → x < (T.state pair.now.tableau).columns →
             (in_q end ≡ false → touches pair.now.mates.pattern (number end) x ≡ false) →
             IsTMark pair.now.mates resting.old.by_t.items x }
-        requires taken { is_free (tableau_of (T.state pair.now.tableau) pair.now.mates) first ≡ false }
+        requires taken { is_free (tableau_of_pair (T.state pair.now.tableau) pair.now.mates) first ≡ false }
         requires free { (x : ℕ) → x < (T.state pair.now.tableau).columns → x ≢ first →
-            members_of resting.old.free.items x ≡ is_free (tableau_of (T.state pair.now.tableau) pair.now.mates) x }
+            members_of resting.old.free.items x ≡ is_free (tableau_of_pair (T.state pair.now.tableau) pair.now.mates)
+            x }
         ensures { AreMarks F.modulus (T.state pair.now.tableau) pair.now.mates resting.new self.new }
     {
         resting.free[first] = false;
@@ -252,7 +253,7 @@ impl Marks {
         pair: &Pair<F, T>,
         row: usize,
     )
-        requires row { row < row_count pair.now.mates.pattern }
+        requires row { row < incidence_rows pair.now.mates.pattern }
         requires width { pair.now.mates.pattern.width ≡ (T.state pair.now.tableau).columns }
         requires of_q { AreMarksOfQ F.modulus (T.state pair.now.tableau) resting.old self.old }
         requires others { (x : ℕ) → x < pair.now.mates.pattern.width → touches pair.now.mates.pattern row x ≡ false →

@@ -6,10 +6,10 @@ ghost use Rattle.residue_theory.specs.Sums.{size_on};
 ghost use Rattle.row_transform.specs.Bases.{raised};
 ghost use Rattle.exchange_graph.specs.Results.{step_of};
 ghost use Rattle.mixed_matrices.specs.Arcs.{is_free};
-ghost use Rattle.mixed_augmentation.specs.Moves.{IsFreeRow, IsRoute, route};
-ghost use Rattle.independent_matching.specs.Engines.{ArePivotsMade};
+ghost use Rattle.mixed_augmentation_laws.specs.Moves.{IsFreeRow, IsRoute, route};
+ghost use Rattle.independent_matching.specs.Engines.{ArePivotSteps};
 ghost use Rattle.independent_matching.specs.Marks.{AreMarksOfQ, IsInOrder};
-ghost use Rattle.independent_matching.specs.Sides.{CanTake, HasGained, Takes, in_q, layers_of, number, tableau_of};
+ghost use Rattle.independent_matching.specs.Sides.{CanTake, HasGained, HasTaken, in_q, layers_of, number, tableau_of_pair};
 
 use crate::marks::Marks;
 use crate::pair::Pair;
@@ -43,22 +43,20 @@ impl<F: Field, T: Tableau<F>> Mover<F, T> {
         requires places { search.now.places ≡ (T.state self.old.pair.tableau).columns }
         requires last { last < search.now.places }
         requires route { IsRoute F.modulus (layers_of (T.state self.old.pair.tableau) self.old.pair.mates)
-            (tableau_of (T.state self.old.pair.tableau) self.old.pair.mates)
-            (route (tableau_of (T.state self.old.pair.tableau) self.old.pair.mates) (step_of search.now) last
+            (tableau_of_pair (T.state self.old.pair.tableau) self.old.pair.mates)
+            (route (tableau_of_pair (T.state self.old.pair.tableau) self.old.pair.mates) (step_of search.now) last
             (in_q end) (number end)) }
         ensures order { IsInOrder F.modulus (T.state self.new.pair.tableau) self.new.pair.mates resting.now
             self.new.marks self.new.pivots }
         ensures gained { HasGained F.modulus (T.state self.old.pair.tableau) (T.state self.new.pair.tableau)
             self.old.pair.mates self.new.pair.mates (step_of search.now 0) end }
-        ensures steps { steps.new ≤ steps.old + size_on (T.state self.old.pair.tableau).base
-            (T.state self.old.pair.tableau).columns + 1 }
-        ensures pivots { steps.new + self.old.pivots ≡ steps.old + self.new.pivots }
-        ensures made { ArePivotsMade (T.pivots self.old.pair.tableau) (T.pivots self.new.pair.tableau) self.old.pivots
-            self.new.pivots }
+        ensures pivots { ArePivotSteps (size_on (T.state self.old.pair.tableau).base
+            (T.state self.old.pair.tableau).columns + 1) steps.old steps.new self.old.pivots self.new.pivots
+            (T.pivots self.old.pair.tableau) (T.pivots self.new.pair.tableau) }
         ensures narrow { (T.state self.old.pair.tableau).columns ≤ column_limit }
     {
         // there are at most 8,192 columns, so that the sum below fits
-        let _columns = self.pair.tableau.columns();
+        self.pair.tableau.is_tableau();
         let mut left = last + 1;
         let mut next = Some(end);
         while let Some(row) = next {
@@ -74,21 +72,19 @@ impl<F: Field, T: Tableau<F>> Mover<F, T> {
         requires order { IsInOrder F.modulus (T.state self.old.pair.tableau) self.old.pair.mates resting.now
             self.old.marks self.old.pivots }
         requires x { x < (T.state self.old.pair.tableau).columns }
-        requires free { is_free (tableau_of (T.state self.old.pair.tableau) self.old.pair.mates) x ≡ true }
+        requires free { is_free (tableau_of_pair (T.state self.old.pair.tableau) self.old.pair.mates) x ≡ true }
         requires row { IsFreeRow F.modulus (layers_of (T.state self.old.pair.tableau) self.old.pair.mates)
-            (tableau_of (T.state self.old.pair.tableau) self.old.pair.mates) x (in_q row) (number row) }
+            (tableau_of_pair (T.state self.old.pair.tableau) self.old.pair.mates) x (in_q row) (number row) }
         ensures order { IsInOrder F.modulus (T.state self.new.pair.tableau) self.new.pair.mates resting.now
             self.new.marks self.new.pivots }
         ensures gained { HasGained F.modulus (T.state self.old.pair.tableau) (T.state self.new.pair.tableau)
             self.old.pair.mates self.new.pair.mates x row }
-        ensures steps { steps.new ≤ steps.old + 1 }
-        ensures pivots { steps.new + self.old.pivots ≡ steps.old + self.new.pivots }
-        ensures made { ArePivotsMade (T.pivots self.old.pair.tableau) (T.pivots self.new.pair.tableau) self.old.pivots
-            self.new.pivots }
+        ensures pivots { ArePivotSteps 1 steps.old steps.new self.old.pivots self.new.pivots
+            (T.pivots self.old.pair.tableau) (T.pivots self.new.pair.tableau) }
         ensures narrow { (T.state self.old.pair.tableau).columns ≤ column_limit }
     {
         // there are at most 8,192 columns, so that the size fits
-        let _columns = self.pair.tableau.columns();
+        self.pair.tableau.is_tableau();
         self.take(resting, row, x, steps);
     }
 
@@ -99,14 +95,10 @@ impl<F: Field, T: Tableau<F>> Mover<F, T> {
         requires few { self.old.pivots ≤ 16384 * column_limit }
         requires x { x < (T.state self.old.pair.tableau).columns }
         requires can { CanTake F.modulus (layers_of (T.state self.old.pair.tableau) self.old.pair.mates)
-            (tableau_of (T.state self.old.pair.tableau) self.old.pair.mates) row x }
+            (tableau_of_pair (T.state self.old.pair.tableau) self.old.pair.mates) row x }
         requires marks { AreMarksOfQ F.modulus (T.state self.old.pair.tableau) resting.now self.old.marks }
-        ensures takes { Takes F.modulus (layers_of (T.state self.old.pair.tableau) self.old.pair.mates)
-            (tableau_of (T.state self.old.pair.tableau) self.old.pair.mates)
-            (tableau_of (T.state self.new.pair.tableau) self.new.pair.mates) row x }
-        ensures layers { layers_of (T.state self.new.pair.tableau) self.new.pair.mates
-            ≡ layers_of (T.state self.old.pair.tableau) self.old.pair.mates }
-        ensures pattern { self.new.pair.mates.pattern ≡ self.old.pair.mates.pattern }
+        ensures taken { HasTaken F.modulus (T.state self.old.pair.tableau) (T.state self.new.pair.tableau)
+            self.old.pair.mates self.new.pair.mates row x }
         ensures steps { steps.new ≡ steps.old + cond (in_q row) 1 0 }
         ensures pivots { self.new.pivots ≡ self.old.pivots + cond (in_q row) 1 0 }
         ensures made { T.pivots self.new.pair.tableau ≡ raised (T.pivots self.old.pair.tableau) (cond (in_q row) 1 0) }

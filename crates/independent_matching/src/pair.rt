@@ -8,11 +8,11 @@ ghost use Rattle.row_transform.specs.Bases.{raised};
 ghost use Rattle.row_transform.specs.Tableaus.{has_entry};
 ghost use Rattle.exchange_graph.specs.Turns.{HaveHadTurns, HasNextTurn};
 ghost use Rattle.limits.specs.Limits.{column_limit};
-ghost use Rattle.mixed_matrices.specs.Arcs.{is_free, leads_to};
-ghost use Rattle.mixed_augmentation.specs.Moves.{IsUnlinked};
+ghost use Rattle.mixed_matrices.specs.Arcs.{leads_to};
+ghost use Rattle.mixed_augmentation_laws.specs.Moves.{IsUnlinked};
 ghost use Rattle.independent_matching.specs.Turns.{t_turn, t_turns, turn_of};
 ghost use Rattle.independent_matching.specs.Sides.{IsFreeQRow, IsFreeTRow, common_columns, q_arc, t_arc, is_matched};
-ghost use Rattle.independent_matching.specs.Sides.{mate_of, layers_of, tableau_of, in_q, row_had, CanTake, Takes};
+ghost use Rattle.independent_matching.specs.Sides.{mate_of, layers_of, tableau_of_pair, in_q, row_had, CanTake, HasTaken};
 
 use crate::row::Row;
 use bipartite_matching::Match;
@@ -35,7 +35,7 @@ impl<F: Field, T: Tableau<F>> Arcs for Pair<F, T> {
     ghost places = { λ s. common_columns (T.state s.tableau) s.mates };
 
     ghost leads = { λ s. leads_to F.modulus (layers_of (T.state s.tableau) s.mates)
-        (tableau_of (T.state s.tableau) s.mates) };
+        (tableau_of_pair (T.state s.tableau) s.mates) };
 
     ghost turn = { λ s. turn_of (T.state s.tableau) s.mates };
 
@@ -117,7 +117,7 @@ impl<F: Field, T: Tableau<F>> Pair<F, T> {
         ensures few { IfSome result (λ (y, next). next ≤ column_limit) }
     {
         // there are at most 8,192 rows, so that the sum below fits
-        let _rows = self.tableau.rows();
+        self.tableau.is_tableau();
         let mut start = from;
         while let Some(row) = self.tableau.next_entry(x, start) {
             match self.tableau.base_of(row) {
@@ -132,23 +132,13 @@ impl<F: Field, T: Tableau<F>> Pair<F, T> {
     pub fn row_of(&self, x: usize) -> Option<Row>
         requires tableau { x < (T.state self.now.tableau).columns }
         requires mates { x < self.now.mates.pattern.width }
-        ensures { result ≡ row_had (tableau_of (T.state self.now.tableau) self.now.mates) x }
+        ensures { result ≡ row_had (tableau_of_pair (T.state self.now.tableau) self.now.mates) x }
     {
         match (self.tableau.row_of(x), self.mates.mate_of_col(x)) {
             (Some(row), _) => Some(Row::Q(row)),
             (None, Some(row)) => Some(Row::T(row)),
             (None, None) => None,
         }
-    }
-
-    /// Whether column x has no row.
-    #[tactic(auto, unfolding(mixed_matrices::specs::Arcs::is_free))]
-    pub fn is_free(&self, x: usize) -> bool
-        requires tableau { x < (T.state self.now.tableau).columns }
-        requires mates { x < self.now.mates.pattern.width }
-        ensures { result ≡ is_free (tableau_of (T.state self.now.tableau) self.now.mates) x }
-    {
-        self.tableau.row_of(x).is_none() && self.mates.mate_of_col(x).is_none()
     }
 
     // Takes column x out of the matching.
@@ -171,13 +161,9 @@ impl<F: Field, T: Tableau<F>> Pair<F, T> {
         requires width { self.old.mates.pattern.width ≡ (T.state self.old.tableau).columns }
         requires x { x < (T.state self.old.tableau).columns }
         requires can { CanTake F.modulus (layers_of (T.state self.old.tableau) self.old.mates)
-            (tableau_of (T.state self.old.tableau) self.old.mates) row x }
-        ensures takes { Takes F.modulus (layers_of (T.state self.old.tableau) self.old.mates)
-            (tableau_of (T.state self.old.tableau) self.old.mates)
-            (tableau_of (T.state self.new.tableau) self.new.mates) row x }
-        ensures layers { layers_of (T.state self.new.tableau) self.new.mates
-            ≡ layers_of (T.state self.old.tableau) self.old.mates }
-        ensures pattern { self.new.mates.pattern ≡ self.old.mates.pattern }
+            (tableau_of_pair (T.state self.old.tableau) self.old.mates) row x }
+        ensures taken { HasTaken F.modulus (T.state self.old.tableau) (T.state self.new.tableau) self.old.mates
+            self.new.mates row x }
         ensures steps { steps.new ≡ steps.old + cond (in_q row) 1 0 }
         ensures made { T.pivots self.new.tableau ≡ raised (T.pivots self.old.tableau) (cond (in_q row) 1 0) }
     {
@@ -223,7 +209,7 @@ impl<F: Field, T: Tableau<F>> Pair<F, T> {
             IsFreeQRow F.modulus (T.state self.now.tableau) x row → ⊥) }
     {
         // there are at most 8,192 rows, so that the sum below fits
-        let _rows = self.tableau.rows();
+        self.tableau.is_tableau();
         let mut start = from;
         while let Some(row) = self.tableau.next_entry(x, start) {
             if self.tableau.base_of(row).is_none() {

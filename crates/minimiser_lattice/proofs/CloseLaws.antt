@@ -6,13 +6,13 @@ use Rattle.closed_sets.specs.Walks.{Walk, Reaches}
 use Rattle.closed_sets.proofs.SetLaws.{test_cases, size_on-bound}
 use Rattle.closed_sets.proofs.WalkLaws.{reaches-arc, reaches-join}
 use Rattle.bit_table.specs.Bits.{IsBitSet, IsJoined}
-use Rattle.minimiser_lattice.specs.Paths.{State, Closes, IsToldOf, IsClosing, IsFinished, IsHandled, IsGoing, IsNumbered, IsNumberedTo, IsQuotient}
-use Rattle.minimiser_lattice.specs.Components.{IsLed}
+use Rattle.minimiser_lattice.specs.Paths.{PathState, Closes, IsToldOf, IsClosing, IsFinished, IsHandled, IsGoing, IsNumbered, IsNumberedTo, IsQuotient}
+use Rattle.minimiser_lattice.specs.Components.{IsRowLed}
 use Rattle.exchange_graph.specs.Turns.{HaveHadTurns, HasNextTurn}
 use Rattle.minimiser_lattice.proofs.PathLaws.{path_top, base_top, last_below, turns-next}
 
 -- the last place of the path is finished, and its group begins with it: the group is a component
-module _ (arc : ℕ → ℕ → Bool) (turn : ℕ → ℕ → ℕ) (n : ℕ) (s : State) (d g : ℕ) (G : IsGoing arc turn n s) (more : s.depth ≡ d + 1)
+module _ (arc : ℕ → ℕ → Bool) (turn : ℕ → ℕ → ℕ) (n : ℕ) (s : PathState) (d g : ℕ) (G : IsGoing arc turn n s) (more : s.depth ≡ d + 1)
     (last : s.groups ≡ g + 1) (begins : s.base g ≡ s.path d)
     (all : HaveHadTurns (arc (s.stack (s.path d))) (turn (s.stack (s.path d))) n (s.next (s.stack (s.path d))))
     (done : ℕ → Bool) (number : ℕ → ℕ) (N : IsNumbered s done number (s.path d)) where
@@ -322,7 +322,7 @@ module _ (arc : ℕ → ℕ → Bool) (n : ℕ) (done : ℕ → Bool) (number : 
           was = sym (other_row l m ml (λ q. omega (arith, row_falls l ll h))) ∙ e
 
 -- nothing is left: the numbers tell the components
-module _ (arc : ℕ → ℕ → Bool) (turn : ℕ → ℕ → ℕ) (n : ℕ) (s : State) (G : IsGoing arc turn n s) (all : (y : ℕ) → y < n → s.done y ≡ true) where
+module _ (arc : ℕ → ℕ → Bool) (turn : ℕ → ℕ → ℕ) (n : ℕ) (s : PathState) (G : IsGoing arc turn n s) (all : (y : ℕ) → y < n → s.done y ≡ true) where
   back_along : (X : ℕ → Type 0) → ((x y : ℕ) → x < n → y < n → arc x y ≡ true → X y → X x) → (k x y : ℕ) → x < n → y < n → Walk arc n x y k → X y → X x
   back_along X step k x y xl yl w h = go k y yl w h
     where
@@ -367,7 +367,7 @@ module _ (arc : ℕ → ℕ → Bool) (turn : ℕ → ℕ → ℕ) (n : ℕ) (s 
   }
 
 -- one place more has its number
-pub numbered-next : (s : State) (done more : ℕ → Bool) (number now : ℕ → ℕ) (at to place : ℕ) →
+pub numbered-next : (s : PathState) (done more : ℕ → Bool) (number now : ℕ → ℕ) (at to place : ℕ) →
     IsNumberedTo s done number at to → at ≤ to → s.stack to ≡ place → more place ≡ true → now place ≡ s.count →
     ((y : ℕ) → y ≢ place → more y ≡ done y) → ((y : ℕ) → y ≢ place → now y ≡ number y) → IsNumberedTo s more now at (to + 1)
 numbered-next s done more number now at to place N le q d c same keep = record {
@@ -384,21 +384,21 @@ numbered-next s done more number now at to place N le q d c same keep = record {
 }
 
 -- what a place of the component leads to in a turn before `from` is told of
-pub record IsAbsorbing (arc : ℕ → ℕ → Bool) (turn : ℕ → ℕ → ℕ) (n : ℕ) (s : State) (place from : ℕ) : Type 0 where
+pub record IsAbsorbing (arc : ℕ → ℕ → Bool) (turn : ℕ → ℕ → ℕ) (n : ℕ) (s : PathState) (place from : ℕ) : Type 0 where
   pub closing : Closes arc n s
   pub below : place < n
   pub done : s.done place ≡ true
   pub number : s.number place ≡ s.count
   pub told : (y : ℕ) → y < n → turn place y < from → arc place y ≡ true → IsToldOf s y
 
-pub other_small : (arc : ℕ → ℕ → Bool) (turn : ℕ → ℕ → ℕ) (n : ℕ) (s : State) (place from to : ℕ) →
+pub other_small : (arc : ℕ → ℕ → Bool) (turn : ℕ → ℕ → ℕ) (n : ℕ) (s : PathState) (place from to : ℕ) →
     IsAbsorbing arc turn n s place from → to < n → arc place to ≡ true → s.number to < n
 other_small arc turn n s place from to A l a =
     omega (arith, A.closing.small, A.closing.within to l (A.closing.stays place to A.below l A.done a))
 
-pub absorbing-next : (arc : ℕ → ℕ → Bool) (turn : ℕ → ℕ → ℕ) (n : ℕ) (s : State) (place from to next : ℕ)
+pub absorbing-next : (arc : ℕ → ℕ → Bool) (turn : ℕ → ℕ → ℕ) (n : ℕ) (s : PathState) (place from to next : ℕ)
     (now : ℕ → ℕ → Bool) → IsAbsorbing arc turn n s place from → HasNextTurn (arc place) (turn place) n from to next →
-    IsLed s.strict now n s.count (s.number to) →
+    IsRowLed s.strict now n s.count (s.number to) →
     IsAbsorbing arc turn n (record s { strict = now }) place next
     × ((l : ℕ) → l < n → s.strict s.count l ≡ true → now s.count l ≡ true)
 absorbing-next arc turn n s place from to next now A N (inl (known, same)) = (
@@ -432,13 +432,13 @@ absorbing-next arc turn n s place from to next now A N (inr (other, (joined, J, 
     kept = row_kept arc n s.done s.number s.count s.strict joined now A.closing place to A.below N.below A.done A.number
         N.holds other J B
 
-pub absorbing-done : (arc : ℕ → ℕ → Bool) (turn : ℕ → ℕ → ℕ) (n : ℕ) (s : State) (place from : ℕ) →
+pub absorbing-done : (arc : ℕ → ℕ → Bool) (turn : ℕ → ℕ → ℕ) (n : ℕ) (s : PathState) (place from : ℕ) →
     IsAbsorbing arc turn n s place from → HaveHadTurns (arc place) (turn place) n from →
     (y : ℕ) → y < n → arc place y ≡ true → IsToldOf s y
 absorbing-done arc turn n s place from A had y yl a = A.told y yl (had y yl a) a
 
 -- the last group begins with the last place of the path
-module _ (arc : ℕ → ℕ → Bool) (turn : ℕ → ℕ → ℕ) (n : ℕ) (s : State) (at : ℕ) (G : IsGoing arc turn n s) (some : 0 < s.depth)
+module _ (arc : ℕ → ℕ → Bool) (turn : ℕ → ℕ → ℕ) (n : ℕ) (s : PathState) (at : ℕ) (G : IsGoing arc turn n s) (some : 0 < s.depth)
     (all : IsFinished arc turn n s) (begins : s.base (s.groups - 1) ≡ s.path (s.depth - 1)) (q : s.path (s.depth - 1) ≡ at) where
   some_group : s.groups ≡ s.groups - 1 + 1
   some_group = omega (arith, (G.first_base (omega (arith, (last_below arc turn n s G some).0))).0)
@@ -448,7 +448,7 @@ module _ (arc : ℕ → ℕ → Bool) (turn : ℕ → ℕ → ℕ) (n : ℕ) (s 
       closing-start arc turn n s (s.depth - 1) (s.groups - 1) G (omega arith) some_group begins all done number
       (subst (λ v. IsNumbered s done number v) (sym q) N)
 
-  pub closes-end : (t : State) → IsNumbered s t.done t.number at → t ≡ record s { done = t.done; number = t.number; strict = t.strict } → Closes arc n t →
+  pub closes-end : (t : PathState) → IsNumbered s t.done t.number at → t ≡ record s { done = t.done; number = t.number; strict = t.strict } → Closes arc n t →
       ((p y : ℕ) → at ≤ p → p < t.height → y < n → arc (t.stack p) y ≡ true → IsToldOf t y) →
       IsGoing arc turn n (record t { height = at; groups = t.groups - 1; depth = t.depth - 1; count = t.count + 1 })
   closes-end t N kept C told = subst

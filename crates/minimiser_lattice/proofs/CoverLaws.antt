@@ -2,7 +2,7 @@
 use Rattle.std.proofs.Common.{◌≡◌, ◌≢◌, ℕ, ◌+◌, ◌<◌, ◌≤◌, ◌⊎◌, Bool, true, false, ◌||◌, inl, inr, ap, sym, subst, ◌∙◌, arith}
 use Rattle.residue_theory.proofs.SumLaws.{nat_cases}
 use Rattle.residue_theory.proofs.SetLaws.{differ, either_cases, either-first, either-second}
-use Rattle.number_ranges.specs.Ranges.{HasNone, IsLeast}
+use Rattle.residue_theory.specs.Ranges.{HasNone, IsLeast}
 use Rattle.minimiser_lattice.specs.Paths.{IsNumbering}
 use Rattle.minimiser_lattice.proofs.ReadyLaws.{order_cases}
 use Rattle.minimiser_lattice.specs.Covers.{IsCoverPut, IsCoverRow, IsGathered, IsRowFrom, NoneBetween}

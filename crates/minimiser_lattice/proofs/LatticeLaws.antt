@@ -8,24 +8,24 @@ use Rattle.closed_sets.specs.Closed.{IsMiddle, IsReachedSet, NoEndReached}
 use Rattle.closed_sets.specs.Tables.{Tells}
 use Rattle.closed_sets.specs.Blocks.{IsListing, IsBelow}
 use Rattle.closed_sets.specs.Orders.{IsCover}
-use Rattle.closed_sets.specs.Rules.{KeepsRules}
+use Rattle.closed_sets.specs.Rules.{KeepsPlaceRules}
 use Rattle.closed_sets.proofs.SetLaws.{test_cases, not-true, not-make}
 use Rattle.closed_sets.proofs.WalkLaws.{from-reaches, reaches-to}
 use Rattle.closed_sets.proofs.BlockOrder.{parts-keep}
 use Rattle.minimiser_lattice.specs.Paths.{IsQuotient}
-use Rattle.minimiser_lattice.specs.Listings.{HasPlaces, IsMarked, of_neither, table_of}
-use Rattle.minimiser_lattice.specs.Covers.{AreCovers}
-use Rattle.minimiser_lattice.specs.Parts.{Parts, IsLattice}
+use Rattle.minimiser_lattice.specs.Listings.{HasPlaces, AreMarkedTails, of_neither, reached_table}
+use Rattle.minimiser_lattice.specs.Covers.{AreListedCovers}
+use Rattle.minimiser_lattice.specs.Parts.{PlaceParts, IsLattice}
 use Rattle.minimiser_lattice.specs.Views.{parts_from}
 use Rattle.minimiser_lattice.proofs.ListingLaws.{leads-same, leads-strict, leads-cases, leads-both}
 
 module _ (arc : ℕ → ℕ → Bool) (n : ℕ) (starts ends : ℕ → Bool) (number : ℕ → ℕ) (count : ℕ) (strict : ℕ → ℕ → Bool)
     (Q : IsQuotient arc n number count strict) (first last : ℕ → Bool)
-    (K : IsMarked n number count strict starts ends first last) where
-  leads-reaches : (x y : ℕ) → x < n → y < n → table_of strict number x y ≡ true → Reaches arc n x y
+    (K : AreMarkedTails n number count strict starts ends first last) where
+  leads-reaches : (x y : ℕ) → x < n → y < n → reached_table strict number x y ≡ true → Reaches arc n x y
   leads-reaches x y xl yl h = elim (leads-cases strict (number x) (number y) h) [ inl q ↦ Q.same x y xl yl q | inr s ↦ Q.tells x y xl yl s ]
 
-  reaches-leads : (x y : ℕ) → x < n → y < n → Reaches arc n x y → table_of strict number x y ≡ true
+  reaches-leads : (x y : ℕ) → x < n → y < n → Reaches arc n x y → reached_table strict number x y ≡ true
   reaches-leads x y xl yl r =
       elim (Q.made x y xl yl r)
       [ inl q ↦ leads-same strict (number x) (number y) (sym q) | inr s ↦ leads-strict strict (number x) (number y) s ]
@@ -59,7 +59,7 @@ module _ (arc : ℕ → ℕ → Bool) (n : ℕ) (starts ends : ℕ → Bool) (nu
           go (inl t) = t
           go (inr f) = absurd (differ (K.last_tail.none (number x) e (below x xl) f el eh) (reaches-leads x e xl el r))
 
-  pub middle-tells : Tells arc n starts ends (table_of strict number) (λ x. of_neither first last (number x))
+  pub middle-tells : Tells arc n starts ends (reached_table strict number) (λ x. of_neither first last (number x))
   middle-tells = record {
     reaches = leads-reaches;
     reached = reaches-leads;
@@ -77,7 +77,7 @@ module _ (arc : ℕ → ℕ → Bool) (n : ℕ) (starts ends : ℕ → Bool) (nu
 
   module _ (rank listed : ℕ → ℕ) (b : ℕ) (S : IsListing arc n starts ends (λ x. rank (number x)) b)
       (H : HasPlaces count (of_neither first last) rank listed b) (table : ℕ → ℕ → Bool)
-      (C : AreCovers n strict listed b table) where
+      (C : AreListedCovers n strict listed b table) where
     abbrev lower : ℕ → ℕ → Bool
     lower k l = strict (listed l) (listed k)
 
@@ -171,9 +171,9 @@ module _ (arc : ℕ → ℕ → Bool) (n : ℕ) (starts ends : ℕ → Bool) (nu
     }
 
 -- the parts, with the covers of their order, keep the rules of printed parts
-pub lattice-keeps : (arc : ℕ → ℕ → Bool) (n : ℕ) (starts ends : ℕ → Bool) (v : Parts) →
+pub lattice-keeps : (arc : ℕ → ℕ → Bool) (n : ℕ) (starts ends : ℕ → Bool) (v : PlaceParts) →
     NoEndReached arc n starts ends → IsLattice arc n starts ends v →
-    KeepsRules arc n starts ends v.first v.last v.block v.blocks v.covers
+    KeepsPlaceRules arc n starts ends v.first v.last v.block v.blocks v.covers
 lattice-keeps arc n starts ends v clear L =
     parts-keep arc n starts ends v.block v.blocks L.parts.listing v.below L.order v.first v.last clear L.parts.first
     (λ x l. (L.parts.last x l).0) (λ x l. (L.parts.last x l).1) v.covers L.covers L.within

@@ -10,8 +10,8 @@ use Rattle.closed_sets.proofs.Listings.{Started, started-none}
 use Rattle.closed_sets.proofs.TableLaws.{started-same, table-next, table-done}
 use Rattle.minimiser_lattice.specs.Paths.{IsNumbering}
 use Rattle.minimiser_lattice.specs.Components.{leads_in}
-use Rattle.minimiser_lattice.specs.Standings.{IsReadyAt, IsWaiting, in_middle, is_listed}
-use Rattle.minimiser_lattice.specs.Listings.{AllWait, HasPlaces, HasStandings, table_of}
+use Rattle.minimiser_lattice.specs.Standings.{IsFreeToStand, IsWaiting, in_middle, is_listed}
+use Rattle.minimiser_lattice.specs.Listings.{AllWait, HasPlaces, HasStandings, reached_table}
 use Rattle.minimiser_lattice.specs.declared.standing.Standing.{Standing}
 use Rattle.minimiser_lattice.specs.declared.standing.Standing.TheVariants.{Tail, Waiting, Listed}
 use Rattle.minimiser_lattice.proofs.PathLaws.{size_misses}
@@ -45,7 +45,7 @@ first_listed false s e = ap is_listed e
 
 module _ (n : ℕ) (number : ℕ → ℕ) (count : ℕ) (strict : ℕ → ℕ → Bool) (N : IsNumbering n number count strict) where
   -- what is no greater in the order, and no less, is the same
-  pub leads-both : (x y : ℕ) → x < n → y < n → table_of strict number x y ≡ true → table_of strict number y x ≡ true → number x ≡ number y
+  pub leads-both : (x y : ℕ) → x < n → y < n → reached_table strict number x y ≡ true → reached_table strict number y x ≡ true → number x ≡ number y
   leads-both x y xl yl h e = go (leads-cases strict (number x) (number y) h) (leads-cases strict (number y) (number x) e)
     where
       go : (number x ≡ number y) ⊎ (strict (number x) (number y) ≡ true) → (number y ≡ number x) ⊎ (strict (number y) (number x) ≡ true) → number x ≡ number y
@@ -67,8 +67,8 @@ module _ (n : ℕ) (number : ℕ → ℕ) (count : ℕ) (strict : ℕ → ℕ �
 
   module _ (middle : ℕ → Bool) (standing : ℕ → Standing) where
     module _ (middles : (k : ℕ) → k < count → in_middle (standing k) ≡ middle k) where
-      pub ready-in : (r : ℕ) → r < n → IsReadyAt strict standing (number r) →
-          IsReadyIn n (table_of strict number) (λ x. middle (number x)) (listed_in standing) r
+      pub ready-in : (r : ℕ) → r < n → IsFreeToStand strict standing (number r) →
+          IsReadyIn n (reached_table strict number) (λ x. middle (number x)) (listed_in standing) r
       ready-in r rl R = record {
         member = sym (middles (number r) (N.below r rl)) ∙ ap in_middle R.0;
         waiting = ap is_listed R.0;
@@ -79,8 +79,8 @@ module _ (n : ℕ) (number : ℕ → ℕ) (count : ℕ) (strict : ℕ → ℕ �
         ];
       }
 
-      pub ready-at : (r : ℕ) → r < n → IsReadyIn n (table_of strict number) (λ x. middle (number x))
-          (listed_in standing) r → IsReadyAt strict standing (number r)
+      pub ready-at : (r : ℕ) → r < n → IsReadyIn n (reached_table strict number) (λ x. middle (number x))
+          (listed_in standing) r → IsFreeToStand strict standing (number r)
       ready-at r rl R = (
         waiting_from (standing (number r)) (middles (number r) (N.below r rl) ∙ R.member) R.waiting,
         λ l less s w. at l less s w (N.member l (omega (arith, N.below r rl))),
@@ -124,7 +124,7 @@ module _ (n : ℕ) (number : ℕ → ℕ) (count : ℕ) (strict : ℕ → ℕ �
         | inr ne ↦ sym (put_others l ne) ∙ w
       ]
 
-      pub block-put : IsBlockPut n (table_of strict number) r blocks (listed_in standing)
+      pub block-put : IsBlockPut n (reached_table strict number) r blocks (listed_in standing)
           (listed_in more) (λ x. rank (number x)) (λ x. now (number x))
       block-put = record {
         kept = λ y yl h. still (number y) h;
@@ -187,29 +187,29 @@ module _ (n : ℕ) (number : ℕ → ℕ) (count : ℕ) (strict : ℕ → ℕ �
 
     -- one block more
     pub list-next : (arc : ℕ → ℕ → Bool) (starts ends : ℕ → Bool) →
-        Tells arc n starts ends (table_of strict number) (λ x. middle (number x)) →
+        Tells arc n starts ends (reached_table strict number) (λ x. middle (number x)) →
         (middles : (k : ℕ) → k < count → in_middle (standing k) ≡ middle k) →
         (more : ℕ → Standing) (rank now : ℕ → ℕ) (r blocks : ℕ) → r < n →
-        IsReadyAt strict standing (number r) → ((j : ℕ) → j < r → IsReadyAt strict standing (number j) → ⊥) →
+        IsFreeToStand strict standing (number r) → ((j : ℕ) → j < r → IsFreeToStand strict standing (number j) → ⊥) →
         more (number r) ≡ Listed → ((l : ℕ) → l ≢ number r → more l ≡ standing l) →
         now (number r) ≡ blocks → ((l : ℕ) → l ≢ number r → now l ≡ rank l) →
         Started arc n starts ends blocks (listed_in standing) (λ x. rank (number x)) →
         Started arc n starts ends (blocks + 1) (listed_in more) (λ x. now (number x))
     list-next arc starts ends D middles more rank now r blocks rl R least put put_others here others S =
         rw Rattle.std.proofs.Common.add-one
-        (table-next arc n starts ends (table_of strict number) (λ x. middle (number x)) D blocks r
+        (table-next arc n starts ends (reached_table strict number) (λ x. middle (number x)) D blocks r
         (listed_in standing) (listed_in more) (λ x. rank (number x)) (λ x. now (number x)) S rl
         (ready-in middles r rl R) (λ j l Q. least j l (ready-at middles j (omega arith) Q))
         (block-put more rank now r blocks rl R.0 put put_others here others))
 
     pub list-done : (arc : ℕ → ℕ → Bool) (starts ends : ℕ → Bool) →
-        Tells arc n starts ends (table_of strict number) (λ x. middle (number x)) → (rank : ℕ → ℕ) (blocks : ℕ) →
+        Tells arc n starts ends (reached_table strict number) (λ x. middle (number x)) → (rank : ℕ → ℕ) (blocks : ℕ) →
         (middles : (k : ℕ) → k < count → in_middle (standing k) ≡ middle k) →
-        ((j : ℕ) → j < n → IsReadyAt strict standing (number j) → ⊥) →
+        ((j : ℕ) → j < n → IsFreeToStand strict standing (number j) → ⊥) →
         Started arc n starts ends blocks (listed_in standing) (λ x. rank (number x)) →
         IsListing arc n starts ends (λ x. rank (number x)) blocks
     list-done arc starts ends D rank blocks middles none S =
-        table-done arc n starts ends (table_of strict number) (λ x. middle (number x)) D blocks (listed_in standing)
+        table-done arc n starts ends (reached_table strict number) (λ x. middle (number x)) D blocks (listed_in standing)
         (λ x. rank (number x)) S (λ x l Q. none x l (ready-at middles x l Q))
 
     module _ (wait : AllWait count middle standing) where

@@ -8,7 +8,7 @@ use Rattle.closed_sets.specs.Walks.{Reaches}
 use Rattle.closed_sets.proofs.SetLaws.{test_cases, size_on-bound, size_on-less}
 use Rattle.closed_sets.proofs.WalkLaws.{reaches-self, reaches-arc, reaches-join}
 use Rattle.exchange_graph.specs.Turns.{HaveHadTurns, HasNextTurn}
-use Rattle.minimiser_lattice.specs.Paths.{State, IsHandled, IsGoing, IsEntered, IsFinished, IsMerged, last_of}
+use Rattle.minimiser_lattice.specs.Paths.{PathState, IsHandled, IsGoing, IsOnPath, IsFinished, AreMergedGroups, last_of}
 
 -- numbers that rise are no less than their places
 pub rising_le : (f : ℕ → ℕ) (k : ℕ) → ((i j : ℕ) → i < j → j < k → f i < f j) → (i : ℕ) → i < k → i ≤ f i
@@ -29,7 +29,7 @@ pub turns-next : (test : ℕ → Bool) (turn : ℕ → ℕ) (n from to next : �
 turns-next test turn n from to next X N old here y yl less a =
     elim (N.others y yl a less) [ inl l ↦ old y yl l a | inr q ↦ subst X (sym q) here ]
 
-module _ (arc : ℕ → ℕ → Bool) (turn : ℕ → ℕ → ℕ) (n : ℕ) (s : State) (G : IsGoing arc turn n s) where
+module _ (arc : ℕ → ℕ → Bool) (turn : ℕ → ℕ → ℕ) (n : ℕ) (s : PathState) (G : IsGoing arc turn n s) where
   -- there is room for a place that was not seen
   pub enter_room : (place : ℕ) → place < n → s.seen place ≡ false → (s.height < n) × (s.groups < n) × (s.depth < n) × (s.count < n)
   enter_room place l fresh = (
@@ -83,10 +83,10 @@ module _ (arc : ℕ → ℕ → Bool) (turn : ℕ → ℕ → ℕ) (n : ℕ) (s 
     reaches_next to a i l = reaches-arc arc n (s.stack i) (s.stack (s.path d)) to (reaches_top i l) (G.stack_below (s.path d) (G.path_below d (omega arith))) a
 
 -- a place is entered
-module _ (arc : ℕ → ℕ → Bool) (turn : ℕ → ℕ → ℕ) (n : ℕ) (s t : State) (to : ℕ) (G : IsGoing arc turn n s)
-    (P : IsEntered s t to) (tl : to < n) (fresh : s.seen to ≡ false)
+module _ (arc : ℕ → ℕ → Bool) (turn : ℕ → ℕ → ℕ) (n : ℕ) (s t : PathState) (to : ℕ) (G : IsGoing arc turn n s)
+    (P : IsOnPath s t to) (tl : to < n) (fresh : s.seen to ≡ false)
     (leads : (i : ℕ) → i < s.height → Reaches arc n (s.stack i) to) where
-  abbrev u : State
+  abbrev u : PathState
   u = record s {
     seen = t.seen;
     position = t.position;
@@ -255,9 +255,9 @@ module _ (arc : ℕ → ℕ → Bool) (turn : ℕ → ℕ → ℕ) (n : ℕ) (s 
   })
 
 -- an arc leads from the last place of the path to one on the stack
-module _ (arc : ℕ → ℕ → Bool) (turn : ℕ → ℕ → ℕ) (n : ℕ) (s : State) (d to groups : ℕ) (G : IsGoing arc turn n s) (more : s.depth ≡ d + 1)
+module _ (arc : ℕ → ℕ → Bool) (turn : ℕ → ℕ → ℕ) (n : ℕ) (s : PathState) (d to groups : ℕ) (G : IsGoing arc turn n s) (more : s.depth ≡ d + 1)
     (tl : to < n) (h : s.seen to ≡ true) (w : s.done to ≡ false)
-    (a : arc (s.stack (s.path d)) to ≡ true) (M : IsMerged s groups (s.position to)) where
+    (a : arc (s.stack (s.path d)) to ≡ true) (M : AreMergedGroups s groups (s.position to)) where
   m_back : (i j : ℕ) → i ≤ j → j < s.height → ((g : ℕ) → g < groups → i < s.base g → s.base g ≤ j → ⊥) → Reaches arc n (s.stack j) (s.stack i)
   m_back i j le l none = elim (search_below s.groups (λ g. (i < s.base g) × (s.base g ≤ j)) (λ g gl. both g (lt_cases i (s.base g)) (lt_cases j (s.base g)))) [
     | inr never ↦ G.back i j le l (λ g gl x y. never g gl (x, y))
@@ -308,7 +308,7 @@ module _ (arc : ℕ → ℕ → Bool) (turn : ℕ → ℕ → ℕ) (n : ℕ) (s 
   }
 
 -- all that the last place of the path leads to in a turn before `from` is handled
-module _ (arc : ℕ → ℕ → Bool) (turn : ℕ → ℕ → ℕ) (n : ℕ) (s : State) (d from : ℕ) (next : ℕ → ℕ) (G : IsGoing arc turn n s) (more : s.depth ≡ d + 1)
+module _ (arc : ℕ → ℕ → Bool) (turn : ℕ → ℕ → ℕ) (n : ℕ) (s : PathState) (d from : ℕ) (next : ℕ → ℕ) (G : IsGoing arc turn n s) (more : s.depth ≡ d + 1)
     (here : next (s.stack (s.path d)) ≡ from) (others : (y : ℕ) → y ≢ s.stack (s.path d) → next y ≡ s.next y)
     (handled : (y : ℕ) → y < n → turn (s.stack (s.path d)) y < from → arc (s.stack (s.path d)) y ≡ true →
     IsHandled s (s.path d) y) where
@@ -349,7 +349,7 @@ module _ (arc : ℕ → ℕ → Bool) (turn : ℕ → ℕ → ℕ) (n : ℕ) (s 
   }
 
 -- the last place of the path is finished, and its group does not begin with it
-module _ (arc : ℕ → ℕ → Bool) (turn : ℕ → ℕ → ℕ) (n : ℕ) (s : State) (d g : ℕ) (G : IsGoing arc turn n s) (more : s.depth ≡ d + 1)
+module _ (arc : ℕ → ℕ → Bool) (turn : ℕ → ℕ → ℕ) (n : ℕ) (s : PathState) (d g : ℕ) (G : IsGoing arc turn n s) (more : s.depth ≡ d + 1)
     (last : s.groups ≡ g + 1) (other : s.base g ≢ s.path d)
     (all : HaveHadTurns (arc (s.stack (s.path d))) (turn (s.stack (s.path d))) n (s.next (s.stack (s.path d)))) where
   no_base : (h : ℕ) → h < s.groups → s.base h ≢ s.path d
@@ -387,7 +387,7 @@ module _ (arc : ℕ → ℕ → Bool) (turn : ℕ → ℕ → ℕ) (n : ℕ) (s 
   }
 
 -- what stands where fits the arrays
-pub going_fits : (arc : ℕ → ℕ → Bool) (turn : ℕ → ℕ → ℕ) (n : ℕ) (s : State) → IsGoing arc turn n s → (s.height ≤ n)
+pub going_fits : (arc : ℕ → ℕ → Bool) (turn : ℕ → ℕ → ℕ) (n : ℕ) (s : PathState) → IsGoing arc turn n s → (s.height ≤ n)
     × (s.groups ≤ s.height) × (s.depth ≤ s.height)
 going_fits arc turn n s G = (
   omega (arith, G.room, size_on-bound s.seen n),
@@ -399,18 +399,18 @@ going_fits arc turn n s G = (
     at_most zero f rises below = omega arith
     at_most (suc k) f rises below = omega (arith, below k (omega arith), rising_le f (suc k) rises k (omega arith))
 
-pub last_below : (arc : ℕ → ℕ → Bool) (turn : ℕ → ℕ → ℕ) (n : ℕ) (s : State) → IsGoing arc turn n s → 0 < s.depth →
+pub last_below : (arc : ℕ → ℕ → Bool) (turn : ℕ → ℕ → ℕ) (n : ℕ) (s : PathState) → IsGoing arc turn n s → 0 < s.depth →
     (s.path (s.depth - 1) < s.height) × (last_of s < n)
 last_below arc turn n s G some = let l = G.path_below (s.depth - 1) (omega arith) in (l, G.stack_below (s.path (s.depth - 1)) l)
 
 -- the last place of the path is being looked at: all that it leads to in a turn before `from` is handled
-pub record IsAdvancing (arc : ℕ → ℕ → Bool) (turn : ℕ → ℕ → ℕ) (n : ℕ) (s : State) (place from : ℕ) : Type 0 where
+pub record IsAdvancing (arc : ℕ → ℕ → Bool) (turn : ℕ → ℕ → ℕ) (n : ℕ) (s : PathState) (place from : ℕ) : Type 0 where
   pub going : IsGoing arc turn n s
   pub some : 0 < s.depth
   pub last : last_of s ≡ place
   pub handled : (y : ℕ) → y < n → turn place y < from → arc place y ≡ true → IsHandled s (s.path (s.depth - 1)) y
 
-pub advancing-first : (arc : ℕ → ℕ → Bool) (turn : ℕ → ℕ → ℕ) (n : ℕ) (s : State) (place from : ℕ) → IsGoing arc turn n s → 0 < s.depth →
+pub advancing-first : (arc : ℕ → ℕ → Bool) (turn : ℕ → ℕ → ℕ) (n : ℕ) (s : PathState) (place from : ℕ) → IsGoing arc turn n s → 0 < s.depth →
     last_of s ≡ place → s.next place ≡ from → IsAdvancing arc turn n s place from
 advancing-first arc turn n s place from G some q e = record {
   going = G;
@@ -421,7 +421,7 @@ advancing-first arc turn n s place from G some q e = record {
       (omega (arith, ap s.next q, ap (λ v. turn v y) q)) (subst (λ v. arc v y ≡ true) (sym q) a);
 }
 
-pub advancing-done : (arc : ℕ → ℕ → Bool) (turn : ℕ → ℕ → ℕ) (n : ℕ) (s : State) (place from to next : ℕ) →
+pub advancing-done : (arc : ℕ → ℕ → Bool) (turn : ℕ → ℕ → ℕ) (n : ℕ) (s : PathState) (place from to next : ℕ) →
     IsAdvancing arc turn n s place from → HasNextTurn (arc place) (turn place) n from to next → s.done to ≡ true →
     IsAdvancing arc turn n s place next
 advancing-done arc turn n s place from to next A N t = record {
@@ -431,9 +431,9 @@ advancing-done arc turn n s place from to next A N t = record {
   handled = turns-next (arc place) (turn place) n from to next (IsHandled s (s.path (s.depth - 1))) N A.handled (inl t);
 }
 
-pub advancing-merge : (arc : ℕ → ℕ → Bool) (turn : ℕ → ℕ → ℕ) (n : ℕ) (s : State) (place from to next groups : ℕ) →
+pub advancing-merge : (arc : ℕ → ℕ → Bool) (turn : ℕ → ℕ → ℕ) (n : ℕ) (s : PathState) (place from to next groups : ℕ) →
     IsAdvancing arc turn n s place from → HasNextTurn (arc place) (turn place) n from to next → s.seen to ≡ true →
-    s.done to ≡ false → IsMerged s groups (s.position to) →
+    s.done to ≡ false → AreMergedGroups s groups (s.position to) →
     IsAdvancing arc turn n (record s { groups = groups }) place next
 advancing-merge arc turn n s place from to next groups A N h w M = record {
   going = merged-going arc turn n s (s.depth - 1) to groups A.going (omega (arith, A.some)) N.below h w
@@ -450,7 +450,7 @@ advancing-merge arc turn n s place from to next groups A N h w M = record {
     fewer y (inr (e, f)) = inr (e, λ g gl le. f g (omega (arith, M.fewer)) le)
 
 -- the next look begins with the turn `from`
-pub advancing-stop : (arc : ℕ → ℕ → Bool) (turn : ℕ → ℕ → ℕ) (n : ℕ) (s : State) (place from : ℕ) (next : ℕ → ℕ) →
+pub advancing-stop : (arc : ℕ → ℕ → Bool) (turn : ℕ → ℕ → ℕ) (n : ℕ) (s : PathState) (place from : ℕ) (next : ℕ → ℕ) →
     IsAdvancing arc turn n s place from → next place ≡ from → ((y : ℕ) → y ≢ place → next y ≡ s.next y) →
     IsGoing arc turn n (record s { next = next })
 advancing-stop arc turn n s place from next A here others =
@@ -459,19 +459,19 @@ advancing-stop arc turn n s place from next A here others =
     (λ y yl less a. A.handled y yl (omega (arith, ap (λ v. turn v y) A.last)) (subst (λ v. arc v y ≡ true) A.last a))
 
 -- a place that the last one leads to is entered
-pub entered-next : (arc : ℕ → ℕ → Bool) (turn : ℕ → ℕ → ℕ) (n : ℕ) (s t : State) (to : ℕ) → IsGoing arc turn n s → 0 < s.depth →
-    IsEntered s t to → to < n → s.seen to ≡ false → arc (last_of s) to ≡ true → IsGoing arc turn n t
+pub entered-next : (arc : ℕ → ℕ → Bool) (turn : ℕ → ℕ → ℕ) (n : ℕ) (s t : PathState) (to : ℕ) → IsGoing arc turn n s → 0 < s.depth →
+    IsOnPath s t to → to < n → s.seen to ≡ false → arc (last_of s) to ≡ true → IsGoing arc turn n t
 entered-next arc turn n s t to G some P l fresh a = entered-going arc turn n s t to G P l fresh (reaches_next arc turn n s G (s.depth - 1) (omega arith) to a)
 
-pub entered-first : (arc : ℕ → ℕ → Bool) (turn : ℕ → ℕ → ℕ) (n : ℕ) (s t : State) (to : ℕ) → IsGoing arc turn n s → s.depth ≡ 0 →
-    IsEntered s t to → to < n → s.seen to ≡ false → IsGoing arc turn n t
+pub entered-first : (arc : ℕ → ℕ → Bool) (turn : ℕ → ℕ → ℕ) (n : ℕ) (s t : PathState) (to : ℕ) → IsGoing arc turn n s → s.depth ≡ 0 →
+    IsOnPath s t to → to < n → s.seen to ≡ false → IsGoing arc turn n t
 entered-first arc turn n s t to G none P l fresh = entered-going arc turn n s t to G P l fresh (λ i il. absurd (omega (arith, stack_empty arc turn n s G none)))
 
-pub entered-seen : (s t : State) (to y : ℕ) → IsEntered s t to → s.seen y ≡ true → t.seen y ≡ true
+pub entered-seen : (s t : PathState) (to y : ℕ) → IsOnPath s t to → s.seen y ≡ true → t.seen y ≡ true
 entered-seen s t to y P h = elim (nat_cases y to) [ inl q ↦ subst (λ v. t.seen v ≡ true) (sym q) P.seen | inr ne ↦ P.seen_others y ne ∙ h ]
 
 -- fewer places are left, or as many and a shorter path
-pub entered-smaller : (n : ℕ) (s t : State) (to : ℕ) → IsEntered s t to → to < n → s.seen to ≡ false →
+pub entered-smaller : (n : ℕ) (s t : PathState) (to : ℕ) → IsOnPath s t to → to < n → s.seen to ≡ false →
     t.depth ≡ s.depth + 1 → 2 * (n - size_on t.seen n) + t.depth < 2 * (n - size_on s.seen n) + s.depth
 entered-smaller n s t to P l fresh e =
     omega (
@@ -481,7 +481,7 @@ entered-smaller n s t to P l fresh e =
     )
 
 -- a last place that is finished, and does not begin its group, is left
-pub left-by : (arc : ℕ → ℕ → Bool) (turn : ℕ → ℕ → ℕ) (n : ℕ) (s : State) → IsGoing arc turn n s → 0 < s.depth → IsFinished arc turn n s →
+pub left-by : (arc : ℕ → ℕ → Bool) (turn : ℕ → ℕ → ℕ) (n : ℕ) (s : PathState) → IsGoing arc turn n s → 0 < s.depth → IsFinished arc turn n s →
     s.base (s.groups - 1) ≢ s.path (s.depth - 1) → IsGoing arc turn n (record s { depth = s.depth - 1 })
 left-by arc turn n s G some all other =
     left-going arc turn n s (s.depth - 1) (s.groups - 1) G (omega arith)

@@ -15,8 +15,8 @@ use Rattle.residue_theory.proofs.SetLaws.{differ}
 use Rattle.closed_sets.proofs.SetLaws.{test_cases, size_on-bound, size_on-less}
 use Rattle.exchange_graph.specs.Marks.{members_of}
 use Rattle.bit_table.specs.Bits.{bit_in}
-use Rattle.minimiser_lattice.specs.Standings.{IsReadyAt, IsWaiting, NoneWaitsBelow, is_listed}
-use Rattle.minimiser_lattice.specs.Ready.{AreApart, HasRoomFor, IsKey, IsLeastPlace, IsMadeReady, IsMadeWait, IsSettled, held_of, least_of, place_of}
+use Rattle.minimiser_lattice.specs.Standings.{IsFreeToStand, IsWaiting, NoneWaitsBelow, is_listed}
+use Rattle.minimiser_lattice.specs.Ready.{AreApart, HasRoomFor, IsKey, IsLeastPlace, IsMadeReady, IsMadeWait, AreSettledStandings, held_of, least_of, place_by_key}
 use Rattle.minimiser_lattice.specs.declared.ready.Ready.{Ready}
 use Rattle.minimiser_lattice.specs.declared.standing.Standing.{Standing}
 use Rattle.minimiser_lattice.specs.declared.standing.Standing.TheVariants.{Listed}
@@ -55,7 +55,7 @@ room-left held few count k le l h =
 pub order_cases : (j i : ℕ) → j ≢ i → (j < i) ⊎ (i < j)
 order_cases j i ne = grind (arith, ne)
 
-place_twice : (n x : ℕ) → x < n → place_of n (place_of n x) ≡ x
+place_twice : (n x : ℕ) → x < n → place_by_key n (place_by_key n x) ≡ x
 place_twice n x l = omega arith
 
 module _ (number : ℕ → ℕ) (strict : ℕ → ℕ → Bool) (standing : ℕ → Standing) (n count : ℕ) where
@@ -111,8 +111,8 @@ module _ (number : ℕ → ℕ) (strict : ℕ → ℕ → Bool) (standing : ℕ 
           | inr b ↦ inr (b.0, b.1, b.2, bits b.0 j (omega arith) ne ∙ b.3, b.4)
         ]
       ];
-      free = λ j l w f. subst (λ v. Contains (heap_items v) (place_of n (least_of now j))) (sym W.keys)
-          (subst (λ v. Contains (heap_items r.keys) (place_of n (get_or v.items j 0))) (sym least)
+      free = λ j l w f. subst (λ v. Contains (heap_items v) (place_by_key n (least_of now j))) (sym W.keys)
+          (subst (λ v. Contains (heap_items r.keys) (place_by_key n (get_or v.items j 0))) (sym least)
           (A.free j l w (subst (λ v. members_of v.items j ≡ false) W.held f)));
       ready = subst (λ v. All (IsKey number strict standing n) (heap_items v)) (sym W.keys) A.ready;
       watched = λ l j ll jl b. elim (nat_cases j k) [
@@ -148,12 +148,12 @@ module _ (number : ℕ → ℕ) (strict : ℕ → ℕ → Bool) (standing : ℕ 
           | inr b ↦ inr (b.0, b.1, b.2, subst (λ v. bit_in v b.0 j ≡ true) (sym M.waits) b.3, b.4)
         ]
       ];
-      free = λ j l w f. subst (λ v. Contains (heap_items now.keys) (place_of n (get_or v.items j 0))) (sym least)
-          (Contains-permutation (key ∷ heap_items r.keys) (heap_items now.keys) (place_of n (least_of r j)) M.pushed
+      free = λ j l w f. subst (λ v. Contains (heap_items now.keys) (place_by_key n (get_or v.items j 0))) (sym least)
+          (Contains-permutation (key ∷ heap_items r.keys) (heap_items now.keys) (place_by_key n (least_of r j)) M.pushed
           (elim (nat_cases j k) [
-            | inl q ↦ subst (λ v. Contains (key ∷ heap_items r.keys) (place_of n (least_of r v))) (sym q)
+            | inl q ↦ subst (λ v. Contains (key ∷ heap_items r.keys) (place_by_key n (least_of r v))) (sym q)
                 (contains-head key (heap_items r.keys))
-            | inr ne ↦ contains-more key (place_of n (least_of r j)) (heap_items r.keys)
+            | inr ne ↦ contains-more key (place_by_key n (least_of r j)) (heap_items r.keys)
                 (A.free j l w (sym (M.others j ne) ∙ f))
           ]));
       ready = All-permutation (IsKey number strict standing n) (key ∷ heap_items r.keys) (heap_items now.keys) M.pushed
@@ -162,7 +162,7 @@ module _ (number : ℕ → ℕ) (strict : ℕ → ℕ → Bool) (standing : ℕ 
     }
       where
         key : ℕ
-        key = place_of n (least_of r k)
+        key = place_by_key n (least_of r k)
 
         within : (j : ℕ) → j < count → held_of now j ≡ true → held_of r j ≡ true
         within j l h = elim (nat_cases j k) [
@@ -170,7 +170,7 @@ module _ (number : ℕ → ℕ) (strict : ℕ → ℕ → Bool) (standing : ℕ 
           | inr ne ↦ sym (M.others j ne) ∙ h
         ]
 
-        is : number (place_of n key) ≡ k
+        is : number (place_by_key n key) ≡ k
         is = ap number (place_twice n (least_of r k) (A.least k kl).below) ∙ (A.least k kl).has
 
         is_key : IsKey number strict standing n key
@@ -179,7 +179,7 @@ module _ (number : ℕ → ℕ) (strict : ℕ → ℕ → Bool) (standing : ℕ 
           subst (λ v. NoneWaitsBelow strict standing v v) (sym is) M.none_waits,
         )
 
-    pub apart-settled : IsSettled strict standing n k from r now → AreApart number strict standing n count Still now
+    pub apart-settled : AreSettledStandings strict standing n k from r now → AreApart number strict standing n count Still now
     apart-settled (inl W) = waited W
     apart-settled (inr M) = made M
 
@@ -190,7 +190,7 @@ module _ (number : ℕ → ℕ) (strict : ℕ → ℕ → Bool) (standing : ℕ 
       (least : now.least ≡ r.least) (held : now.held ≡ r.held) (waits : now.waits ≡ r.waits)
       (numbers : (x : ℕ) → x < n → number x < count) where
     abbrev x : ℕ
-    x = place_of n y
+    x = place_by_key n y
 
     all-keys : All (IsKey number strict standing n) (y ∷ heap_items now.keys)
     all-keys = All-permutation (IsKey number strict standing n) (heap_items r.keys) (y ∷ heap_items now.keys) popped A.ready
@@ -213,12 +213,12 @@ module _ (number : ℕ → ℕ) (strict : ℕ → ℕ → Bool) (standing : ℕ 
 
     -- another component that is free keeps its key
     free-left : (k : ℕ) → k < count → IsWaiting standing k → number x ≢ k → held_of now k ≡ false →
-        Contains (heap_items now.keys) (place_of n (least_of now k))
-    free-left k l w ne f = subst (λ v. Contains (heap_items now.keys) (place_of n (get_or v.items k 0))) (sym least)
-        (contains-tail y (place_of n (least_of r k)) (heap_items now.keys)
-        (Contains-permutation (heap_items r.keys) (y ∷ heap_items now.keys) (place_of n (least_of r k)) popped
+        Contains (heap_items now.keys) (place_by_key n (least_of now k))
+    free-left k l w ne f = subst (λ v. Contains (heap_items now.keys) (place_by_key n (get_or v.items k 0))) (sym least)
+        (contains-tail y (place_by_key n (least_of r k)) (heap_items now.keys)
+        (Contains-permutation (heap_items r.keys) (y ∷ heap_items now.keys) (place_by_key n (least_of r k)) popped
         (A.free k l w (subst (λ v. members_of v.items k ≡ false) held f)))
-        (λ q. ne (ap (λ v. number (place_of n v)) (sym q)
+        (λ q. ne (ap (λ v. number (place_by_key n v)) (sym q)
         ∙ (ap number (place_twice n (least_of r k) (A.least k l).below) ∙ (A.least k l).has))))
 
     -- a place whose component waits no more is passed over
@@ -236,10 +236,10 @@ module _ (number : ℕ → ℕ) (strict : ℕ → ℕ → Bool) (standing : ℕ 
       watched = λ l k ll kl b. A.watched l k ll kl (subst (λ v. bit_in v l k ≡ true) waits b);
     }
 
-    pub popped-ready : IsWaiting standing (number x) → IsReadyAt strict standing (number x)
+    pub popped-ready : IsWaiting standing (number x) → IsFreeToStand strict standing (number x)
     popped-ready w = (w, is-key.1)
 
-    pub popped-least : (j : ℕ) → j < x → IsReadyAt strict standing (number j) → ⊥
+    pub popped-least : (j : ℕ) → j < x → IsFreeToStand strict standing (number j) → ⊥
     popped-least j less R = elim (test_cases (held_of r (number j))) [
       | inl h ↦ elim (A.held (number j) (numbers j (omega (arith, place-small))) R.0 h) [
         | inl e ↦ e
@@ -250,7 +250,7 @@ module _ (number : ℕ → ℕ) (strict : ℕ → ℕ → Bool) (standing : ℕ 
           omega (
             arith,
             is-key.0,
-            all-at (λ z. z ≤ y) (heap_items r.keys) (place_of n (least_of r (number j))) greatest (A.free (number j) l R.0 f),
+            all-at (λ z. z ≤ y) (heap_items r.keys) (place_by_key n (least_of r (number j))) greatest (A.free (number j) l R.0 f),
             (A.least (number j) l).least j (omega (arith, place-small)) refl,
             (A.least (number j) l).below,
           )
@@ -294,19 +294,19 @@ module _ (number : ℕ → ℕ) (strict : ℕ → ℕ → Bool) (standing : ℕ 
 
   pub none-ready : (r : Ready) → AreApart number strict standing n count (λ _. ⊥) r →
       ((x : ℕ) → Contains (heap_items r.keys) x → ⊥) → ((x : ℕ) → x < n → number x < count) →
-      (j : ℕ) → j < n → IsReadyAt strict standing (number j) → ⊥
+      (j : ℕ) → j < n → IsFreeToStand strict standing (number j) → ⊥
   none-ready r A empty numbers j jl R = elim (test_cases (held_of r (number j))) [
     | inl h ↦ elim (A.held (number j) (numbers j jl) R.0 h) [ inl e ↦ e | inr b ↦ R.1 b.0 b.1 b.2 b.4 ]
-    | inr f ↦ empty (place_of n (least_of r (number j))) (A.free (number j) (numbers j jl) R.0 f)
+    | inr f ↦ empty (place_by_key n (least_of r (number j))) (A.free (number j) (numbers j jl) R.0 f)
   ]
 
 pub settled-others : (strict : ℕ → ℕ → Bool) (standing : ℕ → Standing) (n k from : ℕ) (r now : Ready) →
-    IsSettled strict standing n k from r now → (j : ℕ) → j ≢ k → held_of now j ≡ held_of r j
+    AreSettledStandings strict standing n k from r now → (j : ℕ) → j ≢ k → held_of now j ≡ held_of r j
 settled-others strict standing n k from r now (inl W) j ne = ap (λ v. members_of v.items j) W.held
 settled-others strict standing n k from r now (inr M) j ne = M.others j ne
 
 -- the rows of components before `from` stay
 pub settled-row : (strict : ℕ → ℕ → Bool) (standing : ℕ → Standing) (n k from : ℕ) (r now : Ready) →
-    IsSettled strict standing n k from r now → (l j : ℕ) → l < from → j < n → bit_in now.waits l j ≡ bit_in r.waits l j
+    AreSettledStandings strict standing n k from r now → (l j : ℕ) → l < from → j < n → bit_in now.waits l j ≡ bit_in r.waits l j
 settled-row strict standing n k from r now (inl W) l j ll jl = W.set.others l j jl (λ q. omega (arith, W.from_on))
 settled-row strict standing n k from r now (inr M) l j ll jl = ap (λ v. bit_in v l j) M.waits

@@ -1,30 +1,30 @@
 -- Which blocks are right below which, found from the components.
 use Rattle.std.specs.Prelude.{ℕ, ◌<◌, ◌≤◌, ◌≡◌, ◌≢◌, ◌⊎◌, Bool, true, vec_len, slice_index}
 use Rattle.bit_table.specs.Bits.{IsBitSet, bit_in}
-use Rattle.minimiser_lattice.specs.Components.{IsStored, number_of, places}
-use Rattle.minimiser_lattice.specs.Listings.{IsOpened, listed_of}
+use Rattle.minimiser_lattice.specs.Components.{HasArrays, component_number, component_places}
+use Rattle.minimiser_lattice.specs.Listings.{IsOpenedListing, listed_of}
 use Rattle.minimiser_lattice.specs.Paths.{IsNumbering}
 use Rattle.minimiser_lattice.specs.declared.components.Components.{Components}
 use Rattle.minimiser_lattice.specs.declared.covers.Covers.{Covers}
 use Rattle.minimiser_lattice.specs.declared.listing.Listing.{Listing}
 
 -- there is room for the covers of n components
-pub record HasRoom (c : Covers) (n : ℕ) : Type 0 where
+pub record HasCoverRoom (c : Covers) (n : ℕ) : Type 0 where
   pub rows : c.table.rows ≡ n
   pub size : c.table.size ≡ n
   pub one : c.between.rows ≡ 1
   pub bits : c.between.size ≡ n
   pub lower : vec_len c.lower ≡ n
 
-abbrev pub lower_of : Covers → ℕ → ℕ
-lower_of c i = slice_index c.lower.items i
+abbrev pub lower_count : Covers → ℕ → ℕ
+lower_count c i = slice_index c.lower.items i
 
 -- the components are numbered, and each block has one of them
-pub record IsListed (c : Components) (l : Listing) : Type 0 where
-  pub stored : IsStored c
-  pub opened : IsOpened l (places c)
-  pub numbering : IsNumbering (places c) (number_of c) c.count (bit_in c.strict)
-  pub fits : l.blocks ≤ places c
+pub record HasBlocksListed (c : Components) (l : Listing) : Type 0 where
+  pub stored : HasArrays c
+  pub opened : IsOpenedListing l (component_places c)
+  pub numbering : IsNumbering (component_places c) (component_number c) c.count (bit_in c.strict)
+  pub fits : l.blocks ≤ component_places c
   pub below : (j : ℕ) → j < l.blocks → listed_of l j < c.count
   pub ranks : (j : ℕ) → j < l.blocks → slice_index l.rank.items (listed_of l j) ≡ j
 
@@ -47,8 +47,8 @@ pub record IsCoverRow (n : ℕ) (strict : ℕ → ℕ → Bool) (listed : ℕ �
   pub all : (i : ℕ) → i < blocks → strict (listed j) (listed i) ≡ true → NoneBetween n strict (listed j) (listed i) →
       covers j i ≡ true
 
-abbrev pub AreCovers : ℕ → (ℕ → ℕ → Bool) → (ℕ → ℕ) → ℕ → (ℕ → ℕ → Bool) → Type 0
-AreCovers n strict listed blocks covers = (j : ℕ) → j < blocks → IsCoverRow n strict listed blocks covers j
+abbrev pub AreListedCovers : ℕ → (ℕ → ℕ → Bool) → (ℕ → ℕ) → ℕ → (ℕ → ℕ → Bool) → Type 0
+AreListedCovers n strict listed blocks covers = (j : ℕ) → j < blocks → IsCoverRow n strict listed blocks covers j
 
 -- in row j the bit of the block with component m is set, where there is one
 abbrev pub IsCoverPut : (ℕ → ℕ → Bool) → (ℕ → ℕ → Bool) → ℕ → (ℕ → ℕ) → ℕ → ℕ → ℕ → Type 0

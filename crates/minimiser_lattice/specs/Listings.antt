@@ -10,7 +10,7 @@ use Rattle.minimiser_lattice.specs.declared.standing.Standing.{Standing}
 use Rattle.minimiser_lattice.specs.declared.standing.Standing.TheVariants.{Tail, Waiting, Listed}
 
 -- each array has an item for each of n components, and there is room to take them apart
-pub record IsOpened (l : Listing) (n : ℕ) : Type 0 where
+pub record IsOpenedListing (l : Listing) (n : ℕ) : Type 0 where
   pub first : vec_len l.first ≡ n
   pub last : vec_len l.last ≡ n
   pub standing : vec_len l.standing ≡ n
@@ -32,7 +32,7 @@ abbrev pub IsLastTail : ℕ → (ℕ → ℕ) → ℕ → (ℕ → ℕ → Bool)
 IsLastTail n number count strict ends last = IsTail n ends (λ e k. leads_in strict k (number e)) count last
 
 -- the components that a start leads to, and those that lead to an end
-pub record IsMarked (n : ℕ) (number : ℕ → ℕ) (count : ℕ) (strict : ℕ → ℕ → Bool)
+pub record AreMarkedTails (n : ℕ) (number : ℕ → ℕ) (count : ℕ) (strict : ℕ → ℕ → Bool)
     (starts ends first last : ℕ → Bool) : Type 0 where
   pub first_tail : IsFirstTail n number count strict starts first
   pub last_tail : IsLastTail n number count strict ends last
@@ -65,8 +65,8 @@ pub record HasStandings (count : ℕ) (middle : ℕ → Bool) (standing : ℕ �
   pub room : blocks ≤ size_on (λ k. is_listed (standing k)) count
 
 -- what place is reached from what place
-abbrev pub table_of : (ℕ → ℕ → Bool) → (ℕ → ℕ) → ℕ → ℕ → Bool
-table_of strict number x y = leads_in strict (number x) (number y)
+abbrev pub reached_table : (ℕ → ℕ → Bool) → (ℕ → ℕ) → ℕ → ℕ → Bool
+reached_table strict number x y = leads_in strict (number x) (number y)
 
 -- the component of block j
 abbrev pub listed_of : Listing → ℕ → ℕ

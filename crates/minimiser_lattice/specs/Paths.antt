@@ -9,7 +9,7 @@ use Rattle.exchange_graph.specs.Turns.{HaveHadTurns}
 -- group begins at `base g`; `path` tells the positions of the places some of whose arcs are left, and `next` the turn
 -- from which they are; a place that is done has its component's number, and `strict k l` says that component k leads to
 -- the other one l
-pub record State : Type 0 where
+pub record PathState : Type 0 where
   pub seen : ℕ → Bool
   pub done : ℕ → Bool
   pub number : ℕ → ℕ
@@ -54,19 +54,19 @@ pub record IsClosing (arc : ℕ → ℕ → Bool) (n : ℕ) (done : ℕ → Bool
   pub lower : (k l m : ℕ) → k ≤ count → l < n → m < n → strict k l ≡ true → strict l m ≡ true → strict k m ≡ true
   pub empty : (k l : ℕ) → count < k → l < n → strict k l ≡ false
 
-abbrev pub Closes : (ℕ → ℕ → Bool) → ℕ → State → Type 0
+abbrev pub Closes : (ℕ → ℕ → Bool) → ℕ → PathState → Type 0
 Closes arc n s = IsClosing arc n s.done s.number s.count s.strict
 
 -- the row of the component that is being closed tells of y's component, or y is of the one itself
-abbrev pub IsToldOf : State → ℕ → Type 0
+abbrev pub IsToldOf : PathState → ℕ → Type 0
 IsToldOf s y = (s.number y ≡ s.count) ⊎ (s.strict s.count (s.number y) ≡ true)
 
 -- y is done, or stands in no lower group than position i
-abbrev pub IsHandled : State → ℕ → ℕ → Type 0
+abbrev pub IsHandled : PathState → ℕ → ℕ → Type 0
 IsHandled s i y = (s.done y ≡ true) ⊎ ((s.seen y ≡ true)
     × ((g : ℕ) → g < s.groups → s.base g ≤ i → s.base g ≤ s.position y))
 
-pub record IsGoing (arc : ℕ → ℕ → Bool) (turn : ℕ → ℕ → ℕ) (n : ℕ) (s : State) : Type 0 where
+pub record IsGoing (arc : ℕ → ℕ → Bool) (turn : ℕ → ℕ → ℕ) (n : ℕ) (s : PathState) : Type 0 where
   pub told : IsTold arc n s.done s.number s.count s.strict
   pub stack_below : (i : ℕ) → i < s.height → s.stack i < n
   pub stack_seen : (i : ℕ) → i < s.height → s.seen (s.stack i) ≡ true
@@ -91,7 +91,7 @@ pub record IsGoing (arc : ℕ → ℕ → Bool) (turn : ℕ → ℕ → ℕ) (n 
   pub room : s.count + s.height ≤ size_on s.seen n
 
 -- a place that was not seen is put on the stack, as a group of its own, and on the path
-pub record IsEntered (s t : State) (place : ℕ) : Type 0 where
+pub record IsOnPath (s t : PathState) (place : ℕ) : Type 0 where
   pub kept : t ≡ record s {
     seen = t.seen;
     position = t.position;
@@ -117,28 +117,28 @@ pub record IsEntered (s t : State) (place : ℕ) : Type 0 where
   pub path_others : (d : ℕ) → d ≢ s.depth → t.path d ≡ s.path d
 
 -- the groups that begin above position `at` are joined with the one below them, and `groups` are left
-pub record IsMerged (s : State) (groups at : ℕ) : Type 0 where
+pub record AreMergedGroups (s : PathState) (groups at : ℕ) : Type 0 where
   pub some : 0 < groups
   pub fewer : groups ≤ s.groups
   pub kept : (g : ℕ) → g < groups → s.base g ≤ at
   pub joined : (g : ℕ) → groups ≤ g → g < s.groups → at < s.base g
 
 -- the last place of the path
-abbrev pub last_of : State → ℕ
+abbrev pub last_of : PathState → ℕ
 last_of s = s.stack (s.path (s.depth - 1))
 
 -- no arc of it is left
-abbrev pub IsFinished : (ℕ → ℕ → Bool) → (ℕ → ℕ → ℕ) → ℕ → State → Type 0
+abbrev pub IsFinished : (ℕ → ℕ → Bool) → (ℕ → ℕ → ℕ) → ℕ → PathState → Type 0
 IsFinished arc turn n s = HaveHadTurns (arc (last_of s)) (turn (last_of s)) n (s.next (last_of s))
 
 -- of the places of the stack those from position `at` on and before `to` are done, with the number `count`
-pub record IsNumberedTo (s : State) (done : ℕ → Bool) (number : ℕ → ℕ) (at to : ℕ) : Type 0 where
+pub record IsNumberedTo (s : PathState) (done : ℕ → Bool) (number : ℕ → ℕ) (at to : ℕ) : Type 0 where
   pub done_here : (p : ℕ) → at ≤ p → p < to → done (s.stack p) ≡ true
   pub number_here : (p : ℕ) → at ≤ p → p < to → number (s.stack p) ≡ s.count
   pub done_others : (y : ℕ) → ((p : ℕ) → at ≤ p → p < to → s.stack p ≢ y) → done y ≡ s.done y
   pub number_others : (y : ℕ) → ((p : ℕ) → at ≤ p → p < to → s.stack p ≢ y) → number y ≡ s.number y
 
-abbrev pub IsNumbered : State → (ℕ → Bool) → (ℕ → ℕ) → ℕ → Type 0
+abbrev pub IsNumbered : PathState → (ℕ → Bool) → (ℕ → ℕ) → ℕ → Type 0
 IsNumbered s done number at = IsNumberedTo s done number at s.height
 
 -- each place has the number of its component, below `count`, and components lead to others with lesser numbers alone

@@ -7,7 +7,7 @@ use Rattle.std.specs.BinaryHeap.{IsHeap, heap_capacity, heap_items, heap_len}
 use Rattle.residue_theory.specs.Sums.{size_on}
 use Rattle.exchange_graph.specs.Marks.{members_of}
 use Rattle.bit_table.specs.Bits.{IsBitSet, bit_in}
-use Rattle.minimiser_lattice.specs.Components.{number_of, places}
+use Rattle.minimiser_lattice.specs.Components.{component_number, component_places}
 use Rattle.minimiser_lattice.specs.Standings.{IsWaiting, NoneWaitsBelow}
 use Rattle.minimiser_lattice.specs.declared.components.Components.{Components}
 use Rattle.minimiser_lattice.specs.declared.ready.Ready.{Ready}
@@ -35,8 +35,8 @@ pub record IsLeastPlace (number : ℕ → ℕ) (n k x : ℕ) : Type 0 where
   pub least : (y : ℕ) → y < n → number y ≡ k → x ≤ y
 
 -- the greater its key, the lesser is a place: of n places that with key y
-abbrev pub place_of : ℕ → ℕ → ℕ
-place_of n y = n - 1 - y
+abbrev pub place_by_key : ℕ → ℕ → ℕ
+place_by_key n y = n - 1 - y
 
 -- component k waits for another one that it leads to
 abbrev pub IsHeldBack : (ℕ → ℕ → Bool) → (ℕ → Standing) → Ready → ℕ → Type 0
@@ -46,7 +46,7 @@ IsHeldBack strict standing r k = (l : ℕ) × (l < k) × (strict k l ≡ true) �
 -- the key of a place whose component leads to none that waits
 abbrev pub IsKey : (ℕ → ℕ) → (ℕ → ℕ → Bool) → (ℕ → Standing) → ℕ → ℕ → Type 0
 IsKey number strict standing n y = (y < n)
-    × NoneWaitsBelow strict standing (number (place_of n y)) (number (place_of n y))
+    × NoneWaitsBelow strict standing (number (place_by_key n y)) (number (place_by_key n y))
 
 -- each component that waits is held back, unless it is excused, or has its least place in the heap
 pub record AreApart (number : ℕ → ℕ) (strict : ℕ → ℕ → Bool) (standing : ℕ → Standing) (n count : ℕ)
@@ -57,14 +57,14 @@ pub record AreApart (number : ℕ → ℕ) (strict : ℕ → ℕ → Bool) (stan
   pub held : (k : ℕ) → k < count → IsWaiting standing k → held_of r k ≡ true →
       Excused k ⊎ IsHeldBack strict standing r k
   pub free : (k : ℕ) → k < count → IsWaiting standing k → held_of r k ≡ false →
-      Contains (heap_items r.keys) (place_of n (least_of r k))
+      Contains (heap_items r.keys) (place_by_key n (least_of r k))
   pub ready : All (IsKey number strict standing n) (heap_items r.keys)
   pub watched : (l k : ℕ) → l < n → k < count → bit_in r.waits l k ≡ true → NoneWaitsBelow strict standing k l
 
 -- the same of these components
 abbrev pub AreApartIn : Components → (ℕ → Standing) → (ℕ → Type 0) → Ready → Type 0
 AreApartIn c standing Excused r =
-    AreApart (number_of c) (bit_in c.strict) standing (places c) c.count Excused r
+    AreApart (component_number c) (bit_in c.strict) standing (component_places c) c.count Excused r
 
 -- component k waits for l, the first one that it leads to and that waits
 pub record IsMadeWait (strict : ℕ → ℕ → Bool) (standing : ℕ → Standing) (n k from : ℕ) (r now : Ready) : Type 0 where
@@ -83,10 +83,10 @@ pub record IsMadeReady (strict : ℕ → ℕ → Bool) (standing : ℕ → Stand
   pub none_waits : NoneWaitsBelow strict standing k k
   pub free : held_of now k ≡ false
   pub others : (j : ℕ) → j ≢ k → held_of now j ≡ held_of r j
-  pub pushed : IsPermutation (place_of n (least_of r k) ∷ heap_items r.keys) (heap_items now.keys)
+  pub pushed : IsPermutation (place_by_key n (least_of r k) ∷ heap_items r.keys) (heap_items now.keys)
   pub more : heap_len now.keys ≡ heap_len r.keys + 1
   pub waits : now.waits ≡ r.waits
 
-abbrev pub IsSettled : (ℕ → ℕ → Bool) → (ℕ → Standing) → ℕ → ℕ → ℕ → Ready → Ready → Type 0
-IsSettled strict standing n k from r now =
+abbrev pub AreSettledStandings : (ℕ → ℕ → Bool) → (ℕ → Standing) → ℕ → ℕ → ℕ → Ready → Ready → Type 0
+AreSettledStandings strict standing n k from r now =
     IsMadeWait strict standing n k from r now ⊎ IsMadeReady strict standing n k r now

@@ -25,5 +25,5 @@ abbrev pub NoneWaitsBelow : (ℕ → ℕ → Bool) → (ℕ → Standing) → �
 NoneWaitsBelow strict standing k to = (l : ℕ) → l < to → strict k l ≡ true → IsWaiting standing l → ⊥
 
 -- component k waits, and nothing that it leads to waits
-abbrev pub IsReadyAt : (ℕ → ℕ → Bool) → (ℕ → Standing) → ℕ → Type 0
-IsReadyAt strict standing k = IsWaiting standing k × NoneWaitsBelow strict standing k k
+abbrev pub IsFreeToStand : (ℕ → ℕ → Bool) → (ℕ → Standing) → ℕ → Type 0
+IsFreeToStand strict standing k = IsWaiting standing k × NoneWaitsBelow strict standing k k

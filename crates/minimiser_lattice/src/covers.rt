@@ -2,9 +2,9 @@
 
 ghost use Rattle.std.specs.Prelude.{◌≡◌, ◌≢◌, ℕ, ◌<◌, ◌≤◌, false, vec_len, IfOk};
 ghost use Rattle.bit_table.specs.Bits.{IsJoined, bit_in};
-ghost use Rattle.minimiser_lattice.specs.Components.{IsStored, places};
+ghost use Rattle.minimiser_lattice.specs.Components.{HasArrays, component_places};
 ghost use Rattle.minimiser_lattice.specs.Listings.{listed_of};
-ghost use Rattle.minimiser_lattice.specs.Covers.{AreCovers, HasRoom, IsCoverPut, IsCoverRow, IsGathered, IsListed, lower_of};
+ghost use Rattle.minimiser_lattice.specs.Covers.{AreListedCovers, HasCoverRoom, IsCoverPut, IsCoverRow, IsGathered, HasBlocksListed, lower_count};
 
 use crate::components::Components;
 use crate::listing::Listing;
@@ -25,7 +25,7 @@ pub struct Covers {
 impl Covers {
     /// Room for the covers of n components.
     pub fn open(alloc: Global, n: usize) -> Result<Self, NoMemory>
-        ensures { IfOk result (λ c. HasRoom c n) }
+        ensures { IfOk result (λ c. HasCoverRoom c n) }
     {
         Ok(Covers {
             table: BitTable::open(alloc, n, n)?,
@@ -37,8 +37,8 @@ impl Covers {
     // Puts component m into the list.
     fn enter(&mut self, at: usize, m: usize)
         requires { at < vec_len self.old.lower }
-        ensures here { lower_of self.new at ≡ m }
-        ensures others { (i : ℕ) → i ≢ at → lower_of self.new i ≡ lower_of self.old i }
+        ensures here { lower_count self.new at ≡ m }
+        ensures others { (i : ℕ) → i ≢ at → lower_count self.new i ≡ lower_count self.old i }
         ensures kept { self.new ≡ record self.old { lower = self.new.lower } }
         ensures length { vec_len self.new.lower ≡ vec_len self.old.lower }
     {
@@ -47,13 +47,13 @@ impl Covers {
 
     // Lists the components that component l leads to, by rising number, and tells how many they are.
     fn gather(&mut self, components: &Components, l: usize) -> usize
-        requires room { HasRoom self.old (places components.now) }
-        requires stored { IsStored components.now }
-        requires l { l < places components.now }
-        ensures gathered { IsGathered (bit_in components.now.strict) l l (lower_of self.new) result }
-        ensures fits { result ≤ places components.now }
+        requires room { HasCoverRoom self.old (component_places components.now) }
+        requires stored { HasArrays components.now }
+        requires l { l < component_places components.now }
+        ensures gathered { IsGathered (bit_in components.now.strict) l l (lower_count self.new) result }
+        ensures fits { result ≤ component_places components.now }
         ensures kept { self.new ≡ record self.old { lower = self.new.lower } }
-        ensures room { HasRoom self.new (places components.now) }
+        ensures room { HasCoverRoom self.new (component_places components.now) }
     {
         let mut filled = 0;
         let mut from = 0;
@@ -68,16 +68,16 @@ impl Covers {
     // Component m, to which no other one is on the way, is right below block j: its own block is, where it has one. What
     // it leads to has a third one on the way.
     fn put(&mut self, components: &Components, listing: &Listing, j: usize, m: usize)
-        requires room { HasRoom self.old (places components.now) }
-        requires listed { IsListed components.now listing.now }
+        requires room { HasCoverRoom self.old (component_places components.now) }
+        requires listed { HasBlocksListed components.now listing.now }
         requires j { j < listing.now.blocks }
-        requires m { m < places components.now }
+        requires m { m < component_places components.now }
         ensures joined { IsJoined (bit_in self.old.between) (bit_in self.new.between) (bit_in components.now.strict m)
-            (places components.now) 0 }
-        ensures put { IsCoverPut (bit_in self.old.table) (bit_in self.new.table) (places components.now)
+            (component_places components.now) 0 }
+        ensures put { IsCoverPut (bit_in self.old.table) (bit_in self.new.table) (component_places components.now)
             (listed_of listing.now) listing.now.blocks j m }
         ensures lower { self.new.lower ≡ self.old.lower }
-        ensures room { HasRoom self.new (places components.now) }
+        ensures room { HasCoverRoom self.new (component_places components.now) }
     {
         self.between.join_other(0, &components.strict, m);
         if let Some(i) = listing.block_of(m) {
@@ -88,15 +88,16 @@ impl Covers {
     // Finds which blocks are right below block j, from the greatest component that it leads to: one on whose way there
     // is none is right below, and all that it leads to has it on the way.
     fn fill_row(&mut self, components: &Components, listing: &Listing, j: usize)
-        requires room { HasRoom self.old (places components.now) }
-        requires listed { IsListed components.now listing.now }
+        requires room { HasCoverRoom self.old (component_places components.now) }
+        requires listed { HasBlocksListed components.now listing.now }
         requires j { j < listing.now.blocks }
-        requires empty { (i : ℕ) → i < places components.now → bit_in self.old.table j i ≡ false }
-        ensures row { IsCoverRow (places components.now) (bit_in components.now.strict) (listed_of listing.now)
+        requires empty { (i : ℕ) → i < component_places components.now → bit_in self.old.table j i ≡ false }
+        ensures row { IsCoverRow (component_places components.now) (bit_in components.now.strict)
+            (listed_of listing.now)
             listing.now.blocks (bit_in self.new.table) j }
-        ensures others { (k i : ℕ) → i < places components.now → k ≢ j →
+        ensures others { (k i : ℕ) → i < component_places components.now → k ≢ j →
             bit_in self.new.table k i ≡ bit_in self.old.table k i }
-        ensures room { HasRoom self.new (places components.now) }
+        ensures room { HasCoverRoom self.new (component_places components.now) }
     {
         self.between.clear_row(0);
         let mut left = self.gather(components, listing.listed[j]);
@@ -111,11 +112,12 @@ impl Covers {
 
     /// Finds which blocks are right below which.
     pub fn fill(&mut self, components: &Components, listing: &Listing)
-        requires room { HasRoom self.old (places components.now) }
-        requires listed { IsListed components.now listing.now }
-        ensures covers { AreCovers (places components.now) (bit_in components.now.strict) (listed_of listing.now)
+        requires room { HasCoverRoom self.old (component_places components.now) }
+        requires listed { HasBlocksListed components.now listing.now }
+        ensures covers { AreListedCovers (component_places components.now) (bit_in components.now.strict)
+            (listed_of listing.now)
             listing.now.blocks (bit_in self.new.table) }
-        ensures room { HasRoom self.new (places components.now) }
+        ensures room { HasCoverRoom self.new (component_places components.now) }
     {
         self.table.clear();
         for j in 0..listing.blocks {

@@ -4,12 +4,12 @@
 //! its decomposition (Murota 2000, chapter 2).
 
 ghost use Rattle.std.specs.Prelude.{◌≡◌, ℕ, ◌<◌, Bool, length, IfOk, IfSome, IfNone};
-ghost use Rattle.number_ranges.specs.Ranges.{HasNone, IsLeast};
+ghost use Rattle.residue_theory.specs.Ranges.{HasNone, IsLeast};
 ghost use Rattle.exchange_graph.specs.Marks.{members_of};
 ghost use Rattle.closed_sets.specs.Closed.{NoEndReached};
-ghost use Rattle.closed_sets.specs.Rules.{KeepsRules};
+ghost use Rattle.closed_sets.specs.Rules.{KeepsPlaceRules};
 ghost use Rattle.minimiser_lattice.specs.Parts.{IsLattice, part_in};
-ghost use Rattle.minimiser_lattice.specs.Views.{Kept, parts_in};
+ghost use Rattle.minimiser_lattice.specs.Views.{KeptLattice, parts_in};
 
 use crate::components::Components;
 use crate::covers::Covers;
@@ -38,13 +38,13 @@ pub struct Lattice {
 }
 
 impl Model for Lattice {
-    ghost use Rattle.minimiser_lattice.specs.Views.{IsKept, Kept, kept_of};
+    ghost use Rattle.minimiser_lattice.specs.Views.{AreKeptArrays, KeptLattice, kept_lattice};
 
-    ghost Value = { Kept };
+    ghost Value = { KeptLattice };
 
-    ghost view = { λ l. kept_of l.components l.listing l.covers };
+    ghost view = { λ l. kept_lattice l.components l.listing l.covers };
 
-    ghost invariant = { λ l. IsKept l.components l.listing l.covers };
+    ghost invariant = { λ l. AreKeptArrays l.components l.listing l.covers };
 }
 
 impl Lattice {
@@ -76,7 +76,7 @@ impl Lattice {
         ensures lattice { IsLattice (A.leads arcs.now) self.old.places (members_of starts.now) (members_of ends.now)
             (parts_in self.new) }
         ensures rules { NoEndReached (A.leads arcs.now) self.old.places (members_of starts.now) (members_of ends.now) →
-            KeepsRules (A.leads arcs.now) self.old.places (members_of starts.now) (members_of ends.now)
+            KeepsPlaceRules (A.leads arcs.now) self.old.places (members_of starts.now) (members_of ends.now)
             (parts_in self.new).first (parts_in self.new).last (parts_in self.new).block (parts_in self.new).blocks
             (parts_in self.new).covers }
         ensures places { self.new.places ≡ self.old.places }

@@ -7,8 +7,8 @@ ghost use Rattle.closed_sets.specs.Tables.{Tells};
 ghost use Rattle.closed_sets.specs.Blocks.{IsListing};
 ghost use Rattle.bit_table.specs.Bits.{bit_in};
 ghost use Rattle.minimiser_lattice.specs.Paths.{IsNumbering};
-ghost use Rattle.minimiser_lattice.specs.Components.{IsStored, number_of, places};
-ghost use Rattle.minimiser_lattice.specs.Listings.{AllWait, HasPlaces, HasStandings, IsMarked, IsOpened, middle_of, standing_of, table_of};
+ghost use Rattle.minimiser_lattice.specs.Components.{HasArrays, component_number, component_places};
+ghost use Rattle.minimiser_lattice.specs.Listings.{AllWait, HasPlaces, HasStandings, AreMarkedTails, IsOpenedListing, middle_of, standing_of, reached_table};
 ghost use Rattle.minimiser_lattice.specs.declared.standing.Standing.TheVariants.{Listed};
 
 use crate::components::Components;
@@ -34,7 +34,7 @@ pub struct Listing {
 impl Listing {
     /// Room for n components. All are marked as of the first part, so that there is no block.
     pub fn open(alloc: Global, n: usize) -> Result<Self, NoMemory>
-        ensures opened { IfOk result (λ l. IsOpened l n) }
+        ensures opened { IfOk result (λ l. IsOpenedListing l n) }
         ensures first { IfOk result (λ l. (k : ℕ) → k < n → members_of l.first.items k ≡ true) }
         ensures blocks { IfOk result (λ l. l.blocks ≡ 0) }
         ensures none { IfOk result (λ l. (j : ℕ) → slice_index l.listed.items j ≡ 0) }
@@ -52,18 +52,20 @@ impl Listing {
 
     /// Marks what a start leads to, and what leads to an end. The others wait.
     pub fn mark(&mut self, components: &Components, starts: &[bool], ends: &[bool])
-        requires opened { IsOpened self.old (places components.now) }
-        requires stored { IsStored components.now }
-        requires starts { length starts.now ≡ places components.now }
-        requires ends { length ends.now ≡ places components.now }
-        requires numbering { IsNumbering (places components.now) (number_of components.now) components.now.count
+        requires opened { IsOpenedListing self.old (component_places components.now) }
+        requires stored { HasArrays components.now }
+        requires starts { length starts.now ≡ component_places components.now }
+        requires ends { length ends.now ≡ component_places components.now }
+        requires numbering { IsNumbering (component_places components.now) (component_number components.now)
+            components.now.count
             (bit_in components.now.strict) }
-        ensures marked { IsMarked (places components.now) (number_of components.now) components.now.count
+        ensures marked { AreMarkedTails (component_places components.now) (component_number components.now)
+            components.now.count
             (bit_in components.now.strict) (members_of starts.now) (members_of ends.now)
             (members_of self.new.first.items) (members_of self.new.last.items) }
         ensures wait { AllWait components.now.count (middle_of self.new) (standing_of self.new) }
         ensures blocks { self.new.blocks ≡ 0 }
-        ensures opened { IsOpened self.new (places components.now) }
+        ensures opened { IsOpenedListing self.new (component_places components.now) }
     {
         self.clear(components);
         mark_starts(&mut self.first, components, starts);
@@ -73,12 +75,12 @@ impl Listing {
 
     // Forgets the marks and the blocks.
     fn clear(&mut self, components: &Components)
-        requires opened { IsOpened self.old (places components.now) }
-        requires count { components.now.count ≤ places components.now }
+        requires opened { IsOpenedListing self.old (component_places components.now) }
+        requires count { components.now.count ≤ component_places components.now }
         ensures first { (k : ℕ) → k < components.now.count → members_of self.new.first.items k ≡ false }
         ensures last { (k : ℕ) → k < components.now.count → members_of self.new.last.items k ≡ false }
         ensures blocks { self.new.blocks ≡ 0 }
-        ensures opened { IsOpened self.new (places components.now) }
+        ensures opened { IsOpenedListing self.new (component_places components.now) }
     {
         self.blocks = 0;
         for k in 0..components.count {
@@ -89,11 +91,11 @@ impl Listing {
 
     // Lets each component of neither tail wait.
     fn let_others_wait(&mut self, components: &Components)
-        requires opened { IsOpened self.old (places components.now) }
-        requires count { components.now.count ≤ places components.now }
+        requires opened { IsOpenedListing self.old (component_places components.now) }
+        requires count { components.now.count ≤ component_places components.now }
         ensures wait { AllWait components.now.count (middle_of self.old) (standing_of self.new) }
         ensures kept { self.new ≡ record self.old { standing = self.new.standing } }
-        ensures opened { IsOpened self.new (places components.now) }
+        ensures opened { IsOpenedListing self.new (component_places components.now) }
     {
         for k in 0..components.count {
             let in_tail = self.first[k] || self.last[k];
@@ -134,23 +136,24 @@ impl Listing {
 
     /// Lists the components of the middle: at each step the one with the least place of those that are ready.
     pub fn list(&mut self, components: &Components)
-        requires opened { IsOpened self.old (places components.now) }
-        requires stored { IsStored components.now }
-        requires numbering { IsNumbering (places components.now) (number_of components.now) components.now.count
+        requires opened { IsOpenedListing self.old (component_places components.now) }
+        requires stored { HasArrays components.now }
+        requires numbering { IsNumbering (component_places components.now) (component_number components.now)
+            components.now.count
             (bit_in components.now.strict) }
         requires wait { AllWait components.now.count (middle_of self.old) (standing_of self.old) }
         requires blocks { self.old.blocks ≡ 0 }
         ensures listing { (arc : ℕ → ℕ → Bool) (starts ends : ℕ → Bool) →
-            Tells arc (places components.now) starts ends
-            (table_of (bit_in components.now.strict) (number_of components.now))
-            (λ x. middle_of self.old (number_of components.now x)) →
-            IsListing arc (places components.now) starts ends (λ x.
-            slice_index self.new.rank.items (number_of components.now x)) self.new.blocks }
+            Tells arc (component_places components.now) starts ends
+            (reached_table (bit_in components.now.strict) (component_number components.now))
+            (λ x. middle_of self.old (component_number components.now x)) →
+            IsListing arc (component_places components.now) starts ends (λ x.
+            slice_index self.new.rank.items (component_number components.now x)) self.new.blocks }
         ensures has { HasPlaces components.now.count (middle_of self.old) (λ k. slice_index self.new.rank.items k)
             (λ j. slice_index self.new.listed.items j) self.new.blocks }
         ensures standings { HasStandings components.now.count (middle_of self.old) (standing_of self.new)
             (λ j. slice_index self.new.listed.items j) self.new.blocks }
-        ensures fits { self.new.blocks ≤ places components.now }
+        ensures fits { self.new.blocks ≤ component_places components.now }
         ensures kept { self.new ≡ record self.old {
           standing = self.new.standing;
           ready = self.new.ready;
@@ -158,7 +161,7 @@ impl Listing {
           listed = self.new.listed;
           blocks = self.new.blocks;
         } }
-        ensures opened { IsOpened self.new (places components.now) }
+        ensures opened { IsOpenedListing self.new (component_places components.now) }
     {
         self.ready.begin(components, &self.standing);
         while let Some(place) = self.ready.take(components, &self.standing) {

@@ -7,9 +7,9 @@ ghost use Rattle.std.specs.BinaryHeap.{heap_items, heap_len};
 ghost use Rattle.residue_theory.specs.Sums.{size_on};
 ghost use Rattle.bit_table.specs.Bits.{bit_in};
 ghost use Rattle.minimiser_lattice.specs.Paths.{IsNumbering};
-ghost use Rattle.minimiser_lattice.specs.Components.{IsStored, number_of, places};
-ghost use Rattle.minimiser_lattice.specs.Standings.{IsReadyAt, IsWaiting, NoneWaitsBelow, standing_in};
-ghost use Rattle.minimiser_lattice.specs.Ready.{AreApartIn, HasRoomFor, IsLeastPlace, IsSettled, held_of, least_of, place_of};
+ghost use Rattle.minimiser_lattice.specs.Components.{HasArrays, component_number, component_places};
+ghost use Rattle.minimiser_lattice.specs.Standings.{IsFreeToStand, IsWaiting, NoneWaitsBelow, standing_in};
+ghost use Rattle.minimiser_lattice.specs.Ready.{AreApartIn, HasRoomFor, IsLeastPlace, AreSettledStandings, held_of, least_of, place_by_key};
 ghost use Rattle.minimiser_lattice.specs.declared.standing.Standing.{Standing};
 ghost use Rattle.minimiser_lattice.specs.declared.standing.Standing.TheVariants.{Listed};
 
@@ -32,9 +32,9 @@ pub struct Ready {
 
 // The first component from `from` on that waits and to which k leads.
 fn holder(components: &Components, standing: &[Standing], k: usize, from: usize) -> Option<usize>
-    requires stored { IsStored components.now }
-    requires standing { length standing.now ≡ places components.now }
-    requires k { k < places components.now }
+    requires stored { HasArrays components.now }
+    requires standing { length standing.now ≡ component_places components.now }
+    requires k { k < component_places components.now }
     requires none { NoneWaitsBelow (bit_in components.now.strict) (standing_in standing.now) k from }
     ensures from_on { IfSome result (λ l. from ≤ l) }
     ensures below { IfSome result (λ l. l < k) }
@@ -68,14 +68,15 @@ impl Ready {
 
     // Finds the least place of each component.
     fn seat(&mut self, components: &Components)
-        requires room { HasRoomFor self.old (places components.now) }
-        requires stored { IsStored components.now }
-        requires numbering { IsNumbering (places components.now) (number_of components.now) components.now.count
+        requires room { HasRoomFor self.old (component_places components.now) }
+        requires stored { HasArrays components.now }
+        requires numbering { IsNumbering (component_places components.now) (component_number components.now)
+            components.now.count
             (bit_in components.now.strict) }
         ensures least { (k : ℕ) → k < components.now.count →
-            IsLeastPlace (number_of components.now) (places components.now) k (least_of self.new k) }
+            IsLeastPlace (component_number components.now) (component_places components.now) k (least_of self.new k) }
         ensures kept { self.new ≡ record self.old { least = self.new.least } }
-        ensures room { HasRoomFor self.new (places components.now) }
+        ensures room { HasRoomFor self.new (component_places components.now) }
     {
         let mut place = components.number.len();
         while place > 0 {
@@ -107,12 +108,13 @@ impl Ready {
 
     // No component waits for another one, and none is ready.
     fn clear(&mut self, components: &Components)
-        requires room { HasRoomFor self.old (places components.now) }
-        requires stored { IsStored components.now }
-        requires numbering { IsNumbering (places components.now) (number_of components.now) components.now.count
+        requires room { HasRoomFor self.old (component_places components.now) }
+        requires stored { HasArrays components.now }
+        requires numbering { IsNumbering (component_places components.now) (component_number components.now)
+            components.now.count
             (bit_in components.now.strict) }
         ensures apart { (standing : ℕ → Standing) → AreApartIn components.now standing (λ k. 0 ≤ k) self.new }
-        ensures held { (k : ℕ) → k < places components.now → held_of self.new k ≡ true }
+        ensures held { (k : ℕ) → k < component_places components.now → held_of self.new k ≡ true }
     {
         self.hold_all();
         self.waits.clear();
@@ -122,21 +124,21 @@ impl Ready {
 
     // Component k leads to none that waits: its key goes into the heap, which has room for it.
     fn make_ready(&mut self, components: &Components, k: usize)
-        requires room { HasRoomFor self.old (places components.now) }
+        requires room { HasRoomFor self.old (component_places components.now) }
         requires k { k < components.now.count }
-        requires count { components.now.count ≤ places components.now }
+        requires count { components.now.count ≤ component_places components.now }
         requires held { held_of self.old k ≡ true }
         requires few { heap_len self.old.keys + size_on (held_of self.old) components.now.count ≤ components.now.count }
-        requires least { least_of self.old k < places components.now }
+        requires least { least_of self.old k < component_places components.now }
         ensures free { held_of self.new k ≡ false }
         ensures others { (j : ℕ) → j ≢ k → held_of self.new j ≡ held_of self.old j }
         ensures pushed { IsPermutation
-            (place_of (places components.now) (least_of self.old k) ∷ heap_items self.old.keys)
+            (place_by_key (component_places components.now) (least_of self.old k) ∷ heap_items self.old.keys)
             (heap_items self.new.keys) }
         ensures more { heap_len self.new.keys ≡ heap_len self.old.keys + 1 }
         ensures waits { self.new.waits ≡ self.old.waits }
         ensures least_kept { self.new.least ≡ self.old.least }
-        ensures room { HasRoomFor self.new (places components.now) }
+        ensures room { HasRoomFor self.new (component_places components.now) }
     {
         self.held[k] = false;
         let key = self.least.len() - 1 - self.least[k];
@@ -145,19 +147,20 @@ impl Ready {
 
     // Lets component k wait for the first one that it leads to and that waits, or makes it ready.
     fn settle(&mut self, components: &Components, standing: &[Standing], k: usize, from: usize)
-        requires room { HasRoomFor self.old (places components.now) }
-        requires stored { IsStored components.now }
-        requires standing { length standing.now ≡ places components.now }
+        requires room { HasRoomFor self.old (component_places components.now) }
+        requires stored { HasArrays components.now }
+        requires standing { length standing.now ≡ component_places components.now }
         requires k { k < components.now.count }
-        requires count { components.now.count ≤ places components.now }
+        requires count { components.now.count ≤ component_places components.now }
         requires held { held_of self.old k ≡ true }
         requires few { heap_len self.old.keys + size_on (held_of self.old) components.now.count ≤ components.now.count }
-        requires least { least_of self.old k < places components.now }
+        requires least { least_of self.old k < component_places components.now }
         requires none { NoneWaitsBelow (bit_in components.now.strict) (standing_in standing.now) k from }
-        ensures settled { IsSettled (bit_in components.now.strict) (standing_in standing.now) (places components.now) k
+        ensures settled { AreSettledStandings (bit_in components.now.strict) (standing_in standing.now)
+            (component_places components.now) k
             from self.old self.new }
         ensures least { self.new.least ≡ self.old.least }
-        ensures room { HasRoomFor self.new (places components.now) }
+        ensures room { HasRoomFor self.new (component_places components.now) }
     {
         match holder(components, standing, k, from) {
             Some(l) => self.waits.set(l, k),
@@ -167,10 +170,11 @@ impl Ready {
 
     /// Takes the components that wait apart.
     pub fn begin(&mut self, components: &Components, standing: &[Standing])
-        requires room { HasRoomFor self.old (places components.now) }
-        requires stored { IsStored components.now }
-        requires standing { length standing.now ≡ places components.now }
-        requires numbering { IsNumbering (places components.now) (number_of components.now) components.now.count
+        requires room { HasRoomFor self.old (component_places components.now) }
+        requires stored { HasArrays components.now }
+        requires standing { length standing.now ≡ component_places components.now }
+        requires numbering { IsNumbering (component_places components.now) (component_number components.now)
+            components.now.count
             (bit_in components.now.strict) }
         ensures { AreApartIn components.now (standing_in standing.now) (λ _. ⊥) self.new }
     {
@@ -184,23 +188,25 @@ impl Ready {
 
     /// Takes the least place whose component is ready out of the heap. Its component is to be listed.
     pub fn take(&mut self, components: &Components, standing: &[Standing]) -> Option<usize>
-        requires stored { IsStored components.now }
-        requires standing { length standing.now ≡ places components.now }
-        requires numbering { IsNumbering (places components.now) (number_of components.now) components.now.count
+        requires stored { HasArrays components.now }
+        requires standing { length standing.now ≡ component_places components.now }
+        requires numbering { IsNumbering (component_places components.now) (component_number components.now)
+            components.now.count
             (bit_in components.now.strict) }
         requires apart { AreApartIn components.now (standing_in standing.now) (λ _. ⊥) self.old }
-        ensures below { IfSome result (λ x. x < places components.now) }
-        ensures ready { IfSome result (λ x. IsReadyAt (bit_in components.now.strict) (standing_in standing.now)
-            (number_of components.now x)) }
-        ensures least { IfSome result (λ x. (j : ℕ) → j < x → IsReadyAt (bit_in components.now.strict)
-            (standing_in standing.now) (number_of components.now j) → ⊥) }
-        ensures none { IfNone result ((j : ℕ) → j < places components.now → IsReadyAt (bit_in components.now.strict)
-            (standing_in standing.now) (number_of components.now j) → ⊥) }
-        ensures apart { IfSome result (λ x. (more : ℕ → Standing) → more (number_of components.now x) ≡ Listed →
-            ((l : ℕ) → l ≢ number_of components.now x → more l ≡ standing_in standing.now l) →
-            AreApartIn components.now more (λ k. bit_in self.new.waits (number_of components.now x) k ≡ true)
+        ensures below { IfSome result (λ x. x < component_places components.now) }
+        ensures ready { IfSome result (λ x. IsFreeToStand (bit_in components.now.strict) (standing_in standing.now)
+            (component_number components.now x)) }
+        ensures least { IfSome result (λ x. (j : ℕ) → j < x → IsFreeToStand (bit_in components.now.strict)
+            (standing_in standing.now) (component_number components.now j) → ⊥) }
+        ensures none { IfNone result ((j : ℕ) → j < component_places components.now → IsFreeToStand
+            (bit_in components.now.strict)
+            (standing_in standing.now) (component_number components.now j) → ⊥) }
+        ensures apart { IfSome result (λ x. (more : ℕ → Standing) → more (component_number components.now x) ≡ Listed →
+            ((l : ℕ) → l ≢ component_number components.now x → more l ≡ standing_in standing.now l) →
+            AreApartIn components.now more (λ k. bit_in self.new.waits (component_number components.now x) k ≡ true)
             self.new) }
-        ensures room { HasRoomFor self.new (places components.now) }
+        ensures room { HasRoomFor self.new (component_places components.now) }
     {
         while let Some(key) = self.keys.pop() {
             let place = components.number.len() - 1 - key;
@@ -213,11 +219,12 @@ impl Ready {
 
     /// Component l is listed: those that waited for it are looked at again.
     pub fn release(&mut self, components: &Components, standing: &[Standing], l: usize)
-        requires stored { IsStored components.now }
-        requires standing { length standing.now ≡ places components.now }
-        requires numbering { IsNumbering (places components.now) (number_of components.now) components.now.count
+        requires stored { HasArrays components.now }
+        requires standing { length standing.now ≡ component_places components.now }
+        requires numbering { IsNumbering (component_places components.now) (component_number components.now)
+            components.now.count
             (bit_in components.now.strict) }
-        requires l { l < places components.now }
+        requires l { l < component_places components.now }
         requires listed { standing_in standing.now l ≡ Listed }
         requires apart { AreApartIn components.now (standing_in standing.now) (λ k. bit_in self.old.waits l k ≡ true)
             self.old }

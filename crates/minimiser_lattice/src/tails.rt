@@ -5,17 +5,17 @@ ghost use Rattle.std.specs.Prelude.{◌≡◌, ◌≢◌, ◌⊎◌, ℕ, ◌<�
 ghost use Rattle.exchange_graph.specs.Marks.{members_of};
 ghost use Rattle.bit_table.specs.Bits.{bit_in};
 ghost use Rattle.minimiser_lattice.specs.Paths.{IsNumbering};
-ghost use Rattle.minimiser_lattice.specs.Components.{IsStored, leads_in, number_of, places};
+ghost use Rattle.minimiser_lattice.specs.Components.{HasArrays, leads_in, component_number, component_places};
 ghost use Rattle.minimiser_lattice.specs.Listings.{IsFirstTail, IsLastTail};
 
 use crate::components::Components;
 
 // Marks component `from` and each one that it leads to.
 fn mark_below(marks: &mut [bool], components: &Components, from: usize)
-    requires stored { IsStored components.now }
-    requires marks { length marks.old ≡ places components.now }
-    requires from { from < places components.now }
-    requires count { components.now.count ≤ places components.now }
+    requires stored { HasArrays components.now }
+    requires marks { length marks.old ≡ component_places components.now }
+    requires from { from < component_places components.now }
+    requires count { components.now.count ≤ component_places components.now }
     ensures marked { (k : ℕ) → k < components.now.count → members_of marks.new k
         ≡ (members_of marks.old k || leads_in (bit_in components.now.strict) from k) }
     ensures length { length marks.new ≡ length marks.old }
@@ -30,13 +30,14 @@ fn mark_below(marks: &mut [bool], components: &Components, from: usize)
 
 /// Marks the components that a start leads to. What a marked component leads to is marked already.
 pub fn mark_starts(marks: &mut [bool], components: &Components, starts: &[bool])
-    requires stored { IsStored components.now }
-    requires marks { length marks.old ≡ places components.now }
-    requires starts { length starts.now ≡ places components.now }
-    requires numbering { IsNumbering (places components.now) (number_of components.now) components.now.count
+    requires stored { HasArrays components.now }
+    requires marks { length marks.old ≡ component_places components.now }
+    requires starts { length starts.now ≡ component_places components.now }
+    requires numbering { IsNumbering (component_places components.now) (component_number components.now)
+        components.now.count
         (bit_in components.now.strict) }
     requires none { (k : ℕ) → k < components.now.count → members_of marks.old k ≡ false }
-    ensures tail { IsFirstTail (places components.now) (number_of components.now) components.now.count
+    ensures tail { IsFirstTail (component_places components.now) (component_number components.now) components.now.count
         (bit_in components.now.strict) (members_of starts.now) (members_of marks.new) }
     ensures length { length marks.new ≡ length marks.old }
 {
@@ -50,14 +51,16 @@ pub fn mark_starts(marks: &mut [bool], components: &Components, starts: &[bool])
 
 // Marks the components of the ends.
 fn mark_own(marks: &mut [bool], components: &Components, ends: &[bool])
-    requires stored { IsStored components.now }
-    requires marks { length marks.old ≡ places components.now }
-    requires ends { length ends.now ≡ places components.now }
-    requires numbers { (x : ℕ) → x < places components.now → number_of components.now x < places components.now }
+    requires stored { HasArrays components.now }
+    requires marks { length marks.old ≡ component_places components.now }
+    requires ends { length ends.now ≡ component_places components.now }
+    requires numbers { (x : ℕ) → x < component_places components.now → component_number components.now x <
+        component_places components.now }
     ensures some { (k : ℕ) → members_of marks.old k ≡ false → members_of marks.new k ≡ true →
-        (x : ℕ) × (x < places components.now) × (members_of ends.now x ≡ true) × (number_of components.now x ≡ k) }
-    ensures made { (x : ℕ) → x < places components.now → members_of ends.now x ≡ true →
-        members_of marks.new (number_of components.now x) ≡ true }
+        (x : ℕ) × (x < component_places components.now) × (members_of ends.now x ≡ true) ×
+        (component_number components.now x ≡ k) }
+    ensures made { (x : ℕ) → x < component_places components.now → members_of ends.now x ≡ true →
+        members_of marks.new (component_number components.now x) ≡ true }
     ensures length { length marks.new ≡ length marks.old }
 {
     for (place, is_end) in ends.iter().enumerate() {
@@ -69,9 +72,9 @@ fn mark_own(marks: &mut [bool], components: &Components, ends: &[bool])
 
 // Whether component k leads to a marked one.
 fn leads_to_marked(marks: &[bool], components: &Components, k: usize) -> bool
-    requires stored { IsStored components.now }
-    requires marks { length marks.now ≡ places components.now }
-    requires k { k < places components.now }
+    requires stored { HasArrays components.now }
+    requires marks { length marks.now ≡ component_places components.now }
+    requires k { k < component_places components.now }
     ensures some { result ≡ true → (l : ℕ) × (l < k) × (bit_in components.now.strict k l ≡ true)
         × (members_of marks.now l ≡ true) }
     ensures none { result ≡ false → (l : ℕ) → l < k → bit_in components.now.strict k l ≡ true →
@@ -89,9 +92,9 @@ fn leads_to_marked(marks: &[bool], components: &Components, k: usize) -> bool
 
 // Marks component k, if it leads to a marked one.
 fn mark_above(marks: &mut [bool], components: &Components, k: usize)
-    requires stored { IsStored components.now }
-    requires marks { length marks.old ≡ places components.now }
-    requires k { k < places components.now }
+    requires stored { HasArrays components.now }
+    requires marks { length marks.old ≡ component_places components.now }
+    requires k { k < component_places components.now }
     ensures some { members_of marks.new k ≡ true → (members_of marks.old k ≡ true) ⊎ ((l : ℕ) × (l < k)
         × (bit_in components.now.strict k l ≡ true) × (members_of marks.old l ≡ true)) }
     ensures none { members_of marks.new k ≡ false → (l : ℕ) → l < k → bit_in components.now.strict k l ≡ true →
@@ -108,13 +111,14 @@ fn mark_above(marks: &mut [bool], components: &Components, k: usize)
 /// Marks the components that lead to an end. One that leads to a marked one is marked after it, since its number is
 /// greater.
 pub fn mark_ends(marks: &mut [bool], components: &Components, ends: &[bool])
-    requires stored { IsStored components.now }
-    requires marks { length marks.old ≡ places components.now }
-    requires ends { length ends.now ≡ places components.now }
-    requires numbering { IsNumbering (places components.now) (number_of components.now) components.now.count
+    requires stored { HasArrays components.now }
+    requires marks { length marks.old ≡ component_places components.now }
+    requires ends { length ends.now ≡ component_places components.now }
+    requires numbering { IsNumbering (component_places components.now) (component_number components.now)
+        components.now.count
         (bit_in components.now.strict) }
     requires none { (k : ℕ) → k < components.now.count → members_of marks.old k ≡ false }
-    ensures tail { IsLastTail (places components.now) (number_of components.now) components.now.count
+    ensures tail { IsLastTail (component_places components.now) (component_number components.now) components.now.count
         (bit_in components.now.strict) (members_of ends.now) (members_of marks.new) }
     ensures length { length marks.new ≡ length marks.old }
 {

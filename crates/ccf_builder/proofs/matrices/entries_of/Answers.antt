@@ -1,10 +1,10 @@
 use Rattle.std.proofs.Common.{◌≡◌, ◌+◌, ℕ, true, not, eqb, subst, sym, ap, ◌∙◌, arith}
 use Rattle.residue_theory.proofs.SetLaws.{differ, eqb_from}
-use Rattle.row_transform.specs.Tableaus.{State, matrix_of, width_of}
+use Rattle.row_transform.specs.Tableaus.{TableauState, matrix_which, width_of}
 use Rattle.cert_text.specs.Contents.{numbered}
-use Rattle.ccf_builder.specs.Matrices.{PrintsRow}
-use Rattle.ccf_builder.proofs.PrintedRows.{entry-more, row-until}
+use Rattle.cert_checker.proofs.PrintedRows.{entry-more, row-until}
 use Rattle.ccf_builder.proofs.matrices.entries_of.Goals as goal
+use Rattle.cert_text.specs.Printing.{PrintsRow}
 
 -- an entry that is not zero
 some : (x : ℕ) → not (eqb x 0) ≡ true → x ≡ 0 → ⊥
@@ -14,8 +14,8 @@ pub loop-entry-preserved : goal.loop-entry-preserved
 loop-entry-preserved g c =
     let p = g.F.Field.modulus in
     let number = g.F.Field.number in
-    let S : State = g.T.Tableau.state c.args.tableau.now in
-    let row = matrix_of c.args.which S c.args.row in
+    let S : TableauState = g.T.Tableau.state c.args.tableau.now in
+    let row = matrix_which c.args.which S c.args.row in
     let column = c.in-Some.entry.0 in
     let entries = c.loop-entry.entries.items in
     let least = c.in-Some.ensures.least in
@@ -33,8 +33,8 @@ pub returns : goal.returns
 returns g c =
     let p = g.F.Field.modulus in
     let number = g.F.Field.number in
-    let S : State = g.T.Tableau.state c.args.tableau.now in
-    let row = matrix_of c.args.which S c.args.row in
+    let S : TableauState = g.T.Tableau.state c.args.tableau.now in
+    let row = matrix_which c.args.which S c.args.row in
     let entries = c.loop-entry.entries.items in
     subst (λ list. PrintsRow p (width_of c.args.which S) row (numbered number list)) (sym c.from_vec.ensures)
     (row-until p row (numbered number entries) c.loop-entry.at (width_of c.args.which S)

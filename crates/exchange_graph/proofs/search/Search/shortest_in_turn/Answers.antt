@@ -1,38 +1,36 @@
-use Rattle.std.proofs.Common.{◌≤◌, ℕ, ap, subst, arith}
-use Rattle.std.specs.Prelude.{IfNone, IsNone, ◌↔◌}
-use Rattle.closed_sets.specs.Closed.{IsReachedSet, NoEndReached}
+use Rattle.std.proofs.Common.{ℕ, ap, subst}
+use Rattle.std.specs.Prelude.{IsNone, ◌↔◌}
+use Rattle.closed_sets.specs.Closed.{NoEndReached}
+use Rattle.exchange_graph.specs.Counts.{AreLooksTold}
 use Rattle.exchange_graph.specs.Marks.{members_of}
-use Rattle.exchange_graph.specs.Results.{Found}
+use Rattle.exchange_graph.specs.Results.{Found, vain_of}
 use Rattle.exchange_graph.specs.Scans.{walk_of}
-use Rattle.exchange_graph.specs.SweepStates.{left_by, places}
+use Rattle.exchange_graph.specs.SearchAnswers.{HasLeftOut, IsAnswerInTurn}
+use Rattle.exchange_graph.specs.SweepStates.{left_by, sweep_places}
 use Rattle.exchange_graph.proofs.NoneLaws.{none-in_turn}
-use Rattle.exchange_graph.proofs.SweepLaws.{looked-few}
 use Rattle.exchange_graph.proofs.search.Search.shortest_in_turn.Goals as goal
 
 pub returns-clause-none : goal.returns-clause-none
 returns-clause-none g c =
     subst (λ (n : ℕ). IsNone c.search.result ↔ NoEndReached (g.A.Arcs.leads c.args.arcs.now) n
     (members_of c.args.starts.now) (members_of c.args.ends.now)) (ap (λ (f : Found). f.places) c.self.view_is)
-    (none-in_turn (g.A.Arcs.leads c.args.arcs.now) (places c.self.inside.sweep) (members_of c.args.starts.now)
+    (none-in_turn (g.A.Arcs.leads c.args.arcs.now) (sweep_places c.self.inside.sweep) (members_of c.args.starts.now)
     (members_of c.args.ends.now) (left_by c.search.new.self) (walk_of c.search.new.self.scan) c.search.result
-    c.search.ensures.found c.search.ensures.closed c.search.ensures.reached)
+    c.search.ensures.answer.found c.search.ensures.answer.closed c.search.ensures.answer.reached)
 
-pub returns-clause-few : goal.returns-clause-few
-returns-clause-few g c = subst (λ (n : ℕ). c.search.new.self.scan.looks ≤ n) (ap (λ (f : Found). f.places) c.self.view_is)
-    (looked-few (g.A.Arcs.leads c.args.arcs.now) (places c.self.inside.sweep) (members_of c.args.starts.now)
-    (members_of c.args.ends.now) (left_by c.self.inside.sweep) c.search.new.self.scan.looks c.search.ensures.looked)
+pub returns-clause-answer : goal.returns-clause-answer
+returns-clause-answer g c =
+    subst (λ (n : ℕ). IsAnswerInTurn (g.A.Arcs.leads c.args.arcs.now) n (members_of c.args.starts.now)
+    (members_of c.args.ends.now) (walk_of c.search.new.self.scan) (left_by c.search.new.self)
+    c.search.new.self.next c.search.result) (ap (λ (f : Found). f.places) c.self.view_is) c.search.ensures.answer
 
-pub returns-clause-count : goal.returns-clause-count
-returns-clause-count g c = omega (
-  arith,
-  c.search.ensures.told,
-  subst (λ (n : ℕ). c.search.new.self.scan.looks ≤ n) (ap (λ (f : Found). f.places) c.self.view_is)
-      (looked-few (g.A.Arcs.leads c.args.arcs.now) (places c.self.inside.sweep) (members_of c.args.starts.now)
-      (members_of c.args.ends.now) (left_by c.self.inside.sweep) c.search.new.self.scan.looks c.search.ensures.looked),
-)
+pub returns-clause-left : goal.returns-clause-left
+returns-clause-left g c =
+    subst (λ (f : Found). HasLeftOut (g.A.Arcs.leads c.args.arcs.now) f.places (members_of c.args.starts.now)
+    (members_of c.args.ends.now) (vain_of f) (left_by c.search.new.self) c.search.new.self.next
+    c.search.new.self.scan.looks c.search.result) c.self.view_is c.search.ensures.left
 
-pub returns-clause-reached : goal.returns-clause-reached
-returns-clause-reached g c =
-    subst (λ (n : ℕ). IfNone c.search.result (IsReachedSet (g.A.Arcs.leads c.args.arcs.now) n
-    (members_of c.args.starts.now) (left_by c.search.new.self))) (ap (λ (f : Found). f.places) c.self.view_is)
-    c.search.ensures.reached
+pub returns-clause-counted : goal.returns-clause-counted
+returns-clause-counted g c =
+    subst (λ (f : Found). AreLooksTold f.places c.search.new.self.scan.looks c.args.steps.now c.search.new.steps
+    f.all_looks c.search.new.self.scan.all_looks) c.self.view_is c.search.ensures.counted

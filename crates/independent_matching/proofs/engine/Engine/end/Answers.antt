@@ -1,7 +1,7 @@
 use Rattle.std.proofs.Common.{◌<◌, ◌∙◌, false, ap, sym, subst}
 use Rattle.std.proofs.lemmas.List.{get_or_read_under}
 use Rattle.mixed_matrices.specs.Arcs.{is_end}
-use Rattle.independent_matching.specs.Sides.{layers_of, tableau_of}
+use Rattle.independent_matching.specs.Sides.{layers_of, tableau_of_pair}
 use Rattle.independent_matching.proofs.SideLaws.{mark-end}
 use Rattle.independent_matching.proofs.engine.Engine.end.Goals as goal
 
@@ -17,4 +17,4 @@ returns g c =
     ∙ (mark-end p S M c.args.col c.self.invariant.width c.self.inside.resting e.marks (marks.of_q.ends c.args.col below)
     (marks.by_t c.args.col below) (marks.of_q.by_q c.args.col below)
     ∙ ap (λ (v : _). is_end p (layers_of (g.T.Tableau.state v.tableau) v.matching)
-    (tableau_of (g.T.Tableau.state v.tableau) v.matching) c.args.col) c.self.view_is)
+    (tableau_of_pair (g.T.Tableau.state v.tableau) v.matching) c.args.col) c.self.view_is)

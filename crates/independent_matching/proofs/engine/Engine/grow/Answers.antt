@@ -1,7 +1,7 @@
 use Rattle.std.proofs.Common.{◌≡◌, ◌<◌, ◌≤◌, ◌∙◌, true, ap, refl, sym, subst, arith}
 use Rattle.mixed_matrices.specs.Arcs.{is_end}
 use Rattle.mixed_matrices.specs.LayeredMatrices.{LayeredMatrix}
-use Rattle.independent_matching.specs.Sides.{layers_of, tableau_of}
+use Rattle.independent_matching.specs.Sides.{layers_of, tableau_of_pair}
 use Rattle.independent_matching.proofs.MarkLaws.{left-mark}
 use Rattle.independent_matching.proofs.ReadyLaws.{ready-more, ready-order}
 use Rattle.independent_matching.proofs.RunLaws.{size-bound}
@@ -10,7 +10,7 @@ use Rattle.independent_matching.proofs.engine.Engine.grow.Goals as goal
 pub unwrap-row-requires : goal.unwrap-row-requires
 unwrap-row-requires g c = c.free_row.ensures.end ∙
     subst (λ (v : _). is_end g.F.Field.modulus (layers_of (g.T.Tableau.state v.tableau) v.matching)
-    (tableau_of (g.T.Tableau.state v.tableau) v.matching) c.args.x ≡ true) (sym c.self.view_is) c.requires.end
+    (tableau_of_pair (g.T.Tableau.state v.tableau) v.matching) c.args.x ≡ true) (sym c.self.view_is) c.requires.end
 
 pub close-requires-clause-by_t : goal.close-requires-clause-by_t
 close-requires-clause-by_t g c =

@@ -6,12 +6,12 @@ use Rattle.closed_sets.specs.Closed.{IsReachedSet, NoEndReached}
 use Rattle.residue_theory.specs.Sums.{size_on}
 use Rattle.exchange_graph.specs.Marks.{members_of}
 use Rattle.exchange_graph.specs.Results.{vain_of, step_of}
-use Rattle.mixed_augmentation.specs.Moves.{IsFreeRow}
+use Rattle.mixed_augmentation_laws.specs.Moves.{IsFreeRow}
 use Rattle.mixed_matrices.specs.Arcs.{leads_to}
 use Rattle.mixed_matrices.specs.LayeredMatrices.{LayeredMatrix}
 use Rattle.exchange_graph.specs.Sweeps.{IsShortestFromOne}
 use Rattle.independent_matching.specs.Engines.{HasGrown, HasStayed, Standing}
-use Rattle.independent_matching.specs.Sides.{in_q, layers_of, number, tableau_of}
+use Rattle.independent_matching.specs.Sides.{in_q, layers_of, number, tableau_of_pair}
 use Rattle.independent_matching.proofs.EngineLaws.{solved}
 use Rattle.independent_matching.proofs.MarkLaws.{left-mark}
 use Rattle.independent_matching.proofs.ReadyLaws.{ready-more, ready-order, ready-stayed}
@@ -28,16 +28,16 @@ augment-requires-clause-route g c =
     let resting = c.self.inside.resting in
     let marks = c.self.inside.mover.marks in
     let at = step_of c.shortest_in_turn-walk.new.self in
-    let arc = leads_to p (layers_of S M) (tableau_of S M) in
+    let arc = leads_to p (layers_of S M) (tableau_of_pair S M) in
     search-route p S M ready.width resting marks ready.marks c.self.inside.search.places ready.search ready.pair at c.in-Some.last c.step-x.result
     (subst (λ free. IsShortestFromOne arc c.self.inside.search.places (members_of free) (members_of marks.ends.items) at c.in-Some.last) c.deref.ensures.value
     (subst (λ ends. IsShortestFromOne arc c.self.inside.search.places (members_of c.deref.result.now)
     (members_of ends) at c.in-Some.last) c.deref-2.ensures.value
     (subst (λ o. IfSome o (λ k. IsShortestFromOne arc c.self.inside.search.places (members_of c.deref.result.now)
-    (members_of c.deref-2.result.now) at k)) c.in-Some.is c.shortest_in_turn-walk.ensures.found)))
+    (members_of c.deref-2.result.now) at k)) c.in-Some.is c.shortest_in_turn-walk.ensures.answer.found)))
     c.step-x.ensures c.unwrap-end.result
     (some-read c.free_row.result c.unwrap-end.result
-    (λ row. IsFreeRow p (layers_of S M) (tableau_of S M) c.step-x.result (in_q row)
+    (λ row. IsFreeRow p (layers_of S M) (tableau_of_pair S M) c.step-x.result (in_q row)
     (number row)) c.unwrap-end.ensures c.free_row.ensures.free)
 
 pub unwrap-end-requires : goal.unwrap-end-requires
@@ -49,14 +49,14 @@ unwrap-end-requires g c =
     let resting = c.self.inside.resting in
     let marks = c.self.inside.mover.marks in
     let at = step_of c.shortest_in_turn-walk.new.self in
-    let arc = leads_to p (layers_of S M) (tableau_of S M) in
+    let arc = leads_to p (layers_of S M) (tableau_of_pair S M) in
     c.free_row.ensures.end ∙
     walk-end p S M ready.width resting marks ready.marks c.self.inside.search.places ready.search at c.in-Some.last c.step-x.result
     (subst (λ free. IsShortestFromOne arc c.self.inside.search.places (members_of free) (members_of marks.ends.items) at c.in-Some.last) c.deref.ensures.value
     (subst (λ ends. IsShortestFromOne arc c.self.inside.search.places (members_of c.deref.result.now)
     (members_of ends) at c.in-Some.last) c.deref-2.ensures.value
     (subst (λ o. IfSome o (λ k. IsShortestFromOne arc c.self.inside.search.places (members_of c.deref.result.now)
-    (members_of c.deref-2.result.now) at k)) c.in-Some.is c.shortest_in_turn-walk.ensures.found)))
+    (members_of c.deref-2.result.now) at k)) c.in-Some.is c.shortest_in_turn-walk.ensures.answer.found)))
     c.step-x.ensures
 
 pub close-requires-clause-by_t : goal.close-requires-clause-by_t
@@ -90,14 +90,14 @@ overflow_add-self g c =
     let e = c.self.inside in
     let S = g.T.Tableau.state e.mover.pair.tableau in
     let ready = c.self.invariant in
-    let narrow : S.columns ≤ 8192 = omega (arith, c.columns-columns.ensures.narrow, c.columns-columns.ensures.columns) in
+    let narrow : S.columns ≤ 8192 = c.is_tableau.ensures.narrow in
     let size : e.size ≤ 8192 = omega (arith, ready.count, size-bound p S e.mover.pair.mates ready.pair, narrow) in
     omega (
       arith,
       looks-bound e.size S.columns (size_on (vain_of e.search) S.columns) e.looks ready.few_looks
           (size_on-bound (vain_of e.search) S.columns) size narrow,
       c.looks.ensures,
-      c.shortest_in_turn-walk.ensures.few,
+      c.shortest_in_turn-walk.ensures.counted.few,
       ready.search,
       narrow,
     )
@@ -119,16 +119,16 @@ returns-in-None-clause-best g c = λ _.
     let ready = c.self.invariant in
     let resting = e.resting in
     let marks = e.mover.marks in
-    let arc = leads_to p (layers_of S M) (tableau_of S M) in
+    let arc = leads_to p (layers_of S M) (tableau_of_pair S M) in
     let search = c.shortest_in_turn-walk.new.self in
     let n = e.search.places in
     let E = c.shortest_in_turn-walk.ensures in
     let starts = members_of c.deref.result.now in
     let stops = members_of c.deref-2.result.now in
     let none = subst (λ o. IsNone o ↔ NoEndReached arc n starts stops) c.in-None.is E.none in
-    let reached = subst (λ o. IfNone o (IsReachedSet arc n starts (vain_of search))) c.in-None.is E.reached in
+    let reached = subst (λ o. IfNone o (IsReachedSet arc n starts (vain_of search))) c.in-None.is E.answer.reached in
     let vain = subst (λ o. IfNone o (size_on (vain_of search) n ≡ size_on (vain_of e.search) n + search.looks))
-    c.in-None.is E.looks in
+    c.in-None.is E.left.size in
     let now : Standing g.row.T.Denot = record {
       tableau = e.mover.pair.tableau;
       matching = M;
@@ -149,12 +149,12 @@ returns-in-None-clause-best g c = λ _.
       tableau = refl;
       matching = refl;
       pivots = refl;
-      kept = subst (λ m. IsWithin m (vain_of e.search) (vain_of search)) ready.search E.grown;
-      told = omega (arith, E.told, c.looks.ensures);
+      kept = subst (λ m. IsWithin m (vain_of e.search) (vain_of search)) ready.search E.left.grown;
+      told = omega (arith, E.counted.told, c.looks.ensures);
       looks = subst (λ m. e.looks + c.looks.result + size_on (vain_of e.search) m ≡ e.looks + size_on (vain_of search) m)
           ready.search (omega (arith, vain, c.looks.ensures));
       looked = omega (arith, c.looks.ensures);
-      all_looks = E.all_looks;
+      all_looks = E.counted.all_looks;
     })
 
 pub returns-in-Some-clause-grown : goal.returns-in-Some-clause-grown
@@ -175,12 +175,12 @@ returns-in-Some-clause-grown g c = λ _.
     subst (λ s. HasGrown g.row.T.Denot g.T.Tableau.state g.T.Tableau.pivots s now c.args.steps.now c.augment.new.steps) c.self.view_is
     (record {
       size = A.gained.size;
-      kept = subst (λ m. IsWithin m (vain_of e.search) (vain_of search)) c.self.invariant.search E.grown;
-      told = omega (arith, E.told, A.pivots, c.looks.ensures);
-      few_pivots = omega (arith, A.pivots, A.steps);
-      made = A.made;
-      few_looks = omega (arith, c.looks.ensures, E.few, c.self.invariant.search);
-      searched = inr (E.all_looks, ap (λ k. e.looks + k) c.looks.ensures);
+      kept = subst (λ m. IsWithin m (vain_of e.search) (vain_of search)) c.self.invariant.search E.left.grown;
+      told = omega (arith, E.counted.told, A.pivots.told, c.looks.ensures);
+      few_pivots = omega (arith, A.pivots.told, A.pivots.few);
+      made = A.pivots.all;
+      few_looks = omega (arith, c.looks.ensures, E.counted.few, c.self.invariant.search);
+      searched = inr (E.counted.all_looks, ap (λ k. e.looks + k) c.looks.ensures);
     })
 
 pub augment-requires-clause-order : goal.augment-requires-clause-order
@@ -199,12 +199,12 @@ invariant_of-self g c =
     let search = c.shortest_in_turn-walk.new.self in
     let E = c.shortest_in_turn-walk.ensures in
     let vain = subst (λ o. IfNone o (size_on (vain_of search) e.search.places
-    ≡ size_on (vain_of e.search) e.search.places + search.looks)) c.in-None.is E.looks in
+    ≡ size_on (vain_of e.search) e.search.places + search.looks)) c.in-None.is E.left.size in
     let left = left-given p S M ready.width e.resting e.mover.marks ready.marks e.search.places ready.search
     (vain_of search) search.next c.deref.result.now c.deref-2.result.now c.deref.ensures.value c.deref-2.ensures.value
-    E.left in
+    E.left.left in
     ready-stayed p S M e.search e.resting e.mover.marks e.size e.mover.pivots e.looks ready search E.places left
-    (subst (λ m. IsWithin m (vain_of e.search) (vain_of search)) ready.search E.grown) c.looks.result
+    (subst (λ m. IsWithin m (vain_of e.search) (vain_of search)) ready.search E.left.grown) c.looks.result
     (e.looks + c.looks.result)
     (subst (λ m. size_on (vain_of search) m ≡ size_on (vain_of e.search) m + c.looks.result) ready.search
     (omega (arith, vain, c.looks.ensures))) refl
@@ -221,11 +221,11 @@ invariant_of-self-in-Some g c =
     let E = c.shortest_in_turn-walk.ensures in
     let left = left-given p S M ready.width e.resting e.mover.marks ready.marks e.search.places ready.search
     (vain_of search) search.next c.deref.result.now c.deref-2.result.now c.deref.ensures.value c.deref-2.ensures.value
-    E.left in
+    E.left.left in
     let now = c.augment.new.self in
-    let few : c.looks.result ≤ S.columns = omega (arith, c.looks.ensures, E.few, ready.search) in
+    let few : c.looks.result ≤ S.columns = omega (arith, c.looks.ensures, E.counted.few, ready.search) in
     ready-more p S M e.search e.resting e.mover.marks e.size e.mover.pivots e.looks ready search E.places left
-    (subst (λ m. IsWithin m (vain_of e.search) (vain_of search)) ready.search E.grown)
+    (subst (λ m. IsWithin m (vain_of e.search) (vain_of search)) ready.search E.left.grown)
     (state now.pair.tableau) now.pair.mates _ c.unwrap-end.result c.augment.ensures.gained
     e.resting now.marks now.pivots c.augment.ensures.order c.close.new.resting c.close.new.self c.close.ensures
     c.looks.result (e.looks + c.looks.result) few refl

@@ -25,8 +25,7 @@ overflow_add-made g c =
       same,
       c.self-in-loop-made.invariant.count,
       size-bound g.F.Field.modulus (state e.mover.pair.tableau) e.mover.pair.mates c.self-in-loop-made.invariant.pair,
-      c.columns-columns.ensures.narrow,
-      c.columns-columns.ensures.columns,
+      c.is_tableau.ensures.narrow,
     ) in
     omega (arith, small)
 

@@ -1,6 +1,6 @@
 use Rattle.std.proofs.Common.{◌≡◌, Some, None, sym, ◌∙◌}
 use Rattle.std.proofs.lemmas.List.{get_or_read_under}
-use Rattle.independent_matching.specs.Marks.{row_at}
+use Rattle.independent_matching.specs.Marks.{marked_row}
 use Rattle.independent_matching.proofs.SideLaws.{free-end, free_q-row, free_t-row, none-end}
 use Rattle.independent_matching.proofs.marks.Marks.free_row.Goals as goal
 
@@ -14,7 +14,7 @@ returns-in-Some-default-clause-end g c =
 pub returns-in-None-Some-clause-free : goal.returns-in-None-Some-clause-free
 returns-in-None-Some-clause-free g c =
     let S = g.T.Tableau.state c.args.pair.now.tableau in
-    let told : row_at c.args.self.now.by_q.items c.args.x ≡ Some c.in-None-Some.row =
+    let told : marked_row c.args.self.now.by_q.items c.args.x ≡ Some c.in-None-Some.row =
     sym (get_or_read_under c.args.self.now.by_q.items c.args.x _ c.index.result.now None c.index.ensures c.requires.x
     (sym c.requires.count)) ∙ c.in-None-Some.is-1 in
     free_q-row g.F.Field.modulus S c.args.pair.now.mates c.args.x c.in-None-Some.row
@@ -23,7 +23,7 @@ returns-in-None-Some-clause-free g c =
 pub returns-in-None-Some-clause-end : goal.returns-in-None-Some-clause-end
 returns-in-None-Some-clause-end g c =
     let S = g.T.Tableau.state c.args.pair.now.tableau in
-    let told : row_at c.args.self.now.by_q.items c.args.x ≡ Some c.in-None-Some.row =
+    let told : marked_row c.args.self.now.by_q.items c.args.x ≡ Some c.in-None-Some.row =
     sym (get_or_read_under c.args.self.now.by_q.items c.args.x _ c.index.result.now None c.index.ensures c.requires.x
     (sym c.requires.count)) ∙ c.in-None-Some.is-1 in
     free-end g.F.Field.modulus S c.args.pair.now.mates c.args.x _ c.in-None-Some.row
@@ -33,7 +33,7 @@ returns-in-None-Some-clause-end g c =
 pub returns-in-None-None-clause-end : goal.returns-in-None-None-clause-end
 returns-in-None-None-clause-end g c =
     let S = g.T.Tableau.state c.args.pair.now.tableau in
-    let told : row_at c.args.self.now.by_q.items c.args.x ≡ None =
+    let told : marked_row c.args.self.now.by_q.items c.args.x ≡ None =
     sym (get_or_read_under c.args.self.now.by_q.items c.args.x _ c.index.result.now None c.index.ensures c.requires.x
     (sym c.requires.count)) ∙ c.in-None-None.is-1 in
     none-end g.F.Field.modulus S c.args.pair.now.mates c.args.x c.requires.width c.in-None-None.ensures.none

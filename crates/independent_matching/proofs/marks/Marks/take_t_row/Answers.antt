@@ -4,7 +4,7 @@ use Rattle.residue_theory.proofs.SumLaws.{nat_cases}
 use Rattle.sparse_t.specs.Incidences.{columns_at, touches}
 use Rattle.residue_theory.specs.Sets.{has}
 use Rattle.sparse_t.proofs.ListLaws.{has-member}
-use Rattle.independent_matching.specs.Marks.{IsEndMark, IsQMark, IsKept, IsTMark}
+use Rattle.independent_matching.specs.Marks.{IsEndMark, IsQMark, AreKeptMarks, IsTMark}
 use Rattle.independent_matching.proofs.MarkLaws.{other-end, other-t}
 use Rattle.independent_matching.proofs.marks.Marks.take_t_row.Goals as goal
 
@@ -36,7 +36,7 @@ loop-x-preserved g c =
     let T' = c.find_t_row.ensures in
     record {
       of_q = record {
-        sized = subst (λ n. IsKept n rest now) c.requires.width T'.sized;
+        sized = subst (λ n. AreKeptMarks n rest now) c.requires.width T'.sized;
         by_q = λ y l. subst (λ b. IsQMark p S b.items y) (sym T'.by_q) (I.of_q.by_q y l);
         ends = λ y l. elim (nat_cases y x) [
           | inl e ↦ subst (λ z. IsEndMark rest now z) (sym e) T'.end

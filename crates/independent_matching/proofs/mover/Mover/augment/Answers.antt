@@ -1,11 +1,11 @@
 use Rattle.std.proofs.Common.{◌≡◌, ◌+◌, ◌-◌, ◌<◌, ◌≤◌, ◌∙◌, true, cond, ap, sym, subst, refl, arith}
 use Rattle.residue_theory.specs.Sums.{size_on}
 use Rattle.exchange_graph.specs.Results.{step_of}
-use Rattle.mixed_augmentation.specs.Moves.{route}
-use Rattle.mixed_augmentation.proofs.Sealed.{self-keeps}
+use Rattle.mixed_augmentation_laws.specs.Moves.{route}
+use Rattle.mixed_augmentation_laws.proofs.Sealed.{self-keeps}
 use Rattle.mixed_matrices.specs.LayeredMatrices.{LayeredMatrix}
 use Rattle.mixed_matrices.specs.Tableaus.{HasTableau}
-use Rattle.independent_matching.specs.Sides.{AreRowsMoving, CanTake, IsMoving, Takes, in_q, is_matched, layers_of, number, row_had, size_of, tableau_of}
+use Rattle.independent_matching.specs.Sides.{AreRowsMoving, CanTake, IsMoving, Takes, in_q, is_matched, layers_of, number, row_had, size_of, tableau_of_pair}
 use Rattle.independent_matching.proofs.LeftLaws.{move-rows, moved-rows, moving-rows}
 use Rattle.independent_matching.proofs.MoveLaws.{can-take, moving-apart, moving-below, moving-count, moving-keeps, moving-next}
 use Rattle.independent_matching.proofs.MoveLaws.{moving-none, moving-pivots, moving-positive, moving-size}
@@ -22,7 +22,7 @@ loop-next-init g c =
     record {
       moving = moving-start g.F.Field.modulus S M c.requires.order.pair at c.args.last c.args.end c.requires.route;
       rows = moving-rows M c.args.end;
-      sealed = self-keeps g.F.Field.modulus (layers_of S M) (tableau_of S M);
+      sealed = self-keeps g.F.Field.modulus (layers_of S M) (tableau_of_pair S M);
       marks = c.requires.order.marks;
       count = refl;
       pivots = refl;
@@ -80,7 +80,7 @@ take-requires-clause-can g c =
     c.in-Some.row c.loop-next.left I.moving c.in-Some.is in
     let here : i + 1 ≡ c.loop-next.left = omega (arith, positive) in
     let x_is : c.step-x.result ≡ at i = c.step-x.ensures in
-    subst (λ x. CanTake p (layers_of S M) (tableau_of S M) c.in-Some.row x) (sym x_is)
+    subst (λ x. CanTake p (layers_of S M) (tableau_of_pair S M) c.in-Some.row x) (sym x_is)
     (can-take p S₀ M₀ c.requires.order.pair at c.args.last c.args.end c.requires.route S M c.loop-next.next c.in-Some.row
     c.loop-next.left I.moving c.in-Some.is i here)
 
@@ -102,12 +102,12 @@ loop-next-preserved g c =
     let here : i + 1 ≡ c.loop-next.left = omega (arith, positive) in
     let x_is : c.step-x.result ≡ at i = c.step-x.ensures in
     record {
-      moving = subst (λ next. IsMoving p S₀ M₀ (route (tableau_of S₀ M₀) at c.args.last (in_q c.args.end)
-          (number c.args.end)) S' M' next i) (sym (c.row_of-next.ensures ∙ ap (row_had (tableau_of S M)) x_is))
+      moving = subst (λ next. IsMoving p S₀ M₀ (route (tableau_of_pair S₀ M₀) at c.args.last (in_q c.args.end)
+          (number c.args.end)) S' M' next i) (sym (c.row_of-next.ensures ∙ ap (row_had (tableau_of_pair S M)) x_is))
           (moving-next p S₀ M₀ c.requires.order.pair at c.args.last c.args.end c.requires.route S M c.loop-next.next
-          c.in-Some.row c.loop-next.left I.moving c.in-Some.is i here S' M' c.take.ensures.layers
-          c.take.ensures.pattern
-          (subst (λ x. Takes p (layers_of S M) (tableau_of S M) (tableau_of S' M') c.in-Some.row x) x_is c.take.ensures.takes));
+          c.in-Some.row c.loop-next.left I.moving c.in-Some.is i here S' M' c.take.ensures.taken.layers
+          c.take.ensures.taken.pattern
+          (subst (λ x. Takes p (layers_of S M) (tableau_of_pair S M) (tableau_of_pair S' M') c.in-Some.row x) x_is c.take.ensures.taken.takes));
       rows = subst (λ next. AreRowsMoving M₀ c.args.end M' next) (sym c.row_of-next.ensures)
           (move-rows p S S' M M' (omega (
             arith,
@@ -116,7 +116,7 @@ loop-next-preserved g c =
             ap
                 (λ (L : LayeredMatrix). L.columns) I.moving.layers,
           ))
-          (ap (λ m. m.width) c.take.ensures.pattern) c.step-x.result
+          (ap (λ m. m.width) c.take.ensures.taken.pattern) c.step-x.result
           (subst (λ n. c.step-x.result < n) (sym (ap (λ (L : LayeredMatrix). L.columns) I.moving.layers))
           (subst (λ x. x < S₀.columns) (sym x_is)
           (moving-below p S₀ M₀ c.requires.order.pair at c.args.last c.args.end c.requires.route S M c.loop-next.next
@@ -124,11 +124,11 @@ loop-next-preserved g c =
           (subst (λ x. S.base x ≡ true → is_matched M x ≡ true → ⊥) (sym x_is)
           (moving-apart p S₀ M₀ c.requires.order.pair at c.args.last c.args.end c.requires.route S M c.loop-next.next
           c.in-Some.row c.loop-next.left I.moving c.in-Some.is i here))
-          c.in-Some.row c.take.ensures.takes M₀ c.args.end (subst (λ next. AreRowsMoving M₀ c.args.end M next) c.in-Some.is I.rows));
+          c.in-Some.row c.take.ensures.taken.takes M₀ c.args.end (subst (λ next. AreRowsMoving M₀ c.args.end M next) c.in-Some.is I.rows));
       sealed = moving-keeps p S₀ M₀ c.requires.order.pair at c.args.last c.args.end c.requires.route S M
-          c.loop-next.next c.in-Some.row c.loop-next.left I.moving c.in-Some.is i here S' M' c.take.ensures.layers
-          c.take.ensures.pattern (subst (λ x. Takes p (layers_of S M) (tableau_of S M) (tableau_of S' M') c.in-Some.row x)
-          x_is c.take.ensures.takes) I.sealed;
+          c.loop-next.next c.in-Some.row c.loop-next.left I.moving c.in-Some.is i here S' M' c.take.ensures.taken.layers
+          c.take.ensures.taken.pattern (subst (λ x. Takes p (layers_of S M) (tableau_of_pair S M) (tableau_of_pair S' M') c.in-Some.row x)
+          x_is c.take.ensures.taken.takes) I.sealed;
       marks = c.take.ensures.marks;
       count = omega (
         arith,
@@ -143,20 +143,24 @@ loop-next-preserved g c =
           c.take.new.self.pivots I.made (some-made _ _ _ _ (cond (in_q c.in-Some.row) 1 0) c.take.ensures.pivots c.take.ensures.made);
     }
 
-pub returns-clause-steps : goal.returns-clause-steps
-returns-clause-steps g c =
+pub returns-clause-pivots : goal.returns-clause-pivots
+returns-clause-pivots g c =
     let p = g.F.Field.modulus in
     let S₀ = g.T.Tableau.state c.args.self.now.pair.tableau in
     let M₀ = c.args.self.now.pair.mates in
     let at = step_of c.args.search.now in
-    omega (
-      arith,
-      c.loop-next.invariant.count,
-      moving-pivots p S₀ M₀ c.requires.order.pair at c.args.last c.args.end c.requires.route,
-      moving-none p S₀ M₀ c.requires.order.pair at c.args.last c.args.end c.requires.route
-          (g.T.Tableau.state c.loop-next.self.pair.tableau) c.loop-next.self.pair.mates c.loop-next.next
-          c.loop-next.left c.loop-next.invariant.moving c.in_default.is,
-    )
+    record {
+      few = omega (
+        arith,
+        c.loop-next.invariant.count,
+        moving-pivots p S₀ M₀ c.requires.order.pair at c.args.last c.args.end c.requires.route,
+        moving-none p S₀ M₀ c.requires.order.pair at c.args.last c.args.end c.requires.route
+            (g.T.Tableau.state c.loop-next.self.pair.tableau) c.loop-next.self.pair.mates c.loop-next.next
+            c.loop-next.left c.loop-next.invariant.moving c.in_default.is,
+      );
+      told = c.loop-next.invariant.pivots;
+      all = c.loop-next.invariant.made;
+    }
 
 pub take-requires-clause-few : goal.take-requires-clause-few
 take-requires-clause-few g c =
@@ -167,8 +171,7 @@ take-requires-clause-few g c =
     let small : size_of S₀ M₀ ≤ 8192 = omega (
       arith,
       size-bound p S₀ M₀ c.requires.order.pair,
-      c.columns-columns.ensures.narrow,
-      c.columns-columns.ensures.columns,
+      c.is_tableau.ensures.narrow,
     ) in
     omega (
       arith,
@@ -190,7 +193,7 @@ returns-clause-order g c =
     let at = step_of c.args.search.now in
     let I = c.loop-next.invariant in
     record {
-      pair = subst (λ L. HasTableau p L (tableau_of S M)) (sym I.moving.layers)
+      pair = subst (λ L. HasTableau p L (tableau_of_pair S M)) (sym I.moving.layers)
           (moving-tableau p S₀ M₀ c.requires.order.pair at c.args.last c.args.end c.requires.route S M c.loop-next.next
           c.loop-next.left I.moving c.in_default.is);
       width = I.moving.width ∙ (c.requires.order.width ∙ sym (ap (λ (L : LayeredMatrix). L.columns) I.moving.layers));

@@ -3,8 +3,8 @@ use Rattle.std.proofs.lemmas.List.{get_or-set_same, get_or-set_other}
 use Rattle.bit_table.proofs.BitLaws.{item_is}
 use Rattle.exchange_graph.proofs.ItemLaws.{mark_read}
 use Rattle.exchange_graph.specs.Turns.{HasNextTurn}
-use Rattle.minimiser_lattice.specs.Components.{places, state_of}
-use Rattle.minimiser_lattice.specs.Paths.{IsMerged, State}
+use Rattle.minimiser_lattice.specs.Components.{component_places, path_state}
+use Rattle.minimiser_lattice.specs.Paths.{AreMergedGroups, PathState}
 use Rattle.minimiser_lattice.specs.declared.components.Components.{Components}
 use Rattle.minimiser_lattice.proofs.PathLaws.{IsAdvancing, going_fits, last_below, advancing-first, advancing-done, advancing-merge, advancing-stop}
 use Rattle.minimiser_lattice.proofs.components.Components.advance.Goals as goal
@@ -12,7 +12,7 @@ use Rattle.minimiser_lattice.proofs.components.Components.advance.Goals as goal
 pub index-requires : goal.index-requires
 index-requires g c =
     let s = c.args.self.now in
-    let F = going_fits (g.A.Arcs.leads c.args.arcs.now) (g.A.Arcs.turn c.args.arcs.now) (places s) (state_of s)
+    let F = going_fits (g.A.Arcs.leads c.args.arcs.now) (g.A.Arcs.turn c.args.arcs.now) (component_places s) (path_state s)
     c.requires.going in
     omega (arith, F.0, F.2, c.requires.stored.path, c.requires.some)
 
@@ -21,8 +21,8 @@ index-place-requires g c =
     let s = c.args.self.now in
     let arc = g.A.Arcs.leads c.args.arcs.now in
     let turn = g.A.Arcs.turn c.args.arcs.now in
-    let F = going_fits arc turn (places s) (state_of s) c.requires.going in
-    let B = last_below arc turn (places s) (state_of s) c.requires.going c.requires.some in
+    let F = going_fits arc turn (component_places s) (path_state s) c.requires.going in
+    let B = last_below arc turn (component_places s) (path_state s) c.requires.going c.requires.some in
     omega (
       arith,
       F.0,
@@ -38,8 +38,8 @@ index-from-requires g c =
     let s = c.args.self.now in
     let arc = g.A.Arcs.leads c.args.arcs.now in
     let turn = g.A.Arcs.turn c.args.arcs.now in
-    let F = going_fits arc turn (places s) (state_of s) c.requires.going in
-    let B = last_below arc turn (places s) (state_of s) c.requires.going c.requires.some in
+    let F = going_fits arc turn (component_places s) (path_state s) c.requires.going in
+    let B = last_below arc turn (component_places s) (path_state s) c.requires.going c.requires.some in
     let p = item_is s.path.items (s.depth - 1) c.index.result.now
     (omega (arith, F.0, F.2, c.requires.stored.path, c.requires.some)) c.index.ensures in
     let e = item_is s.stack.items c.index.result.now c.index-place.result.now
@@ -51,8 +51,8 @@ loop-to-init g c =
     let s = c.args.self.now in
     let arc = g.A.Arcs.leads c.args.arcs.now in
     let turn = g.A.Arcs.turn c.args.arcs.now in
-    let F = going_fits arc turn (places s) (state_of s) c.requires.going in
-    let B = last_below arc turn (places s) (state_of s) c.requires.going c.requires.some in
+    let F = going_fits arc turn (component_places s) (path_state s) c.requires.going in
+    let B = last_below arc turn (component_places s) (path_state s) c.requires.going c.requires.some in
     let p = item_is s.path.items (s.depth - 1) c.index.result.now
     (omega (arith, F.0, F.2, c.requires.stored.path, c.requires.some)) c.index.ensures in
     let e = item_is s.stack.items c.index.result.now c.index-place.result.now
@@ -63,7 +63,7 @@ loop-to-init g c =
       seen = refl;
       depth = refl;
       fits = c.type_inv.from.fits;
-      advancing = advancing-first arc turn (places s) (state_of s) c.index-place.result.now c.index-from.result.now
+      advancing = advancing-first arc turn (component_places s) (path_state s) c.index-place.result.now c.index-from.result.now
           c.requires.going c.requires.some last
           (item_is s.next.items c.index-place.result.now c.index-from.result.now
           (omega (arith, B.1, last, c.requires.stored.next)) c.index-from.ensures);
@@ -75,21 +75,21 @@ returns-then-not-index-clause-going g c =
     let A = I.advancing in
     let arc = g.A.Arcs.leads c.args.arcs.now in
     let turn = g.A.Arcs.turn c.args.arcs.now in
-    let n = places c.args.self.now in
+    let n = component_places c.args.self.now in
     let s = c.loop-to.self in
     let place = c.index-place.result.now in
     let from = c.loop-to.from in
-    let below = (last_below arc turn n (state_of s) A.going A.some).1 in
+    let below = (last_below arc turn n (path_state s) A.going A.some).1 in
     let fits : place < length s.next.items =
     omega (arith, I.stored.next, ap Rattle.std.specs.Prelude.vec_len I.seen, A.last, below) in
-    advancing-stop arc turn n (state_of s) place from (λ y. get_or (set s.next.items place from) y 0) A
+    advancing-stop arc turn n (path_state s) place from (λ y. get_or (set s.next.items place from) y 0) A
     (get_or-set_same s.next.items place from 0 fits) (λ y ne. get_or-set_other s.next.items place y from 0 ne)
 
 pub merge-requires-clause-fits : goal.merge-requires-clause-fits
 merge-requires-clause-fits g c =
     let I = c.loop-to.invariant in
-    let F = going_fits (g.A.Arcs.leads c.args.arcs.now) (g.A.Arcs.turn c.args.arcs.now) (places c.args.self.now)
-    (state_of c.loop-to.self) I.advancing.going in
+    let F = going_fits (g.A.Arcs.leads c.args.arcs.now) (g.A.Arcs.turn c.args.arcs.now) (component_places c.args.self.now)
+    (path_state c.loop-to.self) I.advancing.going in
     omega (arith, F.0, F.1, ap Rattle.std.specs.Prelude.vec_len I.seen)
 
 pub loop-to-preserved-then-not-index-2 : goal.loop-to-preserved-then-not-index-2
@@ -97,7 +97,7 @@ loop-to-preserved-then-not-index-2 g c =
     let I = c.loop-to.invariant in
     let arc = g.A.Arcs.leads c.args.arcs.now in
     let turn = g.A.Arcs.turn c.args.arcs.now in
-    let n = places c.args.self.now in
+    let n = component_places c.args.self.now in
     let s = c.loop-to.self in
     let place = c.index-place.result.now in
     let to = c.in-Some.to in
@@ -113,11 +113,11 @@ loop-to-preserved-then-not-index-2 g c =
       seen = ap (λ (v : Components). v.seen) c.merge.ensures.kept ∙ I.seen;
       depth = ap (λ (v : Components). v.depth) c.merge.ensures.kept ∙ I.depth;
       fits = N.fits;
-      advancing = subst (λ (v : State). IsAdvancing arc turn n v place c.in-Some.next)
-          (sym (ap state_of c.merge.ensures.kept))
-          (advancing-merge arc turn n (state_of s) place c.loop-to.from to c.in-Some.next c.merge.new.self.groups
+      advancing = subst (λ (v : PathState). IsAdvancing arc turn n v place c.in-Some.next)
+          (sym (ap path_state c.merge.ensures.kept))
+          (advancing-merge arc turn n (path_state s) place c.loop-to.from to c.in-Some.next c.merge.new.self.groups
           I.advancing N (seen ∙ c.if-not-index.false) (done ∙ c.if-not-index-2.true)
-          (subst (λ (v : ℕ). IsMerged (state_of s) c.merge.new.self.groups v) (sym at) c.merge.ensures.merged));
+          (subst (λ (v : ℕ). AreMergedGroups (path_state s) c.merge.new.self.groups v) (sym at) c.merge.ensures.merged));
     }
 
 pub loop-to-preserved : goal.loop-to-preserved
@@ -125,7 +125,7 @@ loop-to-preserved g c =
     let I = c.loop-to.invariant in
     let arc = g.A.Arcs.leads c.args.arcs.now in
     let turn = g.A.Arcs.turn c.args.arcs.now in
-    let n = places c.args.self.now in
+    let n = component_places c.args.self.now in
     let s = c.loop-to.self in
     let place = c.index-place.result.now in
     let to = c.in-Some.to in
@@ -138,7 +138,7 @@ loop-to-preserved g c =
       seen = I.seen;
       depth = I.depth;
       fits = N.fits;
-      advancing = advancing-done arc turn n (state_of s) place c.loop-to.from to c.in-Some.next I.advancing N
+      advancing = advancing-done arc turn n (path_state s) place c.loop-to.from to c.in-Some.next I.advancing N
           (done ∙ c.if-not-index-2.false);
     }
 
@@ -148,12 +148,12 @@ returns-clause-going g c =
     let A = I.advancing in
     let arc = g.A.Arcs.leads c.args.arcs.now in
     let turn = g.A.Arcs.turn c.args.arcs.now in
-    let n = places c.args.self.now in
+    let n = component_places c.args.self.now in
     let s = c.loop-to.self in
     let place = c.index-place.result.now in
     let from = c.loop-to.from in
-    let below = (last_below arc turn n (state_of s) A.going A.some).1 in
+    let below = (last_below arc turn n (path_state s) A.going A.some).1 in
     let fits : place < length s.next.items =
     omega (arith, I.stored.next, ap Rattle.std.specs.Prelude.vec_len I.seen, A.last, below) in
-    advancing-stop arc turn n (state_of s) place from (λ y. get_or (set s.next.items place from) y 0) A
+    advancing-stop arc turn n (path_state s) place from (λ y. get_or (set s.next.items place from) y 0) A
     (get_or-set_same s.next.items place from 0 fits) (λ y ne. get_or-set_other s.next.items place y from 0 ne)

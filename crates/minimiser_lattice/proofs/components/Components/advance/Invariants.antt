@@ -1,15 +1,15 @@
 use Rattle.std.proofs.Common.{◌≡◌, ◌-◌, ◌<◌, ◌^◌}
-use Rattle.minimiser_lattice.specs.Components.{IsStored, places, state_of}
+use Rattle.minimiser_lattice.specs.Components.{HasArrays, component_places, path_state}
 use Rattle.minimiser_lattice.proofs.PathLaws.{IsAdvancing}
 use Rattle.minimiser_lattice.proofs.components.Components.advance.Given as goal
 
 abbrev pub invariant-loop-to : goal.invariant-loop-to
 invariant-loop-to g l = record {
-  stored : IsStored l.self;
+  stored : HasArrays l.self;
   seen : l.self.seen ≡ l.fn.self.seen;
   depth : l.self.depth ≡ l.fn.self.depth;
   fits : l.from < 2 ^ 64;
-  advancing : IsAdvancing (g.A.Arcs.leads l.arcs) (g.A.Arcs.turn l.arcs) (places l.fn.self) (state_of l.self) l.place l.from;
+  advancing : IsAdvancing (g.A.Arcs.leads l.arcs) (g.A.Arcs.turn l.arcs) (component_places l.fn.self) (path_state l.self) l.place l.from;
 }
 
 abbrev pub decreases-loop-to : goal.decreases-loop-to

@@ -1,7 +1,7 @@
 use Rattle.std.proofs.Common.{ℕ, inl, inr, sym, subst, ◌∙◌, arith}
 use Rattle.residue_theory.proofs.SumLaws.{nat_cases}
 use Rattle.bit_table.specs.Bits.{bit_in}
-use Rattle.minimiser_lattice.specs.Components.{places}
+use Rattle.minimiser_lattice.specs.Components.{component_places}
 use Rattle.minimiser_lattice.specs.Listings.{listed_of}
 use Rattle.minimiser_lattice.specs.Covers.{IsCoverRow}
 use Rattle.minimiser_lattice.proofs.CoverLaws.{row-same}
@@ -18,8 +18,8 @@ loop-j-preserved c =
     record {
       room = E.room;
       rows = λ k less. elim (nat_cases k c.loop-j.j) [
-        | inl q ↦ subst (λ (v : ℕ). IsCoverRow (places cs) (bit_in cs.strict) (listed_of l) l.blocks now v) (sym q) E.row
-        | inr ne ↦ row-same (places cs) (bit_in cs.strict) (listed_of l) l.blocks before now k c.requires.listed.fits
+        | inl q ↦ subst (λ (v : ℕ). IsCoverRow (component_places cs) (bit_in cs.strict) (listed_of l) l.blocks now v) (sym q) E.row
+        | inr ne ↦ row-same (component_places cs) (bit_in cs.strict) (listed_of l) l.blocks before now k c.requires.listed.fits
             (λ i il. E.others k i il ne) (I.rows k (omega arith))
       ];
       empty = λ k i le il. E.others k i il (λ q. omega arith) ∙ I.empty k i (omega arith) il;

@@ -1,6 +1,6 @@
 use Rattle.std.proofs.Common.{◌∙◌, ap, refl, arith}
 use Rattle.bit_table.specs.Bits.{bit_in}
-use Rattle.minimiser_lattice.specs.Covers.{lower_of}
+use Rattle.minimiser_lattice.specs.Covers.{lower_count}
 use Rattle.minimiser_lattice.specs.declared.covers.Covers.{Covers}
 use Rattle.minimiser_lattice.proofs.CoverLaws.{gathered-none, gathered-next}
 use Rattle.minimiser_lattice.proofs.covers.Covers.gather.Goals as goal
@@ -11,7 +11,7 @@ loop-m-init c = record {
   kept = refl;
   fits = omega arith;
   within = omega arith;
-  gathered = gathered-none (bit_in c.args.components.now.strict) c.args.l (lower_of c.args.self.now);
+  gathered = gathered-none (bit_in c.args.components.now.strict) c.args.l (lower_count c.args.self.now);
 }
 
 pub loop-m-preserved : goal.loop-m-preserved
@@ -33,5 +33,5 @@ loop-m-preserved c =
       fits = omega (arith, I.fits, L.from_on);
       within = omega (arith, L.before_end);
       gathered = gathered-next (bit_in cs.strict) c.args.l c.loop-m.from c.in-Some.m c.loop-m.filled
-          (lower_of c.loop-m.self) (lower_of t) I.gathered L E.here E.others;
+          (lower_count c.loop-m.self) (lower_count t) I.gathered L E.here E.others;
     }

@@ -4,10 +4,10 @@ use Rattle.closed_sets.proofs.Listings.{Started}
 use Rattle.closed_sets.proofs.SetLaws.{size_on-bound}
 use Rattle.bit_table.specs.Bits.{bit_in}
 use Rattle.bit_table.proofs.BitLaws.{item_is}
-use Rattle.minimiser_lattice.specs.Components.{number_of, places}
-use Rattle.minimiser_lattice.specs.Standings.{IsReadyAt, IsWaiting, is_listed, standing_in}
+use Rattle.minimiser_lattice.specs.Components.{component_number, component_places}
+use Rattle.minimiser_lattice.specs.Standings.{IsFreeToStand, IsWaiting, is_listed, standing_in}
 use Rattle.minimiser_lattice.specs.Ready.{AreApartIn}
-use Rattle.minimiser_lattice.specs.Listings.{HasPlaces, HasStandings, IsOpened, middle_of, standing_of, table_of}
+use Rattle.minimiser_lattice.specs.Listings.{HasPlaces, HasStandings, IsOpenedListing, middle_of, standing_of, reached_table}
 use Rattle.minimiser_lattice.specs.declared.components.Components.{Components}
 use Rattle.minimiser_lattice.specs.declared.listing.Listing.{Listing}
 use Rattle.minimiser_lattice.specs.declared.ready.Ready.{Ready}
@@ -18,7 +18,7 @@ use Rattle.minimiser_lattice.proofs.listing.Listing.list.Goals as goal
 -- what holds at each turn
 abbrev Holds : Components → Listing → Listing → Type 0
 Holds cs old v = record {
-  opened : IsOpened v (places cs);
+  opened : IsOpenedListing v (component_places cs);
   kept : v ≡ record old {
     standing = v.standing;
     ready = v.ready;
@@ -30,9 +30,9 @@ Holds cs old v = record {
   standings : HasStandings cs.count (middle_of old) (standing_of v) (λ j. get_or v.listed.items j 0) v.blocks;
   has : HasPlaces cs.count (middle_of old) (λ k. get_or v.rank.items k 0) (λ j. get_or v.listed.items j 0) v.blocks;
   started : (arc : ℕ → ℕ → Bool) (starts ends : ℕ → Bool) →
-      Tells arc (places cs) starts ends (table_of (bit_in cs.strict) (number_of cs)) (λ x. middle_of old (number_of cs x)) →
-      Started arc (places cs) starts ends v.blocks (λ x. is_listed (standing_of v (number_of cs x)))
-      (λ x. get_or v.rank.items (number_of cs x) 0);
+      Tells arc (component_places cs) starts ends (reached_table (bit_in cs.strict) (component_number cs)) (λ x. middle_of old (component_number cs x)) →
+      Started arc (component_places cs) starts ends v.blocks (λ x. is_listed (standing_of v (component_number cs x)))
+      (λ x. get_or v.rank.items (component_number cs x) 0);
 }
 
 pub loop-place-init : goal.loop-place-init
@@ -51,11 +51,11 @@ loop-place-init c =
       };
       kept = refl;
       apart = subst (λ v. AreApartIn cs (standing_in v) (λ _. ⊥) c.begin.new.self) c.deref.ensures.value c.begin.ensures;
-      standings = standings-first (places cs) (number_of cs) cs.count (bit_in cs.strict) c.requires.numbering
+      standings = standings-first (component_places cs) (component_number cs) cs.count (bit_in cs.strict) c.requires.numbering
           (middle_of old) (standing_of old) c.requires.wait (λ j. get_or old.listed.items j 0) old.blocks c.requires.blocks;
       has = places-first cs.count (middle_of old) (λ k. get_or old.rank.items k 0) (λ j. get_or old.listed.items j 0)
           old.blocks c.requires.blocks;
-      started = λ arc starts ends D. list-first (places cs) (number_of cs) cs.count (bit_in cs.strict)
+      started = λ arc starts ends D. list-first (component_places cs) (component_number cs) cs.count (bit_in cs.strict)
           c.requires.numbering (middle_of old) (standing_of old) c.requires.wait arc starts ends
           (λ k. get_or old.rank.items k 0) old.blocks c.requires.blocks;
     }
@@ -71,10 +71,10 @@ put-requires-clause-listed c =
       arith,
       I.opened.listed,
       N.fits,
-      standings-fit (places cs) (number_of cs) cs.count (bit_in cs.strict) N (middle_of c.args.self.now)
-          (standing_of s) (λ j. get_or s.listed.items j 0) s.blocks (number_of cs place) I.standings
+      standings-fit (component_places cs) (component_number cs) cs.count (bit_in cs.strict) N (middle_of c.args.self.now)
+          (standing_of s) (λ j. get_or s.listed.items j 0) s.blocks (component_number cs place) I.standings
           (N.below place c.in-Some.ensures.below)
-          (subst (λ v. IsWaiting (standing_in v) (number_of cs place)) c.deref-in-loop-place.ensures.value c.in-Some.ensures.ready.0),
+          (subst (λ v. IsWaiting (standing_in v) (component_number cs place)) c.deref-in-loop-place.ensures.value c.in-Some.ensures.ready.0),
     )
 
 pub release-requires-clause-apart : goal.release-requires-clause-apart
@@ -85,7 +85,7 @@ release-requires-clause-apart c =
     let P = c.put.ensures in
     let k = c.index-k.result.now in
     let place = c.in-Some.place in
-    let is : number_of cs place ≡ k = item_is cs.number.items place k
+    let is : component_number cs place ≡ k = item_is cs.number.items place k
     (omega (arith, c.requires.stored.number, c.in-Some.ensures.below)) c.index-k.ensures in
     let apart = c.in-Some.ensures.apart (standing_of t) (ap (standing_of t) is ∙ P.standing)
     (λ l ne. P.standing_others l (λ q. ne (q ∙ sym is))
@@ -105,10 +105,10 @@ loop-place-smaller c =
     omega (
       arith,
       ap (λ (v : Listing). v.blocks) c.put.ensures.kept,
-      standings-fit (places cs) (number_of cs) cs.count (bit_in cs.strict) N (middle_of c.args.self.now)
-          (standing_of s) (λ j. get_or s.listed.items j 0) s.blocks (number_of cs place) I.standings
+      standings-fit (component_places cs) (component_number cs) cs.count (bit_in cs.strict) N (middle_of c.args.self.now)
+          (standing_of s) (λ j. get_or s.listed.items j 0) s.blocks (component_number cs place) I.standings
           (N.below place c.in-Some.ensures.below)
-          (subst (λ v. IsWaiting (standing_in v) (number_of cs place)) c.deref-in-loop-place.ensures.value c.in-Some.ensures.ready.0),
+          (subst (λ v. IsWaiting (standing_in v) (component_number cs place)) c.deref-in-loop-place.ensures.value c.in-Some.ensures.ready.0),
     )
 
 pub loop-place-preserved : goal.loop-place-preserved
@@ -125,18 +125,19 @@ loop-place-preserved c =
     let k = c.index-k.result.now in
     let place = c.in-Some.place in
     let small = c.in-Some.ensures.below in
-    let is : number_of cs place ≡ k = item_is cs.number.items place k
+    let is : component_number cs place ≡ k = item_is cs.number.items place k
     (omega (arith, c.requires.stored.number, small)) c.index-k.ensures in
-    let ready = subst (λ v. IsReadyAt (bit_in cs.strict) (standing_in v) (number_of cs place)) D.value c.in-Some.ensures.ready in
-    let least = subst (λ v. (j : ℕ) → j < place → IsReadyAt (bit_in cs.strict) (standing_in v) (number_of cs j) → ⊥) D.value c.in-Some.ensures.least in
+    let ready = subst (λ v. IsFreeToStand (bit_in cs.strict) (standing_in v) (component_number cs place)) D.value c.in-Some.ensures.ready in
+    let least = subst (λ v. (j : ℕ) → j < place → IsFreeToStand (bit_in cs.strict) (standing_in v) (component_number cs j) → ⊥) D.value
+    c.in-Some.ensures.least in
     let more_blocks : t.blocks ≡ s.blocks + 1 = ap (λ (v : Listing). v.blocks) P.kept in
-    let put : standing_of t (number_of cs place) ≡ Listed = ap (standing_of t) is ∙ P.standing in
-    let put_others : (l : ℕ) → l ≢ number_of cs place → standing_of t l ≡ standing_of s l =
+    let put : standing_of t (component_number cs place) ≡ Listed = ap (standing_of t) is ∙ P.standing in
+    let put_others : (l : ℕ) → l ≢ component_number cs place → standing_of t l ≡ standing_of s l =
     λ l ne. P.standing_others l (λ q. ne (q ∙ sym is)) in
-    let here : get_or t.rank.items (number_of cs place) 0 ≡ s.blocks = ap (λ v. get_or t.rank.items v 0) is ∙ P.rank in
-    let others : (l : ℕ) → l ≢ number_of cs place → get_or t.rank.items l 0 ≡ get_or s.rank.items l 0 =
+    let here : get_or t.rank.items (component_number cs place) 0 ≡ s.blocks = ap (λ v. get_or t.rank.items v 0) is ∙ P.rank in
+    let others : (l : ℕ) → l ≢ component_number cs place → get_or t.rank.items l 0 ≡ get_or s.rank.items l 0 =
     λ l ne. P.rank_others l (λ q. ne (q ∙ sym is)) in
-    let new : get_or t.listed.items s.blocks 0 ≡ number_of cs place = P.listed ∙ sym is in
+    let new : get_or t.listed.items s.blocks 0 ≡ component_number cs place = P.listed ∙ sym is in
     let same : (j : ℕ) → j ≢ s.blocks → get_or t.listed.items j 0 ≡ get_or s.listed.items j 0 =
     λ j ne. P.listed_others j ne in
     let first : t.first ≡ old.first = ap (λ (v : Listing). v.first) P.kept ∙ ap (λ (v : Listing). v.first) I.kept in
@@ -154,21 +155,21 @@ loop-place-preserved c =
       apart = subst (λ v. AreApartIn cs (standing_in v) (λ _. ⊥) z) c.deref-in-Some.ensures.value c.release.ensures;
       standings = subst (λ v. HasStandings cs.count (middle_of old) (standing_of t) (λ j. get_or t.listed.items j 0) v)
           (sym more_blocks)
-          (standings-next (places cs) (number_of cs) cs.count (bit_in cs.strict) N (middle_of old)
+          (standings-next (component_places cs) (component_number cs) cs.count (bit_in cs.strict) N (middle_of old)
           (standing_of s) (standing_of t) (λ l. get_or s.rank.items l 0) (λ l. get_or t.rank.items l 0) place s.blocks
           small ready.0 put put_others here others (λ j. get_or s.listed.items j 0)
           (λ j. get_or t.listed.items j 0) I.standings new same);
       has = subst (λ v. HasPlaces cs.count (middle_of old) (λ l. get_or t.rank.items l 0)
           (λ j. get_or t.listed.items j 0) v) (sym more_blocks)
-          (places-next (places cs) (number_of cs) cs.count (bit_in cs.strict) N (middle_of old)
+          (places-next (component_places cs) (component_number cs) cs.count (bit_in cs.strict) N (middle_of old)
           (standing_of s) (standing_of t) (λ l. get_or s.rank.items l 0) (λ l. get_or t.rank.items l 0) place s.blocks
           small ready.0 put put_others here others (λ j. get_or s.listed.items j 0)
           (λ j. get_or t.listed.items j 0) I.standings I.has new same);
       started = λ arc starts ends D. subst
-          (λ v. Started arc (places cs) starts ends v
-          (λ x. is_listed (standing_of t (number_of cs x))) (λ x. get_or t.rank.items (number_of cs x) 0))
+          (λ v. Started arc (component_places cs) starts ends v
+          (λ x. is_listed (standing_of t (component_number cs x))) (λ x. get_or t.rank.items (component_number cs x) 0))
           (sym more_blocks)
-          (list-next (places cs) (number_of cs) cs.count (bit_in cs.strict) N (middle_of old)
+          (list-next (component_places cs) (component_number cs) cs.count (bit_in cs.strict) N (middle_of old)
           (standing_of s) arc starts ends D I.standings.middles (standing_of t) (λ l. get_or s.rank.items l 0)
           (λ l. get_or t.rank.items l 0) place s.blocks small ready least put put_others here others
           (I.started arc starts ends D));
@@ -179,10 +180,10 @@ returns-clause-listing c =
     let cs = c.args.components.now in
     let I = c.loop-place.invariant in
     let s = c.loop-place.self in
-    λ arc starts ends D. list-done (places cs) (number_of cs) cs.count (bit_in cs.strict) c.requires.numbering
+    λ arc starts ends D. list-done (component_places cs) (component_number cs) cs.count (bit_in cs.strict) c.requires.numbering
     (middle_of c.args.self.now) (standing_of s) arc starts ends D (λ l. get_or s.rank.items l 0) s.blocks
     I.standings.middles
-    (subst (λ v. (j : ℕ) → j < places cs → IsReadyAt (bit_in cs.strict) (standing_in v) (number_of cs j) → ⊥)
+    (subst (λ v. (j : ℕ) → j < component_places cs → IsFreeToStand (bit_in cs.strict) (standing_in v) (component_number cs j) → ⊥)
     c.deref-in-loop-place.ensures.value c.in_default.ensures.none)
     (I.started arc starts ends D)
 

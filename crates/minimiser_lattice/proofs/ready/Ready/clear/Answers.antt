@@ -1,7 +1,7 @@
 use Rattle.std.proofs.Common.{ap, ◌∙◌, arith}
 use Rattle.std.specs.BinaryHeap.{heap_items, heap_len}
 use Rattle.bit_table.specs.Bits.{bit_in}
-use Rattle.minimiser_lattice.specs.Components.{number_of, places}
+use Rattle.minimiser_lattice.specs.Components.{component_number, component_places}
 use Rattle.minimiser_lattice.specs.Ready.{held_of}
 use Rattle.minimiser_lattice.specs.declared.ready.Ready.{Ready}
 use Rattle.minimiser_lattice.proofs.ReadyLaws.{apart-clear}
@@ -11,7 +11,7 @@ pub returns-clause-apart : goal.returns-clause-apart
 returns-clause-apart c =
     let cs = c.args.components.now in
     let K = c.seat.ensures.kept in
-    λ standing. apart-clear (number_of cs) (bit_in cs.strict) standing (places cs) cs.count c.seat.new.self
+    λ standing. apart-clear (component_number cs) (bit_in cs.strict) standing (component_places cs) cs.count c.seat.new.self
     c.seat.ensures.room
     (ap (λ (r : Ready). heap_len r.keys) K ∙ c.clear-2.ensures.len)
     (ap (λ (r : Ready). heap_items r.keys) K ∙ c.clear-2.ensures.items)

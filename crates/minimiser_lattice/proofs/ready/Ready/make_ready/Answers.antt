@@ -2,7 +2,7 @@ use Rattle.std.proofs.Common.{◌∷◌, subst, arith}
 use Rattle.std.specs.BinaryHeap.{heap_items, heap_len}
 use Rattle.std.specs.List.Sorted.{IsPermutation}
 use Rattle.bit_table.proofs.BitLaws.{item_is}
-use Rattle.minimiser_lattice.specs.Components.{places}
+use Rattle.minimiser_lattice.specs.Components.{component_places}
 use Rattle.minimiser_lattice.specs.Ready.{held_of}
 use Rattle.minimiser_lattice.proofs.ReadyLaws.{on-ok, room-left}
 use Rattle.minimiser_lattice.proofs.ready.Ready.make_ready.Goals as goal
@@ -10,7 +10,7 @@ use Rattle.minimiser_lattice.proofs.ready.Ready.make_ready.Goals as goal
 pub returns-clause-pushed : goal.returns-clause-pushed
 returns-clause-pushed c =
     let s = c.args.self.now in
-    let n = places c.args.components.now in
+    let n = component_places c.args.components.now in
     let few = room-left (held_of s) (heap_len s.keys) c.args.components.now.count c.args.k c.requires.few c.requires.k
     c.requires.held in
     let is = item_is s.least.items c.args.k c.index.result.now (omega (arith, c.requires.k, c.requires.count, c.requires.room.least)) c.index.ensures in

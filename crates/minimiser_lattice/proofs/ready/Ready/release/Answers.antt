@@ -3,7 +3,7 @@ use Rattle.residue_theory.proofs.SumLaws.{nat_cases}
 use Rattle.residue_theory.proofs.SetLaws.{differ}
 use Rattle.exchange_graph.proofs.ItemLaws.{mark_read}
 use Rattle.bit_table.specs.Bits.{bit_in}
-use Rattle.minimiser_lattice.specs.Components.{number_of, places}
+use Rattle.minimiser_lattice.specs.Components.{component_number, component_places}
 use Rattle.minimiser_lattice.specs.Standings.{standing_in}
 use Rattle.minimiser_lattice.specs.Ready.{AreApartIn, held_of}
 use Rattle.minimiser_lattice.specs.declared.ready.Ready.{Ready}
@@ -20,7 +20,7 @@ loop-k-preserved c =
     let k = c.in-Some.k in
     let s = c.loop-k.self in
     let from = c.loop-k.from in
-    let n = places cs in
+    let n = component_places cs in
     let l = c.args.l in
     let old = bit_in c.args.self.now.waits in
     let kl : k < cs.count = L.before_end in
@@ -38,7 +38,7 @@ loop-k-preserved c =
     } in
     elim c.if-index.branch [
       | then-index w ↦ subst P (sym w.self-is) (record {
-        apart = apart-settled (number_of cs) (bit_in cs.strict) standing n cs.count
+        apart = apart-settled (component_number cs) (bit_in cs.strict) standing n cs.count
             (λ j. (from ≤ j) × (old l j ≡ true)) (λ j. (k + 1 ≤ j) × (old l j ≡ true)) s w.settle.new.self I.apart k (l + 1)
             kl c.requires.numbering.fits (held ∙ w.if-index.true)
             w.settle.ensures.room w.settle.ensures.least next w.settle.ensures.settled;
@@ -46,7 +46,7 @@ loop-k-preserved c =
             (omega arith) jl ∙ I.row j jl;
       })
       | else-index w ↦ subst P (sym w.self-is) (record {
-        apart = apart-excuse (number_of cs) (bit_in cs.strict) standing n cs.count
+        apart = apart-excuse (component_number cs) (bit_in cs.strict) standing n cs.count
             (λ j. (from ≤ j) × (old l j ≡ true)) (λ j. (k + 1 ≤ j) × (old l j ≡ true)) s I.apart
             (λ j jl v h e. elim (nat_cases j k) [
               | inl q ↦ absurd (differ (held ∙ w.if-index.false) (subst (λ i. held_of s i ≡ true) q h))
