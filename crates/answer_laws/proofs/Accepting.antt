@@ -16,8 +16,8 @@ use Rattle.command_line.specs.Words.{AsksFor, over}
 use Rattle.command_line.specs.declared.command.Command.TheVariants.{Check, OfModel}
 use Rattle.command_line.specs.declared.command.Task.TheVariants.{Analyse}
 use Rattle.report_cli.specs.Answer.{IsAnswer, IsAnswerOf}
-use Rattle.report_cli.specs.Fields.{version_of}
-use Rattle.report_cli.specs.RightFor.{IsRightFor}
+use Rattle.report_cli.specs.Fields.{certificate_version}
+use Rattle.report_cli.specs.RightFor.{IsRightForInput}
 use Rattle.report_cli.specs.declared.output.Output.TheVariants.{Accepted}
 use Rattle.run_ends.specs.declared.status.Status.TheVariants.{Done}
 use Rattle.report_cli.proofs.Certified.{is-certificate}
@@ -30,7 +30,7 @@ low-modulus Small = lit< tt
 low-modulus Large = lit< tt
 
 module _ (field : Option FieldName) (kind : Kind) (input : List ℕ) (c : Certificate)
-    (right : IsRightFor (modulus_of (over field)) (version_of field) kind input c) where
+    (right : IsRightForInput (modulus_of (over field)) (certificate_version field) kind input c) where
   gives-again : GivesModel c.modulus c.kind c.echo right.model
   gives-again = subst (λ m. GivesModel m c.kind c.echo right.model) (sym right.modulus_is)
       (subst (λ k. GivesModel (modulus_of (over field)) k c.echo right.model) (sym right.kind_is)

@@ -15,12 +15,12 @@ use Rattle.run_ends.specs.Ways.{HasText}
 use Rattle.report_cli.specs.Answer.{IsAnswer, IsAnswerOf, IsOutputText}
 use Rattle.answer_texts.specs.LayerTexts.{layer_text}
 use Rattle.report_cli.specs.Outputs.{IsOutputFor, output_text}
-use Rattle.report_cli.specs.RightFor.{IsRightFor}
+use Rattle.report_cli.specs.RightFor.{IsRightForInput}
 use Rattle.report_cli.specs.Rooms.{request_room}
 use Rattle.answer_texts.specs.WholeLayers.{AreWholeLayers}
 use Rattle.input_kinds.specs.Kinds.{GivesModel}
 use Rattle.residue_field.specs.Modulus.{modulus_of}
-use Rattle.report_cli.specs.Fields.{digits, command_modulus, version_of}
+use Rattle.report_cli.specs.Fields.{digits, command_modulus, certificate_version}
 use Rattle.command_line.specs.Words.{Asks, AsksFor, field_of, format_of, over}
 use Rattle.command_line.specs.declared.command.Command.{Command}
 use Rattle.command_line.specs.declared.command.Command.TheVariants.{OfModel}
@@ -61,7 +61,7 @@ reported_by words command input text asks answer = (of_command words command inp
 pub record IsCertified (field : Option FieldName) (kind : Kind) (input text : List ℕ) : Type 0 where
   pub certificate : Certificate
   pub text_is : text ≡ certificate_text certificate
-  pub right : IsRightFor (modulus_of (over field)) (version_of field) kind input certificate
+  pub right : IsRightForInput (modulus_of (over field)) (certificate_version field) kind input certificate
 
 -- one kind and one field have one command
 same-kind : (task : Task) (kind other : Kind) (field named : Option FieldName) → OfModel task kind field ≡ OfModel task other named → other ≡ kind
@@ -75,8 +75,9 @@ certified : (kind : Kind) (field : Option FieldName) (input text : List ℕ) (ou
 certified kind field input text (Certified certificate) (other, named, is, right) text_is = record {
   certificate = certificate;
   text_is = text_is;
-  right = subst (λ f. IsRightFor (modulus_of (over field)) (version_of f) kind input certificate) (same-field Analyse kind other field named is)
-      (subst (λ k. IsRightFor (modulus_of (over field)) (version_of named) k input certificate) (same-kind Analyse kind other field named is) right);
+  right = subst (λ f. IsRightForInput (modulus_of (over field)) (certificate_version f) kind input certificate) (same-field Analyse kind other field named is)
+      (subst (λ k. IsRightForInput (modulus_of (over field)) (certificate_version named) k input certificate) (same-kind Analyse kind other field named is)
+      right);
 }
 certified kind field input text (Layering model layers) (other, named, is, gives, are, whole) text_is = absurd cc
 certified kind field input text (Reporting model told) (other, named, is, gives, reports) text_is = absurd cc

@@ -34,7 +34,7 @@ use Rattle.existence_laws.proofs.Reporting.{has-report}
 use Rattle.existence_laws.proofs.RightForms.{right-form}
 use Rattle.existence_laws.proofs.TextVerdicts.{text-verdict}
 use Rattle.run_ends.specs.Ways.{HasText}
-use Rattle.report_cli.specs.Fields.{command_modulus, version_of}
+use Rattle.report_cli.specs.Fields.{command_modulus, certificate_version}
 use Rattle.report_cli.specs.Formats.{limit_of}
 use Rattle.report_cli.specs.Outputs.{IsOutputFor, end_of, end_of_rank, output_text}
 use Rattle.report_cli.specs.declared.output.Output.{Output}
@@ -97,7 +97,7 @@ written task kind field input short model gives = go task
 
     go : (task : Task) → IsWritten task kind field input
     go Analyse = record {
-      output = outputs.Certificate (record { version = version_of field; modulus = p; kind = kind; echo = input; ccf = all.form.form });
+      output = outputs.Certificate (record { version = certificate_version field; modulus = p; kind = kind; echo = input; ccf = all.form.form });
       right = (
         kind,
         field,

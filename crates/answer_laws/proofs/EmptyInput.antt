@@ -13,15 +13,15 @@ use Rattle.cert_text.specs.declared.shape.Shape.{Shape}
 use Rattle.report_cli.specs.Answer.{IsAnswer}
 use Rattle.cert_text.specs.declared.version.Version.{Version}
 use Rattle.residue_field.specs.Modulus.{modulus_of}
-use Rattle.report_cli.specs.Fields.{version_of}
-use Rattle.report_cli.specs.RightFor.{IsRightFor}
+use Rattle.report_cli.specs.Fields.{certificate_version}
+use Rattle.report_cli.specs.RightFor.{IsRightForInput}
 use Rattle.command_line.specs.Words.{AsksFor, over}
 use Rattle.residue_field.specs.declared.field_name.FieldName.{FieldName}
 use Rattle.residue_field.specs.declared.field_name.FieldName.TheVariants.{Large, Small}
 use Rattle.command_line.specs.declared.command.Command.TheVariants.{OfModel}
 use Rattle.command_line.specs.declared.command.Task.TheVariants.{Analyse}
 use Rattle.run_ends.specs.declared.status.Status.TheVariants.{Done}
-use Rattle.report_cli.proofs.ByKind.{no-names}
+use Rattle.input_kinds.proofs.NamesByKind.{no-names}
 use Rattle.report_cli.proofs.TextRooms.{members-few}
 use Rattle.answer_laws.specs.NoAnswers.{empty_text}
 use Rattle.answer_laws.proofs.Answers.{analysed}
@@ -112,7 +112,7 @@ nowhere = record { equations = 0; unknowns = 0; q_rows = 0; t_rows = 0; columns 
 
 -- the text of a certificate of nothing, by its field and its kind
 nothing-text : (field : Option FieldName) (kind : Kind) →
-    text_with (version_of field) (modulus_of (over field)) kind [] nowhere 0 [] [] [] (codes "first |\nlast |\n") ≡ empty_text field kind
+    text_with (certificate_version field) (modulus_of (over field)) kind [] nowhere 0 [] [] [] (codes "first |\nlast |\n") ≡ empty_text field kind
 unfolding digits
 nothing-text None Matrix = refl
 nothing-text None Netlist = refl
@@ -125,10 +125,10 @@ nothing-text (Some Large) Netlist = refl
 nothing-text (Some Large) Flowsheet = refl
 
 pub empty-certificate : (field : Option FieldName) (kind : Kind) (c : Certificate) →
-    IsRightFor (modulus_of (over field)) (version_of field) kind [] c → certificate_text c ≡ empty_text field kind
+    IsRightForInput (modulus_of (over field)) (certificate_version field) kind [] c → certificate_text c ≡ empty_text field kind
 empty-certificate field kind c right =
     let p : ℕ = modulus_of (over field) in
-    let version = version_of field in
+    let version = certificate_version field in
     let few = no-names p kind right.model right.gives in
     let shape = (right.right).shape in
     let lay = right.layers in

@@ -39,15 +39,15 @@ use Rattle.command_line.specs.declared.command.Command.{Command}
 use Rattle.command_line.specs.declared.command.Task.TheVariants as Task
 use Rattle.run_ends.specs.Ways.{HasText}
 use Rattle.report_cli.specs.Answer.{IsAnswer}
-use Rattle.report_cli.specs.Fields.{command_modulus, digits, version_of}
+use Rattle.report_cli.specs.Fields.{command_modulus, digits, certificate_version}
 use Rattle.report_cli.specs.PlanFor.{IsPlanFor}
-use Rattle.report_cli.specs.RightFor.{IsRightFor}
+use Rattle.report_cli.specs.RightFor.{IsRightForInput}
 use Rattle.report_cli.specs.declared.output.Output.{Output}
 use Rattle.report_cli.specs.declared.output.Output.TheVariants.{Accepted, Certificate as Certified}
 use Rattle.report_cli.specs.declared.output.Output.TheVariants.{Layers as Layering, Made, Plan as Planning}
 use Rattle.report_cli.specs.declared.output.Output.TheVariants.{Report as Reporting}
 use Rattle.run_ends.specs.declared.status.Status.{Status}
-use Rattle.report_cli.proofs.ByKind.{no-names}
+use Rattle.input_kinds.proofs.NamesByKind.{no-names}
 use Rattle.report_cli.proofs.FieldFacts.{low-of, prime-of, some-of}
 use Rattle.report_cli.proofs.ReportFacts.{rank-many, surplus-few, undetermined-few}
 use Rattle.report_cli.proofs.RunWords.{of_command}
@@ -145,8 +145,8 @@ unaccepted accepted =
 
 fits-empty : (command : Command) (output : Output ℕ) → IsRightOutput command [] output → length (text_of output) ≤ empty_room command
 fits-empty command (Certified c) (kind, field, is, right) =
-    let here : IsRightFor (modulus_of (over field)) (version_of field) kind [] c =
-    subst (λ x. IsRightFor (command_modulus x) (version_of field) kind [] c) is right in
+    let here : IsRightForInput (modulus_of (over field)) (certificate_version field) kind [] c =
+    subst (λ x. IsRightForInput (command_modulus x) (certificate_version field) kind [] c) is right in
     subst (λ x. length (certificate_text c) ≤ empty_room x) (sym is)
     (omega (arith, ap length (empty-certificate field kind c here), certificate-room field kind))
 fits-empty command (Layering model layers) (kind, field, is, gives, are, whole) =

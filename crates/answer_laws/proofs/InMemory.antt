@@ -11,10 +11,10 @@ use Rattle.report_cli.specs.Answer.{IsAnswer}
 use Rattle.run_ends.specs.declared.status.Status.{Status}
 use Rattle.run_ends.specs.declared.status.Status.TheVariants.{BadCertificate, Done, Memory, NotRegular, ReadFault}
 use Rattle.run_ends.specs.declared.status.Status.TheVariants.{Refused, Rejected, TooLong, Usage, WriteFault}
-use Rattle.answer_laws.specs.InMemory.{Answers, IsAnswered, IsAnsweredBy}
+use Rattle.answer_laws.specs.InMemory.{AnswersInMemory, IsAnswered, IsAnsweredBy}
 
 pub answered_by : (words : List (List ℕ)) (input : List ℕ) (source source' : MemorySource) (out out' : MemorySink) (status : Status) →
-    source.left ≡ input → out.written ≡ [] → Answers words source source' out out' status → IsAnsweredBy words input status out'.written
+    source.left ≡ input → out.written ≡ [] → AnswersInMemory words source source' out out' status → IsAnsweredBy words input status out'.written
 answered_by words input source source' out out' status left empty (inr memory) = inr memory
 answered_by words input source source' out out' status left empty (inl answered) = inl (record {
   read = answered.read;
@@ -52,7 +52,7 @@ module _ (words : List (List ℕ)) (source source' : MemorySource) (out out' : M
   pub in-memory : (status : Status) →
       TellsAnswer status (Answered (IsAnswer words) (Some source.left) (Some source'.left) (Some out.written) (Some out'.written) status) →
       ((command : Command) → AsksFor words command → ReadsAll status (Ended (Some source'.left))) →
-      (status ≡ ReadFault → ⊥) → (status ≡ WriteFault → ⊥) → Answers words source source' out out' status
+      (status ≡ ReadFault → ⊥) → (status ≡ WriteFault → ⊥) → AnswersInMemory words source source' out out' status
   in-memory Done a ended no_read no_write = inl (answered-so Done a ended)
   in-memory NotRegular a ended no_read no_write = inl (answered-so NotRegular a ended)
   in-memory Usage a ended no_read no_write = inl (answered-so Usage a ended)

@@ -24,8 +24,8 @@ use Rattle.cert_text.specs.Contents.{Certificate}
 use Rattle.cert_text.specs.declared.kind.Kind.TheVariants.{Matrix}
 use Rattle.cert_text.specs.declared.shape.Shape.{Shape}
 use Rattle.cert_text.specs.declared.version.Version.TheVariants.{One}
-use Rattle.answer_texts.specs.LayerTexts.{column_lines, layer_text, q_line, row_lines, t_line}
-use Rattle.report_cli.specs.RightFor.{IsRightFor}
+use Rattle.answer_texts.specs.LayerTexts.{column_lines, layer_text, q_line, named_row_lines, t_line}
+use Rattle.report_cli.specs.RightFor.{IsRightForInput}
 use Rattle.answer_texts.specs.WholeLayers.{AreWholeLayers}
 use Rattle.answer_texts.proofs.LayerPieces.{got_or}
 use Rattle.answer_laws.specs.NoAnswers.{NoListLeavesItsRange, NoColumnLineIsMadeUp, one_equation, out_of_range}
@@ -100,7 +100,7 @@ small-base m n (pair ∷ next ∷ pairs) one two are =
     let within = are.within 1 next (omega arith) in
     absurd (omega (arith, rises, within.0, one))
 
-module _ (c : Certificate) (right : IsRightFor (modulus_of Small) One Matrix one_equation c) where
+module _ (c : Certificate) (right : IsRightForInput (modulus_of Small) One Matrix one_equation c) where
   shape-is : c.ccf.shape ≡ record { equations = 1; unknowns = 1; q_rows = 1; t_rows = 0; columns = 1 }
   shape-is =
       let shape = (right.right).shape in
@@ -156,7 +156,7 @@ one-column-text model (origin ∷ []) one got named =
 one-column-text model (origin ∷ next ∷ origins) one got named = absurd (omega (arith, one))
 
 first-row : (names : List (List ℕ)) (origins : List ℕ) (rows : List (List ℕ)) (more : List ℕ) → length rows ≡ 1 →
-    get_or (row_lines q_line names origins 0 rows ++ more) 0 0 ≡ 113
+    get_or (named_row_lines q_line names origins 0 rows ++ more) 0 0 ≡ 113
 first-row names origins [] more one = absurd (omega (arith, one))
 first-row names origins (row ∷ rows) more one = refl
 
@@ -169,8 +169,8 @@ never-made-up model layers gives are whole same =
     let columns : column_lines model 1 layers.column_origins ≡ codes "c1 x\n" =
     one-column-text model layers.column_origins ((whole.origins).column_origins ∙ wide)
     (are.unknowns 0 (omega (arith, one-column model gives))) (names model gives) in
-    let q : List ℕ = row_lines q_line model.equations layers.q_origins 0 layers.q.rows in
-    let t : List ℕ = row_lines t_line model.equations layers.t_origins 0 layers.t.rows in
+    let q : List ℕ = named_row_lines q_line model.equations layers.q_origins 0 layers.q.rows in
+    let t : List ℕ = named_row_lines t_line model.equations layers.t_origins 0 layers.t.rows in
     let text : layer_text model layers ≡ codes "columns 1\nc1 x\n" ++ q ++ t =
     ap (λ w. codes "columns" ++ (32 ∷ decimal w) ++ codes "\n" ++ column_lines model 1 layers.column_origins ++ q ++ t) wide
     ∙ ap (λ lines. codes "columns 1\n" ++ lines ++ q ++ t) columns in

@@ -8,7 +8,7 @@ use Rattle.cert_text.specs.Contents.{Contents}
 use Rattle.cert_text.specs.Right.{IsRightCcf}
 use Rattle.cert_text.specs.declared.part.CcfBlock.{CcfBlock}
 use Rattle.cert_text.specs.declared.part.CcfPart.{CcfPart}
-use Rattle.certificate_laws.specs.Agreement.{Agree}
+use Rattle.certificate_laws.specs.Agreement.{AgreeInParts}
 use Rattle.certificate_laws.proofs.AgreedForms.{agreed}
 use Rattle.made_models.proofs.MadeLaws.{made-one}
 use Rattle.answer_texts.specs.MadeTexts.{made_text, system_line, tail_sizes}
@@ -45,7 +45,7 @@ tail-same word a b q t columns =
     ∙ ap (λ n. word ++ spaced (length b.q_rows + length b.t_rows) ++ spaced n ++ codes "\n") columns
 
 -- forms that agree have one text
-module _ (n split : ℕ) (c d : Contents) (agree : Agree c d) where
+module _ (n split : ℕ) (c d : Contents) (agree : AgreeInParts c d) where
   first-same : tail_sizes (codes "first") c.first ≡ tail_sizes (codes "first") d.first
   first-same = tail-same (codes "first") c.first d.first (ap (λ l. get_or l 0 0) agree.q_rows)
       (ap (λ l. length (get_or l 0 [])) agree.t_rows) (ap (λ l. length (get_or l 0 [])) agree.columns)
@@ -91,7 +91,7 @@ made-text-one p prime odd n one two first second =
     subst (λ m. IsRightCcf p (mixed_matrix_of m) b.layered b.origins second.ccf) same b.right in
     let splits : first.split ≡ second.split =
     a.split_is ∙ sym ((a.layers).auxiliary).count ∙ (layers.auxiliary).count ∙ sym b.split_is in
-    let agree : Agree first.ccf second.ccf =
+    let agree : AgreeInParts first.ccf second.ccf =
     agreed p prime odd (mixed_matrix_of a.model) a.layered b.layered a.origins b.origins a.layers layers
     first.ccf second.ccf a.form b.form a.right right in
     first.text_is ∙ ap (λ s. made_text n s first.ccf) splits ∙ text-same n second.split first.ccf second.ccf agree ∙ sym second.text_is

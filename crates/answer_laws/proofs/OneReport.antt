@@ -2,9 +2,9 @@
 use Rattle.std.proofs.Common.{◌≡◌, ◌<◌, ◌⊎◌, ℕ, List, [], get_or, Option, inl, inr, refl, ap, sym, subst, ◌∙◌}
 use Rattle.std.specs.List.{All}
 use Rattle.std.proofs.lemmas.List.{get_or_default}
-use Rattle.form_arcs.proofs.FormLaws.{some-has}
+use Rattle.part_arcs.proofs.FormLaws.{some-has}
 use Rattle.mixed_matrices.specs.Models.{MixedMatrix, value}
-use Rattle.mixed_pairs.proofs.PairRank.{greatest-unique}
+use Rattle.mixed_pair_laws.proofs.PairRank.{greatest-unique}
 use Rattle.mixed_model.specs.Models.{MixedModel, mixed_matrix_of}
 use Rattle.cert_text.specs.declared.kind.Kind.{Kind}
 use Rattle.cert_text.specs.Ranges.{AreRising}

@@ -3,11 +3,11 @@ use Rattle.std.specs.Prelude.{◌≡◌, ℕ, List, Option}
 use Rattle.cert_text.specs.Texts.{certificate_text}
 use Rattle.cert_text.specs.Contents.{Certificate}
 use Rattle.cert_text.specs.declared.kind.Kind.{Kind}
-use Rattle.certificate_laws.specs.Agreement.{Agree}
+use Rattle.certificate_laws.specs.Agreement.{AgreeInParts}
 use Rattle.report_cli.specs.Answer.{IsAnswer}
 use Rattle.residue_field.specs.Modulus.{modulus_of}
-use Rattle.report_cli.specs.Fields.{version_of}
-use Rattle.report_cli.specs.RightFor.{IsRightFor}
+use Rattle.report_cli.specs.Fields.{certificate_version}
+use Rattle.report_cli.specs.RightFor.{IsRightForInput}
 use Rattle.command_line.specs.Words.{Asks, AsksFor, AsksToMake, over}
 use Rattle.residue_field.specs.declared.field_name.FieldName.{FieldName}
 use Rattle.command_line.specs.declared.command.Request.{Request}
@@ -22,9 +22,9 @@ pub record AreAgreed (field : Option FieldName) (kind : Kind) (input text other 
   pub second : Certificate
   pub first_text : text ≡ certificate_text first
   pub second_text : other ≡ certificate_text second
-  pub first_right : IsRightFor (modulus_of (over field)) (version_of field) kind input first
-  pub second_right : IsRightFor (modulus_of (over field)) (version_of field) kind input second
-  pub agree : Agree first.ccf second.ccf
+  pub first_right : IsRightForInput (modulus_of (over field)) (certificate_version field) kind input first
+  pub second_right : IsRightForInput (modulus_of (over field)) (certificate_version field) kind input second
+  pub agree : AgreeInParts first.ccf second.ccf
 
 abbrev pub AnswersOfAnalyseAgree : Type 0
 AnswersOfAnalyseAgree =

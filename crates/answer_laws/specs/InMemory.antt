@@ -30,8 +30,9 @@ pub record IsAnswered (words : List (List ℕ)) (source source' : MemorySource) 
   pub answer : IsAnswer words read status text
 
 -- the run is answered, or memory ran out
-abbrev pub Answers : List (List ℕ) → MemorySource → MemorySource → MemorySink → MemorySink → Status → Type 0
-Answers words source source' out out' status = IsAnswered words source source' out out' status ⊎ (status ≡ Memory)
+abbrev pub AnswersInMemory : List (List ℕ) → MemorySource → MemorySource → MemorySink → MemorySink → Status → Type 0
+AnswersInMemory words source source' out out' status = IsAnswered words source source' out out' status
+    ⊎ (status ≡ Memory)
 
 -- of the input `read` was taken, all of it where a command tells of the whole input, and this status and this text
 -- answer what was taken

@@ -17,15 +17,15 @@ abbrev pub NeverAnswers : Command → List ℕ → List ℕ → Type 0
 NeverAnswers command input text = (words : List (List ℕ)) → AsksFor words command → IsAnswer words input Done text → ⊥
 
 -- how a certificate begins where this field is named
-abbrev pub version_lines : Option FieldName → List ℕ
-version_lines None = codes "mixed-certificate 1\n"
-version_lines (Some Small) = codes "mixed-certificate 2\nfield 65521\n"
-version_lines (Some Large) = codes "mixed-certificate 2\nfield 2147483647\n"
+abbrev pub first_lines : Option FieldName → List ℕ
+first_lines None = codes "mixed-certificate 1\n"
+first_lines (Some Small) = codes "mixed-certificate 2\nfield 65521\n"
+first_lines (Some Large) = codes "mixed-certificate 2\nfield 2147483647\n"
 
 -- the text of a certificate of the empty input of a kind, with these parts, where this field is named
 abbrev pub empty_certificate : Option FieldName → Kind → List ℕ → List ℕ
 empty_certificate field kind parts =
-    version_lines field ++ codes "kind " ++ kind_text kind
+    first_lines field ++ codes "kind " ++ kind_text kind
     ++ codes "\nlength 0\n\nshape 0 0 0 0 0\nrank 0\nbase\nmatch\n" ++ parts ++ codes "end\n"
 
 -- the certificate of the empty input

@@ -4,7 +4,7 @@ ghost use Rattle.std.specs.Prelude.{◌≡◌, ◌≤◌, map, Some, IfOk};
 ghost use Rattle.std.specs.String.{string_bytes};
 ghost use Rattle.run_ends.specs.Answers.{EachTextFits, OnlyAnswer};
 ghost use Rattle.report_cli.specs.Answer.{IsAnswer, IsComplete, IsMakeComplete};
-ghost use Rattle.answer_laws.specs.InMemory.{Answers, IsAnsweredBy, IsCalm};
+ghost use Rattle.answer_laws.specs.InMemory.{AnswersInMemory, IsAnsweredBy, IsCalm};
 
 use port_io::{MemSink, MemSource, Sink};
 use report_cli::{Status, run};
@@ -22,7 +22,7 @@ pub fn run_in_memory<N: Sink>(
     requires { IsCalm (map string_bytes words.now) source.old out.old }
     ensures source { source.new.faults ≡ source.old.faults }
     ensures out { out.new.faults ≡ out.old.faults }
-    ensures answers { Answers (map string_bytes words.now) source.old source.new out.old out.new result }
+    ensures answers { AnswersInMemory (map string_bytes words.now) source.old source.new out.old out.new result }
     ensures only_answer { OnlyAnswer (IsAnswer (map string_bytes words.now)) (Some source.old.left) result }
     ensures complete { IsComplete (map string_bytes words.now) (Some source.old.left) result }
     ensures complete_make { IsMakeComplete (map string_bytes words.now) result }

@@ -9,8 +9,8 @@ use Rattle.mixed_model.specs.Layers.{Layers}
 use Rattle.mixed_model.specs.declared.origin.Origin.{Origin}
 use Rattle.mixed_model.specs.declared.origin.Origin.TheVariants.{Unknown, Split}
 use Rattle.answer_texts.specs.Columns.{IsOriginIn}
-use Rattle.answer_texts.specs.LayerTexts.{name_at}
 use Rattle.answer_texts.proofs.LayerPieces.{got_or}
+use Rattle.mixed_model.specs.Names.{name_at}
 
 -- the name that is got is the one at its place
 pub name_is : (names : List (List ℕ)) (k : ℕ) (name : List ℕ) → slice_get names k ≡ Some name → name ≡ name_at names k

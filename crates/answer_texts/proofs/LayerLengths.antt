@@ -11,18 +11,18 @@ use Rattle.std.proofs.lemmas.List.Elements.{All-head, All-tail}
 use Rattle.residue_theory.proofs.SetLaws.{both-first, both-second}
 use Rattle.dense_q.specs.Tables.{height, row_at, entry}
 use Rattle.mixed_model.specs.Models.{MixedModel, IsModel, constant_at}
-use Rattle.mixed_model.specs.Names.{IsNameList, is_label}
+use Rattle.mixed_model.specs.Names.{IsNameList, is_label, name_at}
 use Rattle.mixed_model.specs.Rows.{RisesFrom, entry_in, constant_in, constant_at_place}
 use Rattle.mixed_model.specs.Layers.{Layers}
 use Rattle.mixed_model.specs.Entries.{RowEntry}
 use Rattle.mixed_model.specs.declared.origin.Origin.{Origin}
 use Rattle.mixed_model.specs.declared.origin.Origin.TheVariants.{Unknown, Split}
 use Rattle.mixed_layering.specs.Layers.{AreLayersOf}
-use Rattle.cert_text.specs.Texts.{marked, spaced, item, numbers_text}
+use Rattle.cert_text.specs.Texts.{with_mark, spaced, item, numbers_text}
 use Rattle.text_lengths.proofs.Lengths.{marked-short, item-short, numbers-short, rising-few}
 use Rattle.text_lengths.proofs.TextLengths.{at_most}
-use Rattle.answer_texts.specs.LayerTexts.{name_at, line_head, column_name, column_line, column_lines, entry_text}
-use Rattle.answer_texts.specs.LayerTexts.{row_entries_text, q_line, t_line, row_lines, columns_text, layer_text}
+use Rattle.answer_texts.specs.LayerTexts.{line_head, column_name, column_line, column_lines, q_entry_text}
+use Rattle.answer_texts.specs.LayerTexts.{row_entries_text, q_line, t_line, named_row_lines, columns_text, layer_text}
 use Rattle.answer_texts.specs.Rooms.{layer_room}
 use Rattle.answer_texts.specs.WholeLayers.{AreWholeLayers}
 use Rattle.mixed_layering.proofs.EntryLaws.{row_long}
@@ -38,7 +38,7 @@ name-short names are k = ⊎_elim
     (cases_lt k (length names))
 
 head-short : (letter number : ℕ) → number < 10000 → length (line_head letter number) ≤ 7
-head-short letter number few = omega (arith, length-append (marked letter number) (codes " "), marked-short letter number few)
+head-short letter number few = omega (arith, length-append (with_mark letter number) (codes " "), marked-short letter number few)
 
 -- the lines of columns
 pub column-name-short : (p : ℕ) (model : MixedModel) → IsModel p model → (origin : Origin) → length (column_name model origin) ≤ 97
@@ -75,7 +75,7 @@ columns-short p model is number (origin ∷ origins) few =
 -- the lines of rows, each of at most w bytes
 rows-short : (line : ℕ → List ℕ → List ℕ → List ℕ) (names : List (List ℕ)) (origins : List ℕ) (w : ℕ) (P : List ℕ → Type 0) →
     ((number : ℕ) (name row : List ℕ) → number < 10000 → length name ≤ 96 → P row → length (line number name row) ≤ w) → IsNameList names →
-    (k : ℕ) (rows : List (List ℕ)) → k + length rows ≤ 8192 → All P rows → length (row_lines line names origins k rows) ≤ length rows * w
+    (k : ℕ) (rows : List (List ℕ)) → k + length rows ≤ 8192 → All P rows → length (named_row_lines line names origins k rows) ≤ length rows * w
 rows-short line names origins w P each are k [] few all = omega arith
 rows-short line names origins w P each are k (row ∷ rows) few all =
     let here = each (k + 1) (name_at names (slice_index origins k)) row (omega (arith, few))
@@ -86,11 +86,11 @@ rows-short line names origins w P each are k (row ∷ rows) few all =
       here,
       rest,
       length-append
-          (line (k + 1) (name_at names (slice_index origins k)) row) (row_lines line names origins (k + 1) rows),
+          (line (k + 1) (name_at names (slice_index origins k)) row) (named_row_lines line names origins (k + 1) rows),
     ))
 
 -- the entries of a row of numbers of so many digits
-entry-short : (digits column number : ℕ) → column < 10000 → number < 10 ^ digits → length (entry_text column number) ≤ 7 + digits
+entry-short : (digits column number : ℕ) → column < 10000 → number < 10 ^ digits → length (q_entry_text column number) ≤ 7 + digits
 entry-short digits column number few small = go (number == 0) refl
   where
     go : (b : Bool) → number == 0 ≡ b → length (if b then [] else item column number) ≤ 7 + digits
@@ -106,7 +106,7 @@ entries-short digits column (number ∷ row) few small =
     rw (suc-mul (length row) (7 + digits)) (omega (
       arith,
       rest,
-      length-append (entry_text column number) (row_entries_text (column + 1) row),
+      length-append (q_entry_text column number) (row_entries_text (column + 1) row),
       entry-short digits column number (omega (arith, few)) here,
     ))
 
@@ -213,7 +213,7 @@ module _ (p digits : ℕ) (some : 0 < digits) (short : p ≤ 10 ^ digits) (model
         length-append (one ++ codes "\n") (column_lines model 1 layers.column_origins),
       )
 
-  q-lines-short : length (row_lines q_line model.equations layers.q_origins 0 layers.q.rows) ≤ 104 * k + (7 + digits) * (k * k)
+  q-lines-short : length (named_row_lines q_line model.equations layers.q_origins 0 layers.q.rows) ≤ 104 * k + (7 + digits) * (k * k)
   q-lines-short = omega (
     arith,
     at_most (height layers.q) k 104 (7 + digits) low_q,
@@ -233,7 +233,7 @@ module _ (p digits : ℕ) (some : 0 < digits) (short : p ≤ 10 ^ digits) (model
       let count : length row ≤ layers.t.width = rising-few layers.t.width row ((whole.t).rising i il) below in
       subst (λ r. All (λ column. column < 8192) r × (length r ≤ k)) (sym same) (small, omega (arith, count, width))
 
-  t-lines-short : length (row_lines t_line model.equations layers.t_origins 0 layers.t.rows) ≤ 104 * k + 6 * (k * k)
+  t-lines-short : length (named_row_lines t_line model.equations layers.t_origins 0 layers.t.rows) ≤ 104 * k + 6 * (k * k)
   t-lines-short = omega (
     arith,
     at_most (length layers.t.rows) k 104 6 low_t,
@@ -245,6 +245,6 @@ module _ (p digits : ℕ) (some : 0 < digits) (short : p ≤ 10 ^ digits) (model
   pub layer-text-short : length (layer_text model layers) ≤ layer_room digits k
   layer-text-short =
       let one : List ℕ = columns_text model layers in
-      let two : List ℕ = row_lines q_line model.equations layers.q_origins 0 layers.q.rows in
-      let three : List ℕ = row_lines t_line model.equations layers.t_origins 0 layers.t.rows in
+      let two : List ℕ = named_row_lines q_line model.equations layers.q_origins 0 layers.q.rows in
+      let three : List ℕ = named_row_lines t_line model.equations layers.t_origins 0 layers.t.rows in
       omega (arith, columns-text-short, q-lines-short, t-lines-short, length-append one two, length-append (one ++ two) three)

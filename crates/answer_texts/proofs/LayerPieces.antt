@@ -6,7 +6,8 @@ use Rattle.std.proofs.Math.ListN.{drop_of_length-le}
 use Rattle.mixed_model.specs.Models.{MixedModel}
 use Rattle.mixed_model.specs.declared.origin.Origin.{Origin}
 use Rattle.text_writer.proofs.Putting.{drop_next}
-use Rattle.answer_texts.specs.LayerTexts.{name_at, column_line, column_lines, entry_text, row_entries_text, row_lines}
+use Rattle.answer_texts.specs.LayerTexts.{column_line, column_lines, q_entry_text, row_entries_text, named_row_lines}
+use Rattle.mixed_model.specs.Names.{name_at}
 
 -- an item that was got stands there
 pub got_or : {A : Type 0} (xs : List A) (i : ℕ) (d x : A) → slice_get xs i ≡ Some x → get_or xs i d ≡ x
@@ -24,7 +25,7 @@ pub columns_end : (model : MixedModel) (number : ℕ) (origins : List Origin) (i
 columns_end model number origins i all = ap (column_lines model number) (drop_of_length-le origins all)
 
 pub entries_left : (row : List ℕ) (i d : ℕ) → i < length row →
-    row_entries_text (i + 1) (drop i row) ≡ entry_text (i + 1) (get_or row i d) ++ row_entries_text (i + 1 + 1) (drop (i + 1) row)
+    row_entries_text (i + 1) (drop i row) ≡ q_entry_text (i + 1) (get_or row i d) ++ row_entries_text (i + 1 + 1) (drop (i + 1) row)
 entries_left row i d within = ap (row_entries_text (i + 1)) (drop_next row i d within)
 
 pub entries_end : (column : ℕ) (row : List ℕ) (i : ℕ) → length row ≤ i → row_entries_text column (drop i row) ≡ []
@@ -36,14 +37,14 @@ pub entries_skip : (row : List ℕ) (d i : ℕ) → i + d ≤ length row → ((j
 entries_skip row zero i le none = ap (λ k. row_entries_text (k + 1) (drop k row)) (omega arith)
 entries_skip row (suc d) i le none =
     entries_left row i 0 (omega arith)
-    ∙ ap (λ n. entry_text (i + 1) n ++ row_entries_text (i + 1 + 1) (drop (i + 1) row)) (none i (omega arith) (omega arith))
+    ∙ ap (λ n. q_entry_text (i + 1) n ++ row_entries_text (i + 1 + 1) (drop (i + 1) row)) (none i (omega arith) (omega arith))
     ∙ entries_skip row d (i + 1) (omega arith) (λ j ge less. none j (omega arith) (omega arith))
     ∙ ap (λ k. row_entries_text (k + 1) (drop k row)) (omega arith)
 
 -- up to the next entry that is not 0
 pub entries_next : (row : List ℕ) (i j : ℕ) → i ≤ j → j < length row → ((k : ℕ) → i ≤ k → k < j → get_or row k 0 ≡ 0) →
     row_entries_text (i + 1) (drop i row)
-    ≡ entry_text (j + 1) (get_or row j 0) ++ row_entries_text (j + 1 + 1) (drop (j + 1) row)
+    ≡ q_entry_text (j + 1) (get_or row j 0) ++ row_entries_text (j + 1 + 1) (drop (j + 1) row)
 entries_next row i j le less none =
     entries_skip row (j - i) i (omega arith) (λ k ge lt. none k ge (omega arith))
     ∙ ap (λ k. row_entries_text (k + 1) (drop k row)) (there le) ∙ entries_left row j 0 less
@@ -65,10 +66,10 @@ pub unmarked : (n : ℕ) → not (eqb n 0) ≡ false → n ≡ 0
 unmarked n e = grind (arith, nat_tests)
 
 pub rows_left : (line : ℕ → List ℕ → List ℕ → List ℕ) (names : List (List ℕ)) (origins : List ℕ) (rows : List (List ℕ)) (k : ℕ) → k < length rows →
-    row_lines line names origins k (drop k rows) ≡ line (k + 1) (name_at names (slice_index origins k))
-    (get_or rows k []) ++ row_lines line names origins (k + 1) (drop (k + 1) rows)
-rows_left line names origins rows k within = ap (row_lines line names origins k) (drop_next rows k [] within)
+    named_row_lines line names origins k (drop k rows) ≡ line (k + 1) (name_at names (slice_index origins k))
+    (get_or rows k []) ++ named_row_lines line names origins (k + 1) (drop (k + 1) rows)
+rows_left line names origins rows k within = ap (named_row_lines line names origins k) (drop_next rows k [] within)
 
 pub rows_end : (line : ℕ → List ℕ → List ℕ → List ℕ) (names : List (List ℕ)) (origins : List ℕ) (rows : List (List ℕ)) (k : ℕ) → length rows ≤ k →
-    row_lines line names origins k (drop k rows) ≡ []
-rows_end line names origins rows k all = ap (row_lines line names origins k) (drop_of_length-le rows all)
+    named_row_lines line names origins k (drop k rows) ≡ []
+rows_end line names origins rows k all = ap (named_row_lines line names origins k) (drop_of_length-le rows all)

@@ -5,7 +5,7 @@ use Rattle.std.specs.List.{All}
 use Rattle.std.proofs.lemmas.List.{length-append, length-map}
 use Rattle.std.proofs.lemmas.List.Elements.{All-append, All-cons, All-from_get_or, All-head, All-map, All-nil, All-tail, All-weaker}
 use Rattle.dense_q.specs.Tables.{height}
-use Rattle.form_arcs.proofs.FormLaws.{some-has}
+use Rattle.part_arcs.proofs.FormLaws.{some-has}
 use Rattle.limits.specs.Limits.{column_limit}
 use Rattle.text_lengths.proofs.Lengths.{rising-few, total}
 use Rattle.text_lengths.proofs.TextLengths.{blocks-few, total-append, columns-total, q_rows-total, t_rows-total}
@@ -21,7 +21,7 @@ use Rattle.cert_text.specs.declared.part.CcfBlock.{CcfBlock}
 use Rattle.cert_text.specs.declared.part.CcfPart.{CcfPart}
 use Rattle.cert_text.specs.declared.shape.Shape.{Shape}
 use Rattle.solve_plan.specs.Marks.{AreMembersOf}
-use Rattle.solve_plan.specs.PlanSteps.{IsStepOf, block_steps, combined_row, is_bare, row_numbers, solved_parts, symbol_row, tail_steps, terms_of}
+use Rattle.solve_plan.specs.PlanSteps.{IsStepOf, block_steps, combined_row, is_bare, row_numbers, solved_parts, symbol_row, tail_steps, step_terms}
 use Rattle.solve_plan.specs.Plans.{IsPlanOf}
 use Rattle.solve_plan.specs.declared.steps.Plan.{Plan}
 use Rattle.solve_plan.specs.declared.steps.Step.{Step}
@@ -161,13 +161,13 @@ module _ (p n : ℕ) (entries : List (ℕ × ℕ)) (are : AreEntries p n entries
     abbrev term : ℕ × ℕ → ℕ × ℕ
     term entry = (entry.1, slice_index origins entry.0)
 
-    terms-few : length (terms_of origins entries) ≤ n
+    terms-few : length (step_terms origins entries) ≤ n
     terms-few = omega (arith, entries-few, length-map entries term)
 
-    terms-small : All (λ (t : ℕ × ℕ). t.0 < p) (terms_of origins entries)
+    terms-small : All (λ (t : ℕ × ℕ). t.0 < p) (step_terms origins entries)
     terms-small = All-map (λ (t : ℕ × ℕ). t.0 < p) term entries (All-weaker Within (λ entry. entry.1 < p) (λ entry at. at.2) entries are.within)
 
-    terms-below : (m : ℕ) → ((q : ℕ) → q < n → slice_index origins q < m) → All (λ (t : ℕ × ℕ). t.1 < m) (terms_of origins entries)
+    terms-below : (m : ℕ) → ((q : ℕ) → q < n → slice_index origins q < m) → All (λ (t : ℕ × ℕ). t.1 < m) (step_terms origins entries)
     terms-below m from = All-map (λ (t : ℕ × ℕ). t.1 < m) term entries
         (All-weaker Within (λ entry. slice_index origins entry.0 < m) (λ entry at. from entry.0 at.0) entries are.within)
 

@@ -16,15 +16,16 @@ use Rattle.solve_plan.specs.declared.steps.StepPart.{StepPart}
 use Rattle.solve_plan.specs.declared.steps.StepPart.TheVariants.{First, Block, Last}
 use Rattle.solve_plan.specs.declared.steps.StepRow.{StepRow}
 use Rattle.solve_plan.specs.declared.steps.StepRow.TheVariants.{Combined, Symbols}
-use Rattle.answer_texts.specs.LayerTexts.{name_at, column_name}
+use Rattle.answer_texts.specs.LayerTexts.{column_name}
 use Rattle.answer_texts.specs.PlanRanges.{IsPartBelow, IsStepIn, IsShortRow, IsShortStep}
-use Rattle.answer_texts.specs.PlanTexts.{part_text, step_head, column_item, column_items, columns_line, term_item}
+use Rattle.answer_texts.specs.PlanTexts.{step_part_text, step_head, column_item, column_items, named_columns_line, term_item}
 use Rattle.answer_texts.specs.PlanTexts.{term_items, row_text, row_line, step_row_lines, step_text, steps_text}
 use Rattle.answer_texts.specs.PlanTexts.{plan_text}
 use Rattle.answer_texts.specs.Rooms.{plan_room}
 use Rattle.answer_texts.proofs.LayerLengths.{name-short, column-name-short}
+use Rattle.mixed_model.specs.Names.{name_at}
 
-part-short : (part : StepPart) → IsPartBelow 8192 part → length (part_text part) ≤ 11
+part-short : (part : StepPart) → IsPartBelow 8192 part → length (step_part_text part) ≤ 11
 part-short First below = omega arith
 part-short (Block block) below = omega (arith, marked-short 32 (block + 1) (omega (arith, below)), length-append (codes " block") (spaced (block + 1)))
 part-short Last below = omega arith
@@ -37,8 +38,8 @@ head-short number part few below =
       marked-short 32 number few,
       part-short part below,
       length-append (codes "step") (spaced number),
-      length-append one (part_text part),
-      length-append (one ++ part_text part) (codes "\n"),
+      length-append one (step_part_text part),
+      length-append (one ++ step_part_text part) (codes "\n"),
     )
 
 -- the sum of a number of each item
@@ -78,7 +79,7 @@ module _ {T : Type 0} (number : T → ℕ) (p digits : ℕ) (some : 0 < digits) 
   columns-short (column ∷ columns) =
       omega (arith, column-short column, columns-short columns, length-append (column_item model layers column) (column_items model layers columns))
 
-  columns-line-short : (word columns : List ℕ) → length (columns_line word model layers columns) ≤ length word + 1 + 98 * length columns
+  columns-line-short : (word columns : List ℕ) → length (named_columns_line word model layers columns) ≤ length word + 1 + 98 * length columns
   columns-line-short word columns = omega (
     arith,
     columns-short columns,
@@ -145,9 +146,9 @@ module _ {T : Type 0} (number : T → ℕ) (p digits : ℕ) (some : 0 < digits) 
       length (step_text number model layers place step) ≤ 30 + 98 * k + 98 * columns_of step + sum_room * sums_of step + 101 * symbols_of step
   step-short place e n step low within are =
       let one : List ℕ = step_head place step.part in
-      let two : List ℕ = columns_line (codes "for") model layers step.columns in
+      let two : List ℕ = named_columns_line (codes "for") model layers step.columns in
       let three : List ℕ = step_row_lines number model step.rows in
-      let four : List ℕ = columns_line (codes "uses") model layers step.uses in
+      let four : List ℕ = named_columns_line (codes "uses") model layers step.uses in
       omega (
         arith,
         head-short place step.part low within.part,

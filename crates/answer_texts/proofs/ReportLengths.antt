@@ -4,9 +4,8 @@ use Rattle.std.proofs.lemmas.List.{length-append}
 use Rattle.text_writer.specs.Numbers.{spaced}
 use Rattle.text_lengths.proofs.Lengths.{marked-short}
 use Rattle.mixed_model.specs.Models.{MixedModel, IsModel}
-use Rattle.mixed_model.specs.Names.{IsNameList}
+use Rattle.mixed_model.specs.Names.{IsNameList, name_at}
 use Rattle.solve_plan.specs.declared.told.Report.{Report}
-use Rattle.answer_texts.specs.LayerTexts.{name_at}
 use Rattle.answer_texts.specs.ReportTexts.{count_line, name_line, name_lines, sizes_line, surplus_text, undetermined_text, report_text}
 use Rattle.answer_texts.specs.Rooms.{report_room}
 use Rattle.answer_texts.proofs.LayerLengths.{name-short}

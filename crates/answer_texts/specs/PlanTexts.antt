@@ -11,17 +11,18 @@ use Rattle.solve_plan.specs.declared.steps.StepPart.{StepPart}
 use Rattle.solve_plan.specs.declared.steps.StepPart.TheVariants.{First, Block, Last}
 use Rattle.solve_plan.specs.declared.steps.StepRow.{StepRow}
 use Rattle.solve_plan.specs.declared.steps.StepRow.TheVariants.{Combined, Symbols}
-use Rattle.answer_texts.specs.LayerTexts.{name_at, column_name}
+use Rattle.answer_texts.specs.LayerTexts.{column_name}
+use Rattle.mixed_model.specs.Names.{name_at}
 
 -- the part of a form, behind a space
-abbrev pub part_text : StepPart → List ℕ
-part_text First = codes " first"
-part_text (Block block) = codes " block" ++ spaced (block + 1)
-part_text Last = codes " last"
+abbrev pub step_part_text : StepPart → List ℕ
+step_part_text First = codes " first"
+step_part_text (Block block) = codes " block" ++ spaced (block + 1)
+step_part_text Last = codes " last"
 
 -- the line of a step's number and part
 abbrev pub step_head : ℕ → StepPart → List ℕ
-step_head number part = codes "step" ++ spaced number ++ part_text part ++ codes "\n"
+step_head number part = codes "step" ++ spaced number ++ step_part_text part ++ codes "\n"
 
 -- the name of a column, behind a space
 abbrev pub column_item : MixedModel → Layers → ℕ → List ℕ
@@ -34,8 +35,8 @@ column_items model layers [] = []
 column_items model layers (column ∷ columns) = column_item model layers column ++ column_items model layers columns
 
 -- the line of the names of columns behind a word
-abbrev pub columns_line : List ℕ → MixedModel → Layers → List ℕ → List ℕ
-columns_line word model layers columns = word ++ column_items model layers columns ++ codes "\n"
+abbrev pub named_columns_line : List ℕ → MixedModel → Layers → List ℕ → List ℕ
+named_columns_line word model layers columns = word ++ column_items model layers columns ++ codes "\n"
 
 -- a coefficient and the name of its equation, behind a space
 abbrev pub term_item : MixedModel → ℕ → ℕ → List ℕ
@@ -63,8 +64,8 @@ step_row_lines number model (row ∷ rows) = row_line number model row ++ step_r
 -- the lines of a step: its number and part, the columns that it solves, its rows, and the columns that it uses
 abbrev pub step_text : {T : Type 0} → (T → ℕ) → MixedModel → Layers → ℕ → Step T → List ℕ
 step_text number model layers k step =
-    step_head k step.part ++ columns_line (codes "for") model layers step.columns
-    ++ step_row_lines number model step.rows ++ columns_line (codes "uses") model layers step.uses
+    step_head k step.part ++ named_columns_line (codes "for") model layers step.columns
+    ++ step_row_lines number model step.rows ++ named_columns_line (codes "uses") model layers step.uses
 
 -- the lines of steps, the first of them with this number
 abbrev pub steps_text : {T : Type 0} → (T → ℕ) → MixedModel → Layers → ℕ → List (Step T) → List ℕ

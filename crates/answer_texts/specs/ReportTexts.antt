@@ -3,7 +3,7 @@ use Rattle.std.specs.Prelude.{ℕ, ◌-◌, List, [], ◌∷◌, ◌++◌, codes
 use Rattle.text_writer.specs.Numbers.{spaced}
 use Rattle.mixed_model.specs.Models.{MixedModel}
 use Rattle.solve_plan.specs.declared.told.Report.{Report}
-use Rattle.answer_texts.specs.LayerTexts.{name_at}
+use Rattle.mixed_model.specs.Names.{name_at}
 
 -- the line of a number behind a word
 abbrev pub count_line : List ℕ → ℕ → List ℕ

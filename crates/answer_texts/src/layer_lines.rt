@@ -5,10 +5,11 @@ ghost use Rattle.cert_text.specs.Texts.{numbers_text};
 ghost use Rattle.dense_q.specs.Tables.{height, row_at};
 ghost use Rattle.limits.specs.Limits.{column_limit};
 ghost use Rattle.mixed_layering.specs.Layers.{AreLayersOf};
-ghost use Rattle.answer_texts.specs.LayerTexts.{name_at, line_head, column_name, column_line, column_lines, entry_text, row_entries_text, q_line, t_line, row_lines, columns_text, layer_text};
+ghost use Rattle.answer_texts.specs.LayerTexts.{line_head, column_name, column_line, column_lines, q_entry_text, row_entries_text, q_line, t_line, named_row_lines, columns_text, layer_text};
 ghost use Rattle.answer_texts.specs.Columns.{IsOriginIn};
 ghost use Rattle.sparse_t.specs.Incidences.{columns_at};
 ghost use Rattle.text_writer.specs.Texts.{Puts};
+ghost use Rattle.mixed_model.specs.Names.{name_at};
 
 use mixed_model::{Layered, Mixed, Origin};
 use port_io::Sink;
@@ -143,7 +144,7 @@ fn put_q_lines<F: Field, K: Sink>(
 )
     requires { AreLayersOf model.now layered.now }
     ensures { Puts K.Sink out.old out.new
-        (row_lines q_line model.now.equations layered.now.q_origins 0 layered.now.q.rows) }
+        (named_row_lines q_line model.now.equations layered.now.q_origins 0 layered.now.q.rows) }
 {
     for row in 0..layered.q.rows() {
         put_q_line(out, model, layered, row);
@@ -175,7 +176,7 @@ fn put_entries<F: Field, K: Sink>(out: &mut TextWriter<'_, K>, matrix: &EntryMat
     ensures { Puts K.Sink out.old out.new (row_entries_text 1 (row_at matrix.now row)) }
 {
     // there are at most 8,192 columns, so that the sums below fit
-    let _columns = matrix.cols();
+    matrix.is_matrix();
     let mut from = 0;
     while let Some(entry) = matrix.next(row, from) {
         put_entry(out, entry.0 + 1, entry.1);
@@ -185,7 +186,7 @@ fn put_entries<F: Field, K: Sink>(out: &mut TextWriter<'_, K>, matrix: &EntryMat
 
 // Puts an entry of a row, counted from column 1, and nothing where it is 0.
 fn put_entry<F: Field, K: Sink>(out: &mut TextWriter<'_, K>, column: usize, entry: F)
-    ensures { Puts K.Sink out.old out.new (entry_text column (F.number entry)) }
+    ensures { Puts K.Sink out.old out.new (q_entry_text column (F.number entry)) }
 {
     match entry.value() {
         0 => {}
@@ -201,7 +202,7 @@ fn put_t_lines<F: Field, K: Sink>(
 )
     requires { AreLayersOf model.now layered.now }
     ensures { Puts K.Sink out.old out.new
-        (row_lines t_line model.now.equations layered.now.t_origins 0 layered.now.t.rows) }
+        (named_row_lines t_line model.now.equations layered.now.t_origins 0 layered.now.t.rows) }
 {
     for row in 0..layered.t.rows() {
         put_t_line(out, model, layered, row);

@@ -4,11 +4,11 @@ ghost use Rattle.std.specs.Prelude.{◌≡◌, ℕ, ◌+◌, ◌++◌, ◌<◌, 
 ghost use Rattle.std.specs.List.{All};
 ghost use Rattle.limits.specs.Limits.{column_limit};
 ghost use Rattle.mixed_layering.specs.Layers.{AreLayersOf};
-ghost use Rattle.answer_texts.specs.LayerTexts.{name_at};
 ghost use Rattle.answer_texts.specs.PlanRanges.{IsPartBelow, IsRowBelow, IsStepIn};
-ghost use Rattle.answer_texts.specs.PlanTexts.{part_text, step_head, column_item, column_items, columns_line, term_item, term_items, row_text, row_line, step_row_lines, step_text, plan_text};
+ghost use Rattle.answer_texts.specs.PlanTexts.{step_part_text, step_head, column_item, column_items, named_columns_line, term_item, term_items, row_text, row_line, step_row_lines, step_text, plan_text};
 ghost use Rattle.text_writer.specs.Numbers.{spaced};
 ghost use Rattle.text_writer.specs.Texts.{Puts};
+ghost use Rattle.mixed_model.specs.Names.{name_at};
 
 use crate::layer_lines::{put_column_name, put_equation_name};
 use mixed_model::{Layered, Mixed};
@@ -67,7 +67,7 @@ fn put_step_head<K: Sink>(out: &mut TextWriter<'_, K>, number: u64, part: StepPa
 // Puts the part of a form, behind a space.
 fn put_part<K: Sink>(out: &mut TextWriter<'_, K>, part: StepPart)
     requires { IsPartBelow column_limit part }
-    ensures { Puts K.Sink out.old out.new (part_text part) }
+    ensures { Puts K.Sink out.old out.new (step_part_text part) }
 {
     match part {
         StepPart::First => out.piece(b" first"),
@@ -95,7 +95,7 @@ fn put_columns_line<F: Field, K: Sink>(
 )
     requires layers { AreLayersOf model.now layered.now }
     requires columns { All (λ column. column < layered.now.q.width) columns.now }
-    ensures { Puts K.Sink out.old out.new (columns_line word.now model.now layered.now columns.now) }
+    ensures { Puts K.Sink out.old out.new (named_columns_line word.now model.now layered.now columns.now) }
 {
     out.piece(word);
     put_columns(out, model, layered, columns);

@@ -2,9 +2,9 @@
 
 ghost use Rattle.std.specs.Prelude.{◌≡◌, ℕ, ◌+◌, ◌-◌, ◌++◌, ◌<◌, ◌≤◌, codes, length};
 ghost use Rattle.std.specs.List.{All};
-ghost use Rattle.answer_texts.specs.LayerTexts.{name_at};
 ghost use Rattle.answer_texts.specs.ReportTexts.{count_line, name_line, name_lines, sizes_line, surplus_text, undetermined_text, report_text};
 ghost use Rattle.text_writer.specs.Texts.{Puts};
+ghost use Rattle.mixed_model.specs.Names.{name_at};
 
 use crate::layer_lines::{put_equation_name, put_unknown_name};
 use mixed_model::Mixed;

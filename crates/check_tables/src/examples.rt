@@ -77,8 +77,8 @@ fn certificates_of_the_examples(rt: HostRuntime) -> Result<(), Fail> {
     let alloc = rt.alloc();
     for (kind, input) in INPUTS {
         let words: &[&str] = &["mixed", "analyse", kind];
-        let out = expect_run(&rt, alloc, words, input.as_bytes(), 0, b"")?;
-        expect_digits(&rt, alloc, out.bytes())?;
+        let left = expect_run(&rt, alloc, words, input.as_bytes(), 0, b"")?;
+        expect_digits(&rt, alloc, left.out.bytes())?;
     }
     Ok(())
 }

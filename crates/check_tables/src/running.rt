@@ -1,24 +1,12 @@
 //! Runs over memory, and what each is to leave.
 
-use port_io::{MemSink, MemSource};
+use memory_runs::{Memory, Streams};
 use report_cli::run;
 use std::alloc::Global;
 use std::process::Abort;
 use std::test::Fail;
 
-/// Enough room for each text.
-const ROOM: usize = 9_000_000;
-
-// The words of a command line.
-fn words_of(alloc: Global, words: &[&str]) -> Result<Vec<String>, Fail> {
-    let mut all = Vec::new(alloc);
-    for word in words {
-        all.push(String::from_str(alloc, word)?)?;
-    }
-    Ok(all)
-}
-
-/// That a run with these words on this input ends with this status and these notes; the sink that it wrote to.
+/// That a run with these words on this input ends with this status and these notes; what it leaves.
 pub(crate) fn expect_run(
     rt: &impl Abort,
     alloc: Global,
@@ -26,21 +14,24 @@ pub(crate) fn expect_run(
     input: &[u8],
     status: u8,
     notes: &[u8],
-) -> Result<MemSink, Fail> {
-    let words = words_of(alloc, words)?;
-    let mut source = MemSource::new(alloc, input, 65_536, &[])?;
-    let mut out = MemSink::new(alloc, ROOM, ROOM, &[])?;
-    let mut told = MemSink::new(alloc, ROOM, ROOM, &[])?;
-    let ended = run(alloc, &words, &mut source, &mut out, &mut told);
-    assert_eq!(rt; told.bytes(), notes);
+) -> Result<Memory, Fail> {
+    let mut memory = Streams::calm(words, input).open(alloc)?;
+    let ended = run(
+        alloc,
+        &memory.words,
+        &mut memory.source,
+        &mut memory.out,
+        &mut memory.notes,
+    );
+    assert_eq!(rt; memory.notes.bytes(), notes);
     assert_eq!(rt; ended.number(), status);
-    Ok(out)
+    Ok(memory)
 }
 
 /// That the text is that of a certificate, and accepted.
 pub(crate) fn expect_accepted(rt: &impl Abort, alloc: Global, text: &[u8]) -> Result<(), Fail> {
-    let out = expect_run(rt, alloc, &["mixed", "check"], text, 0, b"")?;
-    assert_eq!(rt; out.bytes(), b"accepted\n".as_slice());
+    let left = expect_run(rt, alloc, &["mixed", "check"], text, 0, b"")?;
+    assert_eq!(rt; left.out.bytes(), b"accepted\n".as_slice());
     Ok(())
 }
 
@@ -52,7 +43,7 @@ pub(crate) fn expect_refused(
     status: u8,
     notes: &[u8],
 ) -> Result<(), Fail> {
-    let out = expect_run(rt, alloc, &["mixed", "check"], text, status, notes)?;
-    assert_eq!(rt; out.bytes(), b"".as_slice());
+    let left = expect_run(rt, alloc, &["mixed", "check"], text, status, notes)?;
+    assert_eq!(rt; left.out.bytes(), b"".as_slice());
     Ok(())
 }

@@ -14,15 +14,14 @@ use Rattle.cert_text.specs.Rules.{HasLowerLists, HasReasons, LeadsDown}
 use Rattle.cert_text.proofs.PrintedRules.{lower-before}
 use Rattle.linear_algebra.specs.Products.{identity, product}
 use Rattle.part_rules.specs.Parts.{AreNumbered}
-use Rattle.part_rules.specs.Rules as plain
 use Rattle.cert_checker.specs.Answers.{IsRejected, IsRightFor}
-use Rattle.cert_checker.specs.Checking.{IsFirstBroken, KeepsFirst, KeepsRule}
+use Rattle.cert_checker.specs.Checking.{IsFirstBrokenRule, KeepsFirst, KeepsRule}
 use Rattle.part_checker.specs.Told.{TellsParts}
 use Rattle.cert_checker.proofs.FirstBroken.{more-kept, next-broken, none-kept}
 use Rattle.cert_checker.proofs.OneVerdict.{kept-for, rejected-for}
 use Rattle.part_checker.proofs.PartNumbers.{parts-numbered}
 use Rattle.existence_laws.specs.Verdicts.{EachFormHasAVerdict}
-use Rattle.existence_laws.proofs.Deciding.{Decided, equal, moved}
+use Rattle.existence_laws.proofs.Deciding.{Decided, equal}
 use Rattle.existence_laws.proofs.Lists.{values-at, values-long, values_of}
 use Rattle.existence_laws.proofs.ListsDecided.{lists}
 use Rattle.existence_laws.proofs.RulesDecided.{agreeing, down, matching, once, placed_rows, product_is, reasons, shape, units}
@@ -50,29 +49,9 @@ module _ (p : ℕ) (M : MixedMatrix) (L : LayeredMatrix) (c : Contents) (is : Is
       }
 
   lower-lists : KeepsFirst p M L c 10 → Decided (HasLowerLists p L c)
-  lower-lists kept = moved Plain (HasLowerLists p L c) (λ R. record { below = R.below; order = R.order; lists = R.lists; least = R.least })
-      (λ R. record { below = R.below; order = R.order; lists = R.lists; least = R.least })
-      (lists L.columns (length c.blocks) (in_first (parts_of c)) (in_last (parts_of c)) (block_of (parts_of c)) (slice_index parts)
+  lower-lists kept = lists L.columns (length c.blocks) (in_first (parts_of c)) (in_last (parts_of c)) (block_of (parts_of c)) (slice_index parts)
       (numbered (kept 0 (omega arith)) (kept 6 (omega arith))) (leads_to p L (tableau_of c)) (is_free (tableau_of c)) (is_end p L (tableau_of c)) (lower_of c)
-      (λ k l h. (lower-before p c is k l h).0) leads why)
-    where
-      Plain : Type 0
-      Plain = plain.HasLowerLists (leads_to p L (tableau_of c)) L.columns (is_free (tableau_of c)) (is_end p L (tableau_of c))
-          (in_first (parts_of c)) (in_last (parts_of c)) (block_of (parts_of c)) (length c.blocks) (lower_of c)
-
-      led : LeadsDown p L c
-      led = kept 8 (omega arith)
-
-      reasoned : HasReasons p L c
-      reasoned = kept 9 (omega arith)
-
-      leads : plain.LeadsDown (leads_to p L (tableau_of c)) L.columns (is_free (tableau_of c)) (is_end p L (tableau_of c))
-          (in_first (parts_of c)) (in_last (parts_of c)) (block_of (parts_of c)) (length c.blocks) (lower_of c)
-      leads = record { starts_first = led.free_first; ends_last = led.ends_last; first_leads = led.first_leads; block_leads = led.block_leads }
-
-      why : plain.HasReasons (leads_to p L (tableau_of c)) L.columns (is_free (tableau_of c)) (is_end p L (tableau_of c))
-          (in_first (parts_of c)) (in_last (parts_of c)) (block_of (parts_of c))
-      why = record { first_from = reasoned.first_from; last_to = reasoned.last_to; block_mutual = reasoned.block_mutual }
+      (λ k l h. (lower-before p c is k l h).0) (kept 8 (omega arith)) (kept 9 (omega arith))
 
   rule-decided : (k : ℕ) → KeepsFirst p M L c k → Decided (KeepsRule p M L c k)
   rule-decided zero kept = shape M L c
@@ -88,21 +67,21 @@ module _ (p : ℕ) (M : MixedMatrix) (L : LayeredMatrix) (c : Contents) (is : Is
   rule-decided (suc (suc (suc (suc (suc (suc (suc (suc (suc (suc zero)))))))))) kept = lower-lists kept
   rule-decided (suc (suc (suc (suc (suc (suc (suc (suc (suc (suc (suc k))))))))))) kept = inl tt
 
-  pub kept_or_broken : (n : ℕ) → n ≤ 11 → KeepsFirst p M L c n ⊎ ((rule : ℕ) × IsFirstBroken p M L c rule)
+  pub kept_or_broken : (n : ℕ) → n ≤ 11 → KeepsFirst p M L c n ⊎ ((rule : ℕ) × IsFirstBrokenRule p M L c rule)
   kept_or_broken zero few = inl (none-kept p M L c)
   kept_or_broken (suc n) few = go (kept_or_broken n (omega (arith, few)))
     where
-      here : KeepsFirst p M L c n → Decided (KeepsRule p M L c n) → KeepsFirst p M L c (suc n) ⊎ ((rule : ℕ) × IsFirstBroken p M L c rule)
+      here : KeepsFirst p M L c n → Decided (KeepsRule p M L c n) → KeepsFirst p M L c (suc n) ⊎ ((rule : ℕ) × IsFirstBrokenRule p M L c rule)
       here before (inl kept) = inl (more-kept p M L c n (suc n) (sym (add-one n)) before kept)
       here before (inr broken) = inr (n + 2, next-broken p M L c n (n + 2) refl (omega (arith, few)) before broken)
 
-      go : KeepsFirst p M L c n ⊎ ((rule : ℕ) × IsFirstBroken p M L c rule) → KeepsFirst p M L c (suc n) ⊎ ((rule : ℕ) × IsFirstBroken p M L c rule)
+      go : KeepsFirst p M L c n ⊎ ((rule : ℕ) × IsFirstBrokenRule p M L c rule) → KeepsFirst p M L c (suc n) ⊎ ((rule : ℕ) × IsFirstBrokenRule p M L c rule)
       go (inl before) = here before (rule-decided n before)
       go (inr broken) = inr broken
 
 -- from one layered matrix to each one, by what is said of both outcomes
 verdict-by : (p : ℕ) (M : MixedMatrix) (L : LayeredMatrix) (c : Contents) → IsCcf p c → (KeepsFirst p M L c 11 → IsRightFor p M c) →
-    ((rule : ℕ) → IsFirstBroken p M L c rule → IsRejected p M c rule) → IsRightFor p M c ⊎ ((rule : ℕ) × IsRejected p M c rule)
+    ((rule : ℕ) → IsFirstBrokenRule p M L c rule → IsRejected p M c rule) → IsRightFor p M c ⊎ ((rule : ℕ) × IsRejected p M c rule)
 verdict-by p M L c is right rejected = elim (kept_or_broken p M L c is 11 (omega arith)) [
   | inl kept ↦ inl (right kept)
   | inr broken ↦ inr (broken.0, rejected broken.0 broken.1)

@@ -7,12 +7,14 @@ use Rattle.residue_theory.specs.Sets.{has}
 use Rattle.residue_theory.proofs.SumLaws.{nat_cases}
 use Rattle.residue_theory.proofs.SetLaws.{differ, eqb_true, eqb_from}
 use Rattle.cert_text.specs.Ranges.{AreEntries, AreRising}
-use Rattle.ccf_builder.specs.Matrices.{PrintsMatrix, PrintsPattern, PrintsRow}
+use Rattle.ccf_builder.specs.Matrices.{PrintsPattern}
 use Rattle.ccf_builder.specs.Pairs.{ListsPairs}
 use Rattle.ccf_builder.specs.Placings.{ListsBelow}
 use Rattle.ccf_builder.proofs.MemberLists as members
 use Rattle.ccf_builder.proofs.PairLists as pairs
-use Rattle.ccf_builder.proofs.PrintedRows.{matrix-push, pattern-push, row-more, row-same}
+use Rattle.cert_checker.proofs.PrintedRows.{matrix-push, row-more, row-same}
+use Rattle.ccf_builder.proofs.PrintedRows.{pattern-push}
+use Rattle.cert_text.specs.Printing.{PrintsMatrix, PrintsRow}
 
 next : (n : ℕ) → n + 1 ≡ suc n
 next n = add-one n

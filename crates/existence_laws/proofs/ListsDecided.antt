@@ -5,7 +5,7 @@ use Rattle.closed_sets.specs.Walks.{ReachesOn}
 use Rattle.closed_sets.proofs.SetLaws.{least_of}
 use Rattle.part_rules.specs.Laws.{AreFalling}
 use Rattle.part_rules.specs.Parts.{AreNumbered}
-use Rattle.part_rules.specs.Rules.{HasLowerLists, HasReasons, LeadsDown}
+use Rattle.closed_sets.specs.Rules.{PlacesHaveLowerLists, PlacesHaveReasons, PlacesLeadDown}
 use Rattle.part_rules.specs.Tests.{AreCovers, AreFirstPlaces, ArcsAreDown, IsLeastFirst, TellsChains}
 use Rattle.part_rules.proofs.Lists.{covers-lists, lists-covers, lists-least}
 use Rattle.part_rules.proofs.Numbering.{down-numbers}
@@ -117,15 +117,15 @@ module _ (n b : ℕ) (F L : ℕ → Bool) (block part : ℕ → ℕ) (N : AreNum
         (each_pair b b (λ k l. k < l → Ready k l → head k < head l) (λ k l kb lb. implied (k < l) (Ready k l → head k < head l) (less k l)
         (λ _. implied (Ready k l) (head k < head l) (ready k l) (λ _. less (head k) (head l)))))
 
-    pub lists : LeadsDown arc n starts ends F L block b lower →
-        HasReasons arc n starts ends F L block → Decided (HasLowerLists arc n starts ends F L block b lower)
+    pub lists : PlacesLeadDown arc n starts ends F L block b lower →
+        PlacesHaveReasons arc n starts ends F L block → Decided (PlacesHaveLowerLists arc n starts ends F L block b lower)
     lists down reasons = go heads-exist
       where
         numbers : ArcsAreDown arc n starts ends part b lower
         numbers = down-numbers n b F L block part N arc starts ends lower down
 
-        go : (head : ℕ → ℕ) × AreFirstPlaces n part b head → Decided (HasLowerLists arc n starts ends F L block b lower)
-        go (head, first) = moved (AreCovers arc n part b lower × IsLeastFirst b lower head) (HasLowerLists arc n starts ends F L block b lower)
+        go : (head : ℕ → ℕ) × AreFirstPlaces n part b head → Decided (PlacesHaveLowerLists arc n starts ends F L block b lower)
+        go (head, first) = moved (AreCovers arc n part b lower × IsLeastFirst b lower head) (PlacesHaveLowerLists arc n starts ends F L block b lower)
             (λ t. covers-lists arc n starts ends F L block part b lower N falling numbers reasons t.0 head first t.1 (chained lower b) (chains-told lower b))
             (λ R. (
               lists-covers arc n starts ends F L block part b lower N falling numbers reasons R,

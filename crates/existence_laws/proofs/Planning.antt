@@ -8,7 +8,7 @@ use Rattle.mixed_model.specs.Layers.{Layers}
 use Rattle.cert_text.specs.Contents.{Contents}
 use Rattle.cert_text.specs.Readings.{matrix_of, pattern_of}
 use Rattle.cert_text.specs.declared.part.CcfPart.{CcfPart}
-use Rattle.solve_plan.specs.PlanSteps.{AreStepsOf, HasEntryAt, IsStepOf, row_numbers, rows_of, solved_parts}
+use Rattle.solve_plan.specs.PlanSteps.{AreStepsOf, HasEntryAt, IsStepOf, row_numbers, rows_of_part, solved_parts}
 use Rattle.solve_plan.specs.declared.steps.Plan.{Plan}
 use Rattle.solve_plan.specs.declared.steps.Step.{Step}
 use Rattle.solve_plan.specs.declared.steps.StepPart.{StepPart}
@@ -79,11 +79,11 @@ used : (c : Contents) (part : CcfPart) → IsListed c.shape.columns (λ x. (has 
 used c part = listed (λ x. (has part.columns x ≡ false) × HasEntryAt c part x) c.shape.columns (λ x _. uses-cases c part x)
 
 step_of : Layers → Contents → StepPart × CcfPart → Step ℕ
-step_of layers c of = record { part = of.0; columns = of.1.columns; rows = rows_of layers c of.1; uses = (used c of.1).list }
+step_of layers c of = record { part = of.0; columns = of.1.columns; rows = rows_of_part layers c of.1; uses = (used c of.1).list }
 
 step-is : (layers : Layers) (c : Contents) (of : StepPart × CcfPart) → IsStepOf (λ value. value) layers c of (step_of layers c of)
 unfolding step_of
-step-is layers c of = record { name = refl; columns = refl; rows = rows-same (rows_of layers c of.1); uses = (used c of.1).are }
+step-is layers c of = record { name = refl; columns = refl; rows = rows-same (rows_of_part layers c of.1); uses = (used c of.1).are }
 
 -- the steps of a form
 steps_of : (layers : Layers) (c : Contents) → Plan ℕ

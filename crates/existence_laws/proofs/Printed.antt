@@ -17,8 +17,8 @@ use Rattle.mixed_matrices.specs.Models.{MixedMatrix}
 use Rattle.mixed_matrices.specs.Pairs.{pair_size}
 use Rattle.mixed_matrices.specs.Tableaus.{Tableau}
 use Rattle.mixed_layering_laws.proofs.LayeringRank.{model_rank}
-use Rattle.mixed_pairs.proofs.ArcFacts.{base_found, match_found, no_base, no_match}
-use Rattle.mixed_forms.proofs.FormExists.{found-kept, found_below, found_lower, found_parts}
+use Rattle.mixed_pair_laws.proofs.ArcFacts.{base_found, match_found, no_base, no_match}
+use Rattle.mixed_form_laws.proofs.FormExists.{found-kept, found_below, found_lower, found_parts}
 use Rattle.cert_text.specs.Contents.{Contents}
 use Rattle.cert_text.specs.Ranges.{AreRising, IsBlock, IsCcf, IsPart, IsShape}
 use Rattle.cert_text.specs.Readings.{column_lists, has_column, lower_of, matrix_of, pair_at, place_of, q_row_lists, row_with, t_row_lists, tableau_of}

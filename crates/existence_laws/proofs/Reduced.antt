@@ -10,11 +10,11 @@ use Rattle.mixed_matrices.specs.LayeredMatrices.{LayeredMatrix}
 use Rattle.mixed_matrices.specs.Pairs.{IsBest, pair_size}
 use Rattle.mixed_matrices.specs.StructuralRanks.{IsLayeredRank}
 use Rattle.mixed_matrices.specs.Tableaus.{HasTableau, IsTableau, Tableau}
-use Rattle.mixed_forms.proofs.CanonicalForm.{BestTableau, best_tableau}
-use Rattle.mixed_pairs.proofs.MinMax.{best-clear}
-use Rattle.mixed_pairs.proofs.Minimisers.{closed-best, least_set, least_set-closed}
-use Rattle.mixed_pairs.proofs.PairRank.{closed-rank}
-use Rattle.mixed_pairs.proofs.TableauParts.{tableau}
+use Rattle.mixed_form_laws.proofs.CanonicalForm.{BestTableau, best_tableau}
+use Rattle.mixed_pair_laws.proofs.MinMax.{best-clear}
+use Rattle.mixed_pair_laws.proofs.Minimisers.{closed-best, least_set, least_set-closed}
+use Rattle.mixed_pair_laws.proofs.PairRank.{closed-rank}
+use Rattle.mixed_pair_laws.proofs.TableauParts.{tableau}
 
 abbrev pub reduced : ℕ → (ℕ → ℕ → ℕ) → ℕ → ℕ → ℕ
 reduced p a i j = a i j % p

@@ -5,8 +5,8 @@ use Rattle.residue_theory.proofs.SumLaws.{nat_cases}
 use Rattle.mixed_matrices.specs.Models.{MixedMatrix, value}
 use Rattle.mixed_matrices.specs.Removals.{IsSurplus, IsUndetermined, without_equation, without_unknown}
 use Rattle.mixed_matrices.specs.StructuralRanks.{IsStructuralRank}
-use Rattle.mixed_pairs.proofs.GreatestRanks.{mixed-rank_exists}
-use Rattle.mixed_pairs.proofs.PairRank.{greatest-unique}
+use Rattle.mixed_pair_laws.proofs.GreatestRanks.{mixed-rank_exists}
+use Rattle.mixed_pair_laws.proofs.PairRank.{greatest-unique}
 use Rattle.existence_laws.specs.Telling.{EachModelHasAReport, HasReport}
 use Rattle.existence_laws.proofs.Decided.{IsListed, listed}
 

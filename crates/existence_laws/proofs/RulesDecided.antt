@@ -15,7 +15,7 @@ use Rattle.cert_text.specs.Contents.{Contents}
 use Rattle.cert_text.specs.Readings.{ColumnsDiffer, IsUnitColumn, StandsOnce, lower_of, matrix_of, pair_at, parts_of}
 use Rattle.cert_text.specs.Readings.{pattern_of, q_row_lists, t_row_lists, tableau_of}
 use Rattle.cert_text.specs.Right.{HasProduct, HasShape, HasUnitColumns}
-use Rattle.cert_text.specs.Rules.{HasMatching, HasPlacedRows, HasReasons, IsInBlock, LeadsDown}
+use Rattle.cert_text.specs.Rules.{HasMatching, HasPlacedRows, HasReasons, LeadsDown}
 use Rattle.existence_laws.proofs.Deciding.{Decided, at_most, both, each_number, each_pair, equal, fails, holds}
 use Rattle.existence_laws.proofs.Deciding.{implied, moved, one_of, reach_both, reached_on, refuted, same_tests}
 use Rattle.existence_laws.proofs.Deciding.{some_number}
@@ -186,16 +186,17 @@ module _ (p : ℕ) (L : LayeredMatrix) (c : Contents) where
   Onward x y = (block y ≡ block x) ⊎ ReachesOn (lower_of c) (length c.blocks) (block x) (block y)
 
   abbrev Leads : ℕ → ℕ → Type 0
-  Leads x y = IsInBlock L c x → arc x y ≡ true → (first y ≡ true) ⊎ (IsInBlock L c y × Onward x y)
+  Leads x y = InBlock L.columns first last x → arc x y ≡ true → (first y ≡ true) ⊎ (InBlock L.columns first last y × Onward x y)
 
   abbrev BlockLeads : Type 0
   BlockLeads = (x y : ℕ) → x < L.columns → y < L.columns → Leads x y
 
   leads : (x y : ℕ) → x < L.columns → y < L.columns → Decided (Leads x y)
-  leads x y xl yl = implied (IsInBlock L c x) (arc x y ≡ true → (first y ≡ true) ⊎ (IsInBlock L c y × Onward x y)) (in_block L.columns first last x xl)
-      (λ _. implied (arc x y ≡ true) ((first y ≡ true) ⊎ (IsInBlock L c y × Onward x y)) (holds (arc x y))
-      (λ _. one_of (first y ≡ true) (IsInBlock L c y × Onward x y) (holds (first y))
-      (both (IsInBlock L c y) (Onward x y) (in_block L.columns first last y yl)
+  leads x y xl yl = implied (InBlock L.columns first last x) (arc x y ≡ true → (first y ≡ true) ⊎ (InBlock L.columns first last y × Onward x y))
+      (in_block L.columns first last x xl)
+      (λ _. implied (arc x y ≡ true) ((first y ≡ true) ⊎ (InBlock L.columns first last y × Onward x y)) (holds (arc x y))
+      (λ _. one_of (first y ≡ true) (InBlock L.columns first last y × Onward x y) (holds (first y))
+      (both (InBlock L.columns first last y) (Onward x y) (in_block L.columns first last y yl)
       (one_of (block y ≡ block x) (ReachesOn (lower_of c) (length c.blocks) (block x) (block y)) (equal (block y) (block x))
       (reached_on (lower_of c) (length c.blocks) (block x) (block y))))))
 
@@ -206,8 +207,8 @@ module _ (p : ℕ) (L : LayeredMatrix) (c : Contents) where
 
   pub down : Decided (LeadsDown p L c)
   down = moved (FreeFirst × (EndsLast × (FirstLeads × BlockLeads))) (LeadsDown p L c)
-      (λ h. record { free_first = h.0; ends_last = h.1.0; first_leads = h.1.1.0; block_leads = λ x y ix yl a. h.1.1.1 x y ix.below yl ix a })
-      (λ d. (d.free_first, (d.ends_last, (d.first_leads, λ x y xl yl ix a. d.block_leads x y ix yl a))))
+      (λ h. record { starts_first = h.0; ends_last = h.1.0; first_leads = h.1.1.0; block_leads = λ x y ix yl a. h.1.1.1 x y ix.below yl ix a })
+      (λ d. (d.starts_first, (d.ends_last, (d.first_leads, λ x y xl yl ix a. d.block_leads x y ix yl a))))
       (both FreeFirst (EndsLast × (FirstLeads × BlockLeads)) (passed L.columns (is_free (tableau_of c)) first)
       (both EndsLast (FirstLeads × BlockLeads) (passed L.columns (is_end p L (tableau_of c)) last)
       (both FirstLeads BlockLeads first-leads (each_pair L.columns L.columns Leads leads))))
@@ -219,11 +220,12 @@ module _ (p : ℕ) (L : LayeredMatrix) (c : Contents) where
   LastTo = (x : ℕ) → x < L.columns → last x ≡ true → ReachesEnd p L (tableau_of c) x
 
   abbrev Meet : ℕ → ℕ → Type 0
-  Meet x y = IsInBlock L c x → IsInBlock L c y → block x ≡ block y → Mutual arc L.columns x y
+  Meet x y = InBlock L.columns first last x → InBlock L.columns first last y → block x ≡ block y → Mutual arc L.columns x y
 
   meet : (x y : ℕ) → x < L.columns → y < L.columns → Decided (Meet x y)
-  meet x y xl yl = implied (IsInBlock L c x) (IsInBlock L c y → block x ≡ block y → Mutual arc L.columns x y) (in_block L.columns first last x xl)
-      (λ _. implied (IsInBlock L c y) (block x ≡ block y → Mutual arc L.columns x y) (in_block L.columns first last y yl)
+  meet x y xl yl = implied (InBlock L.columns first last x) (InBlock L.columns first last y → block x ≡ block y → Mutual arc L.columns x y)
+      (in_block L.columns first last x xl)
+      (λ _. implied (InBlock L.columns first last y) (block x ≡ block y → Mutual arc L.columns x y) (in_block L.columns first last y yl)
       (λ _. implied (block x ≡ block y) (Mutual arc L.columns x y) (equal (block x) (block y)) (λ _. reach_both arc L.columns x y xl yl)))
 
   pub reasons : Decided (HasReasons p L c)

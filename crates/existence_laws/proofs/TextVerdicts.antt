@@ -6,21 +6,21 @@ use Rattle.cert_reader.specs.CertLines.{IsCertificate, IsOfCertificate}
 use Rattle.cert_reader.proofs.Theorem.{read_or_refused}
 use Rattle.input_kinds.specs.Kinds.{GivesModel}
 use Rattle.input_kinds.proofs.ByKind.{answered}
-use Rattle.cert_verdict.specs.Verdicts.{BreaksFirst, IsAccepted, IsRejectedBy, KeepsRules}
+use Rattle.cert_verdict.specs.Verdicts.{BreaksFirstOfAll, IsAccepted, IsRejectedBy, KeepsAllRules}
 use Rattle.cert_verdict.proofs.OneVerdict.{big-modulus, prime-modulus}
 use Rattle.existence_laws.specs.Verdicts.{EachTextHasAVerdict}
 use Rattle.existence_laws.proofs.FormVerdicts.{has-verdict}
 
 -- of a certificate whose echo gives a model
 by-form : (c : Certificate) → IsCertificate c → (model : MixedModel) → GivesModel c.modulus c.kind c.echo model →
-    KeepsRules c ⊎ ((rule : ℕ) × BreaksFirst c rule)
+    KeepsAllRules c ⊎ ((rule : ℕ) × BreaksFirstOfAll c rule)
 by-form c is model gives =
     elim (has-verdict c.modulus (prime-modulus c is) (big-modulus c is) (mixed_matrix_of model) c.ccf is.ccf) [
       | inl right ↦ inl (record { model = model; gives = gives; right = right })
       | inr rejected ↦ inr (rejected.0, inr (model, gives, rejected.1))
     ]
 
-pub kept_or_broken : (c : Certificate) → IsCertificate c → KeepsRules c ⊎ ((rule : ℕ) × BreaksFirst c rule)
+pub kept_or_broken : (c : Certificate) → IsCertificate c → KeepsAllRules c ⊎ ((rule : ℕ) × BreaksFirstOfAll c rule)
 kept_or_broken c is = elim (answered c.modulus (prime-modulus c is) (big-modulus c is) c.kind c.echo) [
   | inl given ↦ by-form c is given.0 given.1
   | inr refused ↦ inr (1, inl (refl, refused))

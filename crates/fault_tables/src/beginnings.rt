@@ -1,7 +1,8 @@
 //! Inputs that are cut short: each beginning of an equation list, of a flowsheet and of a netlist.
 
-use crate::running::{calm, expect_left, run_over};
+use crate::running::{expect_left, run_over};
 use crate::tasks::TRIANGLE;
+use memory_runs::Streams;
 use std::alloc::Global;
 use std::process::Abort;
 use std::test::Fail;
@@ -42,10 +43,10 @@ fn first<'a>(text: &'a [u8], length: usize) -> Result<&'a [u8], Fail> {
 fn beginnings_of_a_triangle(rt: HostRuntime) -> Result<(), Fail> {
     let words = &["mixed", "analyse", "matrix"];
     for (length, noted) in NOTED {
-        let left = run_over(rt.alloc(), &calm(words, first(TRIANGLE, length)?))?;
+        let left = run_over(rt.alloc(), &Streams::calm(words, first(TRIANGLE, length)?))?;
         if noted.is_empty() {
-            assert!(rt; left.out.bytes().ends_with(b"\nend\n"));
-            expect_left(&rt, &left, 0, left.out.bytes(), b"")?;
+            assert!(rt; left.memory.out.bytes().ends_with(b"\nend\n"));
+            expect_left(&rt, &left, 0, left.memory.out.bytes(), b"")?;
         } else {
             expect_left(&rt, &left, 3, b"", noted)?;
         }
@@ -68,14 +69,14 @@ fn expect_beginnings(
     input: &[u8],
 ) -> Result<(), Fail> {
     for length in 0..=input.len() {
-        let left = run_over(alloc, &calm(words, first(input, length)?))?;
+        let left = run_over(alloc, &Streams::calm(words, first(input, length)?))?;
         if left.status == 0 {
-            assert!(rt; left.out.bytes().ends_with(b"\nend\n"));
-            assert_eq!(rt; left.notes.bytes(), b"".as_slice());
+            assert!(rt; left.memory.out.bytes().ends_with(b"\nend\n"));
+            assert_eq!(rt; left.memory.notes.bytes(), b"".as_slice());
         } else {
             assert!(rt; length < input.len());
-            assert!(rt; left.notes.bytes().starts_with(b"mixed: "));
-            expect_left(rt, &left, 3, b"", left.notes.bytes())?;
+            assert!(rt; left.memory.notes.bytes().starts_with(b"mixed: "));
+            expect_left(rt, &left, 3, b"", left.memory.notes.bytes())?;
         }
     }
     Ok(())

@@ -1,7 +1,8 @@
 //! Notes that fail: each run ends as it would with notes that take all.
 
-use crate::running::{Streams, calm, expect_left, run_over};
+use crate::running::{expect_left, run_over};
 use crate::tasks::{CERTIFICATE, TRIANGLE};
+use memory_runs::Streams;
 use std::test::Fail;
 
 const ANALYSE: &[&str] = &["mixed", "analyse", "matrix"];
@@ -17,7 +18,7 @@ fn failing<'a>(source_fails: &'a [u64], out_fails: &'a [u64]) -> Streams<'a> {
     Streams {
         source_fails,
         out_fails,
-        ..calm(ANALYSE, TRIANGLE)
+        ..Streams::calm(ANALYSE, TRIANGLE)
     }
 }
 
@@ -25,15 +26,19 @@ fn failing<'a>(source_fails: &'a [u64], out_fails: &'a [u64]) -> Streams<'a> {
 fn notes_fail(rt: HostRuntime) -> Result<(), Fail> {
     let cases: [(u8, &[u8], Streams); 8] = [
         // nothing is to be noted, so that no call fails
-        (0, CERTIFICATE, calm(ANALYSE, TRIANGLE)),
-        (2, b"", calm(&["mixed", "analyse", "netlists"], TRIANGLE)),
+        (0, CERTIFICATE, Streams::calm(ANALYSE, TRIANGLE)),
+        (
+            2,
+            b"",
+            Streams::calm(&["mixed", "analyse", "netlists"], TRIANGLE),
+        ),
         // what clap tells
-        (2, b"", calm(&["mixed", "analyse"], TRIANGLE)),
-        (3, b"", calm(ANALYSE, b"eq a x=?+?\n")),
-        (3, b"", calm(CHECK, TRIANGLE)),
+        (2, b"", Streams::calm(&["mixed", "analyse"], TRIANGLE)),
+        (3, b"", Streams::calm(ANALYSE, b"eq a x=?+?\n")),
+        (3, b"", Streams::calm(CHECK, TRIANGLE)),
         (4, b"", failing(&[1], &[])),
         (5, b"", failing(&[], &[1])),
-        (7, b"", calm(CHECK, WRONG)),
+        (7, b"", Streams::calm(CHECK, WRONG)),
     ];
     for (status, text, streams) in cases {
         let streams = Streams {

@@ -1,7 +1,8 @@
 //! Outputs of which one call fails: each write of a text in turn, and the flush.
 
-use crate::running::{Streams, calm, expect_left, run_over};
+use crate::running::{expect_left, run_over};
 use crate::tasks::{MAKING, READING, Task};
+use memory_runs::Streams;
 use std::alloc::Global;
 use std::process::Abort;
 use std::test::Fail;
@@ -18,7 +19,7 @@ fn expect_write_faults(rt: &impl Abort, alloc: Global, task: &Task) -> Result<()
         let streams = Streams {
             most: MOST,
             out_fails: &[call],
-            ..calm(task.words, task.input)
+            ..Streams::calm(task.words, task.input)
         };
         let left = run_over(alloc, &streams)?;
         if left.status == 0 {
@@ -28,9 +29,12 @@ fn expect_write_faults(rt: &impl Abort, alloc: Global, task: &Task) -> Result<()
             return Ok(());
         }
         assert_eq!(rt; left.status, 5);
-        assert_eq!(rt; left.notes.bytes(), b"mixed: write fault\n".as_slice());
-        assert!(rt; task.text.starts_with(left.out.bytes()));
-        assert!(rt; left.out.bytes().len() <= room);
+        assert_eq!(rt;
+            left.memory.notes.bytes(),
+            b"mixed: write fault\n".as_slice()
+        );
+        assert!(rt; task.text.starts_with(left.memory.out.bytes()));
+        assert!(rt; left.memory.out.bytes().len() <= room);
         room = room.saturating_add(MOST);
     }
     Err(Fail::from("a run ends with 0"))

@@ -1,7 +1,8 @@
 //! Sources of which one call fails: each read of an input in turn.
 
-use crate::running::{Streams, calm, expect_left, run_over};
+use crate::running::{expect_left, run_over};
 use crate::tasks::{MAKING, READING, Task};
+use memory_runs::Streams;
 use std::alloc::Global;
 use std::process::Abort;
 use std::test::Fail;
@@ -13,7 +14,7 @@ fn expect_read_faults(rt: &impl Abort, alloc: Global, task: &Task) -> Result<(),
         let streams = Streams {
             step: task.step,
             source_fails: &[call],
-            ..calm(task.words, task.input)
+            ..Streams::calm(task.words, task.input)
         };
         let left = run_over(alloc, &streams)?;
         expect_left(rt, &left, 4, b"", b"mixed: read fault\n")?;
@@ -21,7 +22,7 @@ fn expect_read_faults(rt: &impl Abort, alloc: Global, task: &Task) -> Result<(),
     let streams = Streams {
         step: task.step,
         source_fails: &[task.reads.saturating_add(1)],
-        ..calm(task.words, task.input)
+        ..Streams::calm(task.words, task.input)
     };
     let left = run_over(alloc, &streams)?;
     expect_left(rt, &left, 0, task.text, b"")
@@ -39,7 +40,7 @@ fn each_read_fails(rt: HostRuntime) -> Result<(), Fail> {
 fn make_has_no_read_that_could_fail(rt: HostRuntime) -> Result<(), Fail> {
     let streams = Streams {
         source_fails: &[1, 2, 3, 4, 5, 6, 7, 8],
-        ..calm(MAKING.words, MAKING.input)
+        ..Streams::calm(MAKING.words, MAKING.input)
     };
     let left = run_over(rt.alloc(), &streams)?;
     expect_left(&rt, &left, 0, MAKING.text, b"")

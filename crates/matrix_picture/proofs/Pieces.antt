@@ -5,7 +5,7 @@ use Rattle.cert_text.specs.Contents.{Contents}
 use Rattle.mixed_model.specs.Layers.{Layers}
 use Rattle.mixed_model.specs.Models.{MixedModel}
 use Rattle.matrix_picture.specs.Names.{name_of_column, name_of_row}
-use Rattle.matrix_picture.specs.Texts.{column_name_text, column_names_text, entry_text, frame_text, framed_text, frames_text, placed_text, row_name_text, row_names_text, row_text, rows_text}
+use Rattle.matrix_picture.specs.Texts.{column_name_text, column_names_text, entry_text, frame_text, framed_text, frames_text, placed_text, row_name_text, row_names_text, drawn_row_text, rows_text}
 use Rattle.matrix_picture.specs.declared.layout.Frame.{Frame}
 use Rattle.matrix_picture.specs.declared.layout.Row.{Row}
 
@@ -14,11 +14,11 @@ pub frames_left : (least count : ℕ) (frames : List Frame) (i : ℕ) (d : Frame
 frames_left least count frames i d within = ap (frames_text least count i) (drop_next frames i d within)
 
 pub row_left : (c : Contents) (row : Row) (top : ℕ) (columns : List ℕ) (i d : ℕ) → i < length columns →
-    row_text c row top i (drop i columns) ≡ entry_text c row top i (get_or columns i d) ++ row_text c row top (i + 1) (drop (i + 1) columns)
-row_left c row top columns i d within = ap (row_text c row top i) (drop_next columns i d within)
+    drawn_row_text c row top i (drop i columns) ≡ entry_text c row top i (get_or columns i d) ++ drawn_row_text c row top (i + 1) (drop (i + 1) columns)
+row_left c row top columns i d within = ap (drawn_row_text c row top i) (drop_next columns i d within)
 
 pub rows_left : (c : Contents) (columns : List ℕ) (rows : List Row) (i : ℕ) (d : Row) → i < length rows →
-    rows_text c columns i (drop i rows) ≡ row_text c (get_or rows i d) i 0 columns ++ rows_text c columns (i + 1) (drop (i + 1) rows)
+    rows_text c columns i (drop i rows) ≡ drawn_row_text c (get_or rows i d) i 0 columns ++ rows_text c columns (i + 1) (drop (i + 1) rows)
 rows_left c columns rows i d within = ap (rows_text c columns i) (drop_next rows i d within)
 
 pub column_names_left : (model : MixedModel) (layers : Layers) (columns : List ℕ) (i d : ℕ) → i < length columns →

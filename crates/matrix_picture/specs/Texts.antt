@@ -1,7 +1,7 @@
 -- The text of a picture, by its pieces. A unit is the side of a cell; columns and rows are counted from 0.
 use Rattle.std.specs.Prelude.{ℕ, ◌+◌, ◌*◌, ◌-◌, ◌/◌, ◌==◌, ◌&&◌, ◌||◌, Bool, List, [], ◌∷◌, ◌++◌, codes, if◌then◌else◌, leb, length, slice_index_or}
 use Rattle.std.specs.List.{list_any}
-use Rattle.text_writer.specs.Numbers.{marked, spaced}
+use Rattle.text_writer.specs.Numbers.{with_mark, spaced}
 use Rattle.cert_text.specs.Contents.{Contents}
 use Rattle.mixed_model.specs.Layers.{Layers}
 use Rattle.mixed_model.specs.Models.{MixedModel}
@@ -12,24 +12,25 @@ use Rattle.matrix_picture.specs.declared.layout.Row.{Row}
 use Rattle.matrix_picture.specs.declared.layout.Row.TheVariants.{Constants, Symbols}
 
 -- a place, as two attributes
-abbrev pub place_text : ℕ → ℕ → List ℕ
-place_text left top = codes " x=" ++ marked 34 left ++ codes "\" y=" ++ marked 34 top ++ codes "\""
+abbrev pub place_attributes : ℕ → ℕ → List ℕ
+place_attributes left top = codes " x=" ++ with_mark 34 left ++ codes "\" y=" ++ with_mark 34 top ++ codes "\""
 
 -- the frame of a part
 abbrev pub box_text : Frame → List ℕ
 box_text frame =
-    codes "<path d=\"" ++ marked 77 frame.left ++ spaced frame.top ++ marked 72 frame.right ++ marked 86 frame.bottom
-    ++ marked 72 frame.left ++ codes "z\"/>\n"
+    codes "<path d=\"" ++ with_mark 77 frame.left ++ spaced frame.top ++ with_mark 72 frame.right ++ with_mark 86
+    frame.bottom
+    ++ with_mark 72 frame.left ++ codes "z\"/>\n"
 
 -- what part k of so many is called: the first and the last are the tails, and block k stands at place k
 abbrev pub part_name : ℕ → ℕ → List ℕ
 part_name count k =
-    if k == 0 then codes ">first" else if k + 1 == count then codes ">last" else marked 62 k
+    if k == 0 then codes ">first" else if k + 1 == count then codes ">last" else with_mark 62 k
 
 -- the name of a part, left of its frame and at its foot
 abbrev pub label_text : ℕ → ℕ → Frame → List ℕ
 label_text count k frame =
-    codes "<text class=\"p\"" ++ place_text frame.left frame.bottom
+    codes "<text class=\"p\"" ++ place_attributes frame.left frame.bottom
     ++ codes " dx=\"-.3em\" dy=\"-.2em\"" ++ part_name count k ++ codes "</text>\n"
 
 -- the part has at least so many columns, or rows
@@ -47,9 +48,9 @@ frames_text least count k [] = []
 frames_text least count k (frame ∷ frames) = frame_text least count k frame ++ frames_text least count (k + 1) frames
 
 -- the row has an entry that is not 0 in the column
-abbrev pub has_entry : Contents → Row → ℕ → Bool
-has_entry c (Constants row) column = list_any (λ entry. entry.0 == column) (slice_index_or c.p row [])
-has_entry c (Symbols row) column = list_any (λ other. other == column) (slice_index_or c.t row [])
+abbrev pub has_printed_entry : Contents → Row → ℕ → Bool
+has_printed_entry c (Constants row) column = list_any (λ entry. entry.0 == column) (slice_index_or c.p row [])
+has_printed_entry c (Symbols row) column = list_any (λ other. other == column) (slice_index_or c.t row [])
 
 -- the shape of its entries: a square for a constant, a disc for a symbol
 abbrev pub shape_of : Row → List ℕ
@@ -57,27 +58,28 @@ shape_of (Constants row) = codes "<use href=\"#c\""
 shape_of (Symbols row) = codes "<use href=\"#s\""
 
 abbrev pub mark_text : Row → ℕ → ℕ → List ℕ
-mark_text row left top = shape_of row ++ place_text left top ++ codes "/>\n"
+mark_text row left top = shape_of row ++ place_attributes left top ++ codes "/>\n"
 
 -- the place of a row and a column: nothing where there is no entry
 abbrev pub entry_text : Contents → Row → ℕ → ℕ → ℕ → List ℕ
-entry_text c row top left column = if has_entry c row column then mark_text row left top else []
+entry_text c row top left column = if has_printed_entry c row column then mark_text row left top else []
 
 -- the entries of a row at the columns from place `left` on
-abbrev pub row_text : Contents → Row → ℕ → ℕ → List ℕ → List ℕ
-row_text c row top left [] = []
-row_text c row top left (column ∷ columns) =
-    entry_text c row top left column ++ row_text c row top (left + 1) columns
+abbrev pub drawn_row_text : Contents → Row → ℕ → ℕ → List ℕ → List ℕ
+drawn_row_text c row top left [] = []
+drawn_row_text c row top left (column ∷ columns) =
+    entry_text c row top left column ++ drawn_row_text c row top (left + 1) columns
 
 -- the entries of the rows from place `top` on
 abbrev pub rows_text : Contents → List ℕ → ℕ → List Row → List ℕ
 rows_text c columns top [] = []
-rows_text c columns top (row ∷ rows) = row_text c row top 0 columns ++ rows_text c columns (top + 1) rows
+rows_text c columns top (row ∷ rows) = drawn_row_text c row top 0 columns ++ rows_text c columns (top + 1) rows
 
 -- the name of the column at a place, upright above it
 abbrev pub column_name_text : ℕ → List ℕ → List ℕ
 column_name_text left name =
-    codes "<text transform=\"translate" ++ marked 40 left ++ codes " 0)rotate(-90)\" dx=\".4em\" dy=\".95em\">" ++ name
+    codes "<text transform=\"translate" ++ with_mark 40 left ++ codes " 0)rotate(-90)\" dx=\".4em\" dy=\".95em\">" ++
+    name
     ++ codes "</text>\n"
 
 abbrev pub column_names_text : MixedModel → Layers → ℕ → List ℕ → List ℕ
@@ -88,7 +90,7 @@ column_names_text model layers left (column ∷ columns) =
 -- the name of the equation of the row at a place, right of all columns
 abbrev pub row_name_text : ℕ → ℕ → List ℕ → List ℕ
 row_name_text right top name =
-    codes "<text" ++ place_text right top ++ codes " dx=\".4em\" dy=\"1em\">" ++ name ++ codes "</text>\n"
+    codes "<text" ++ place_attributes right top ++ codes " dx=\".4em\" dy=\"1em\">" ++ name ++ codes "</text>\n"
 
 abbrev pub row_names_text : MixedModel → Layers → ℕ → ℕ → List Row → List ℕ
 row_names_text model layers right top [] = []
@@ -98,7 +100,7 @@ row_names_text model layers right top (row ∷ rows) =
 -- a line of the legend: a mark and what it stands for
 abbrev pub legend_line : Row → ℕ → List ℕ → List ℕ
 legend_line row top word =
-    mark_text row 0 top ++ codes "<text" ++ place_text 1 top ++ codes " dx=\".4em\" dy=\"1em\">" ++ word
+    mark_text row 0 top ++ codes "<text" ++ place_attributes 1 top ++ codes " dx=\".4em\" dy=\"1em\">" ++ word
     ++ codes "</text>\n"
 
 -- below so many rows
@@ -131,8 +133,8 @@ closing = codes "</svg>\n"
 -- them, and 4 below the rows
 abbrev pub detailed_size : ℕ → ℕ → List ℕ
 detailed_size columns rows =
-    codes " font-size=\"1\" width=" ++ marked 34 (20 * (columns + 18))
-    ++ codes "\" height=" ++ marked 34 (20 * (rows + 18))
+    codes " font-size=\"1\" width=" ++ with_mark 34 (20 * (columns + 18))
+    ++ codes "\" height=" ++ with_mark 34 (20 * (rows + 18))
     ++ codes "\" viewBox=\"-4 -14" ++ spaced (columns + 18) ++ spaced (rows + 18) ++ codes "\">\n"
 
 -- the shapes of entries
@@ -163,8 +165,8 @@ letter_of columns = columns / 40 + 1
 -- the attributes of an outline: 1,000 pixels wide, with four letters of room on each side
 abbrev pub outline_size : ℕ → ℕ → ℕ → List ℕ
 outline_size letter columns rows =
-    codes " width=\"1000\" font-size=" ++ marked 34 letter ++ codes "\" viewBox=\"" ++ marked 45 (4 * letter)
-    ++ codes " " ++ marked 45 (4 * letter) ++ spaced (columns + 8 * letter) ++ spaced (rows + 8 * letter)
+    codes " width=\"1000\" font-size=" ++ with_mark 34 letter ++ codes "\" viewBox=\"" ++ with_mark 45 (4 * letter)
+    ++ codes " " ++ with_mark 45 (4 * letter) ++ spaced (columns + 8 * letter) ++ spaced (rows + 8 * letter)
     ++ codes "\">\n"
 
 -- a picture of the frames alone, of so many columns and rows

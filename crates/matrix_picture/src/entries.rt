@@ -4,7 +4,7 @@ ghost use Rattle.std.specs.Prelude.{◌≡◌, ◌==◌, ◌<◌, [], if◌then�
 ghost use Rattle.std.specs.List.{list_any};
 ghost use Rattle.cert_text.specs.Contents.{numbered_rows};
 ghost use Rattle.text_writer.specs.Texts.{Puts};
-ghost use Rattle.matrix_picture.specs.Texts.{entry_text, has_entry, mark_text, row_text, rows_text, shape_of};
+ghost use Rattle.matrix_picture.specs.Texts.{entry_text, has_printed_entry, mark_text, drawn_row_text, rows_text, shape_of};
 
 use crate::frames::put_place;
 use crate::layout::Row;
@@ -35,7 +35,7 @@ fn put_row<F: Field, K: Sink>(
     top: u64,
     columns: &[usize],
 )
-    ensures { Puts K.Sink out.old out.new (row_text ccf.now row top 0 columns.now) }
+    ensures { Puts K.Sink out.old out.new (drawn_row_text ccf.now row top 0 columns.now) }
 {
     for (left, column) in columns.iter().enumerate() {
         put_entry(out, ccf, row, top, left as u64, *column);
@@ -79,7 +79,7 @@ fn shape_of(row: Row) -> &'static [u8]
 
 // Whether a row has an entry that is not 0 in a column.
 fn has_entry<F: Field>(ccf: &Ccf<F>, row: Row, column: usize) -> bool
-    ensures { result ≡ has_entry ccf.now row column }
+    ensures { result ≡ has_printed_entry ccf.now row column }
 {
     match row {
         Row::Constants(row) => has_constant(ccf.p().as_slice(), row, column),

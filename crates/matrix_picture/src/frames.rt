@@ -2,7 +2,7 @@
 
 ghost use Rattle.std.specs.Prelude.{◌≡◌, ◌<◌, [], if◌then◌else◌, length};
 ghost use Rattle.text_writer.specs.Texts.{Puts};
-ghost use Rattle.matrix_picture.specs.Texts.{box_text, frame_text, frames_text, is_legible, label_text, part_name, place_text};
+ghost use Rattle.matrix_picture.specs.Texts.{box_text, frame_text, frames_text, is_legible, label_text, part_name, place_attributes};
 
 use crate::layout::Frame;
 use port_io::Sink;
@@ -91,7 +91,7 @@ fn put_part_name<K: Sink>(out: &mut TextWriter<'_, K>, count: u64, place: u64)
 
 /// Puts a place, as two attributes.
 pub fn put_place<K: Sink>(out: &mut TextWriter<'_, K>, left: u64, top: u64)
-    ensures { Puts K.Sink out.old out.new (place_text left top) }
+    ensures { Puts K.Sink out.old out.new (place_attributes left top) }
 {
     out.piece(b" x=");
     out.number(b'"', left);

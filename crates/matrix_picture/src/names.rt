@@ -3,8 +3,9 @@
 
 ghost use Rattle.std.specs.Prelude.{◌≡◌, ◌++◌, codes, slice_get};
 ghost use Rattle.text_writer.specs.Texts.{Puts};
-ghost use Rattle.matrix_picture.specs.Names.{equation_name, equation_of, name_at, name_of_column, name_of_row, origin_name};
+ghost use Rattle.matrix_picture.specs.Names.{equation_name, equation_behind, name_of_column, name_of_row, origin_name};
 ghost use Rattle.matrix_picture.specs.Texts.{column_name_text, column_names_text, row_name_text, row_names_text};
+ghost use Rattle.mixed_model.specs.Names.{name_at};
 
 use crate::frames::put_place;
 use crate::layout::Row;
@@ -93,7 +94,7 @@ fn origin_of<F: Field>(layered: &Layered<F>, column: usize) -> Option<Origin>
 
 // The equation from which a row comes.
 fn equation_of<F: Field>(layered: &Layered<F>, row: Row) -> Option<usize>
-    ensures { result ≡ equation_of layered.now row }
+    ensures { result ≡ equation_behind layered.now row }
 {
     match row {
         Row::Constants(row) => constants_equation(layered, row),

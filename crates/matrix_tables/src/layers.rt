@@ -3,7 +3,6 @@
 use mixed_layering::layer;
 use mixed_model::{Layered, Mixed, Origin};
 use residue_field::{Field, Res};
-use sparse_layering::layer_rows;
 use std::alloc::Global;
 use std::process::Abort;
 use std::test::Fail;
@@ -117,20 +116,5 @@ fn models_have_these_layers(rt: HostRuntime) -> Result<(), Fail> {
         assert_columns(&rt, &layered, columns);
         assert_eq!(rt; layered.split().saturating_add(1), columns.len());
     }
-    Ok(())
-}
-
-// Layered row by row, an entry with a constant and a symbol gives a row of each, and an auxiliary column.
-#[test]
-fn a_split_entry_in_rows(rt: HostRuntime) -> Result<(), Fail> {
-    let rows = layer_rows(rt.alloc(), &model(&rt, rt.alloc(), &[(3, true)])?)?;
-    assert_eq!(rt; (rows.q_rows(), rows.t_rows(), rows.columns()), (1, 1, 2));
-    let constants = rows.constants();
-    assert!(rt; constants.len() == 1);
-    let wanted = [(0, Res::of(3)), (1, Res::of(1))];
-    assert_eq!(rt; constants[0].as_slice(), wanted.as_slice());
-    let symbols = rows.symbols();
-    assert!(rt; symbols.rows() == 1);
-    assert_eq!(rt; symbols.row(0), [0, 1].as_slice());
     Ok(())
 }

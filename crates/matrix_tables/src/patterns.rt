@@ -1,7 +1,7 @@
 //! Tests of patterns.
 
 ghost use Rattle.std.specs.Prelude.{◌≡◌, ◌<◌, IfOk};
-ghost use Rattle.sparse_t.specs.Incidences.{row_count};
+ghost use Rattle.sparse_t.specs.Incidences.{incidence_rows};
 
 use sparse_t::{NoMemory, Pattern};
 use std::alloc::Global;
@@ -9,7 +9,7 @@ use std::test::Fail;
 
 // Four rows over three columns: the first two columns, none, the last, all.
 fn example(alloc: Global) -> Result<Pattern, NoMemory>
-    ensures rows { IfOk result (λ p. row_count p ≡ 4) }
+    ensures rows { IfOk result (λ p. incidence_rows p ≡ 4) }
     ensures width { IfOk result (λ p. p.width ≡ 3) }
 {
     let mut pattern = Pattern::empty(alloc, 3)?;

@@ -2,7 +2,8 @@
 
 use crate::inputs::{CONSTANT, EMPTY, LARGE, MIXED, NO_END, WRONG_RANK};
 use crate::pictures::PICTURES;
-use crate::running::{Failing, expect_none, expect_picture, expect_run};
+use crate::running::{expect_none, expect_picture, expect_run};
+use memory_runs::{Streams, holds};
 use std::test::Fail;
 
 /// The picture of nothing: the two tails, which have neither columns nor rows, and the legend.
@@ -26,22 +27,6 @@ const MIXED_PIECES: [&str; 4] = [
     "\n<text x=\"3\" y=\"2\" dx=\".4em\" dy=\"1em\">b</text>\n",
 ];
 
-/// Streams of which no call fails.
-const CALM: Failing<'static> = Failing {
-    reads: &[],
-    writes: &[],
-};
-
-// Whether a text has a piece.
-fn holds(text: &[u8], piece: &[u8]) -> bool {
-    for start in 0..=text.len() {
-        if text[start..].starts_with(piece) {
-            return true;
-        }
-    }
-    false
-}
-
 #[test]
 fn nothing_is_drawn_as_two_tails(rt: HostRuntime) -> Result<(), Fail> {
     expect_picture(&rt, rt.alloc(), EMPTY, EMPTY_PICTURE)
@@ -55,9 +40,10 @@ fn pieces_stand_in_their_pictures(rt: HostRuntime) -> Result<(), Fail> {
         (MIXED, MIXED_PIECES),
     ];
     for (certificate, pieces) in tables {
-        let out = expect_run(&rt, rt.alloc(), certificate.as_bytes(), &CALM, 0, b"")?;
+        let streams = Streams::calm(&[], certificate.as_bytes());
+        let left = expect_run(&rt, rt.alloc(), &streams, 0, b"")?;
         for piece in pieces {
-            assert!(rt; holds(out.bytes(), piece.as_bytes()));
+            assert!(rt; holds(left.out.bytes(), piece.as_bytes()));
         }
     }
     Ok(())
@@ -94,16 +80,16 @@ fn what_is_not_accepted_is_not_drawn(rt: HostRuntime) -> Result<(), Fail> {
 #[test]
 fn failed_calls_are_told(rt: HostRuntime) -> Result<(), Fail> {
     let alloc = rt.alloc();
-    let input = CONSTANT.as_bytes();
-    let reads = Failing {
-        reads: &[1],
-        writes: &[],
+    let calm = Streams::calm(&[], CONSTANT.as_bytes());
+    let reads = Streams {
+        source_fails: &[1],
+        ..calm
     };
-    expect_run(&rt, alloc, input, &reads, 4, b"mixed: read fault\n")?;
-    let writes = Failing {
-        reads: &[],
-        writes: &[1],
+    expect_run(&rt, alloc, &reads, 4, b"mixed: read fault\n")?;
+    let writes = Streams {
+        out_fails: &[1],
+        ..calm
     };
-    expect_run(&rt, alloc, input, &writes, 5, b"mixed: write fault\n")?;
+    expect_run(&rt, alloc, &writes, 5, b"mixed: write fault\n")?;
     Ok(())
 }

@@ -161,14 +161,9 @@ fn reads_lists(rt: HostRuntime) -> Result<(), Fail> {
 }
 
 fn read_pieces(alloc: Global, pieces: &[&[u8]]) -> Result<Mixed<Res>, ReadModel> {
-    let Ok(mut reader) = MatrixReader::new(alloc) else {
-        return Err(ReadModel::NoMemory);
-    };
+    let mut reader = MatrixReader::new(alloc)?;
     for piece in pieces {
-        reader = match reader.feed(piece) {
-            Ok(reader) => reader,
-            Err(_) => return Err(ReadModel::NoMemory),
-        };
+        reader = reader.feed(piece)?;
     }
     reader.finish()
 }

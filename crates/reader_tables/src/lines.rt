@@ -55,10 +55,7 @@ fn counted(count: &Count) -> Counted {
 fn count_words(alloc: Global, pieces: &[&[u8]]) -> Result<Counted, ReadModel> {
     let mut reader = LineReader::new(alloc, nothing());
     for piece in pieces {
-        reader = match reader.feed(piece) {
-            Ok(reader) => reader,
-            Err(_) => return Err(ReadModel::NoMemory),
-        };
+        reader = reader.feed(piece)?;
     }
     Ok(counted(&reader.finish()?))
 }

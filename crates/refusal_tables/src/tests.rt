@@ -4,33 +4,28 @@ use crate::rows::{
     REPEATED, ROWS_1, ROWS_2, ROWS_3, ROWS_4, ROWS_5, ROWS_6, ROWS_7, ROWS_8, ROWS_9, ROWS_10, Row,
     WORDS,
 };
-use port_io::{MemSink, MemSource};
+use memory_runs::{Memory, Streams};
 use report_cli::run;
 use std::alloc::Global;
 use std::process::Abort;
 use std::test::Fail;
 
-/// Enough room for each text.
-const ROOM: usize = 100_000;
-
-// The words of a command line, behind the name of the program.
-fn words_of(alloc: Global, words: &str) -> Result<Vec<String>, Fail> {
+// What a run with these words on this input leaves, and the number with which it ends.
+fn noted(alloc: Global, words: &str, input: &[u8]) -> Result<(Memory, u8), Fail> {
     let mut all = Vec::new(alloc);
-    all.push(String::from_str(alloc, "mixed")?)?;
+    all.push("mixed")?;
     for word in words.split_whitespace() {
-        all.push(String::from_str(alloc, word)?)?;
+        all.push(word)?;
     }
-    Ok(all)
-}
-
-// What a run with these words on this input notes, and the number with which it ends.
-fn noted(alloc: Global, words: &str, input: &[u8]) -> Result<(MemSink, u8), Fail> {
-    let words = words_of(alloc, words)?;
-    let mut source = MemSource::new(alloc, input, 65_536, &[])?;
-    let mut out = MemSink::new(alloc, ROOM, ROOM, &[])?;
-    let mut told = MemSink::new(alloc, ROOM, ROOM, &[])?;
-    let status = run(alloc, &words, &mut source, &mut out, &mut told);
-    Ok((told, status.number()))
+    let mut memory = Streams::calm(&all, input).open(alloc)?;
+    let status = run(
+        alloc,
+        &memory.words,
+        &mut memory.source,
+        &mut memory.out,
+        &mut memory.notes,
+    );
+    Ok((memory, status.number()))
 }
 
 // That a run ends with this status and notes this message, or nothing where there is none.
@@ -46,8 +41,8 @@ fn expect_message(
         "" => String::new(alloc),
         message => format!(in alloc; "mixed: {message}\n")?,
     };
-    let (told, ended) = noted(alloc, words, input)?;
-    assert_eq!(rt; told.bytes(), line.as_bytes());
+    let (left, ended) = noted(alloc, words, input)?;
+    assert_eq!(rt; left.notes.bytes(), line.as_bytes());
     assert_eq!(rt; ended, status);
     Ok(())
 }
@@ -142,8 +137,8 @@ fn rows_of_words(rt: HostRuntime) -> Result<(), Fail> {
     let alloc = rt.alloc();
     for &(words, status, first) in &WORDS {
         let line = format!(in alloc; "{first}\n")?;
-        let (told, ended) = noted(alloc, words, b"")?;
-        assert!(rt; told.bytes().starts_with(line.as_bytes()));
+        let (left, ended) = noted(alloc, words, b"")?;
+        assert!(rt; left.notes.bytes().starts_with(line.as_bytes()));
         assert_eq!(rt; ended, status);
     }
     Ok(())

@@ -15,11 +15,11 @@ use Rattle.residue_field.specs.Modulus.{modulus_of}
 use Rattle.residue_field.specs.declared.field_name.FieldName.{FieldName}
 use Rattle.residue_field.specs.declared.field_name.FieldName.TheVariants.{Large, Small}
 use Rattle.command_line.specs.Words.{over}
-use Rattle.report_cli.specs.Fields.{version_of}
+use Rattle.report_cli.specs.Fields.{certificate_version}
 use Rattle.solve_plan.specs.Reports.{IsRightFormOf}
 use Rattle.limits.specs.Limits.{input_limit}
 use Rattle.input_kinds.specs.Kinds.{GivesModel}
-use Rattle.report_cli.specs.RightFor.{IsRightFor}
+use Rattle.report_cli.specs.RightFor.{IsRightForInput}
 use Rattle.input_kinds.proofs.ByKind.{is-model}
 
 -- a form that is right for the layers makes a certificate that is right for the text
@@ -29,7 +29,7 @@ pub right_for : (p : ℕ) (version : Version) (kind : Kind) (text : List ℕ) (m
     OfEachModel p layers (λ M O. HasShape M (layered_matrix_of layers) ccf) → HasTransform p (layered_matrix_of layers) ccf →
     OfEachModel p layers (λ M O. HasPairAndRank p M (layered_matrix_of layers) O ccf) → HasForm p (layered_matrix_of layers) ccf →
     HasIdeals p (layered_matrix_of layers) ccf → HasCanonicalListing p (layered_matrix_of layers) ccf →
-    IsRightFor p version kind text (record { version = version; modulus = p; kind = kind; echo = echo; ccf = ccf })
+    IsRightForInput p version kind text (record { version = version; modulus = p; kind = kind; echo = echo; ccf = ccf })
 right_for p version kind text model layers echo ccf gives are same short form shape transform pair triangular ideals canonical = record {
   model = model;
   gives = gives;
@@ -77,14 +77,14 @@ of-field : (name : FieldName) (m : ℕ) → m ≡ modulus_of name → (m ≡ mod
 of-field Small m is = inl is
 of-field Large m is = inr is
 
-in-one : (field : Option FieldName) (m : ℕ) (version : Version) → m ≡ modulus_of (over field) → version ≡ version_of field → version ≡ One →
+in-one : (field : Option FieldName) (m : ℕ) (version : Version) → m ≡ modulus_of (over field) → version ≡ certificate_version field → version ≡ One →
     m ≡ modulus_of Small
 in-one None m version states is one = states
 in-one (Some name) m version states is one = let none : ⊥ = cc in absurd none
 
 -- what is right for an input over the field that is named is a certificate
 pub is-certificate : (field : Option FieldName) (kind : Kind) (input : List ℕ) (c : Certificate) →
-    IsRightFor (modulus_of (over field)) (version_of field) kind input c → IsCertificate c
+    IsRightForInput (modulus_of (over field)) (certificate_version field) kind input c → IsCertificate c
 is-certificate field kind input c right = record {
   field = of-field (over field) c.modulus right.modulus_is;
   version = in-one field c.modulus c.version right.modulus_is right.version_is;

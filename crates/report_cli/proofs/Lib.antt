@@ -1,4 +1,3 @@
-pub mod ByKind
 pub mod FieldFacts
 pub mod Outputs
 pub mod ReportFacts

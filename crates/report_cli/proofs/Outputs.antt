@@ -16,11 +16,11 @@ use Rattle.report_cli.specs.declared.output.Output.{Output}
 use Rattle.report_cli.specs.declared.output.Output.TheVariants.{Accepted, Certificate, Layers, Made, Plan, Report}
 use Rattle.run_ends.specs.declared.status.Status.TheVariants.{Done, NotRegular}
 use Rattle.run_ends.specs.Ways.{HasText}
-use Rattle.report_cli.specs.Formats.{KeepsRules}
+use Rattle.report_cli.specs.Formats.{KeepsFormat}
 use Rattle.input_kinds.specs.Kinds.{GivesModel}
 use Rattle.command_line.specs.Words.{format_of}
-use Rattle.report_cli.specs.Fields.{command_modulus, version_of}
-use Rattle.report_cli.specs.RightFor.{IsRightFor}
+use Rattle.report_cli.specs.Fields.{command_modulus, certificate_version}
+use Rattle.report_cli.specs.RightFor.{IsRightForInput}
 use Rattle.report_cli.proofs.Certified.{is-certificate}
 use Rattle.report_cli.specs.Outputs.{IsOutputFor, IsWritable, end_of, end_of_rank}
 
@@ -28,7 +28,7 @@ use Rattle.report_cli.specs.Outputs.{IsOutputFor, IsWritable, end_of, end_of_ran
 pub writable : {T : Type 0} (number : T → ℕ) (p : ℕ) (command : Command) (input : List ℕ) (output : Output T) → p ≡ command_modulus command →
     IsOutputFor number p command input output → IsWritable p output
 writable number p command input (Certificate certificate) over_field (kind, field, is, right) =
-    is-certificate field kind input certificate (subst (λ m. IsRightFor m (version_of field) kind input certificate)
+    is-certificate field kind input certificate (subst (λ m. IsRightForInput m (certificate_version field) kind input certificate)
     (over_field ∙ ap command_modulus is) right)
 writable number p command input (Layers model layers) over_field (kind, field, is, gives, are, whole) = are
 writable number p command input (Report model told) over_field (kind, field, is, gives, reports) = reports
@@ -39,16 +39,16 @@ writable number p command input (Made size split ccf) over_field right = tt
 
 -- an input that has an output keeps each rule
 pub keeps-rules : {T : Type 0} (number : T → ℕ) (p : ℕ) (command : Command) (input : List ℕ) (output : Output T) →
-    IsOutputFor number p command input output → KeepsRules p (format_of command) input
+    IsOutputFor number p command input output → KeepsFormat p (format_of command) input
 keeps-rules number p command input (Certificate certificate) (kind, field, is, right) =
-    subst (λ c. KeepsRules p (format_of c) input) (sym is) (right.model, right.gives)
+    subst (λ c. KeepsFormat p (format_of c) input) (sym is) (right.model, right.gives)
 keeps-rules number p command input (Layers model layers) (kind, field, is, gives, are, whole) =
-    subst (λ c. KeepsRules p (format_of c) input) (sym is) (model, gives)
+    subst (λ c. KeepsFormat p (format_of c) input) (sym is) (model, gives)
 keeps-rules number p command input (Report model told) (kind, field, is, gives, reports) =
-    subst (λ c. KeepsRules p (format_of c) input) (sym is) (model, gives)
+    subst (λ c. KeepsFormat p (format_of c) input) (sym is) (model, gives)
 keeps-rules number p command input (Plan model layers plan) (kind, field, is, right) =
-    subst (λ c. KeepsRules p (format_of c) input) (sym is) (model, right.gives)
-keeps-rules number p command input Accepted (is, accepted) = subst (λ c. KeepsRules p (format_of c) input) (sym is) accepted
+    subst (λ c. KeepsFormat p (format_of c) input) (sym is) (model, right.gives)
+keeps-rules number p command input Accepted (is, accepted) = subst (λ c. KeepsFormat p (format_of c) input) (sym is) accepted
 keeps-rules number p command input (Made size split ccf) right = absurd right
 
 -- how an output ends: only a report on what is not regular ends otherwise

@@ -3,9 +3,9 @@ use Rattle.std.proofs.Common.{◌≤◌, ◌<◌, ℕ, List, length, get_or, ari
 use Rattle.std.specs.List.{All}
 use Rattle.std.proofs.lemmas.List.{get_or_default}
 use Rattle.residue_theory.specs.Residues.{IsPrime}
-use Rattle.form_arcs.proofs.FormLaws.{some-has}
+use Rattle.part_arcs.proofs.FormLaws.{some-has}
 use Rattle.mixed_matrices.specs.Models.{MixedMatrix, value}
-use Rattle.mixed_pairs.proofs.GreatestRanks.{greatest-size}
+use Rattle.mixed_pair_laws.proofs.GreatestRanks.{greatest-size}
 use Rattle.text_lengths.proofs.Lengths.{rising-few}
 use Rattle.solve_plan.specs.Marks.{AreMembersOf}
 use Rattle.solve_plan.specs.Reports.{IsReportOf}

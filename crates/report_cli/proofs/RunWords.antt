@@ -5,7 +5,7 @@ use Rattle.run_ends.specs.Answers.{Answered, CutShort, OnlyAnswer}
 use Rattle.run_ends.specs.Ways.{HasText, TakesBy, TellsAnswer}
 use Rattle.report_cli.specs.Answer.{IsAnswer, IsAnswerOf, IsCommandAnswer, IsComplete, IsMakeAnswer}
 use Rattle.report_cli.specs.Fields.{command_modulus}
-use Rattle.report_cli.specs.Formats.{KeepsRules, limit_of}
+use Rattle.report_cli.specs.Formats.{KeepsFormat, limit_of}
 use Rattle.report_cli.specs.Statuses.{status_of_words}
 use Rattle.run_ends.proofs.Taking.{appended_nothing, took_none, took_nothing}
 use Rattle.command_line.specs.Words.{AsksFor, AsksForNothing, IsWhy, format_of}
@@ -49,11 +49,11 @@ only_for words command left status asks only = λ input answer text is given. on
 
 pub complete_for : (words : List (List ℕ)) (command : Command) (left : Option (List ℕ)) (status : Status) → AsksFor words command →
     ((input : List ℕ) → left ≡ Some input → length input ≤ limit_of (format_of command) →
-    KeepsRules (command_modulus command) (format_of command) input → HasText status ⊎ (status ≡ Memory)) →
+    KeepsFormat (command_modulus command) (format_of command) input → HasText status ⊎ (status ≡ Memory)) →
     IsComplete words left status
 complete_for words command left status asks done = λ input other is asks_other short keeps.
     let same : other ≡ command = asks-one words other command asks_other asks in
-    done input is (subst (λ c. length input ≤ limit_of (format_of c)) same short) (subst (λ c. KeepsRules (command_modulus c) (format_of c) input) same keeps)
+    done input is (subst (λ c. length input ≤ limit_of (format_of c)) same short) (subst (λ c. KeepsFormat (command_modulus c) (format_of c) input) same keeps)
 
 -- a text that is written by the command is one by the words
 pub written-for : (words : List (List ℕ)) (command : Command) (input : List ℕ) (status : Status) (text : List ℕ) → AsksFor words command → HasText status →

@@ -6,7 +6,7 @@ use Rattle.run_ends.specs.declared.status.Status.{Status}
 use Rattle.run_ends.specs.declared.status.Status.TheVariants.{BadCertificate, Done, Memory, NotRegular, ReadFault}
 use Rattle.run_ends.specs.declared.status.Status.TheVariants.{Refused, Rejected, TooLong, Usage, WriteFault}
 use Rattle.report_cli.specs.Fields.{command_modulus}
-use Rattle.report_cli.specs.Formats.{IsFault, KeepsRules, limit_of}
+use Rattle.report_cli.specs.Formats.{IsFault, KeepsFormat, limit_of}
 use Rattle.command_line.specs.Words.{format_of}
 use Rattle.run_ends.specs.Answers.{Answered}
 use Rattle.run_ends.specs.Ways.{HasText, ReadsAll, TellsAnswer}
@@ -76,7 +76,7 @@ one-answer-status command input a b text other one two = one-answer command inpu
 
 -- of an input that keeps each rule the text is written
 module _ (command : Command) (input : List ℕ) (short : length input ≤ limit_of (format_of command))
-    (keeps : KeepsRules (command_modulus command) (format_of command) input) (status : Status) where
+    (keeps : KeepsFormat (command_modulus command) (format_of command) input) (status : Status) where
   kept-told : Ends command input status → HasText status
   kept-told (inl (is, long)) = not-long command input long short
   kept-told (inr (inl (shorter, fault))) = kept-unfaulty (command_modulus command) (format_of command) input status short keeps fault

@@ -13,11 +13,11 @@ use Rattle.cert_text.specs.Contents.{Certificate, Contents}
 use Rattle.cert_text.specs.declared.version.Version.{Version}
 use Rattle.cert_text.specs.declared.version.Version.TheVariants.{One}
 use Rattle.text_lengths.specs.Rooms.{IsShapeWithin, certificate_room}
-use Rattle.report_cli.specs.Fields.{version_of}
+use Rattle.report_cli.specs.Fields.{certificate_version}
 use Rattle.text_lengths.proofs.TextLengths.{certificate-short}
 use Rattle.limits.specs.Limits.{input_limit}
 use Rattle.input_kinds.specs.Kinds.{GivesModel}
-use Rattle.report_cli.specs.RightFor.{IsRightFor}
+use Rattle.report_cli.specs.RightFor.{IsRightForInput}
 use Rattle.report_cli.specs.Formats.{limit_of}
 use Rattle.report_cli.specs.MadeFor.{IsMadeFor}
 use Rattle.report_cli.specs.Outputs.{IsMadeOutput, IsOutputFor, output_text}
@@ -47,7 +47,7 @@ use Rattle.report_cli.specs.declared.output.Output.TheVariants.{Accepted, Certif
 use Rattle.report_cli.specs.declared.output.Output.TheVariants.{Layers as Layering, Made, Plan as Planning}
 use Rattle.report_cli.specs.declared.output.Output.TheVariants.{Report as Reporting}
 use Rattle.input_kinds.proofs.ByKind.{is-model}
-use Rattle.report_cli.proofs.ByKind.{few-names}
+use Rattle.input_kinds.proofs.NamesByKind.{few-names}
 use Rattle.answer_texts.proofs.LayerLengths.{layer-text-short}
 
 -- members of a set below n are at most n
@@ -92,7 +92,7 @@ module _ {T : Type 0} (number : T → ℕ) (p most : ℕ) (some : 0 < most) (bel
   low_p : p ≤ 10 ^ most
   low_p = omega (arith, below)
 
-  certificate-fits : (version : Version) (kind : Kind) (input : List ℕ) (c : Certificate) → IsRightFor p version kind input c →
+  certificate-fits : (version : Version) (kind : Kind) (input : List ℕ) (c : Certificate) → IsRightForInput p version kind input c →
       length input ≤ input_limit → length (certificate_text c) ≤ task_room most version Task.Analyse kind (length input)
   certificate-fits version kind input c right short =
       let low = narrow p kind input right.model right.layered right.origins right.gives right.layers in
@@ -156,7 +156,7 @@ module _ {T : Type 0} (number : T → ℕ) (p most : ℕ) (some : 0 < most) (bel
       length input ≤ limit_of (format_of command) → length (output_text number output) ≤ text_room most command (length input)
   output_fits prime command input (Certified c) (kind, field, is, right) short =
       subst (λ f. length (certificate_text c) ≤ text_room most f (length input)) (sym is)
-      (certificate-fits (version_of field) kind input c right (subst (λ f. length input ≤ limit_of (format_of f)) is short))
+      (certificate-fits (certificate_version field) kind input c right (subst (λ f. length input ≤ limit_of (format_of f)) is short))
   output_fits prime command input (Layering model layers) (kind, field, is, gives, are, whole) short =
       subst (λ f. length (layer_text model layers) ≤ text_room most f (length input)) (sym is)
       (layers-fit kind input model layers gives are whole)

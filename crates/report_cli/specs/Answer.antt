@@ -5,7 +5,7 @@ use Rattle.command_line.specs.declared.command.Command.{Command}
 use Rattle.residue_field.specs.Modulus.{modulus_of}
 use Rattle.residue_field.specs.declared.field_name.FieldName.{FieldName}
 use Rattle.report_cli.specs.Fields.{command_modulus}
-use Rattle.report_cli.specs.Formats.{IsFault, KeepsRules, limit_of}
+use Rattle.report_cli.specs.Formats.{IsFault, KeepsFormat, limit_of}
 use Rattle.report_cli.specs.MadeFor.{IsMakeText}
 use Rattle.report_cli.specs.Outputs.{IsOutputFor, end_of, output_text}
 use Rattle.report_cli.specs.declared.output.Output.{Output}
@@ -59,7 +59,7 @@ EachMadeTextFits Texts takes = (text : List ℕ) → Texts text → takes (lengt
 abbrev pub IsComplete : List (List ℕ) → Option (List ℕ) → Status → Type 0
 IsComplete words left status =
     (input : List ℕ) (command : Command) → left ≡ Some input → AsksFor words command →
-    length input ≤ limit_of (format_of command) → KeepsRules (command_modulus command) (format_of command) input →
+    length input ≤ limit_of (format_of command) → KeepsFormat (command_modulus command) (format_of command) input →
     HasText status ⊎ (status ≡ Memory)
 
 -- where the words ask for a made model, its text is written, but for want of memory

@@ -14,9 +14,9 @@ digits Small = 5
 digits Large = 10
 
 -- the version of the certificate that is written where this field is named
-abbrev pub version_of : Option FieldName → Version
-version_of None = One
-version_of (Some field) = Two
+abbrev pub certificate_version : Option FieldName → Version
+certificate_version None = One
+certificate_version (Some field) = Two
 
 -- the prime of the field that a command is over
 abbrev pub command_modulus : Command → ℕ

@@ -19,9 +19,9 @@ limit_of Certificate = certificate_limit
 
 -- the input keeps each rule: it gives a model over the residues modulo p, or it is the text of a certificate that is
 -- accepted
-abbrev pub KeepsRules : ℕ → Format → List ℕ → Type 0
-KeepsRules p (Model kind) input = (model : MixedModel) × GivesModel p kind input model
-KeepsRules p Certificate input = IsAccepted input
+abbrev pub KeepsFormat : ℕ → Format → List ℕ → Type 0
+KeepsFormat p (Model kind) input = (model : MixedModel) × GivesModel p kind input model
+KeepsFormat p Certificate input = IsAccepted input
 
 -- the status tells the first rule that the input breaks
 abbrev pub IsFault : ℕ → Format → List ℕ → Status → Type 0

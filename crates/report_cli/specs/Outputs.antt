@@ -14,10 +14,10 @@ use Rattle.answer_texts.specs.PlanTexts.{plan_text}
 use Rattle.answer_texts.specs.ReportTexts.{report_text}
 use Rattle.input_kinds.specs.Kinds.{GivesModel}
 use Rattle.answer_texts.specs.LayerTexts.{layer_text}
-use Rattle.report_cli.specs.Fields.{version_of}
+use Rattle.report_cli.specs.Fields.{certificate_version}
 use Rattle.report_cli.specs.MadeFor.{IsMadeFor}
 use Rattle.report_cli.specs.PlanFor.{IsPlanFor}
-use Rattle.report_cli.specs.RightFor.{IsRightFor}
+use Rattle.report_cli.specs.RightFor.{IsRightForInput}
 use Rattle.answer_texts.specs.WholeLayers.{AreWholeLayers}
 use Rattle.command_line.specs.declared.command.Command.{Command}
 use Rattle.command_line.specs.declared.command.Command.TheVariants.{Check, OfModel}
@@ -57,7 +57,7 @@ end_of (Made size split ccf) = Done
 abbrev pub IsOutputFor : {T : Type 0} → (T → ℕ) → ℕ → Command → List ℕ → Output T → Type 0
 IsOutputFor number p command input (Certificate certificate) =
     (kind : Kind) × (field : Option FieldName) × (command ≡ OfModel Analyse kind field)
-    × IsRightFor p (version_of field) kind input certificate
+    × IsRightForInput p (certificate_version field) kind input certificate
 IsOutputFor number p command input (Layers model layers) =
     (kind : Kind) × (field : Option FieldName) × (command ≡ OfModel Layer kind field)
     × GivesModel p kind input model × AreLayersOf model layers × AreWholeLayers layers

@@ -14,7 +14,7 @@ use Rattle.input_kinds.specs.Kinds.{GivesModel}
 -- over the residues modulo p: the input, of this kind, keeps each rule and gives a model, and the certificate has the
 -- version and the kind, states p, repeats the input, keeps the ranges and orders of its lines, and has a right
 -- canonical form of the model's layered matrix
-pub record IsRightFor (p : ℕ) (version : Version) (kind : Kind) (input : List ℕ) (certificate : Certificate) :
+pub record IsRightForInput (p : ℕ) (version : Version) (kind : Kind) (input : List ℕ) (certificate : Certificate) :
     Type 0 where
   pub model : MixedModel
   pub gives : GivesModel p kind input model

@@ -2,12 +2,12 @@
 use Rattle.std.specs.Prelude.{ℕ, ◌*◌, List, min}
 use Rattle.limits.specs.Limits.{column_limit, equation_limit}
 use Rattle.cert_text.specs.declared.kind.Kind.{Kind}
-use Rattle.cert_text.specs.declared.kind.Kind.TheVariants.{Flowsheet, Matrix, Netlist}
 use Rattle.answer_texts.specs.Rooms.{layer_room, made_room, plan_room, report_room}
+use Rattle.input_kinds.specs.NameCounts.{names_within}
 use Rattle.text_lengths.specs.Rooms.{certificate_room}
 use Rattle.command_line.specs.Words.{Asks, field_of, over}
 use Rattle.cert_text.specs.declared.version.Version.{Version}
-use Rattle.report_cli.specs.Fields.{digits, version_of}
+use Rattle.report_cli.specs.Fields.{digits, certificate_version}
 use Rattle.command_line.specs.declared.command.Command.{Command}
 use Rattle.command_line.specs.declared.command.Command.TheVariants.{Check, OfModel}
 use Rattle.command_line.specs.declared.command.Request.{Request}
@@ -15,14 +15,7 @@ use Rattle.command_line.specs.declared.command.Request.TheVariants.{Make, OfInpu
 use Rattle.command_line.specs.declared.command.Task.{Task}
 use Rattle.command_line.specs.declared.command.Task.TheVariants.{Analyse, Layer, Plan, Report}
 
--- how many equations, and how many unknowns, an input of this kind and of n bytes has at most: a flowsheet of s streams
--- and c components has s times c unknowns, which may be more than its bytes
-abbrev pub names_within : Kind → ℕ → ℕ
-names_within Matrix n = n
-names_within Netlist n = n
-names_within Flowsheet n = equation_limit
-
--- how many columns its layered matrix has at most
+-- how many columns the layered matrix of an input of this kind and of n bytes has at most
 abbrev pub columns_within : Kind → ℕ → ℕ
 columns_within kind n = min (2 * names_within kind n) column_limit
 
@@ -41,7 +34,7 @@ task_room most version Plan kind n = plan_room most (places_within kind n) (colu
 
 -- room for each text that may be written for an input of n bytes by this command, over such a field
 abbrev pub text_room : ℕ → Command → ℕ → ℕ
-text_room most (OfModel task kind field) n = task_room most (version_of field) task kind n
+text_room most (OfModel task kind field) n = task_room most (certificate_version field) task kind n
 text_room most Check n = 9
 
 -- room for each text that may be written by this request for an input of n bytes

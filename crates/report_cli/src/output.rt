@@ -1,7 +1,6 @@
 //! What a command writes of an input.
 
 ghost use Rattle.std.specs.Prelude.{◌≡◌, ◌<◌, ◌≤◌, ℕ, List, Option, codes, length, IfErr, IfOk};
-ghost use Rattle.cert_text.specs.Ranges.{IsCcf};
 ghost use Rattle.cert_text.specs.declared.kind.Kind.{Kind};
 ghost use Rattle.mixed_layering.specs.Layers.{AreLayersOf};
 ghost use Rattle.answer_texts.specs.LayerTexts.{layer_text};
@@ -15,11 +14,11 @@ ghost use Rattle.answer_texts.specs.MadeTexts.{made_text};
 ghost use Rattle.made_models.specs.MadeModels.{IsSize};
 ghost use Rattle.answer_texts.specs.PlanTexts.{plan_text};
 ghost use Rattle.answer_texts.specs.ReportTexts.{report_text};
-ghost use Rattle.mixed_model.specs.Models.{IsModel, mixed_matrix_of};
+ghost use Rattle.mixed_model.specs.Models.{mixed_matrix_of};
 ghost use Rattle.solve_plan.specs.Reports.{IsReportOf};
 ghost use Rattle.answer_texts.specs.WholeLayers.{AreWholeLayers};
 ghost use Rattle.cert_reader.specs.Limits.{certificate_limit};
-ghost use Rattle.report_cli.specs.Fields.{version_of};
+ghost use Rattle.report_cli.specs.Fields.{certificate_version};
 ghost use Rattle.report_cli.specs.Formats.{GivesNothing, limit_of};
 ghost use Rattle.command_line.specs.Words.{format_of};
 ghost use Rattle.text_writer.specs.Giving.{IsWritten};
@@ -147,7 +146,7 @@ impl<F: Field> Output<F> {
             IsOutputFor F.number F.modulus (Command.OfModel Task.Report kind named) input output) }
     {
         let layered = layer(alloc, &model)?;
-        is_model(&model);
+        model.is_model();
         let ccf = build(alloc, &layered)?;
         let told = report(alloc, &layered, &ccf)?;
         Ok(Output::Report(model, told))
@@ -161,9 +160,9 @@ impl<F: Field> Output<F> {
     {
         let layered = layer(alloc, &model)?;
         is_whole(&layered);
-        is_model(&model);
+        model.is_model();
         let ccf = build(alloc, &layered)?;
-        is_in_form(&ccf);
+        ccf.is_in_form();
         let plan = plan(alloc, &layered, &ccf)?;
         Ok(Output::Plan(model, layered, plan))
     }
@@ -182,13 +181,9 @@ impl<F: Field> Output<F> {
         ensures refused { IfErr result (IsWhyUnread F.modulus kind text.items) }
     {
         let model = read_model::<F>(alloc, kind, &text)?;
-        let Ok(layered) = layer(alloc, &model) else {
-            return Err(ReadModel::NoMemory);
-        };
-        let Ok(ccf) = build(alloc, &layered) else {
-            return Err(ReadModel::NoMemory);
-        };
-        is_in_form(&ccf);
+        let layered = layer(alloc, &model)?;
+        let ccf = build(alloc, &layered)?;
+        ccf.is_in_form();
         Ok(Output::Certificate(Certificate {
             version: version_of(named),
             kind,
@@ -206,7 +201,7 @@ impl<F: Field> Output<F> {
         let model = made_model::<F>(alloc, size)?;
         let layered = layer(alloc, &model)?;
         let ccf = build(alloc, &layered)?;
-        is_in_form(&ccf);
+        ccf.is_in_form();
         let split = layered.split();
         Ok(Output::Made(size, split, ccf))
     }
@@ -251,7 +246,7 @@ fn status_of(told: &Report) -> Status
 
 // The version of the certificate that is written where this field is named.
 fn version_of(named: Option<FieldName>) -> Version
-    ensures { result ≡ version_of named }
+    ensures { result ≡ certificate_version named }
 {
     match named {
         Some(_) => Version::Two,
@@ -259,25 +254,13 @@ fn version_of(named: Option<FieldName>) -> Version
     }
 }
 
-// TellsAnswer a proof what the type of a model keeps.
-fn is_model<F: Field>(model: &Mixed<F>)
-    ensures { IsModel F.modulus model.now }
-{
-    let _ = model.equations();
-}
-
-// TellsAnswer a proof what the type of a layered matrix keeps.
+// Tells a proof what the type of a layered matrix keeps.
 fn is_whole<F: Field>(layered: &Layered<F>)
     ensures { AreWholeLayers layered.now }
 {
-    let _ = (layered.split(), layered.q.rows(), layered.t.rows());
-}
-
-// TellsAnswer a proof what the type of a printed form keeps.
-fn is_in_form<F: Field>(ccf: &Ccf<F>)
-    ensures { IsCcf F.modulus ccf.now }
-{
-    let _ = ccf.rank();
+    layered.are_layers();
+    layered.q.is_matrix();
+    layered.t.is_pattern();
 }
 
 // Appends the text of the layered matrix of a model to the sink.

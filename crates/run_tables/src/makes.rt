@@ -1,8 +1,7 @@
 //! Made models, as runs over memory.
 
-use crate::tests::{Case, asked, calm, expect_case, expect_told, words_of};
-use port_io::{MemSink, MemSource};
-use report_cli::run;
+use crate::tests::{Case, asked, calm, expect_case, expect_told, run_over};
+use memory_runs::{Memory, Streams};
 use std::alloc::Global;
 use std::process::Abort;
 use std::test::Fail;
@@ -64,15 +63,11 @@ fn sizes_that_are_none(rt: HostRuntime) -> Result<(), Fail> {
     Ok(())
 }
 
-// What a run writes.
-fn written(rt: &impl Abort, alloc: Global, words: &[&str], input: &[u8]) -> Result<MemSink, Fail> {
-    let words = words_of(alloc, words)?;
-    let mut source = MemSource::new(alloc, input, 65_536, &[])?;
-    let mut out = MemSink::new(alloc, 65_536, 1_000_000, &[])?;
-    let mut notes = MemSink::new(alloc, 64, 64, &[])?;
-    let status = run(alloc, &words, &mut source, &mut out, &mut notes);
+// What a run leaves that ends well.
+fn left_by(rt: &impl Abort, alloc: Global, words: &[&str], input: &[u8]) -> Result<Memory, Fail> {
+    let (status, left) = run_over(alloc, &Streams::calm(words, input))?;
     assert_eq!(rt; status.number(), 0);
-    Ok(out)
+    Ok(left)
 }
 
 // The equation list of the made model of this size, by the words of its format.
@@ -152,11 +147,14 @@ fn a_made_model_is_that_of_its_list(rt: HostRuntime) -> Result<(), Fail> {
     let alloc = rt.alloc();
     for size in [2, 30] {
         let list = list_of(alloc, size)?;
-        let certificate = written(&rt, alloc, &["mixed", "analyse", "matrix"], list.as_bytes())?;
-        let certificate = std::str::from_utf8(certificate.bytes()).unwrap_or("");
+        let certificate = left_by(&rt, alloc, &["mixed", "analyse", "matrix"], list.as_bytes())?;
+        let certificate = std::str::from_utf8(certificate.out.bytes()).unwrap_or("");
         let number = format!(in alloc; "{size}")?;
-        let made = written(&rt, alloc, &["mixed", "make", number.as_str()], b"")?;
-        assert_eq!(rt; made.bytes(), told_of(alloc, size, certificate)?.as_bytes());
+        let made = left_by(&rt, alloc, &["mixed", "make", number.as_str()], b"")?;
+        assert_eq!(rt;
+            made.out.bytes(),
+            told_of(alloc, size, certificate)?.as_bytes()
+        );
     }
     Ok(())
 }

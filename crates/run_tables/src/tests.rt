@@ -1,13 +1,11 @@
 //! Runs over memory. Expected texts are those of the formats, never the program's own.
 
-use port_io::{MemSink, MemSource, read_all};
+use memory_runs::{Memory, ROOM, Streams, holds};
+use port_io::read_all;
 use report_cli::{Status, run};
 use std::alloc::Global;
 use std::process::Abort;
 use std::test::Fail;
-
-/// Enough room for each text.
-const ROOM: usize = 9_000_000;
 
 /// The words for each command.
 const ANALYSE: &[&str] = &["mixed", "analyse", "matrix"];
@@ -59,39 +57,39 @@ pub(crate) fn calm<'a>(
     }
 }
 
-pub(crate) fn words_of(alloc: Global, words: &[&str]) -> Result<Vec<String>, Fail> {
-    let mut all = Vec::new(alloc);
-    for word in words {
-        all.push(String::from_str(alloc, word)?)?;
-    }
-    Ok(all)
-}
-
-// Whether the piece stands in the text.
-fn holds(text: &[u8], piece: &[u8]) -> bool {
-    for start in 0..=text.len() {
-        if text[start..].starts_with(piece) {
-            return true;
-        }
-    }
-    false
+/// Runs over these streams: how the run ends, and what it leaves.
+pub(crate) fn run_over(alloc: Global, streams: &Streams) -> Result<(Status, Memory), Fail> {
+    let mut memory = streams.open(alloc)?;
+    let status = run(
+        alloc,
+        &memory.words,
+        &mut memory.source,
+        &mut memory.out,
+        &mut memory.notes,
+    );
+    Ok((status, memory))
 }
 
 /// Runs a case, and compares what it leaves. A run of status 2 takes no byte.
 pub(crate) fn expect_case(rt: &impl Abort, alloc: Global, case: &Case) -> Result<(), Fail> {
-    let words = words_of(alloc, case.words)?;
-    let mut source = MemSource::new(alloc, case.input, case.step.max(1), case.source_fails)?;
-    let mut out = MemSink::new(alloc, case.most.max(1), ROOM, case.out_fails)?;
-    let mut notes = MemSink::new(alloc, ROOM, ROOM, case.notes_fail)?;
-    let status = run(alloc, &words, &mut source, &mut out, &mut notes);
+    let streams = Streams {
+        words: case.words,
+        input: case.input,
+        step: case.step,
+        most: case.most,
+        source_fails: case.source_fails,
+        out_fails: case.out_fails,
+        notes_fail: case.notes_fail,
+    };
+    let (status, mut left) = run_over(alloc, &streams)?;
     assert_eq!(rt; status.number(), case.status);
-    assert!(rt; out.bytes().starts_with(case.begins));
-    assert!(rt; holds(out.bytes(), case.holds));
-    assert!(rt; out.bytes().ends_with(case.ends));
-    assert_eq!(rt; notes.bytes(), case.notes);
+    assert!(rt; left.out.bytes().starts_with(case.begins));
+    assert!(rt; holds(left.out.bytes(), case.holds));
+    assert!(rt; left.out.bytes().ends_with(case.ends));
+    assert_eq!(rt; left.notes.bytes(), case.notes);
     if status == Status::Usage {
-        let left = read_all(alloc, &mut source, 1000)?;
-        assert_eq!(rt; left.as_slice(), case.input);
+        let rest = read_all(alloc, &mut left.source, 1000)?;
+        assert_eq!(rt; rest.as_slice(), case.input);
     }
     Ok(())
 }
@@ -445,9 +443,8 @@ fn flowsheets(rt: HostRuntime) -> Result<(), Fail> {
 fn each_beginning_is_answered(rt: HostRuntime) -> Result<(), Fail> {
     let alloc = rt.alloc();
     for command in ["analyse", "layer"] {
-        let words = words_of(alloc, &["mixed", command, "matrix"])?;
         for text in EXAMPLES {
-            expect_beginnings(&rt, alloc, &words, text)?;
+            expect_beginnings(&rt, alloc, &["mixed", command, "matrix"], text)?;
         }
     }
     Ok(())
@@ -457,14 +454,11 @@ fn each_beginning_is_answered(rt: HostRuntime) -> Result<(), Fail> {
 fn expect_beginnings(
     rt: &impl Abort,
     alloc: Global,
-    words: &[String],
+    words: &[&str],
     text: &[u8],
 ) -> Result<(), Fail> {
     for end in 0..=text.len() {
-        let mut source = MemSource::new(alloc, &text[..end], ROOM, &[])?;
-        let mut out = MemSink::new(alloc, ROOM, ROOM, &[])?;
-        let mut notes = MemSink::new(alloc, ROOM, ROOM, &[])?;
-        let status = run(alloc, words, &mut source, &mut out, &mut notes);
+        let (status, _) = run_over(alloc, &Streams::calm(words, &text[..end]))?;
         assert!(rt; matches!(status, Status::Done | Status::Refused(_)));
     }
     Ok(())
@@ -518,16 +512,12 @@ pub(crate) fn expect_told(
     words: &[&str],
     told: &[u8],
 ) -> Result<(), Fail> {
-    let words = words_of(alloc, words)?;
-    let mut source = MemSource::new(alloc, b"eq a x=1\n", ROOM, &[])?;
-    let mut out = MemSink::new(alloc, ROOM, ROOM, &[])?;
-    let mut notes = MemSink::new(alloc, ROOM, ROOM, &[])?;
-    let status = run(alloc, &words, &mut source, &mut out, &mut notes);
+    let (status, mut left) = run_over(alloc, &Streams::calm(words, b"eq a x=1\n"))?;
     assert_eq!(rt; status.number(), 2);
-    assert_eq!(rt; out.bytes(), b"".as_slice());
-    assert!(rt; holds(notes.bytes(), told));
-    let left = read_all(alloc, &mut source, 1000)?;
-    assert_eq!(rt; left.as_slice(), b"eq a x=1\n".as_slice());
+    assert_eq!(rt; left.out.bytes(), b"".as_slice());
+    assert!(rt; holds(left.notes.bytes(), told));
+    let rest = read_all(alloc, &mut left.source, 1000)?;
+    assert_eq!(rt; rest.as_slice(), b"eq a x=1\n".as_slice());
     Ok(())
 }
 

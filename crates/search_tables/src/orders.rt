@@ -2,10 +2,10 @@
 
 ghost use Rattle.std.specs.Prelude.{◌<◌, ◌≡◌, ℕ, ◌+◌, length, IsTrue, slice_index};
 ghost use Rattle.part_rules.specs.Listed.{AreArcs};
-ghost use Rattle.block_orders.specs.Orders.{AreLowerItems};
+ghost use Rattle.part_orders.specs.Orders.{AreLowerItems};
 
 use bit_table::BitTable;
-use block_orders::{are_covers, chains_of, first_places, is_least_first};
+use part_orders::{are_covers, chains_of, first_places, is_least_first};
 use std::alloc::Global;
 use std::process::Abort;
 use std::test::Fail;

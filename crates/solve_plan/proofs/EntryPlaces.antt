@@ -11,8 +11,8 @@ use Rattle.cert_text.specs.Ranges.{AreEntries, IsCcf, IsPart}
 use Rattle.cert_text.specs.Readings.{entry_at, matrix_of}
 use Rattle.cert_text.specs.declared.part.CcfPart.{CcfPart}
 use Rattle.cert_text.proofs.PrintedRules.{has-below}
-use Rattle.form_arcs.specs.Marking.{keys_of, row_of}
-use Rattle.form_arcs.proofs.FormLaws.{entries-test, has-some, some-has}
+use Rattle.part_arcs.specs.Marking.{first_numbers, row_of_lists}
+use Rattle.part_arcs.proofs.FormLaws.{entries-test, has-some, some-has}
 use Rattle.part_rules.specs.Listed.{marked}
 use Rattle.solve_plan.specs.Marks.{AreMembersOf, IsItem, Marks, OfSome, Unmarks}
 use Rattle.solve_plan.specs.PlanSteps.{HasEntryAt}
@@ -20,19 +20,19 @@ use Rattle.solve_plan.proofs.MarkSets.{mark-fresh}
 use Rattle.solve_plan.proofs.ReportLaws.{members-as}
 
 -- where the number is not 0 an entry stands
-entry-key : (entries : List (ℕ × ℕ)) (x : ℕ) → entry_at entries x ≢ 0 → has (keys_of entries) x ≡ true
+entry-key : (entries : List (ℕ × ℕ)) (x : ℕ) → entry_at entries x ≢ 0 → has (first_numbers entries) x ≡ true
 entry-key [] x apart = absurd (apart refl)
 entry-key (entry ∷ entries) x apart = go (eqb entry.0 x) refl (entry-key entries x)
   where
-    go : (b : Bool) → eqb entry.0 x ≡ b → (entry_at entries x ≢ 0 → has (keys_of entries) x ≡ true) → has (keys_of (entry ∷ entries)) x ≡ true
-    go true e rest = either-first (eqb entry.0 x) (has (keys_of entries) x) e
-    go false e rest = either-second (eqb entry.0 x) (has (keys_of entries) x) (rest (subst (λ b. cond b entry.1 (entry_at entries x) ≢ 0) e apart))
+    go : (b : Bool) → eqb entry.0 x ≡ b → (entry_at entries x ≢ 0 → has (first_numbers entries) x ≡ true) → has (first_numbers (entry ∷ entries)) x ≡ true
+    go true e rest = either-first (eqb entry.0 x) (has (first_numbers entries) x) e
+    go false e rest = either-second (eqb entry.0 x) (has (first_numbers entries) x) (rest (subst (λ b. cond b entry.1 (entry_at entries x) ≢ 0) e apart))
 
 module _ (p n : ℕ) (entries : List (ℕ × ℕ)) (are : AreEntries p n entries) (x : ℕ) where
-  key-nonzero : has (keys_of entries) x ≡ true → entry_at entries x % p ≢ 0
+  key-nonzero : has (first_numbers entries) x ≡ true → entry_at entries x % p ≢ 0
   key-nonzero h = eqb_false (entry_at entries x % p) 0 (not-true (eqb (entry_at entries x % p) 0) ((entries-test p n entries x are).1 h))
 
-  key-entry : has (keys_of entries) x ≡ true → entry_at entries x ≢ 0
+  key-entry : has (first_numbers entries) x ≡ true → entry_at entries x ≢ 0
   key-entry h zero = key-nonzero h (let less : entry_at entries x % p ≤ entry_at entries x = mod-le (entry_at entries x) p in omega (arith, less, zero))
 
 -- what a list holds is an item
@@ -45,43 +45,48 @@ module _ (p : ℕ) (c : Contents) (is : IsCcf p c) where
     low : i < length c.p
     low = subst (λ m. i < m) (sym is.p.count) il
 
-    row : row_of (map keys_of c.p) i ≡ keys_of (slice_index_or c.p i [])
-    row = get_or-map keys_of c.p i [] [] low
+    row : row_of_lists (map first_numbers c.p) i ≡ first_numbers (slice_index_or c.p i [])
+    row = get_or-map first_numbers c.p i [] [] low
 
     -- an entry of P is not 0 modulo p
     pub entry-nonzero : matrix_of c.p i x ≢ 0 → matrix_of c.p i x % p ≢ 0
     entry-nonzero apart = key-nonzero p c.shape.columns (slice_index_or c.p i []) (is.p.entries i [] low) x (entry-key (slice_index_or c.p i []) x apart)
 
-    entry-listed : matrix_of c.p i x ≢ 0 → has (row_of (map keys_of c.p) i) x ≡ true
+    entry-listed : matrix_of c.p i x ≢ 0 → has (row_of_lists (map first_numbers c.p) i) x ≡ true
     entry-listed apart = subst (λ keys. has keys x ≡ true) (sym row) (entry-key (slice_index_or c.p i []) x apart)
 
-    listed-entry : has (row_of (map keys_of c.p) i) x ≡ true → matrix_of c.p i x ≢ 0
+    listed-entry : has (row_of_lists (map first_numbers c.p) i) x ≡ true → matrix_of c.p i x ≢ 0
     listed-entry h = key-entry p c.shape.columns (slice_index_or c.p i []) (is.p.entries i [] low) x (subst (λ keys. has keys x ≡ true) row h)
 
   -- ---- a part
   module _ (part : CcfPart) (ok : IsPart c.shape part) where
     abbrev EntryListed : ℕ → Type 0
-    EntryListed = OfSome (length part.q_rows) (λ k. IsItem (row_of (map keys_of c.p) (slice_index part.q_rows k)))
+    EntryListed = OfSome (length part.q_rows) (λ k. IsItem (row_of_lists (map first_numbers c.p) (slice_index part.q_rows k)))
 
     abbrev SymbolListed : ℕ → Type 0
-    SymbolListed = OfSome (length part.t_rows) (λ k. IsItem (row_of c.t (slice_index part.t_rows k)))
+    SymbolListed = OfSome (length part.t_rows) (λ k. IsItem (row_of_lists c.t (slice_index part.t_rows k)))
 
     told : (x : ℕ) → EntryListed x ⊎ SymbolListed x → HasEntryAt c part x
     told x (inl (k, kl, item)) =
         let i : ℕ = slice_index part.q_rows k in
-        inl (i, some-has part.q_rows k i kl refl, listed-entry i x (ok.q_rows.below k 0 kl) (item-has (row_of (map keys_of c.p) i) x item))
+        inl (i, some-has part.q_rows k i kl refl, listed-entry i x (ok.q_rows.below k 0 kl) (item-has (row_of_lists (map first_numbers c.p) i) x item))
     told x (inr (k, kl, item)) =
         let i : ℕ = slice_index part.t_rows k in
-        inr (i, some-has part.t_rows k i kl refl, item-has (row_of c.t i) x item)
+        inr (i, some-has part.t_rows k i kl refl, item-has (row_of_lists c.t i) x item)
 
     back : (x : ℕ) → HasEntryAt c part x → EntryListed x ⊎ SymbolListed x
     back x (inl (i, h, apart)) =
         let at = has-some part.q_rows i h in
         let low : i < c.shape.q_rows = has-below c.shape.q_rows part.q_rows i ok.q_rows.below h in
-        inl (at.0, at.1, subst (λ l. IsItem (row_of (map keys_of c.p) l) x) (sym at.2) (has-some (row_of (map keys_of c.p) i) x (entry-listed i x low apart)))
+        inl (
+          at.0,
+          at.1,
+          subst (λ l. IsItem (row_of_lists (map first_numbers c.p) l) x) (sym at.2)
+              (has-some (row_of_lists (map first_numbers c.p) i) x (entry-listed i x low apart)),
+        )
     back x (inr (i, h, symbol)) =
         let at = has-some part.t_rows i h in
-        inr (at.0, at.1, subst (λ l. IsItem (row_of c.t l) x) (sym at.2) (has-some (row_of c.t i) x symbol))
+        inr (at.0, at.1, subst (λ l. IsItem (row_of_lists c.t l) x) (sym at.2) (has-some (row_of_lists c.t i) x symbol))
 
     -- what is marked of the rows and not of the columns is used
     module _ (none first more marks : List Bool) (clear : none ≡ replicate c.shape.columns false) (one : Marks EntryListed none first)

@@ -4,7 +4,7 @@ use Rattle.std.proofs.lemmas.List.{get_or-set_same, get_or-set_other, length-set
 use Rattle.residue_theory.proofs.SetLaws.{differ}
 use Rattle.residue_theory.proofs.SumLaws.{nat_cases}
 use Rattle.part_rules.specs.Listed.{marked}
-use Rattle.form_arcs.proofs.Gathered.{none-marked}
+use Rattle.part_arcs.proofs.Gathered.{none-marked}
 use Rattle.solve_plan.specs.Marks.{AreMarksOf, Marks, OfSome, Unmarks}
 
 -- nothing is marked yet

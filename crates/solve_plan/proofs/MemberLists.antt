@@ -5,7 +5,7 @@ use Rattle.std.proofs.lemmas.List.{get_or_append_left, get_or_push, length_push}
 use Rattle.residue_theory.proofs.SetLaws.{differ, either_cases, either-first, either-second, eqb_true, eqb_from, lt_cases}
 use Rattle.residue_theory.proofs.SumLaws.{nat_cases}
 use Rattle.residue_theory.specs.Sets.{has}
-use Rattle.form_arcs.proofs.FormLaws.{some-has}
+use Rattle.part_arcs.proofs.FormLaws.{some-has}
 use Rattle.solve_plan.specs.Marks.{AreMembersOf}
 
 pub members-none : (A : ℕ → Type 0) → AreMembersOf 0 A []

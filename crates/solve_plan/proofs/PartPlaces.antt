@@ -10,8 +10,8 @@ use Rattle.cert_text.specs.Ranges.{IsCcf}
 use Rattle.cert_text.specs.Readings.{StandsOnce, column_lists, matrix_of, parts_of, place_of, q_row_lists, t_row_lists}
 use Rattle.cert_text.specs.declared.part.CcfBlock.{CcfBlock}
 use Rattle.cert_text.proofs.PrintedRules.{place-is}
-use Rattle.form_arcs.specs.Marking.{keys_of, row_of}
-use Rattle.form_arcs.proofs.FormLaws.{entries-test, has-some, some-has}
+use Rattle.part_arcs.specs.Marking.{first_numbers, row_of_lists}
+use Rattle.part_arcs.proofs.FormLaws.{entries-test, has-some, some-has}
 use Rattle.solve_plan.specs.Surplus.{IsUsedLast}
 
 module _ (n : ℕ) (one : List ℕ) (middle : List (List ℕ)) (last : List ℕ) (once : StandsOnce n (one ∷ (middle ++ last ∷ []))) (x : ℕ) (low : x < n) where
@@ -62,11 +62,11 @@ module _ (c : Contents) where
 
   -- S has an entry exactly where its number is not 0
   module _ (p : ℕ) (is : IsCcf p c) where
-    entry-test : (k e : ℕ) → k < c.shape.q_rows → (matrix_of c.s k e % p ≢ 0) ↔ (has (row_of (map keys_of c.s) k) e ≡ true)
+    entry-test : (k e : ℕ) → k < c.shape.q_rows → (matrix_of c.s k e % p ≢ 0) ↔ (has (row_of_lists (map first_numbers c.s) k) e ≡ true)
     entry-test k e kl =
         let low : k < length c.s = subst (λ m. k < m) (sym is.s.count) kl in
         let test = entries-test p c.shape.q_rows (slice_index_or c.s k []) e (is.s.entries k [] low) in
-        let row : row_of (map keys_of c.s) k ≡ keys_of (slice_index_or c.s k []) = get_or-map keys_of c.s k [] [] low in (
+        let row : row_of_lists (map first_numbers c.s) k ≡ first_numbers (slice_index_or c.s k []) = get_or-map first_numbers c.s k [] [] low in (
           λ ne. subst (λ list. has list e ≡ true) (sym row)
               (test.0 (not-make (eqb (matrix_of c.s k e % p) 0) (not_true (eqb (matrix_of c.s k e % p) 0)
               (λ h. ne (eqb_true (matrix_of c.s k e % p) 0 h))))),
@@ -80,8 +80,12 @@ module _ (c : Contents) where
         told : (k : ℕ) × (k < c.shape.q_rows) × ((parts_of c).q_row k ≡ length c.blocks + 1) × (matrix_of c.s k e % p ≢ 0) → IsUsedLast c e
         told (k, kl, place, ne) =
             let at = has-some c.last.q_rows k ((last-q c.shape.q_rows k once kl).0 place) in
-            let item = has-some (row_of (map keys_of c.s) k) e ((entry-test k e kl).0 ne) in
-            (at.0, at.1, subst (λ i. (j : ℕ) × (j < length (row_of (map keys_of c.s) i)) × (slice_index (row_of (map keys_of c.s) i) j ≡ e)) (sym at.2) item)
+            let item = has-some (row_of_lists (map first_numbers c.s) k) e ((entry-test k e kl).0 ne) in (
+              at.0,
+              at.1,
+              subst (λ i. (j : ℕ) × (j < length (row_of_lists (map first_numbers c.s) i)) ×
+                  (slice_index (row_of_lists (map first_numbers c.s) i) j ≡ e)) (sym at.2) item,
+            )
 
         back : IsUsedLast c e → (k : ℕ) × (k < c.shape.q_rows) × ((parts_of c).q_row k ≡ length c.blocks + 1) × (matrix_of c.s k e % p ≢ 0)
         back (i, il, (j, jl, at)) =
@@ -90,5 +94,5 @@ module _ (c : Contents) where
               k,
               kl,
               (last-q c.shape.q_rows k once kl).1 (some-has c.last.q_rows i k il refl),
-              (entry-test k e kl).1 (some-has (row_of (map keys_of c.s) k) j e jl at),
+              (entry-test k e kl).1 (some-has (row_of_lists (map first_numbers c.s) k) j e jl at),
             )

@@ -13,9 +13,9 @@ use Rattle.mixed_matrices.specs.LayeredMatrices.{LayeredMatrix}
 use Rattle.mixed_matrices.specs.Layerings.{IsLayeredMatrixOf, Origins, gives_q, has_constant, has_symbol}
 use Rattle.mixed_matrices.specs.Models.{MixedMatrix}
 use Rattle.mixed_matrices.specs.StructuralRanks.{IsLayeredRank}
-use Rattle.mixed_pairs.proofs.DroppedSymbols.{size-union}
+use Rattle.mixed_pair_laws.proofs.DroppedSymbols.{size-union}
 use Rattle.mixed_layering_laws.proofs.LayeringRank.{layering-law}
-use Rattle.mixed_forms.proofs.FirstParts.{form-rank, last-rows, sizes}
+use Rattle.mixed_form_laws.proofs.FirstParts.{form-rank, last-rows, sizes}
 use Rattle.cert_text.specs.Contents.{Contents}
 use Rattle.cert_text.specs.Readings.{matrix_of, parts_of}
 use Rattle.cert_text.specs.Right.{IsRightCcf}

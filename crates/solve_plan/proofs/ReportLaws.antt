@@ -14,7 +14,7 @@ use Rattle.mixed_model.specs.Layers.{Layers, AreLayers, layered_matrix_of}
 use Rattle.mixed_model.specs.Models.{mixed_matrix_of}
 use Rattle.cert_text.specs.Contents.{Contents}
 use Rattle.cert_text.specs.Ranges.{IsCcf}
-use Rattle.form_arcs.proofs.FormLaws.{has-some, some-has}
+use Rattle.part_arcs.proofs.FormLaws.{has-some, some-has}
 use Rattle.part_rules.specs.Listed.{marked}
 use Rattle.solve_plan.specs.Marks.{AreMarksOf, AreMembersOf, IsItem, Marks, OfSome}
 use Rattle.solve_plan.specs.Reports.{IsRightFormOf, ReportsEach}

@@ -12,11 +12,11 @@ use Rattle.mixed_model.specs.Layers.{Layers}
 use Rattle.solve_plan.specs.declared.steps.Step.{Step}
 use Rattle.solve_plan.specs.declared.steps.StepPart.{StepPart}
 use Rattle.solve_plan.specs.declared.steps.StepPart.TheVariants.{First, Block, Last}
-use Rattle.solve_plan.specs.PlanSteps.{AddsSteps, AreStepsOf, IsStepOf, block_steps, is_bare, solved_parts, tail_steps, terms_of}
+use Rattle.solve_plan.specs.PlanSteps.{AddsSteps, AreStepsOf, IsStepOf, block_steps, is_bare, solved_parts, tail_steps, step_terms}
 
 -- the numbers of terms are those of the entries
 pub terms-numbers : {T : Type 0} (number : T → ℕ) (origins : List ℕ) (entries : List (ℕ × T)) →
-    map (λ term. (number term.0, term.1)) (terms_of origins entries) ≡ terms_of origins (numbered number entries)
+    map (λ term. (number term.0, term.1)) (step_terms origins entries) ≡ step_terms origins (numbered number entries)
 terms-numbers number origins [] = refl
 terms-numbers number origins (entry ∷ entries) = ap (λ rest. (number entry.1, slice_index origins entry.0) ∷ rest) (terms-numbers number origins entries)
 
@@ -36,13 +36,13 @@ module _ {T : Type 0} (number : T → ℕ) (slice rows : List (List (ℕ × T)))
 
 -- one more term, of the next entry
 pub terms-more : {T : Type 0} (origins : List ℕ) (entries : List (ℕ × T)) (terms more : List (T × ℕ)) (k : ℕ) (entry : ℕ × T) (equation : ℕ) →
-    more ≡ terms ++ (entry.1, equation) ∷ [] → terms ≡ terms_of origins (take k entries) → k < length entries → entry ≡ slice_index_or entries k entry →
-    slice_index origins entry.0 ≡ equation → more ≡ terms_of origins (take (k + 1) entries)
+    more ≡ terms ++ (entry.1, equation) ∷ [] → terms ≡ step_terms origins (take k entries) → k < length entries → entry ≡ slice_index_or entries k entry →
+    slice_index origins entry.0 ≡ equation → more ≡ step_terms origins (take (k + 1) entries)
 terms-more origins entries terms more k entry equation pushed before low at same =
     pushed ∙ ap (λ start. start ++ (entry.1, equation) ∷ []) before
-    ∙ ap (λ term. terms_of origins (take k entries) ++ term ∷ []) (ap (λ e. (entry.1, e)) (sym same) ∙ ap (λ e. (e.1, slice_index origins e.0)) at)
+    ∙ ap (λ term. step_terms origins (take k entries) ++ term ∷ []) (ap (λ e. (entry.1, e)) (sym same) ∙ ap (λ e. (e.1, slice_index origins e.0)) at)
     ∙ sym (map-append (λ e. (e.1, slice_index origins e.0)) (take k entries) (slice_index_or entries k entry ∷ []))
-    ∙ ap (terms_of origins) (sym (take_more entries k entry low))
+    ∙ ap (step_terms origins) (sym (take_more entries k entry low))
 
 -- one more item, whose image is that of the next of a list
 pub mapped-more : {X Y Z : Type 0} (f : X → Z) (g : Y → Z) (old : List Z) (items more : List X) (item : X) (list : List Y) (k : ℕ) (next : Y) →

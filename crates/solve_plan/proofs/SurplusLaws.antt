@@ -9,9 +9,9 @@ use Rattle.mixed_matrices.specs.Layerings.{IsLayeredMatrixOf, Origins, gives_q, 
 use Rattle.mixed_matrices.specs.Models.{MixedMatrix}
 use Rattle.mixed_matrices.specs.Removals.{IsSurplus, IsUndetermined}
 use Rattle.mixed_matrices.specs.Tableaus.{IsTableau}
-use Rattle.mixed_report.proofs.Removals.{equation_rows}
-use Rattle.mixed_report.proofs.Tails.{last-untouched, untouched-last, stays-used, used-stays}
-use Rattle.mixed_report.proofs.Tests.{held-undetermined, undetermined-held, rho-surplus, surplus-rho, surplus-untouched, untouched-surplus}
+use Rattle.mixed_report_laws.proofs.Removals.{equation_rows}
+use Rattle.mixed_report_laws.proofs.Tails.{last-untouched, untouched-last, stays-used, used-stays}
+use Rattle.mixed_report_laws.proofs.Tests.{held-undetermined, undetermined-held, rho-surplus, surplus-rho, surplus-untouched, untouched-surplus}
 use Rattle.mixed_model.specs.Layers.{Layers, AreLayers, layered_matrix_of}
 use Rattle.cert_text.specs.Contents.{Contents}
 use Rattle.cert_text.specs.Ranges.{IsCcf}
@@ -20,7 +20,7 @@ use Rattle.cert_text.specs.Right.{IsRightCcf}
 use Rattle.cert_text.proofs.PrintedRules.{KeepsPrintedRules}
 use Rattle.cert_text.proofs.RightFacts.{printed-tableau}
 use Rattle.cert_text.proofs.RuleFacts.{right-rules}
-use Rattle.form_arcs.proofs.FormLaws.{has-some, some-has}
+use Rattle.part_arcs.proofs.FormLaws.{has-some, some-has}
 use Rattle.solve_plan.specs.Marks.{IsItem}
 use Rattle.solve_plan.specs.Surplus.{IsToldSurplus, IsUsedLast}
 use Rattle.solve_plan.proofs.PartPlaces.{first-column, last-t, used-told}

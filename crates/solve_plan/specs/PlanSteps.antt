@@ -31,19 +31,19 @@ abbrev pub solved_parts : Contents → List (StepPart × CcfPart)
 solved_parts c = tail_steps Last c.last ++ block_steps 0 c.blocks ++ tail_steps First c.first
 
 -- what stands in a row of S as coefficients and the equations of their Q rows
-abbrev pub terms_of : {T : Type 0} → List ℕ → List (ℕ × T) → List (T × ℕ)
-terms_of origins entries = map (λ entry. (entry.1, slice_index origins entry.0)) entries
+abbrev pub step_terms : {T : Type 0} → List ℕ → List (ℕ × T) → List (T × ℕ)
+step_terms origins entries = map (λ entry. (entry.1, slice_index origins entry.0)) entries
 
 -- Q row q of the form, which S combines, and T row t
 abbrev pub combined_row : Layers → Contents → ℕ → StepRow ℕ
-combined_row layers c q = Combined (terms_of layers.q_origins (slice_index_or c.s q []))
+combined_row layers c q = Combined (step_terms layers.q_origins (slice_index_or c.s q []))
 
 abbrev pub symbol_row : Layers → ℕ → StepRow ℕ
 symbol_row layers t = Symbols (slice_index layers.t_origins t)
 
 -- the rows of a part
-abbrev pub rows_of : Layers → Contents → CcfPart → List (StepRow ℕ)
-rows_of layers c part = map (combined_row layers c) part.q_rows ++ map (symbol_row layers) part.t_rows
+abbrev pub rows_of_part : Layers → Contents → CcfPart → List (StepRow ℕ)
+rows_of_part layers c part = map (combined_row layers c) part.q_rows ++ map (symbol_row layers) part.t_rows
 
 -- a row with each coefficient by its number
 abbrev pub row_numbers : {T : Type 0} → (T → ℕ) → StepRow T → StepRow ℕ
@@ -60,7 +60,7 @@ pub record IsStepOf {T : Type 0} (number : T → ℕ) (layers : Layers) (c : Con
     (step : Step T) : Type 0 where
   pub name : step.part ≡ of.0
   pub columns : step.columns ≡ of.1.columns
-  pub rows : map (row_numbers number) step.rows ≡ rows_of layers c of.1
+  pub rows : map (row_numbers number) step.rows ≡ rows_of_part layers c of.1
   pub uses : AreMembersOf c.shape.columns (λ x. (has of.1.columns x ≡ false) × HasEntryAt c of.1 x) step.uses
 
 -- step k is that of part k

@@ -4,7 +4,7 @@ use Rattle.std.specs.List.{All}
 use Rattle.dense_q.specs.Tables.{height}
 use Rattle.mixed_model.specs.Layers.{Layers}
 use Rattle.cert_text.specs.Contents.{Contents}
-use Rattle.form_arcs.specs.Marking.{keys_of, row_of}
+use Rattle.part_arcs.specs.Marking.{first_numbers, row_of_lists}
 use Rattle.solve_plan.specs.Marks.{IsItem, OfSome}
 
 -- a T row of the last tail comes from equation x
@@ -14,7 +14,8 @@ IsOfLast layers c x =
 
 -- S has an entry in column e of a Q row of the last tail
 abbrev pub IsUsedLast : Contents → ℕ → Type 0
-IsUsedLast c e = OfSome (length c.last.q_rows) (λ k. IsItem (row_of (map keys_of c.s) (slice_index c.last.q_rows k))) e
+IsUsedLast c e = OfSome (length c.last.q_rows) (λ k. IsItem (row_of_lists (map first_numbers c.s)
+    (slice_index c.last.q_rows k))) e
 
 -- equation x has no T row, and its Q row is used so
 abbrev pub IsMadeWith : Layers → Contents → ℕ → Type 0

@@ -2,7 +2,7 @@
 
 ghost use Rattle.std.specs.Prelude.{◌≡◌, ◌<◌, ◌≤◌, ℕ, IfOk, length, map, slice_index, true};
 ghost use Rattle.std.specs.List.{All};
-ghost use Rattle.form_arcs.specs.Marking.{keys_of, row_of};
+ghost use Rattle.part_arcs.specs.Marking.{first_numbers, row_of_lists};
 ghost use Rattle.part_rules.specs.Listed.{marked};
 ghost use Rattle.solve_plan.specs.Marks.{AreMembersOf, IsItem, Marks, OfSome, Unmarks};
 
@@ -34,7 +34,7 @@ pub fn unmark_numbers(marks: &mut [bool], list: &[usize])
 fn mark_row<T: Drop>(marks: &mut [bool], rows: &[Items<(usize, T)>], row: usize)
     requires row { row < length rows.now }
     requires rows { All (All (λ item. item.0 < length marks.old)) rows.now }
-    ensures { Marks (IsItem (row_of (map keys_of rows.now) row)) marks.old marks.new }
+    ensures { Marks (IsItem (row_of_lists (map first_numbers rows.now) row)) marks.old marks.new }
 {
     let items = rows[row].as_slice();
     for item in items {
@@ -46,7 +46,8 @@ fn mark_row<T: Drop>(marks: &mut [bool], rows: &[Items<(usize, T)>], row: usize)
 pub fn mark_rows<T: Drop>(marks: &mut [bool], rows: &[Items<(usize, T)>], list: &[usize])
     requires list { All (λ i. i < length rows.now) list.now }
     requires rows { All (All (λ item. item.0 < length marks.old)) rows.now }
-    ensures { Marks (OfSome (length list.now) (λ k. IsItem (row_of (map keys_of rows.now) (slice_index list.now k))))
+    ensures { Marks (OfSome (length list.now) (λ k. IsItem (row_of_lists (map first_numbers rows.now)
+        (slice_index list.now k))))
         marks.old marks.new }
 {
     for row in list {
@@ -58,7 +59,7 @@ pub fn mark_rows<T: Drop>(marks: &mut [bool], rows: &[Items<(usize, T)>], list: 
 pub fn mark_lists(marks: &mut [bool], lists: &[Items<usize>], which: &[usize])
     requires which { All (λ i. i < length lists.now) which.now }
     requires lists { All (All (λ number. number < length marks.old)) lists.now }
-    ensures { Marks (OfSome (length which.now) (λ k. IsItem (row_of lists.now (slice_index which.now k))))
+    ensures { Marks (OfSome (length which.now) (λ k. IsItem (row_of_lists lists.now (slice_index which.now k))))
         marks.old marks.new }
 {
     for i in which {

@@ -3,7 +3,7 @@
 ghost use Rattle.std.specs.Prelude.{◌≡◌, ◌<◌, ◌++◌, ℕ, IfOk, OnOk, length, map};
 ghost use Rattle.std.specs.List.{All};
 ghost use Rattle.dense_q.specs.Tables.{height};
-ghost use Rattle.solve_plan.specs.PlanSteps.{combined_row, row_numbers, symbol_row, terms_of};
+ghost use Rattle.solve_plan.specs.PlanSteps.{combined_row, row_numbers, symbol_row, step_terms};
 
 use crate::steps::StepRow;
 use cert_text::{Ccf, Items};
@@ -19,7 +19,7 @@ fn terms<F: Field>(
     entries: &[(usize, F)],
 ) -> Result<Items<(F, usize)>, NoMemory>
     requires { All (λ entry. entry.0 < height layered.now.q) entries.now }
-    ensures { IfOk result (λ terms. terms ≡ terms_of layered.now.q_origins entries.now) }
+    ensures { IfOk result (λ terms. terms ≡ step_terms layered.now.q_origins entries.now) }
 {
     // each row has its origin
     layered.are_layers();

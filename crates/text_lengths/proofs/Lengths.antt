@@ -14,7 +14,7 @@ use Rattle.residue_theory.proofs.CountLaws.{size-everything, size-either}
 use Rattle.residue_theory.proofs.SumLaws.{size_on-within}
 use Rattle.cert_text.specs.Ranges.{AreRising}
 use Rattle.certificate_laws.proofs.RisingLists.{members-counted}
-use Rattle.cert_text.specs.Texts.{marked, spaced, item, lettered, pairs_text, entries_text, numbers_text, letters_text}
+use Rattle.cert_text.specs.Texts.{with_mark, spaced, item, lettered, pairs_text, entries_text, numbers_text, letters_text}
 
 either-short : (b : Bool) (k : ℕ) (xs ys : List ℕ) → length xs ≤ k → (b ≡ false → length ys ≤ k) → length (if b then xs else ys) ≤ k
 either-short true k xs ys one other = one
@@ -47,12 +47,12 @@ value-short (suc k) value some few = decimal-short (suc k) value (omega arith) f
 pub four : (n : ℕ) → n < 10000 → length (decimal n) ≤ 4
 four n few = decimal-short 4 n (omega arith) (omega (arith, few))
 
-pub marked-short : (mark n : ℕ) → n < 10000 → length (marked mark n) ≤ 5
+pub marked-short : (mark n : ℕ) → n < 10000 → length (with_mark mark n) ≤ 5
 marked-short mark n few = omega (arith, four n few)
 
 pub item-short : (k key value : ℕ) → key < 10000 → 0 < value → value < 10 ^ k → length (item key value) ≤ 6 + k
 item-short k key value few some small =
-    omega (arith, length-append (spaced key) (marked 61 value), marked-short 32 key few, value-short k value some small)
+    omega (arith, length-append (spaced key) (with_mark 61 value), marked-short 32 key few, value-short k value some small)
 
 lettered-short : (letter row : ℕ) → row < 10000 → length (lettered letter row) ≤ 6
 lettered-short letter row few = omega (arith, marked-short letter row few)

@@ -1,10 +1,11 @@
 use Rattle.std.proofs.Common.{ap, sym}
 use Rattle.dense_q.specs.Tables.{row_at}
-use Rattle.answer_texts.specs.LayerTexts.{name_at, row_entries_text}
+use Rattle.answer_texts.specs.LayerTexts.{row_entries_text}
 use Rattle.answer_texts.proofs.LayerPieces.{got_or}
 use Rattle.text_writer.proofs.Putting.{puts_then, puts_is}
 use Rattle.mixed_model.specs.Layers.{Layers}
 use Rattle.answer_texts.proofs.layer_lines.put_q_line.Goals as goal
+use Rattle.mixed_model.specs.Names.{name_at}
 
 pub returns : goal.returns
 returns g c = puts_then (puts_then (puts_then c.put_head.ensures

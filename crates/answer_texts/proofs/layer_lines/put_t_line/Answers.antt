@@ -1,11 +1,11 @@
 use Rattle.std.proofs.Common.{ap, sym, ◌∙◌}
 use Rattle.cert_text.specs.Texts.{numbers_text}
 use Rattle.sparse_t.specs.Incidences.{columns_at}
-use Rattle.answer_texts.specs.LayerTexts.{name_at}
 use Rattle.answer_texts.proofs.LayerPieces.{got_or}
 use Rattle.text_writer.proofs.Putting.{puts_then, puts_is}
 use Rattle.mixed_model.specs.Layers.{Layers}
 use Rattle.answer_texts.proofs.layer_lines.put_t_line.Goals as goal
+use Rattle.mixed_model.specs.Names.{name_at}
 
 pub returns : goal.returns
 returns g c = puts_then (puts_then (puts_then c.put_head.ensures

@@ -1,25 +1,25 @@
 use Rattle.std.proofs.Common.{◌<◌, ◌∙◌, ap, length, arith}
 use Rattle.text_writer.proofs.Putting.{loop_goes_on, loop_begins, loop_ends}
-use Rattle.answer_texts.specs.LayerTexts.{row_lines, t_line}
+use Rattle.answer_texts.specs.LayerTexts.{named_row_lines, t_line}
 use Rattle.answer_texts.proofs.LayerPieces.{rows_left, rows_end}
 use Rattle.mixed_model.specs.Layers.{Layers}
-use Rattle.sparse_t.specs.Incidences.{row_count}
+use Rattle.sparse_t.specs.Incidences.{incidence_rows}
 use Rattle.answer_texts.proofs.layer_lines.put_t_lines.Goals as goal
 
 pub loop-row-init : goal.loop-row-init
-loop-row-init g c = loop_begins (row_lines t_line c.args.model.now.equations c.args.layered.now.t_origins 0 c.args.layered.now.t.rows)
+loop-row-init g c = loop_begins (named_row_lines t_line c.args.model.now.equations c.args.layered.now.t_origins 0 c.args.layered.now.t.rows)
 
 pub loop-row-preserved : goal.loop-row-preserved
 loop-row-preserved g c =
     let rows = c.args.layered.now.t.rows in
-    let within : c.loop-row.row < length rows = omega (arith, c.rows-row-end.ensures.rows ∙ ap (λ (l : Layers). row_count l.t) c.layered.view_is) in
+    let within : c.loop-row.row < length rows = omega (arith, c.rows-row-end.ensures.rows ∙ ap (λ (l : Layers). incidence_rows l.t) c.layered.view_is) in
     loop_goes_on (rows_left t_line c.args.model.now.equations c.args.layered.now.t_origins rows c.loop-row.row within) c.loop-row.invariant c.put_t_line.ensures
 
 pub returns : goal.returns
 returns g c =
     let rows = c.args.layered.now.t.rows in
-    loop_ends {text = row_lines t_line c.args.model.now.equations c.args.layered.now.t_origins 0
+    loop_ends {text = named_row_lines t_line c.args.model.now.equations c.args.layered.now.t_origins 0
     c.args.layered.now.t.rows}
     (rows_end t_line c.args.model.now.equations c.args.layered.now.t_origins rows c.loop-row.row
-    (omega (arith, c.rows-row-end.ensures.rows ∙ ap (λ (l : Layers). row_count l.t) c.layered.view_is)))
+    (omega (arith, c.rows-row-end.ensures.rows ∙ ap (λ (l : Layers). incidence_rows l.t) c.layered.view_is)))
     c.loop-row.invariant

@@ -1,10 +1,10 @@
-use Rattle.matrix_picture.specs.Texts.{row_text}
+use Rattle.matrix_picture.specs.Texts.{drawn_row_text}
 use Rattle.matrix_picture.proofs.Pieces.{row_left}
 use Rattle.text_writer.proofs.Putting.{loop_begins, loop_goes_on}
 use Rattle.matrix_picture.proofs.entries.put_row.Goals as goal
 
 pub loop-left-init : goal.loop-left-init
-loop-left-init g c = loop_begins (row_text c.args.ccf.now c.args.row c.args.top 0 c.args.columns.now)
+loop-left-init g c = loop_begins (drawn_row_text c.args.ccf.now c.args.row c.args.top 0 c.args.columns.now)
 
 pub loop-left-preserved : goal.loop-left-preserved
 loop-left-preserved g c =

@@ -1,5 +1,5 @@
 use Rattle.std.proofs.Common.{ℕ, ◌<◌}
-use Rattle.block_orders.proofs.ItemLaws.{left, right}
+use Rattle.part_orders.proofs.ItemLaws.{left, right}
 use Rattle.search_tables.proofs.orders.are_arcs.Given as goal
 
 abbrev pub invariant-loop-i : goal.invariant-loop-i

@@ -1,7 +1,7 @@
 use Rattle.std.proofs.Common.{◌≡◌, ◌<◌, ℕ, length, map, slice_index, slice_index_or, subst, sym, ◌∙◌, arith}
 use Rattle.std.specs.List.{All}
-use Rattle.form_arcs.specs.Marking.{keys_of, row_of}
-use Rattle.form_arcs.proofs.MarkLaws.{key-given, keys-count, keys-row}
+use Rattle.part_arcs.specs.Marking.{first_numbers, row_of_lists}
+use Rattle.part_arcs.proofs.MarkLaws.{key-given, keys-count, keys-row}
 use Rattle.solve_plan.specs.Marks.{IsItem, Marks, OfSome}
 use Rattle.solve_plan.proofs.MarkSets.{mark-set}
 use Rattle.solve_plan.proofs.marking.mark_row.Goals as goal
@@ -10,7 +10,7 @@ pub loop-item-preserved : goal.loop-item-preserved
 loop-item-preserved g c =
     let old = c.args.marks.now in
     let items = c.as_slice-items.result.now in
-    let list = keys_of items in
+    let list = first_numbers items in
     let k = c.loop-item.item-index in
     let item = c.item-item.result in
     let row = c.index-rows-row.result in
@@ -27,8 +27,8 @@ returns g c =
     let old = c.args.marks.now in
     let now = c.loop-item.marks in
     let items = c.as_slice-items.result.now in
-    let list = keys_of items in
-    let row : list ≡ row_of (map keys_of c.args.rows.now) c.args.row =
+    let list = first_numbers items in
+    let row : list ≡ row_of_lists (map first_numbers c.args.rows.now) c.args.row =
     keys-row c.args.rows.now c.args.row items c.index-rows-row.result c.requires.row (c.as_slice-items.ensures ∙ c.index-rows-row.is) in
     let count : length list ≡ length items = keys-count items in
     let end : c.loop-item.item-index ≡ length list = omega (arith, count, c.loop-item-test.false, c.loop-item.auto.item-index-end) in

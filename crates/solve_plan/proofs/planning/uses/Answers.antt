@@ -1,8 +1,8 @@
 use Rattle.std.proofs.Common.{rules, ◌≡◌, ℕ, List, Bool, true, false, length, map, replicate, slice_index, ap, sym, subst, ◌∙◌}
 use Rattle.std.proofs.lemmas.List.{length-replicate}
 use Rattle.std.proofs.lemmas.Result.{IfOk-weaker}
-use Rattle.form_arcs.specs.Marking.{keys_of, row_of}
-use Rattle.form_arcs.proofs.Gathered.{back, keys-as, keys-low, symbols-low}
+use Rattle.part_arcs.specs.Marking.{first_numbers, row_of_lists}
+use Rattle.part_arcs.proofs.Gathered.{back, keys-as, keys-low, symbols-low}
 use Rattle.part_rules.specs.Listed.{marked}
 use Rattle.solve_plan.specs.Marks.{AreMembersOf, IsItem, Marks, OfSome, Unmarks}
 use Rattle.solve_plan.proofs.EntryPlaces.{uses-told}
@@ -48,11 +48,11 @@ returns g c =
     ∙ back c.in_ok-marks.marks.len more none _ long (c.mark_lists.ensures.count ∙ ap length middle ∙ c.mark_rows.ensures.count) in
     let end : c.deref.result.now ≡ marks = c.deref.ensures.value ∙ back c.in_ok-marks.marks.len marks none _ long
     (c.unmark_numbers.ensures.count ∙ ap length later ∙ c.mark_lists.ensures.count ∙ ap length middle ∙ c.mark_rows.ensures.count) in
-    let keys : map keys_of c.as_slice.result.now ≡ map keys_of form.p = keys-as g.F.Field.number c.as_slice.result.now c.p.result.now form.p
+    let keys : map first_numbers c.as_slice.result.now ≡ map first_numbers form.p = keys-as g.F.Field.number c.as_slice.result.now c.p.result.now form.p
     c.as_slice.ensures c.p.ensures.p in
     let Listed : List (List ℕ) → List ℕ → List Bool → List Bool → Type 0 = λ lists list old now. Marks (OfSome (length list) (λ k. IsItem
-    (row_of lists (slice_index list k)))) old now in
-    let one : Listed (map keys_of form.p) part.q_rows none first = subst (λ list. Listed (map keys_of form.p) list none first) c.as_slice-2.ensures
+    (row_of_lists lists (slice_index list k)))) old now in
+    let one : Listed (map first_numbers form.p) part.q_rows none first = subst (λ list. Listed (map first_numbers form.p) list none first) c.as_slice-2.ensures
     (subst (λ lists. Listed lists c.as_slice-2.result.now none first) keys c.mark_rows.ensures) in
     let two : Listed form.t part.t_rows first more = subst (λ list. Listed form.t list first more) c.as_slice-4.ensures
     (subst (λ lists. Listed lists c.as_slice-4.result.now first more) (c.as_slice-3.ensures ∙ c.t.ensures.t)

@@ -2,7 +2,7 @@ use Rattle.std.proofs.Common.{rules, ◌≡◌, List, Bool, true, false, length,
 use Rattle.std.proofs.lemmas.List.{length-replicate}
 use Rattle.std.proofs.lemmas.Result.{IfOk-weaker}
 use Rattle.cert_text.specs.declared.part.CcfPart.{CcfPart}
-use Rattle.form_arcs.proofs.Gathered.{back}
+use Rattle.part_arcs.proofs.Gathered.{back}
 use Rattle.part_rules.specs.Listed.{marked}
 use Rattle.solve_plan.specs.Marks.{AreMembersOf, Marks, OfSome}
 use Rattle.solve_plan.specs.Surplus.{IsOfLast, IsToldSurplus}

@@ -1,8 +1,8 @@
 use Rattle.std.proofs.Common.{◌<◌, ℕ, length, map, slice_index, ap, subst, sym, ◌∙◌}
 use Rattle.std.proofs.lemmas.List.{get_or_default}
-use Rattle.form_arcs.proofs.Gathered.{keys-low}
+use Rattle.part_arcs.proofs.Gathered.{keys-low}
 use Rattle.dense_q.specs.Tables.{height}
-use Rattle.solve_plan.specs.PlanSteps.{combined_row, row_numbers, terms_of}
+use Rattle.solve_plan.specs.PlanSteps.{combined_row, row_numbers, step_terms}
 use Rattle.solve_plan.specs.declared.steps.StepRow.TheVariants.{Combined}
 use Rattle.solve_plan.proofs.StepRows.{mapped-more, row-low, row-numbered, terms-numbers}
 use Rattle.solve_plan.proofs.step_rows.put_combined.Goals as goal
@@ -34,5 +34,5 @@ loop-row-preserved g c =
     mapped-more (row_numbers number) (combined_row layers form) _ c.loop-row.rows.items c.push.new.self.items (Combined c.in_ok-terms.terms) list k row
     c.in_ok-push.ensures.items c.loop-row.invariant kl (get_or_default list k 0 row kl)
     (ap Combined (ap (map (λ term. (number term.0, term.1))) c.in_ok-terms.ensures ∙ terms-numbers number layers.q_origins entries
-    ∙ ap (terms_of layers.q_origins) (row-numbered number c.as_slice-s.result.now c.s.result.now form.s c.as_slice-s.ensures c.s.ensures.s row low
+    ∙ ap (step_terms layers.q_origins) (row-numbered number c.as_slice-s.result.now c.s.result.now form.s c.as_slice-s.ensures c.s.ensures.s row low
     entries c.index-s-row.result c.as_slice.ensures c.index-s-row.is)))

@@ -1,5 +1,5 @@
-use Rattle.text_lengths.proofs.InputCounts.{few-names}
+use Rattle.matrix_reader.proofs.NameCounts.{list-names-few}
 use Rattle.text_lengths.proofs.laws.texts_have_few_names.Goals as goal
 
 pub returns : goal.returns
-returns c = few-names
+returns c = list-names-few
