@@ -6,6 +6,7 @@ cd "$(dirname "$0")/.." || exit 1
 checks=(
     "house_style.py"
     "crate_groups.py --check"
+    "shared_names.py"
     "clauses.py --check"
     "example_inputs.py --check"
     "picture_inputs.py --check"
