@@ -3,6 +3,7 @@ pub mod NumberedRows
 pub mod EntrySteps
 pub mod RisingLists
 pub mod PrintedRows
+pub mod PlacedItems
 pub mod UnitRows
 pub mod ProductLaws
 pub mod WideLaws

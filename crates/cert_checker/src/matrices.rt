@@ -1,36 +1,25 @@
 //! The printed rows of a matrix, and of the unit matrix.
 
-ghost use Rattle.std.specs.Prelude.{◌<◌, ◌≤◌, IfOk};
+ghost use Rattle.std.specs.Prelude.{◌≡◌, IfOk};
 ghost use Rattle.dense_q.specs.Tables.{entry, height};
 ghost use Rattle.linear_algebra.specs.Products.{identity};
 ghost use Rattle.cert_text.specs.Contents.{numbered, numbered_rows};
-ghost use Rattle.cert_text.specs.Printing.{PrintsMatrix, PrintsRow};
+ghost use Rattle.cert_text.specs.Printing.{PrintsMatrix};
+ghost use Rattle.row_entries.specs.Rows.{items, placed};
 
 use cert_text::Items;
 use out_of_memory::NoMemory;
 use residue_field::Field;
-use row_entries::EntryMat;
+use row_entries::{Entry, EntryMat};
 use std::alloc::Global;
 
-// The entries of a row of a matrix that are not 0, by rising column.
-fn entries_of<F: Field>(
-    alloc: Global,
-    matrix: &EntryMat<F>,
-    row: usize,
-) -> Result<Items<(usize, F)>, NoMemory>
-    requires { row < height matrix.now }
-    ensures { IfOk result (λ entries.
-        PrintsRow F.modulus matrix.now.width (entry matrix.now row) (numbered F.number entries)) }
+// The entries of a row, each by its column and its value.
+fn entries_of<F: Field>(alloc: Global, row: &[Entry<F>]) -> Result<Items<(usize, F)>, NoMemory>
+    ensures { IfOk result (λ entries. numbered F.number entries ≡ placed (items F.number row.now)) }
 {
-    // there are at most 8,192 columns, so that the sum below fits
-    matrix.is_matrix();
-    let mut entries = Vec::new(alloc);
-    let mut at = 0;
-    while let Some(entry) = matrix.next(row, at) {
-        // its number is a residue
-        entry.1.in_field();
-        entries.push(entry)?;
-        at = entry.0 + 1;
+    let mut entries = Vec::with_capacity(alloc, row.len())?;
+    for entry in row {
+        entries.push((entry.column as usize, entry.value))?;
     }
     Ok(Items::from_vec(entries))
 }
@@ -45,7 +34,7 @@ pub fn rows_of<F: Field>(
 {
     let mut rows = Vec::with_capacity(alloc, matrix.rows())?;
     for row in 0..matrix.rows() {
-        rows.push(entries_of(alloc, matrix, row)?)?;
+        rows.push(entries_of(alloc, matrix.row(row))?)?;
     }
     Ok(Items::from_vec(rows))
 }

@@ -1,5 +1,5 @@
 -- Parts of a matrix, matrices put together, and a matrix without a row or a column.
-use Rattle.std.specs.Prelude.{ℕ, ◌+◌, ◌-◌, ◌<◌, ◌%◌, ◌≡◌, Bool, cond, ltb, eqb, ◌&&◌}
+use Rattle.std.specs.Prelude.{ℕ, ◌+◌, ◌-◌, ◌<◌, ◌%◌, ◌≡◌, Bool, cond, leb, ltb, eqb, ◌&&◌}
 
 -- the entries at the rows of R and the columns of X; every other entry is 0
 abbrev pub part : (ℕ → Bool) → (ℕ → Bool) → (ℕ → ℕ → ℕ) → ℕ → ℕ → ℕ
@@ -16,6 +16,10 @@ with_column n a x i j = cond (ltb j n) (a i j) (x i)
 -- the numbers in order, but for v
 abbrev pub skip : ℕ → ℕ → ℕ
 skip v k = cond (ltb k v) k (k + 1)
+
+-- the place of k among the numbers but v
+abbrev pub unskip : ℕ → ℕ → ℕ
+unskip v k = cond (leb k v) k (k - 1)
 
 -- a without its row v
 abbrev pub without_row : ℕ → (ℕ → ℕ → ℕ) → ℕ → ℕ → ℕ

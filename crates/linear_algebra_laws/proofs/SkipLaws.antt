@@ -5,10 +5,7 @@ use Rattle.residue_theory.specs.Sets.{without}
 use Rattle.residue_theory.specs.Sums.{sum_on}
 use Rattle.residue_theory.proofs.SumLaws.{sum_on-ext, sum_on-same, nat_cases, without-same, without-other}
 use Rattle.linear_algebra.specs.Parts.{skip}
-
--- the place of i among the numbers but v
-abbrev pub unskip : ℕ → ℕ → ℕ
-unskip v i = cond (ltb i v) i (i - 1)
+pub use Rattle.linear_algebra.specs.Parts.{unskip}
 
 pub skip-other : (v k : ℕ) → skip v k ≢ v
 skip-other v k = grind (arith, nat_tests)

@@ -48,3 +48,7 @@ pub record IsPlaceFrom (xs : List Item) (c i : ℕ) : Type 0 where
 -- what the entries of a row are, as numbers
 abbrev pub items : {T : Type 0} → (T → ℕ) → List (Entry T) → List Item
 items number entries = map (λ e. record { column = e.column; number = number e.value }) entries
+
+-- the items as pairs of a column and a number
+abbrev pub placed : List Item → List (ℕ × ℕ)
+placed xs = map (λ x. (x.column, x.number)) xs

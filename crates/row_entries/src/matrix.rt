@@ -4,7 +4,7 @@ ghost use Rattle.std.specs.Prelude.{◌≡◌, ◌≢◌, ℕ, ◌+◌, ◌-◌,
 ghost use Rattle.limits.specs.Limits.{column_limit};
 ghost use Rattle.residue_theory.specs.Ranges.{HasNone, IsLeast};
 ghost use Rattle.dense_q.specs.Tables.{AreResidues, IsMatrix, IsTableOf, entry, height, table_with_entry, with_last_row, zero_table};
-ghost use Rattle.row_entries.specs.Rows.{IsRising, items};
+ghost use Rattle.row_entries.specs.Rows.{IsEntryRow, IsRising, items, number_at};
 ghost use Rattle.row_entries.specs.Tables.{IsFilled, numbers_of};
 
 use crate::entry::{Entry, first_from, value_at};
@@ -126,6 +126,15 @@ impl<F: Field> EntryMat<F> {
         ensures { F.number result ≡ entry self.now i j }
     {
         value_at(&self.rows[i], j)
+    }
+
+    /// The entries of row i that are not zero, by rising column.
+    pub fn row(&self, i: usize) -> &[Entry<F>]
+        requires { i < height self.now }
+        ensures row { IsEntryRow F.modulus self.now.width (items F.number result.now) }
+        ensures numbers { (j : ℕ) → number_at (items F.number result.now) j ≡ entry self.now i j }
+    {
+        &self.rows[i]
     }
 
     /// The first entry of row i that is not zero, from column `from` on, and its column.
