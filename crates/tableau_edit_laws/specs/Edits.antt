@@ -1,11 +1,7 @@
 -- A matrix with a row or a column more or less, told by the numbers in order but for one (`skip`).
-use Rattle.std.specs.Prelude.{ℕ, ◌+◌, ◌-◌, ◌*◌, ◌%◌, ◌<◌, ◌≡◌, cond, ltb}
+use Rattle.std.specs.Prelude.{ℕ, ◌+◌, ◌*◌, ◌%◌, ◌<◌, ◌≡◌}
 use Rattle.residue_theory.specs.Sums.{sum_below}
 use Rattle.linear_algebra.specs.Parts.{skip}
-
--- the place of i among the numbers but v
-abbrev pub place_without : ℕ → ℕ → ℕ
-place_without v i = cond (ltb i v) i (i - 1)
 
 -- b is a with the row x put in as row e: a has m rows, and both have n columns
 pub record IsRowIn (p m n : ℕ) (a b : ℕ → ℕ → ℕ) (e : ℕ) (x : ℕ → ℕ) : Type 0 where

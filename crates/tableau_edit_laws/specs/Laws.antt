@@ -4,11 +4,11 @@ use Rattle.residue_theory.specs.Residues.{IsPrime}
 use Rattle.residue_theory.specs.Sets.{without}
 use Rattle.linear_algebra.specs.Bases.{IsBase, HasNoBase}
 use Rattle.linear_algebra.specs.Columns.{IsIndependent}
-use Rattle.linear_algebra.specs.Parts.{skip, without_row, without_column}
+use Rattle.linear_algebra.specs.Parts.{skip, unskip, without_row, without_column}
 use Rattle.linear_algebra.specs.Products.{product, Agree, IsInverse}
 use Rattle.row_table.specs.Places.{with_unit}
 use Rattle.row_table.specs.Reductions.{IsReduced}
-use Rattle.tableau_edit_laws.specs.Edits.{IsRowJoined, IsRowIn, IsZeroColumnIn, place_without}
+use Rattle.tableau_edit_laws.specs.Edits.{IsRowJoined, IsRowIn, IsZeroColumnIn}
 
 -- where row k alone has an entry in column e of S, row e of a may go: with it row k of S and P, column e of S, row e of
 -- U and its column k
@@ -24,7 +24,7 @@ abbrev pub BasesLeaveRows : Type 0
 BasesLeaveRows =
     (p m n : ℕ) (P : ℕ → ℕ → ℕ) (B C : ℕ → Bool) (row : ℕ → ℕ) (k : ℕ) → k < m → IsBase p P m n B row →
     ((b : ℕ) → b < n → C b ≡ true → (B b ≡ true) × (row b ≢ k)) →
-    IsBase p (without_row k P) (m - 1) n C (λ b. place_without k (row b))
+    IsBase p (without_row k P) (m - 1) n C (λ b. unskip k (row b))
 
 -- the base columns are independent without row e exactly where column e of S has an entry at a row without base column
 abbrev pub BasesStayIndependentWithoutARow : Type 0

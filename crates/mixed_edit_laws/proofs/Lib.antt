@@ -1,0 +1,5 @@
+pub mod Removals
+pub mod Beside
+pub mod Members
+pub mod Rests
+pub mod Wider
