@@ -1,15 +1,12 @@
 -- Rows of items as they are stored, and sums item by item.
-use Rattle.std.proofs.Common.{◌≡◌, ℕ, suc, zero, ◌+◌, ◌*◌, ◌-◌, ◌%◌, ◌<◌, ◌≤◌, ◌≢◌, ◌⊎◌, inl, inr, Bool, true, false, cond, eqb, ltb, not, ltb-true, List, [], ◌∷◌, ◌++◌, take, length, map, slice_index_or, slice_set, refl, ap, sym, subst, ◌∙◌, arith, length-append}
+use Rattle.std.proofs.Common.{◌≡◌, ℕ, suc, ◌+◌, ◌*◌, ◌%◌, ◌<◌, ◌≤◌, ◌≢◌, ◌⊎◌, inl, inr, Bool, true, false, cond, eqb, List, [], ◌∷◌, ◌++◌, take, length, map, slice_index_or, slice_set, ap, sym, subst, ◌∙◌, arith}
 use Rattle.std.proofs.Math.Nat.{zero-mod, mod-eq_of_lt, mod-add-mod, add-mod-mod}
-use Rattle.std.proofs.lemmas.List.{get_or_append_left, get_or_at, take_more, take_all, get_or_default, get_or_past, length-map, map-append, get_or-map, ext_get_or, length-set, get_or-set_same, get_or-set_other, map-set}
+use Rattle.std.proofs.lemmas.List.{take_all, get_or_default, length-map, map-append, get_or-map, ext_get_or, length-set, get_or-set_same, get_or-set_other, map-set}
 use Rattle.std.proofs.lemmas.Bool.Decides.{nat_tests}
 use Rattle.residue_theory.proofs.SumLaws.{nat_cases}
 use Rattle.residue_theory.specs.Residues.{IsPrime}
 use Rattle.residue_theory.proofs.ResidueLaws.{vanishes_factor}
-use Rattle.sparse_q.specs.Rows.{Item, Row, number_at, item_or, EndsBefore, IsRising, IsEntryRow, with_last, IsSum, IsMultiple, IsMerged, IsPlaceFrom, has_number}
-use Rattle.std.specs.List.{AllWithin}
-use Rattle.std.specs.List.Sorted.{IsNonDecreasingBy, IsPartitionPoint}
-use Rattle.residue_theory.specs.Ranges.{HasNone, IsLeast}
+use Rattle.sparse_q.specs.Rows.{Item, Row, number_at, item_or, EndsBefore, IsRising, IsEntryRow, with_last, IsSum, IsMultiple, IsMerged}
 use Rattle.sparse_q.specs.Storage.{IsKeptRow}
 pub use Rattle.row_entries.proofs.RowLaws.{item, number-push, number-last, number-absent, number-before, rising-rest, number-here, number-below, either, last-before, pushed-row, few_before, next-above, lt_or_past, place-within, column-narrow, number-narrow, number-taken, columns-rise, place-found, at-absent, at-here, next-none, next-least}
 
@@ -207,23 +204,23 @@ module _ (p k w fw sw : ℕ) (xs ys out : List Item) (i t c d : ℕ) (fw_is : fw
   pub both-inside : d ≤ c → c ≤ d → i < length xs
   both-inside le ge = place-within w xs i (subst (λ e. e < w) here (let less : d < w = second-below le in omega arith))
 
-  pub put-first : (v u : ℕ) (now : Row) → now ≡ record { width = u; items = with_last out c v } → c < d →
+  pub put-first : (v u o : ℕ) (now : Row) → now ≡ record { width = u; room = o; items = with_last out c v } → c < d →
       v ≡ (item_or fw xs i).number → IsMerged p k w xs ys now.items (i + 1) t
-  put-first v u now e less is = subst (λ zs. IsMerged p k w xs ys zs (i + 1) t) (sym (ap (λ (r : Row). r.items) e))
+  put-first v u o now e less is = subst (λ zs. IsMerged p k w xs ys zs (i + 1) t) (sym (ap (λ (r : Row). r.items) e))
       (merged-first p k w xs ys out i t first_row second_row so_far c v here (subst (λ b. c < b) there less)
       (subst (λ b. v ≡ (item_or b xs i).number) fw_is is))
 
-  pub put-second : (y v u : ℕ) (now : Row) → now ≡ record { width = u; items = with_last out d v } → d < c →
+  pub put-second : (y v u o : ℕ) (now : Row) → now ≡ record { width = u; room = o; items = with_last out d v } → d < c →
       y ≡ (item_or sw ys t).number → v ≡ (k * y) % p → IsMerged p k w xs ys now.items i (t + 1)
-  put-second y v u now e less y_is is = subst (λ zs. IsMerged p k w xs ys zs i (t + 1))
+  put-second y v u o now e less y_is is = subst (λ zs. IsMerged p k w xs ys zs i (t + 1))
       (sym (ap (λ (r : Row). r.items) e))
       (merged-second p k w xs ys out i t first_row second_row so_far d v y there (subst (λ b. d < b) here less)
       (subst (λ b. y ≡ (item_or b ys t).number) sw_is y_is) is)
 
-  pub put-both : (x y m v u : ℕ) (now : Row) → now ≡ record { width = u; items = with_last out c v } → d ≤ c → c ≤ d →
+  pub put-both : (x y m v u o : ℕ) (now : Row) → now ≡ record { width = u; room = o; items = with_last out c v } → d ≤ c → c ≤ d →
       x ≡ (item_or fw xs i).number → y ≡ (item_or sw ys t).number → m ≡ (k * y) % p → v ≡ (x + m) % p →
       IsMerged p k w xs ys now.items (i + 1) (t + 1)
-  put-both x y m v u now e le ge x_is y_is m_is is = subst (λ zs. IsMerged p k w xs ys zs (i + 1) (t + 1))
+  put-both x y m v u o now e le ge x_is y_is m_is is = subst (λ zs. IsMerged p k w xs ys zs (i + 1) (t + 1))
       (sym (ap (λ (r : Row). r.items) e))
       (merged-both p k w xs ys out i t first_row second_row so_far c x y m v here
       (let same : c ≡ d = omega arith in same ∙ there) (let less : d < w = second-below le in omega arith)
@@ -332,8 +329,8 @@ module _ {A : Type 0} (f : A → Item) (p k : ℕ) where
           few = kept.few;
         })
 
-    pub scaled-multiple : (before : Row) (out : List A) → record { width = w; items = map f items } ≡ before →
+    pub scaled-multiple : (o : ℕ) (before : Row) (out : List A) → record { width = w; room = o; items = map f items } ≡ before →
         out ≡ now → IsMultiple p k before.items (map f out)
-    scaled-multiple before out view e = subst (λ (r : Row). IsMultiple p k r.items (map f out)) view
+    scaled-multiple o before out view e = subst (λ (r : Row). IsMultiple p k r.items (map f out)) view
         (subst (λ xs. IsMultiple p k (map f items) (map f xs)) (sym e) (times-multiple p prime k w (map f items)
         (map f now) factor narrow kept.row of_items.len each))

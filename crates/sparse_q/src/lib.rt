@@ -3,7 +3,11 @@
 
 mod made;
 mod matrix;
+mod matrix_edits;
+mod moves;
 mod row;
+mod row_edits;
+mod shelf;
 
 pub use matrix::SparseMat;
 pub use out_of_memory::NoMemory;

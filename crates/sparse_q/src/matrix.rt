@@ -22,24 +22,35 @@ use std::mem;
 
 /// A matrix with entries in F, at most 8,192 rows and as many columns, of which only the entries that are not zero are
 /// kept. Rows and columns are counted from 0. Each row has room for all its columns, and there is a spare row: so no
-/// operation on rows takes memory.
+/// operation on rows takes memory. Rows and columns come and go in room that is taken before.
 #[derive(Drop)]
 pub struct SparseMat<F: Field> {
-    width: usize,
-    rows: Vec<SparseRow<F>>,
-    spare: SparseRow<F>,
+    pub(crate) width: usize,
+    pub(crate) rows: Vec<SparseRow<F>>,
+    pub(crate) spare: SparseRow<F>,
+    // rows that may come
+    pub(crate) shelf: Vec<SparseRow<F>>,
+    pub(crate) row_room: usize,
+    pub(crate) column_room: usize,
 }
 
 impl<F: Field> Model for SparseMat<F> {
-    ghost use Rattle.std.specs.Prelude.{map};
-    ghost use Rattle.sparse_q.specs.Storage.{AreSparseRows};
+    ghost use Rattle.std.specs.Prelude.{map, vec_capacity};
+    ghost use Rattle.sparse_q.specs.Storage.{AreSparseRows, HasShelf};
     ghost use Rattle.sparse_q.specs.Tables.{SparseTable};
 
     ghost Value = { SparseTable };
 
-    ghost view = { λ m. record { width = m.width; rows = map (λ row. row.items) m.rows.items } };
+    ghost view = { λ m. record {
+      width = m.width;
+      rows = map (λ row. row.items) m.rows.items;
+      row_room = m.row_room;
+      column_room = m.column_room;
+    } };
 
-    ghost invariant = { λ m. AreSparseRows m.width m.rows.items m.spare.width };
+    ghost invariant = { λ m. AreSparseRows m.width m.rows.items m.spare.width
+        × HasShelf m.rows.items m.shelf.items m.spare.room m.row_room m.column_room (vec_capacity m.rows)
+        (vec_capacity m.shelf) };
 }
 
 impl<F: Field> SparseMat<F> {
@@ -57,6 +68,9 @@ impl<F: Field> SparseMat<F> {
             width: q.cols(),
             rows,
             spare,
+            shelf: Vec::new(alloc),
+            row_room: 0,
+            column_room: 0,
         })
     }
 
@@ -80,6 +94,9 @@ impl<F: Field> SparseMat<F> {
             width: self.rows(),
             rows,
             spare,
+            shelf: Vec::new(alloc),
+            row_room: 0,
+            column_room: 0,
         })
     }
 
@@ -98,6 +115,9 @@ impl<F: Field> SparseMat<F> {
             width: n,
             rows,
             spare,
+            shelf: Vec::new(alloc),
+            row_room: 0,
+            column_room: 0,
         })
     }
 

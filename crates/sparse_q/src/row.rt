@@ -20,15 +20,17 @@ struct Done {
     source: usize,
 }
 
-// The entries of a row that are not zero, by rising column. It has room for an entry at each column.
+// The entries of a row that are not zero, by rising column. It has room for an entry at each column, and perhaps for more
+// columns.
 #[derive(Drop)]
 pub(crate) struct SparseRow<F: Field> {
-    width: usize,
-    entries: Vec<Entry<F>>,
+    pub(crate) width: usize,
+    pub(crate) room: usize,
+    pub(crate) entries: Vec<Entry<F>>,
 }
 
 impl<F: Field> Model for SparseRow<F> {
-    ghost use Rattle.std.specs.Prelude.{map, vec_capacity};
+    ghost use Rattle.std.specs.Prelude.{◌≤◌, map, vec_capacity};
     ghost use Rattle.sparse_q.specs.Rows.{Row};
     ghost use Rattle.sparse_q.specs.Storage.{IsKeptRow};
 
@@ -36,21 +38,24 @@ impl<F: Field> Model for SparseRow<F> {
 
     ghost view = { λ r. record {
       width = r.width;
+      room = r.room;
       items = map (λ e. record { column = e.column; number = F.number e.value }) r.entries.items;
     } };
 
-    ghost invariant = { λ r. IsKeptRow F.modulus r.width (vec_capacity r.entries)
-        (map (λ e. record { column = e.column; number = F.number e.value }) r.entries.items) };
+    ghost invariant = { λ r. IsKeptRow F.modulus r.width r.room
+        (map (λ e. record { column = e.column; number = F.number e.value }) r.entries.items)
+        × (r.room ≤ vec_capacity r.entries) };
 }
 
 impl<F: Field> SparseRow<F> {
     // A row of so many columns with no entry.
     pub(crate) fn empty(alloc: Global, width: usize) -> Result<SparseRow<F>, NoMemory>
         requires { width ≤ column_limit }
-        ensures { IfOk result (λ r. r ≡ record { width = width; items = [] }) }
+        ensures { IfOk result (λ r. r ≡ record { width = width; room = width; items = [] }) }
     {
         Ok(SparseRow {
             width,
+            room: width,
             entries: Vec::with_capacity(alloc, width)?,
         })
     }
@@ -90,7 +95,7 @@ impl<F: Field> SparseRow<F> {
 
     // Takes all entries out.
     fn clear(&mut self)
-        ensures { self.new ≡ record { width = self.old.width; items = [] } }
+        ensures { self.new ≡ record self.old { items = [] } }
     {
         self.entries.clear();
     }
@@ -99,10 +104,7 @@ impl<F: Field> SparseRow<F> {
     pub(crate) fn push(&mut self, column: usize, value: F)
         requires narrow { column < self.old.width }
         requires behind { EndsBefore self.old.items column }
-        ensures { self.new ≡ record {
-          width = self.old.width;
-          items = with_last self.old.items column (F.number value);
-        } }
+        ensures { self.new ≡ record self.old { items = with_last self.old.items column (F.number value) } }
     {
         if !value.is_zero() {
             value.in_field();
@@ -130,6 +132,7 @@ impl<F: Field> SparseRow<F> {
         ensures merged { IsMerged F.modulus (F.number factor) self.old.width target.now.items source.now.items
             self.new.items result.target result.source }
         ensures width { self.new.width ≡ self.old.width }
+        ensures room { self.new.room ≡ self.old.room }
         ensures further { done.target + done.source < result.target + result.source }
     {
         let first = target.column(done.target);
@@ -162,6 +165,7 @@ impl<F: Field> SparseRow<F> {
         requires source { source.now.width ≡ self.old.width }
         ensures sum { IsSum F.modulus (F.number factor) target.now.items source.now.items self.new.items }
         ensures width { self.new.width ≡ self.old.width }
+        ensures room { self.new.room ≡ self.old.room }
     {
         self.clear();
         let mut done = Done {
@@ -178,6 +182,7 @@ impl<F: Field> SparseRow<F> {
         requires { F.number factor ≢ 0 }
         ensures multiple { IsMultiple F.modulus (F.number factor) self.old.items self.new.items }
         ensures width { self.new.width ≡ self.old.width }
+        ensures room { self.new.room ≡ self.old.room }
     {
         factor.in_field();
         for entry in self.entries.iter_mut() {
@@ -188,7 +193,7 @@ impl<F: Field> SparseRow<F> {
     // Becomes another row.
     pub(crate) fn set(&mut self, source: &SparseRow<F>)
         requires { source.now.width ≡ self.old.width }
-        ensures { self.new ≡ source.now }
+        ensures { self.new ≡ record self.old { items = source.now.items } }
     {
         self.entries.clear();
         for entry in &source.entries {

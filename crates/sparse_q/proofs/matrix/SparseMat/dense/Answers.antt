@@ -28,7 +28,7 @@ put_into-requires-clause-width g c =
     (arith, ap (λ rs. length rs) c.deref-row-items.ensures.value) in
     ap (λ (r : Row). r.width) (c.row-item.is ∙ ap (λ rs. slice_index_or rs c.loop-i.i c.row-item.result)
     c.deref-row-items.ensures.value)
-    ∙ c.self.invariant.full c.loop-i.i c.row-item.result less ∙ ap (λ (t : SparseTable). t.width) c.self.view_is
+    ∙ c.self.invariant.0.full c.loop-i.i c.row-item.result less ∙ ap (λ (t : SparseTable). t.width) c.self.view_is
     ∙ sym c.loop-i.invariant.wide
 
 pub put_into-requires-clause-zero : goal.put_into-requires-clause-zero

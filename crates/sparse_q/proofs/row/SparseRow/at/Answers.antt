@@ -5,7 +5,7 @@ use Rattle.sparse_q.proofs.row.SparseRow.at.Goals as goal
 
 pub value_at-requires : goal.value_at-requires
 value_at-requires g c =
-    subst (λ es. IsRising (items g.F.Field.number es)) (sym c.deref.ensures.value) c.self.invariant.row.rising
+    subst (λ es. IsRising (items g.F.Field.number es)) (sym c.deref.ensures.value) c.self.invariant.0.row.rising
 
 pub returns : goal.returns
 returns g c =

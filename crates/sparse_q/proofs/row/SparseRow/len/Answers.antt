@@ -6,4 +6,4 @@ use Rattle.sparse_q.proofs.row.SparseRow.len.Goals as goal
 pub returns-clause-few : goal.returns-clause-few
 returns-clause-few g c =
     subst (λ (r : Row). length r.items ≤ 8192) c.self.view_is (kept-items g.F.Field.modulus c.self.inside.width _ _
-    c.self.invariant)
+    c.self.invariant.0)

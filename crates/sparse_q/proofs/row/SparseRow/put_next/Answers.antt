@@ -17,7 +17,7 @@ pub returns-then-first-second-clause-merged : goal.returns-then-first-second-cla
 returns-then-first-second-clause-merged g c =
     put-first _ (g.F.Field.number c.args.factor) _ _ _ _ _ _ _ _ _ _ c.requires.target c.requires.source
     c.column-first.ensures.row c.column-second.ensures.row c.requires.more c.requires.merged
-    c.column-first.ensures.column c.column-second.ensures.column _ _ _ c.push.ensures c.if-first-second.true
+    c.column-first.ensures.column c.column-second.ensures.column _ _ _ _ c.push.ensures c.if-first-second.true
     c.value.ensures.value
 
 pub value-requires-2 : goal.value-requires-2
@@ -34,7 +34,7 @@ pub returns-then-second-first-clause-merged : goal.returns-then-second-first-cla
 returns-then-second-first-clause-merged g c =
     put-second _ (g.F.Field.number c.args.factor) _ _ _ _ _ _ _ _ _ _ c.requires.target c.requires.source
     c.column-first.ensures.row c.column-second.ensures.row c.requires.more c.requires.merged
-    c.column-first.ensures.column c.column-second.ensures.column _ _ _ _ c.push-then-second-first.ensures
+    c.column-first.ensures.column c.column-second.ensures.column _ _ _ _ _ c.push-then-second-first.ensures
     c.if-second-first.true c.value-2.ensures.value c.mul-more.ensures
 
 pub value-requires-3 : goal.value-requires-3
@@ -54,5 +54,5 @@ pub returns-clause-merged : goal.returns-clause-merged
 returns-clause-merged g c =
     put-both _ (g.F.Field.number c.args.factor) _ _ _ _ _ _ _ _ _ _ c.requires.target c.requires.source
     c.column-first.ensures.row c.column-second.ensures.row c.requires.more c.requires.merged
-    c.column-first.ensures.column c.column-second.ensures.column _ _ _ _ _ _ c.push-2.ensures c.if-first-second.false
+    c.column-first.ensures.column c.column-second.ensures.column _ _ _ _ _ _ _ c.push-2.ensures c.if-first-second.false
     c.if-second-first.false c.value-3.ensures.value c.value-2.ensures.value c.mul-more.ensures c.add.ensures

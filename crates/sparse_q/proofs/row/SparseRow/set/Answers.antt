@@ -8,7 +8,7 @@ pub push_reserved-requires : goal.push_reserved-requires
 push_reserved-requires g c =
     let few : length c.source.inside.entries.items ≤ c.source.inside.width =
     kept-within (λ e. record { column = e.column; number = g.F.Field.number e.value }) g.F.Field.modulus
-    c.source.inside.width _ c.source.inside.entries.items c.source.invariant in
+    c.source.inside.width _ c.source.inside.entries.items c.source.invariant.0 in
     let same : c.source.inside.width ≡ c.self.inside.width = ap (λ (r : Row). r.width) c.source.view_is ∙ c.requires
     ∙ sym (ap (λ (r : Row). r.width) c.self.view_is) in
     let done : length c.loop-entry.self-inside.entries.items ≡ c.loop-entry.entry-index = ap (λ xs. length xs)
@@ -19,7 +19,8 @@ push_reserved-requires g c =
       c.loop-entry.self-inside.entries.ok.0,
       c.loop-entry.invariant.capacity,
       c.clear.ensures.capacity,
-      c.self.invariant.room,
+      c.self.invariant.0.room,
+      c.self.invariant.1,
       c.deref-entry-items.ensures.len,
       ap (λ xs. length xs) c.deref-entry-items.ensures.value,
     )
