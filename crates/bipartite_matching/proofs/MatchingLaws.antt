@@ -3,8 +3,9 @@ use Rattle.std.proofs.Common.{◌≡◌, ◌≢◌, ℕ, ◌<◌, ◌≤◌, tru
 use Rattle.std.proofs.lemmas.List.{get_or_past, get_or-set_same, get_or-set_other, length-set, length-replicate}
 use Rattle.std.proofs.lemmas.List.Elements.{All-replicate}
 use Rattle.sparse_t.specs.Incidences.{Incidence, incidence_rows, touches}
-use Rattle.number_pairs.specs.Pairs.{PairLists, IsOneToOne, right_at, no_pairs, paired, parted}
-use Rattle.bipartite_matching.specs.Matchings.{Matching, HasPair, IsRowFree, IsTwoSided}
+use Rattle.number_pairs.specs.Pairs.{PairLists, IsOneToOne, right_at, no_pairs}
+use Rattle.sparse_t.specs.Edits.{RoomyIncidence}
+use Rattle.bipartite_matching.specs.Matchings.{Matching, IsMatching, HasPair, IsRowFree, IsTwoSided, empty_matching, with_pair, matching_without}
 
 nat_cases : (i j : ℕ) → (i ≡ j) ⊎ (i ≢ j)
 nat_cases i j = grind arith
@@ -18,9 +19,6 @@ same_some x y e = cc
 none_is_no_some : (x : ℕ) → None ≡ Some x → ⊥
 none_is_no_some x e = cc
 
-abbrev matched : Incidence → List (Option ℕ) → Matching
-matched p mates = record { pattern = p; mates = mates }
-
 abbrev nobody : Option ℕ
 nobody = None
 
@@ -30,89 +28,83 @@ none-replicate n i = elim (lt_cases i n) [
   | inr ge ↦ get_or_past (replicate n nobody) i nobody (omega (arith, length-replicate n nobody))
 ]
 
-pub stored-empty : (p : Incidence) (pairs : PairLists) (m n : ℕ) → m ≡ incidence_rows p → n ≡ p.width →
-    pairs ≡ no_pairs m n → IsTwoSided p pairs
-stored-empty p pairs m n rows width e = record {
-  matching = record {
-    count = ap length lefts ∙ length-replicate n None ∙ width;
-    row = λ r c h. absurd (none r c h);
-    column = λ r c h. absurd (none r c h);
-    symbol = λ r c h. absurd (none r c h);
-    one_column = λ r c d h _. absurd (none r c h);
-  };
-  rows = ap (λ (q : PairLists). length q.rights) e ∙ length-replicate m None ∙ rows;
+pub empty-is_matching : (p : Incidence) → IsMatching (empty_matching p)
+empty-is_matching p = record {
+  count = length-replicate p.width None;
+  row = λ r c h. absurd (none r c h);
+  column = λ r c h. absurd (none r c h);
+  symbol = λ r c h. absurd (none r c h);
+  one_column = λ r c d h _. absurd (none r c h);
 }
   where
-    lefts : pairs.lefts ≡ replicate n None
-    lefts = ap (λ (q : PairLists). q.lefts) e
+    none : (r c : ℕ) → HasPair (empty_matching p) r c → ⊥
+    none r c h = none_is_no_some r (sym (none-replicate p.width c) ∙ h)
 
-    none : (r c : ℕ) → HasPair (matched p pairs.lefts) r c → ⊥
-    none r c h = none_is_no_some r (sym (ap (λ xs. get_or xs c None) lefts ∙ none-replicate n c) ∙ h)
+pub stored-empty : (t : RoomyIncidence) (pairs : PairLists) (m n : ℕ) → m ≡ incidence_rows t.pattern → n ≡ t.pattern.width →
+    pairs ≡ no_pairs m n → IsTwoSided (record { pattern = t.pattern; mates = pairs.lefts; row_room = 0; column_room = 0 }) t pairs
+stored-empty t pairs m n rows width e = record {
+  matching = subst (λ (xs : List (Option ℕ)). IsMatching (record { pattern = t.pattern; mates = xs; row_room = 0; column_room = 0 }))
+      (sym (ap (λ (q : PairLists). q.lefts) e ∙ ap (λ k. replicate k nobody) width)) (empty-is_matching t.pattern);
+  rows = ap (λ (q : PairLists). length q.rights) e ∙ (length-replicate m None ∙ rows);
+  pattern_rows = omega arith;
+  pattern_columns = omega arith;
+  pair_rows = omega arith;
+  pair_columns = omega arith;
+}
 
 -- a row and a column, neither of them matched, are linked
-module _ (p : Incidence) (pairs : PairLists) (row col : ℕ) (S : IsTwoSided p pairs)
-    (rl : row < incidence_rows p) (cl : col < p.width) (symbol : touches p row col ≡ true)
-    (row_free : IsRowFree (matched p pairs.lefts) row) where
-  at_col : get_or (slice_set pairs.lefts col (Some row)) col None ≡ Some row
-  at_col = get_or-set_same pairs.lefts col (Some row) None (omega (arith, S.matching.count, cl))
+module _ (m : Matching) (M : IsMatching m) (row col : ℕ)
+    (rl : row < incidence_rows m.pattern) (cl : col < m.pattern.width) (symbol : touches m.pattern row col ≡ true)
+    (row_free : IsRowFree m row) where
+  at_col : get_or (slice_set m.mates col (Some row)) col None ≡ Some row
+  at_col = get_or-set_same m.mates col (Some row) None (omega (arith, M.count, cl))
 
-  new_or_old : (r c : ℕ) → HasPair (matched p (slice_set pairs.lefts col (Some row))) r c → ((r ≡ row) × (c ≡ col)) ⊎ HasPair (matched p pairs.lefts) r c
+  new_or_old : (r c : ℕ) → HasPair (with_pair m row col) r c → ((r ≡ row) × (c ≡ col)) ⊎ HasPair m r c
   new_or_old r c h = elim (nat_cases c col) [
-    | inl q ↦ inl (same_some r row (sym h ∙ (ap (λ k. get_or (slice_set pairs.lefts col (Some row)) k None) q ∙ at_col)), q)
-    | inr ne ↦ inr (sym (get_or-set_other pairs.lefts col c (Some row) None ne) ∙ h)
+    | inl q ↦ inl (same_some r row (sym h ∙ (ap (λ k. get_or (slice_set m.mates col (Some row)) k None) q ∙ at_col)), q)
+    | inr ne ↦ inr (sym (get_or-set_other m.mates col c (Some row) None ne) ∙ h)
   ]
 
-  pub stored-link : IsTwoSided p (paired pairs row col)
-  stored-link = record {
-    matching = record {
-      count = length-set pairs.lefts col (Some row) ∙ S.matching.count;
-      row = λ r c h. elim (new_or_old r c h) [ inl q ↦ subst (λ k. k < incidence_rows p) (sym q.0) rl | inr old ↦ S.matching.row r c old ];
-      column = λ r c h. elim (new_or_old r c h) [ inl q ↦ subst (λ k. k < p.width) (sym q.1) cl | inr old ↦ S.matching.column r c old ];
-      symbol = λ r c h. elim (new_or_old r c h) [
-        | inl q ↦ subst (λ k. touches p k c ≡ true) (sym q.0) (subst (λ k. touches p row k ≡ true) (sym q.1) symbol)
-        | inr old ↦ S.matching.symbol r c old
-      ];
-      one_column = λ r c d h k. one r c d (new_or_old r c h) (new_or_old r d k);
-    };
-    rows = length-set pairs.rights row (Some col) ∙ S.rows;
+  pub linked-is_matching : IsMatching (with_pair m row col)
+  linked-is_matching = record {
+    count = length-set m.mates col (Some row) ∙ M.count;
+    row = λ r c h. elim (new_or_old r c h) [ inl q ↦ subst (λ k. k < incidence_rows m.pattern) (sym q.0) rl | inr old ↦ M.row r c old ];
+    column = λ r c h. elim (new_or_old r c h) [ inl q ↦ subst (λ k. k < m.pattern.width) (sym q.1) cl | inr old ↦ M.column r c old ];
+    symbol = λ r c h. elim (new_or_old r c h) [
+      | inl q ↦ subst (λ k. touches m.pattern k c ≡ true) (sym q.0) (subst (λ k. touches m.pattern row k ≡ true) (sym q.1) symbol)
+      | inr old ↦ M.symbol r c old
+    ];
+    one_column = λ r c d h k. one r c d (new_or_old r c h) (new_or_old r d k);
   }
     where
-      one : (r c d : ℕ) → ((r ≡ row) × (c ≡ col)) ⊎ HasPair (matched p pairs.lefts) r c → ((r ≡ row) × (d ≡ col)) ⊎ HasPair (matched p pairs.lefts) r d → c ≡ d
+      one : (r c d : ℕ) → ((r ≡ row) × (c ≡ col)) ⊎ HasPair m r c → ((r ≡ row) × (d ≡ col)) ⊎ HasPair m r d → c ≡ d
       one r c d (inl q) (inl t) = q.1 ∙ sym t.1
-      one r c d (inl q) (inr old) = absurd (row_free d (subst (λ k. HasPair (matched p pairs.lefts) k d) q.0 old))
-      one r c d (inr old) (inl q) = absurd (row_free c (subst (λ k. HasPair (matched p pairs.lefts) k c) q.0 old))
-      one r c d (inr old) (inr other) = S.matching.one_column r c d old other
+      one r c d (inl q) (inr old) = absurd (row_free d (subst (λ k. HasPair m k d) q.0 old))
+      one r c d (inr old) (inl q) = absurd (row_free c (subst (λ k. HasPair m k c) q.0 old))
+      one r c d (inr old) (inr other) = M.one_column r c d old other
 
 -- a row that no column has is in no pair
-pub free-right : (p : Incidence) (pairs : PairLists) (row : ℕ) → IsOneToOne pairs →
-    IsRowFree (matched p pairs.lefts) row → right_at pairs row ≡ None
-free-right p pairs row same free = go (right_at pairs row) refl
+pub free-right : (m : Matching) (pairs : PairLists) (row : ℕ) → m.mates ≡ pairs.lefts → IsOneToOne pairs → IsRowFree m row → right_at pairs row ≡ None
+free-right m pairs row lefts same free = go (right_at pairs row) refl
   where
     go : (o : Option ℕ) → right_at pairs row ≡ o → right_at pairs row ≡ None
     go None e = e
-    go (Some col) e = absurd (free col (same.rights_point row col e).1)
+    go (Some col) e = absurd (free col (ap (λ xs. get_or xs col None) lefts ∙ (same.rights_point row col e).1))
 
 -- a row and a column that are matched are parted
-module _ (p : Incidence) (pairs : PairLists) (row col : ℕ) (S : IsTwoSided p pairs)
-    (pair : HasPair (matched p pairs.lefts) row col) where
-  col_at : col < length pairs.lefts
-  col_at = omega (arith, S.matching.count, S.matching.column row col pair)
-
-  still : (r c : ℕ) → HasPair (matched p (slice_set pairs.lefts col None)) r c → (c ≢ col) × HasPair (matched p pairs.lefts) r c
+module _ (m : Matching) (M : IsMatching m) (row col : ℕ) (pair : HasPair m row col) where
+  still : (r c : ℕ) → HasPair (matching_without m col) r c → (c ≢ col) × HasPair m r c
   still r c h = elim (nat_cases c col) [
-    | inl q ↦ absurd (none_is_no_some r (sym (get_or-set_same pairs.lefts col None None col_at)
-        ∙ (ap (λ k. get_or (slice_set pairs.lefts col None) k None) (sym q) ∙ h)))
-    | inr ne ↦ (ne, sym (get_or-set_other pairs.lefts col c None None ne) ∙ h)
+    | inl q ↦ absurd (none_is_no_some r (sym (get_or-set_same m.mates col None None (omega (arith, M.count, M.column row col pair)))
+        ∙ (ap (λ k. get_or (slice_set m.mates col None) k None) (sym q) ∙ h)))
+    | inr ne ↦ (ne, sym (get_or-set_other m.mates col c None None ne) ∙ h)
   ]
 
-  pub stored-unlink : IsTwoSided p (parted pairs row col)
-  stored-unlink = record {
-    matching = record {
-      count = length-set pairs.lefts col None ∙ S.matching.count;
-      row = λ r c h. S.matching.row r c (still r c h).1;
-      column = λ r c h. S.matching.column r c (still r c h).1;
-      symbol = λ r c h. S.matching.symbol r c (still r c h).1;
-      one_column = λ r c d h k. S.matching.one_column r c d (still r c h).1 (still r d k).1;
-    };
-    rows = length-set pairs.rights row None ∙ S.rows;
+  pub parted-is_matching : IsMatching (matching_without m col)
+  parted-is_matching = record {
+    count = length-set m.mates col None ∙ M.count;
+    row = λ r c h. M.row r c (still r c h).1;
+    column = λ r c h. M.column r c (still r c h).1;
+    symbol = λ r c h. M.symbol r c (still r c h).1;
+    one_column = λ r c d h k. M.one_column r c d (still r c h).1 (still r d k).1;
   }

@@ -1,21 +1,26 @@
 //! Matchings of a bipartite graph: rows, columns and the symbol places that join them.
 
-ghost use Rattle.std.specs.Prelude.{◌≡◌, ◌<◌, ℕ, true, None, IfOk, IfSome, IfNone};
+ghost use Rattle.std.specs.Prelude.{◌≡◌, ◌<◌, ◌≤◌, ℕ, true, false, None, IfOk, IfSome, IfNone, OnOk, OnErr};
+ghost use Rattle.std.specs.List.Sorted.{IsStrictlyIncreasing};
+ghost use Rattle.limits.specs.Limits.{column_limit};
+ghost use Rattle.sparse_t.specs.Lists.{AreAllBelow};
 ghost use Rattle.sparse_t.specs.Incidences.{incidence_rows, touches};
-ghost use Rattle.bipartite_matching.specs.Matchings.{Matching, IsMatching, HasPair, IsRowMatched, IsRowFree, mate_at, empty_matching, with_pair, matching_without};
+ghost use Rattle.bipartite_matching.specs.Matchings.{Matching, IsMatching, HasPair, IsRowMatched, IsRowFree, mate_at, empty_matching, with_pair, matching_without, with_row_in, with_row_out, with_column_in, with_column_out};
 
 use number_pairs::NumberPairs;
 use out_of_memory::NoMemory;
-use sparse_t::Pattern;
+use sparse_t::{Pattern, RoomyPattern};
 use std::alloc::Global;
 use std::marker::Model;
 
-/// A set of symbol places of a pattern, no two of them in one row or in one column. It keeps a copy of the pattern.
-/// Rows and columns are counted from 0.
+/// A set of symbol places of a pattern, no two of them in one row or in one column. It keeps a copy of the pattern, which
+/// gains and loses rows and columns in room that is taken before. Rows and columns are counted from 0.
 #[derive(Drop)]
 pub struct Match {
-    pattern: Pattern,
+    pattern: RoomyPattern,
     pairs: NumberPairs,
+    row_room: usize,
+    column_room: usize,
 }
 
 impl Model for Match {
@@ -23,25 +28,40 @@ impl Model for Match {
 
     ghost Value = { Matching };
 
-    ghost view = { λ m. record { pattern = m.pattern; mates = m.pairs.lefts } };
+    ghost view = { λ m. record {
+      pattern = m.pattern.pattern;
+      mates = m.pairs.lefts;
+      row_room = m.row_room;
+      column_room = m.column_room;
+    } };
 
-    ghost invariant = { λ m. IsTwoSided m.pattern m.pairs };
+    ghost invariant = { λ m. IsTwoSided (record {
+      pattern = m.pattern.pattern;
+      mates = m.pairs.lefts;
+      row_room = m.row_room;
+      column_room = m.column_room;
+    }) m.pattern m.pairs };
 }
 
 impl Match {
-    /// No place of the pattern.
+    /// No place of the pattern, with no room for more rows and columns.
     pub fn open(alloc: Global, t: &Pattern) -> Result<Match, NoMemory>
         ensures empty { IfOk result (λ m. m ≡ empty_matching t.now) }
         ensures matching { IfOk result (λ m. IsMatching m) }
     {
         let pattern = t.copy()?;
         let pairs = NumberPairs::open(alloc, t.rows(), t.cols())?;
-        Ok(Match { pattern, pairs })
+        Ok(Match {
+            pattern: RoomyPattern::of(pattern),
+            pairs,
+            row_room: 0,
+            column_room: 0,
+        })
     }
 
     /// The pattern of which this is a matching.
-    pub fn pattern(&self) -> &Pattern
-        ensures pattern { result.now ≡ self.now.pattern }
+    pub fn pattern(&self) -> &RoomyPattern
+        ensures pattern { result.now.pattern ≡ self.now.pattern }
         ensures matching { IsMatching self.now }
     {
         &self.pattern
@@ -88,5 +108,75 @@ impl Match {
     {
         let col = self.pairs.right_of(row).unwrap();
         self.pairs.unlink(row, col);
+    }
+
+    /// Takes room for at least so many rows and columns. It changes nothing else.
+    pub fn room(&mut self, rows: usize, cols: usize) -> Result<(), NoMemory>
+        ensures pattern { self.new.pattern ≡ self.old.pattern }
+        ensures mates { self.new.mates ≡ self.old.mates }
+        ensures rows { OnOk result (rows ≤ self.new.row_room) }
+        ensures cols { OnOk result (cols ≤ self.new.column_room) }
+        ensures more_rows { self.old.row_room ≤ self.new.row_room }
+        ensures more_cols { self.old.column_room ≤ self.new.column_room }
+        ensures err { OnErr result (self.new ≡ self.old) }
+        ensures matching { IsMatching self.new }
+    {
+        self.pattern.room(rows, cols)?;
+        self.pairs.room(rows, cols)?;
+        self.row_room = self.row_room.max(rows);
+        self.column_room = self.column_room.max(cols);
+        Ok(())
+    }
+
+    /// Puts a row into the pattern as row `at`: the columns that it touches, rising. It is in no pair, and each pair stays.
+    /// It takes no memory.
+    pub fn insert_row(&mut self, at: usize, columns: &[u32])
+        requires at { at ≤ incidence_rows self.old.pattern }
+        requires rising { IsStrictlyIncreasing columns.now }
+        requires below { AreAllBelow self.old.pattern.width columns.now }
+        requires few { incidence_rows self.old.pattern < column_limit }
+        requires rows { incidence_rows self.old.pattern < self.old.row_room }
+        requires cols { self.old.pattern.width ≤ self.old.column_room }
+        ensures row { self.new ≡ with_row_in self.old at columns.now }
+        ensures matching { IsMatching self.new }
+    {
+        self.pattern.insert_row(at, columns);
+        self.pairs.insert_left(at);
+    }
+
+    /// Takes row `at`, which is in no pair, out of the pattern. Each pair stays.
+    pub fn remove_row(&mut self, at: usize)
+        requires at { at < incidence_rows self.old.pattern }
+        requires free { IsRowFree self.old at }
+        ensures row { self.new ≡ with_row_out self.old at }
+        ensures matching { IsMatching self.new }
+    {
+        self.pairs.are_one_to_one();
+        self.pattern.remove_row(at);
+        self.pairs.remove_left(at);
+    }
+
+    /// Puts a column that no row touches into the pattern as column `at`. Each pair stays. It takes no memory.
+    pub fn insert_column(&mut self, at: usize)
+        requires at { at ≤ self.old.pattern.width }
+        requires few { self.old.pattern.width < column_limit }
+        requires rows { incidence_rows self.old.pattern ≤ self.old.row_room }
+        requires cols { self.old.pattern.width < self.old.column_room }
+        ensures column { self.new ≡ with_column_in self.old at }
+        ensures matching { IsMatching self.new }
+    {
+        self.pattern.insert_column(at);
+        self.pairs.insert_right(at);
+    }
+
+    /// Takes column `at`, which no row touches, out of the pattern. Each pair stays.
+    pub fn remove_column(&mut self, at: usize)
+        requires at { at < self.old.pattern.width }
+        requires bare { (row : ℕ) → row < incidence_rows self.old.pattern → touches self.old.pattern row at ≡ false }
+        ensures column { self.new ≡ with_column_out self.old at }
+        ensures matching { IsMatching self.new }
+    {
+        self.pattern.remove_column(at);
+        self.pairs.remove_right(at);
     }
 }

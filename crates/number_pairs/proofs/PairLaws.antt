@@ -2,7 +2,7 @@
 use Rattle.std.proofs.Common.{◌≡◌, ℕ, ◌<◌, ◌≤◌, ◌≢◌, ◌⊎◌, inl, inr, sym, subst, ◌∙◌, ap, arith, List, length, replicate, Option, Some, None, slice_index_or, slice_set, IfSome, IfNone}
 use Rattle.std.proofs.Math.ListN.{get_or-eq_default}
 use Rattle.std.proofs.lemmas.List.{get_or-set_same, get_or-set_other, get_or-replicate, length-replicate, length-set}
-use Rattle.number_pairs.specs.Pairs.{PointsBack, PairLists, IsOneToOne, left_at, right_at, no_pairs, paired, parted}
+use Rattle.number_pairs.specs.Pairs.{PointsBack, PairLists, IsOneToOne, ArePairsStored, left_at, right_at, no_pairs, paired, parted}
 
 nat_cases : (i j : ℕ) → (i ≡ j) ⊎ (i ≢ j)
 nat_cases i j = grind arith
@@ -71,6 +71,22 @@ paired-one_to_one p x y same xl yl left_free right_free = record {
   lefts_point = link-points p.lefts p.rights y x same.lefts_point yl xl left_free;
 }
 
+-- the same of what is stored
+pub stored-parted : (p : PairLists) (m n x y : ℕ) → ArePairsStored p m n → right_at p x ≡ Some y → ArePairsStored (parted p x y) m n
+stored-parted p m n x y S e = record {
+  one_to_one = parted-one_to_one p x y S.one_to_one e;
+  left_room = S.left_room;
+  right_room = S.right_room;
+}
+
+pub stored-paired : (p : PairLists) (m n x y : ℕ) → ArePairsStored p m n → x < length p.rights → y < length p.lefts →
+    right_at p x ≡ None → left_at p y ≡ None → ArePairsStored (paired p x y) m n
+stored-paired p m n x y S xl yl left_free right_free = record {
+  one_to_one = paired-one_to_one p x y S.one_to_one xl yl left_free right_free;
+  left_room = S.left_room;
+  right_room = S.right_room;
+}
+
 -- before any pair
 none-points : (a b : List (Option ℕ)) (n : ℕ) → a ≡ replicate n None → PointsBack a b
 none-points a b n e i j h = absurd (differ (sym (none (before_or_after i n)) ∙ h))
@@ -90,6 +106,13 @@ pub none-one_to_one : (p : PairLists) (m n : ℕ) → p ≡ no_pairs m n → IsO
 none-one_to_one p m n e = record {
   rights_point = none-points p.rights p.lefts m (ap (λ (q : PairLists). q.rights) e);
   lefts_point = none-points p.lefts p.rights n (ap (λ (q : PairLists). q.lefts) e);
+}
+
+pub stored-none : (p : PairLists) (m n j k : ℕ) → p ≡ no_pairs m n → ArePairsStored p j k
+stored-none p m n j k e = record {
+  one_to_one = none-one_to_one p m n e;
+  left_room = omega (arith, ap (λ (q : PairLists). q.left_room) e);
+  right_room = omega (arith, ap (λ (q : PairLists). q.right_room) e);
 }
 
 -- what is told of a number

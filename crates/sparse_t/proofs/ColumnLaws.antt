@@ -19,19 +19,19 @@ module _ {B : Type 0} (f : SmallVec ℕ → B) (none : B) where
 pub items-read : (lists : List (SmallVec ℕ)) (x : ℕ) (v : SmallVec ℕ) → x < length lists → v ≡ get_or lists x v → list_items_at lists x ≡ v.items
 items-read lists x v l e = part-read (λ list. list.items) [] lists x v l e
 
-items-same : (lists : List (SmallVec ℕ)) (x : ℕ) (w : SmallVec ℕ) → x < length lists → list_items_at (slice_set lists x w) x ≡ w.items
+pub items-same : (lists : List (SmallVec ℕ)) (x : ℕ) (w : SmallVec ℕ) → x < length lists → list_items_at (slice_set lists x w) x ≡ w.items
 items-same lists x w l = part-same (λ list. list.items) [] lists x w l
 
-items-other : (lists : List (SmallVec ℕ)) (x j : ℕ) (w : SmallVec ℕ) → j ≢ x → list_items_at (slice_set lists x w) j ≡ list_items_at lists j
+pub items-other : (lists : List (SmallVec ℕ)) (x j : ℕ) (w : SmallVec ℕ) → j ≢ x → list_items_at (slice_set lists x w) j ≡ list_items_at lists j
 items-other lists x j w ne = part-other (λ list. list.items) [] lists x j w ne
 
-capacity-read : (lists : List (SmallVec ℕ)) (x : ℕ) (v : SmallVec ℕ) → x < length lists → v ≡ get_or lists x v → capacity_at lists x ≡ v.capacity
+pub capacity-read : (lists : List (SmallVec ℕ)) (x : ℕ) (v : SmallVec ℕ) → x < length lists → v ≡ get_or lists x v → capacity_at lists x ≡ v.capacity
 capacity-read lists x v l e = part-read (λ list. list.capacity) 0 lists x v l e
 
-capacity-same : (lists : List (SmallVec ℕ)) (x : ℕ) (w : SmallVec ℕ) → x < length lists → capacity_at (slice_set lists x w) x ≡ w.capacity
+pub capacity-same : (lists : List (SmallVec ℕ)) (x : ℕ) (w : SmallVec ℕ) → x < length lists → capacity_at (slice_set lists x w) x ≡ w.capacity
 capacity-same lists x w l = part-same (λ list. list.capacity) 0 lists x w l
 
-capacity-other : (lists : List (SmallVec ℕ)) (x j : ℕ) (w : SmallVec ℕ) → j ≢ x → capacity_at (slice_set lists x w) j ≡ capacity_at lists j
+pub capacity-other : (lists : List (SmallVec ℕ)) (x j : ℕ) (w : SmallVec ℕ) → j ≢ x → capacity_at (slice_set lists x w) j ≡ capacity_at lists j
 capacity-other lists x j w ne = part-other (λ list. list.capacity) 0 lists x j w ne
 
 -- a list at x is put in the place of v

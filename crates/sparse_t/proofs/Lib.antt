@@ -2,3 +2,6 @@ pub mod ListLaws
 pub mod ColumnLaws
 pub mod IncidenceLaws
 pub mod StoredLaws
+pub mod ShelfLaws
+pub mod NumberLaws
+pub mod EditLaws

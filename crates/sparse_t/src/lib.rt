@@ -3,7 +3,11 @@
 
 mod columns;
 mod lists;
+mod moves;
 mod pattern;
+mod roomy;
+mod shelf;
 
 pub use out_of_memory::NoMemory;
 pub use pattern::Pattern;
+pub use roomy::RoomyPattern;

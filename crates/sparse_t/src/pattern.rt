@@ -1,10 +1,11 @@
 //! Patterns: which places of some rows and columns hold a symbol.
 
-ghost use Rattle.std.specs.Prelude.{◌≡◌, ◌<◌, ℕ, IfOk, OnOk, OnErr, []};
+ghost use Rattle.std.specs.Prelude.{◌≡◌, ◌<◌, ℕ, IfOk, OnOk, OnErr, [], length, map};
 ghost use Rattle.std.specs.List.Sorted.{IsStrictlyIncreasing};
 ghost use Rattle.limits.specs.Limits.{column_limit};
 ghost use Rattle.sparse_t.specs.Lists.{AreAllBelow};
 ghost use Rattle.sparse_t.specs.Incidences.{Incidence, IsIncidence, AreRowsAt, incidence_rows, columns_at, touches, incidence_with_row};
+ghost use Rattle.sparse_t.specs.Columns.{AreIndexed};
 
 use crate::columns::Columns;
 use crate::lists::{Numbers, holds};
@@ -66,6 +67,19 @@ impl Pattern {
             copy.push_row(row.as_slice())?;
         }
         Ok(copy)
+    }
+
+    // Its rows, and the rows of each column.
+    pub(crate) fn into_lists(self) -> (Vec<Numbers>, Vec<Numbers>)
+        ensures indexed { AreIndexed result.0.items result.1.items }
+        ensures pattern { self ≡ record {
+          width = length result.1.items;
+          rows = map (λ row. row.items) result.0.items;
+        } }
+    {
+        let Pattern { rows, columns } = self;
+        let Columns { lists } = columns;
+        (rows, lists)
     }
 
     /// Tells a proof what a pattern keeps. It does nothing when it runs.

@@ -8,7 +8,7 @@ pub returns-clause-below : goal.returns-clause-below
 returns-clause-below c =
     rw (← c.self.view_is)
     (some-below c.self.inside.lefts.items c.self.inside.rights.items c.args.right c.index.result.now
-    c.self.invariant.lefts_point
+    c.self.invariant.one_to_one.lefts_point
     (get_or_read_under c.self.inside.lefts.items c.args.right c.self.inside.lefts.len c.index.result.now None
     c.index.ensures
     (omega (arith, c.self.inside.lefts.ok.0, ap (λ (p : PairLists). length p.lefts) c.self.view_is))

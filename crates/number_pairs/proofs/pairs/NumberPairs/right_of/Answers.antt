@@ -8,7 +8,7 @@ pub returns-clause-below : goal.returns-clause-below
 returns-clause-below c =
     rw (← c.self.view_is)
     (some-below c.self.inside.rights.items c.self.inside.lefts.items c.args.left c.index.result.now
-    c.self.invariant.rights_point
+    c.self.invariant.one_to_one.rights_point
     (get_or_read_under c.self.inside.rights.items c.args.left c.self.inside.rights.len c.index.result.now None
     c.index.ensures
     (omega (arith, c.self.inside.rights.ok.0, ap (λ (p : PairLists). length p.rights) c.self.view_is))

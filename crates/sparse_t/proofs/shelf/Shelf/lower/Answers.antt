@@ -1,0 +1,28 @@
+use Rattle.std.proofs.Common.{◌≡◌, ◌∙◌, ℕ, List, map, length, ap, sym, subst, vec_capacity, arith}
+use Rattle.linear_algebra.specs.Parts.{unskip}
+use Rattle.smallvec.specs.SmallVec.{SmallVec}
+use Rattle.sparse_t.specs.Columns.{capacity_at}
+use Rattle.sparse_t.specs.Shelves.{ShelfLists, numbers_lowered, IsShelf}
+use Rattle.sparse_t.proofs.ShelfLaws.{shelf-same, written_whole}
+use Rattle.sparse_t.proofs.shelf.Shelf.lower.Goals as goal
+
+pub invariant_of-self : goal.invariant_of-self
+invariant_of-self c =
+    let value = c.deref_mut.ensures.value in
+    let same : length c.lower_lists.new.lists ≡ length c.self.inside.lists.items = c.lower_lists.ensures.count ∙ ap length value in
+    subst (λ now. IsShelf c.self.inside.count c.self.inside.width now c.self.inside.spare.items (vec_capacity c.self.inside.lists)
+    (vec_capacity c.self.inside.spare))
+    (sym (written_whole c.self.inside.lists.len c.self.inside.lists.items c.lower_lists.new.lists (omega (arith, c.self.inside.lists.ok.0)) same))
+    (shelf-same c.self.inside.count c.self.inside.width (vec_capacity c.self.inside.lists) (vec_capacity c.self.inside.spare)
+    c.self.inside.lists.items c.self.inside.spare.items c.self.invariant c.lower_lists.new.lists same
+    (λ j. c.lower_lists.ensures.capacities j ∙ ap (λ (xs : List (SmallVec ℕ)). capacity_at xs j) value))
+
+pub returns : goal.returns
+returns c =
+    let value = c.deref_mut.ensures.value in
+    let same : length c.lower_lists.new.lists ≡ length c.self.inside.lists.items = c.lower_lists.ensures.count ∙ ap length value in
+    ap (λ (xs : List (List ℕ)). let s : ShelfLists = record { lists = xs; count = c.self.inside.count; width = c.self.inside.width } in s)
+    (ap (map (λ (list : SmallVec ℕ). list.items))
+    (written_whole c.self.inside.lists.len c.self.inside.lists.items c.lower_lists.new.lists (omega (arith, c.self.inside.lists.ok.0)) same)
+    ∙ (c.lower_lists.ensures.items ∙ ap (λ (xs : List (SmallVec ℕ)). map (map (unskip c.args.at)) (map (λ (list : SmallVec ℕ). list.items) xs)) value))
+    ∙ ap (λ (s : ShelfLists). numbers_lowered s c.args.at) c.self.view_is
