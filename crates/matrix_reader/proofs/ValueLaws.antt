@@ -1,14 +1,14 @@
 -- The value of an item: where it ends with a symbol, and the number before that.
 use Rattle.std.proofs.Common.{◌≡◌, ◌≢◌, ℕ, ◌-◌, Bool, true, false, cond, List, ◌++◌, length, take, drop, codes, Some}
-use Rattle.std.proofs.Common.{None, Result, Ok, Err, refl, sym, ap, ◌∙◌, arith, length-append}
+use Rattle.std.proofs.Common.{None, Result, Ok, Err, unwrap_or, refl, sym, ap, ◌∙◌, arith, length-append, eqb, eqb-true}
 use Rattle.std.specs.Result.{result_err, result_unwrap_or}
 use Rattle.std.proofs.Math.Seq.{take-append_seam, drop-append_seam}
-use Rattle.std.proofs.lemmas.Bool.{false_from_ne_true}
+use Rattle.std.proofs.lemmas.Bool.{eqb-false, false_from_ne_true}
 use Rattle.std.proofs.lemmas.List.{take-append-drop}
 use Rattle.std.proofs.lemmas.Slice.Eq.{bytes_eq-Decides}
 use Rattle.refusals.specs.declared.Why.{Why}
 use Rattle.line_lexer.specs.Numbers.{number_of}
-use Rattle.matrix_reader.specs.Items.{is_symbol, adds_symbol, number_text, value_constant, value_symbol}
+use Rattle.matrix_reader.specs.Items.{is_symbol, adds_symbol, number_text, unless_zero, value_constant, value_symbol}
 use Rattle.matrix_reader.specs.Rules.{value_rule}
 
 -- a value that ends with a symbol
@@ -76,3 +76,19 @@ module _ (p : ℕ) (value : List ℕ) (lone : is_symbol value ≡ false) where
 pub read_symbol : (p : ℕ) (value : List ℕ) (constant : ℕ) → is_symbol value ≡ true → constant ≡ 0 →
     (value_rule p value ≡ None) × (constant ≡ value_constant p value) × (true ≡ value_symbol value)
 read_symbol p value constant alone none = (rw alone refl, rw alone none, rw alone refl)
+
+-- a constant where it is not 0, or else 0
+pub or_zero : (constant : ℕ) → unwrap_or (unless_zero constant) 0 ≡ constant
+or_zero constant = by (eqb constant 0) refl
+  where
+    by : (none : Bool) → eqb constant 0 ≡ none → unwrap_or (cond none None (Some constant)) 0 ≡ constant
+    by true e = sym (eqb-true constant 0 e)
+    by false e = refl
+
+-- and it is none that is 0
+pub unless_zero-some : (constant : ℕ) → unless_zero constant ≢ Some 0
+unless_zero-some constant = by (eqb constant 0) refl
+  where
+    by : (none : Bool) → eqb constant 0 ≡ none → cond none None (Some constant) ≢ Some 0
+    by true e = λ same. let f : ⊥ = cc in f
+    by false e = λ same. let zero_there : constant ≡ 0 = ap (λ o. unwrap_or o 0) same in eqb-false constant 0 e zero_there

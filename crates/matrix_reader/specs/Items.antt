@@ -1,5 +1,5 @@
 -- The items of an equation line: UNKNOWN=VALUE, cut at the first =.
-use Rattle.std.specs.Prelude.{ℕ, ◌-◌, Bool, ◌||◌, List, length, take, drop, codes, nat_eq, nat_lt, if◌then◌else◌}
+use Rattle.std.specs.Prelude.{◌≡◌, ℕ, ◌-◌, Bool, ◌||◌, List, length, take, drop, codes, nat_eq, nat_lt, if◌then◌else◌, Option, Some, None}
 use Rattle.std.specs.List.{position_or_len, before_first, after_first}
 use Rattle.std.specs.Result.{result_unwrap_or}
 use Rattle.std.specs.Str.{bytes_eq}
@@ -39,6 +39,10 @@ value_constant p value = if is_symbol value then 0 else result_unwrap_or (number
 abbrev pub value_symbol : List ℕ → Bool
 value_symbol value = is_symbol value || adds_symbol value
 
+-- a constant, where it is not 0
+abbrev pub unless_zero : ℕ → Option ℕ
+unless_zero constant = if nat_eq constant 0 then None else Some constant
+
 -- the constant that an item gives, perhaps 0
 abbrev pub item_constant : ℕ → List ℕ → ℕ
 item_constant p item = value_constant p (value_of item)
@@ -46,3 +50,9 @@ item_constant p item = value_constant p (value_of item)
 -- whether it gives a symbol
 abbrev pub item_symbol : List ℕ → Bool
 item_symbol item = value_symbol (value_of item)
+
+-- What an item says: its unknown, the constant there, where it is not 0, and whether a symbol is there.
+pub record SaysItem (p : ℕ) (item unknown : List ℕ) (constant : Option ℕ) (symbol : Bool) : Type 0 where
+  pub unknown_is : unknown ≡ unknown_of item
+  pub constant_is : constant ≡ unless_zero (item_constant p item)
+  pub symbol_is : symbol ≡ item_symbol item

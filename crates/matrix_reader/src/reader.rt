@@ -7,7 +7,7 @@ ghost use Rattle.mixed_model.specs.Models.{IsModel, empty_model};
 ghost use Rattle.refusals.specs.Faults.{OnBroken};
 ghost use Rattle.matrix_reader.specs.ReaderStates.{MarkedFrom, UnmarkedFrom, SeenFrom, UnseenFrom, ReadsItem, ReadsItems, AddsEquation, ReadsEquation, SeesUnknown, SeesUnknowns, ReadsUnknowns, ReadsLine};
 
-use crate::item::read_term;
+use crate::items;
 use crate::place::put_value;
 use line_lexer::{Tokens, name};
 use line_reader::LineFormat;
@@ -122,20 +122,20 @@ impl<F: Field> Reader<F> {
 
     // Puts what an item says into equation `i`, in the line of this number.
     #[tactic(auto, using(term_model::proofs::Labels::name_is_label))]
-    fn read_item(&mut self, line: u32, i: usize, item: &str) -> Result<(), Fault>
+    fn read_item(&mut self, line: u32, i: usize, token: &str) -> Result<(), Fault>
         requires lengths { vec_len self.old.last_lines ≡ length self.old.model.unknowns }
         requires equation { i < length self.old.model.equations }
         ensures lengths { OnOk result (vec_len self.new.last_lines ≡ length self.new.model.unknowns) }
         ensures equations { OnOk result (self.new.model.equations ≡ self.old.model.equations) }
         ensures read { ReadsItem F.modulus line i
-            self.old.model self.new.model self.old.last_lines.items self.new.last_lines.items item.now result }
+            self.old.model self.new.model self.old.last_lines.items self.new.last_lines.items token.now result }
     {
-        let term = match read_term(item) {
-            Ok(term) => term,
+        let item = match items::item(token) {
+            Ok(item) => item,
             Err(why) => return Err(Fault::Broken(why)),
         };
-        let j = self.mark(line, term.unknown)?;
-        put_value(&mut self.model, i, j, term.value)?;
+        let j = self.mark(line, item.unknown)?;
+        put_value(&mut self.model, i, j, item.constant, item.symbol)?;
         Ok(())
     }
 

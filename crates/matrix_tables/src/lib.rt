@@ -5,6 +5,8 @@
 #[cfg(test)]
 mod bits;
 #[cfg(test)]
+mod edits;
+#[cfg(test)]
 mod layers;
 #[cfg(test)]
 mod made;

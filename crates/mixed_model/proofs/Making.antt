@@ -11,6 +11,7 @@ use Rattle.mixed_model.specs.Names.{IsNameList}
 use Rattle.mixed_model.specs.Rows.{IsNotEmpty, IsRow, AreColumnsBelow, RisesFrom, constant_in, constant_at_place, entry_in}
 use Rattle.mixed_model.specs.Rows.{symbol_in, symbol_at_place}
 use Rattle.mixed_model.specs.Models.{MixedModel, IsModel, constant_at, symbol_of}
+use Rattle.mixed_model.proofs.RowLaws.{rises_earlier}
 
 -- a row with a place before it: where neither a constant nor a symbol stands there, no entry
 place : ℕ → ℕ → Bool → List RowEntry → List RowEntry
@@ -22,11 +23,6 @@ place column (suc n) symbol row = record { column = column; constant = Some (suc
 places : (ℕ → ℕ) → (ℕ → Bool) → ℕ → ℕ → List RowEntry
 places constant symbol first zero = []
 places constant symbol first (suc n) = place first (constant first) (symbol first) (places constant symbol (first + 1) n)
-
--- columns that rise from a later one on do so from an earlier one on
-rises-earlier : (p first later : ℕ) (row : List RowEntry) → first ≤ later → RisesFrom p later row → RisesFrom p first row
-rises-earlier p first later [] early rises = tt
-rises-earlier p first later (entry ∷ row) early rises = (omega (arith, rises.0), rises.1, rises.2)
 
 -- nothing stands before the first column
 none-before : (p first column : ℕ) (row : List RowEntry) → RisesFrom p first row → column < first → entry_in row column ≡ None
@@ -85,7 +81,7 @@ module _ (p column columns : ℕ) (row : List RowEntry) (rises : RisesFrom p (co
     place_put zero false small =
         let none = none-before p (column + 1) column row rises (omega arith) in
         record {
-          rises_now = rises-earlier p column (column + 1) row (omega arith) rises;
+          rises_now = rises_earlier p column (column + 1) row (omega arith) rises;
           within_now = within;
           constant_here = ap (λ o. unwrap_or (constant_at_place o) 0) none;
           symbol_here = ap symbol_at_place none;

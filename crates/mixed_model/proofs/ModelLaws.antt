@@ -4,16 +4,20 @@ use Rattle.std.proofs.Common.{length-append, map, get_or, set, Some, refl, sym, 
 use Rattle.std.proofs.Common.{get_or-set_same, get_or-set_other, length-set, Vec, Option, None, unwrap_or, ⊎_elim}
 use Rattle.std.proofs.Common.{◌≤◌}
 use Rattle.std.specs.Prelude.{All}
+use Rattle.std.specs.List.{remove}
 use Rattle.std.proofs.lemmas.Bool.{cases_lt, eqb-false}
 use Rattle.std.proofs.Math.Seq.{map-set_same}
 use Rattle.std.proofs.lemmas.List.{get_or-map, get_or_past, length-map, map-append, map-set, ext_get_or}
+use Rattle.std.proofs.lemmas.List.Edits.{length-remove}
 use Rattle.std.proofs.lemmas.List.Elements.{All-push, All-set}
 use Rattle.mixed_model.proofs.RowLaws.{entry_in-None, entry_in-filled, same_rows}
 use Rattle.mixed_model.specs.Entries.{RowEntry}
 use Rattle.mixed_model.specs.Names.{IsNameList}
-use Rattle.mixed_model.specs.Rows.{IsNotEmpty, IsRow, AreColumnsBelow, entry_in, PutsConstant, PutsSymbol, ChangesRow}
+use Rattle.mixed_model.specs.Rows.{IsNotEmpty, IsRow, AreColumnsBelow, entry_in, PutsConstant, PutsSymbol, SetsColumn, ChangesRow}
 use Rattle.mixed_model.specs.Rows.{constant_in, symbol_in, constant_at_place, symbol_at_place}
-use Rattle.mixed_model.specs.Models.{MixedModel, IsModel, PutsAt, PutsSymbolAt, constant_at, constant_of, row_of, symbol_of}
+use Rattle.mixed_model.specs.Models.{MixedModel, IsModel, PutsAt, PutsSymbolAt, SetsPlace, constant_at, constant_of, row_of, symbol_of, equation_removed}
+use Rattle.mixed_model.proofs.NameLaws.{IsNameList-remove}
+use Rattle.mixed_model.proofs.ListLaws.{All-remove, map-remove}
 
 -- rows that are vectors
 pub rows_are_rows : {A : Type 0} (p : ℕ) (rows : List (Vec RowEntry A)) (columns : ℕ) →
@@ -130,6 +134,47 @@ module _ (p : ℕ) (model : MixedModel) (rows : List (List RowEntry)) (i j : ℕ
         ∙ told_after symbol_in model.rows i puts.row (λ c old. eqb j c || old) within puts.change.symbols k c
         ∙ or_tests (eqb i k) (eqb j c) (symbol_in (get_or model.rows k []) c);
   }
+
+  pub IsModel-set : (constant : Option ℕ) (symbol : Bool) → ChangesRow (SetsColumn p j constant symbol) i model.rows rows → IsModel p put
+  IsModel-set constant symbol sets =
+      IsModel-changed p model rows i (SetsColumn p j constant symbol) is equation sets sets.change.row (sets.change.within (length model.unknowns) unknown)
+
+  pub SetsPlace-set : (constant : Option ℕ) (symbol : Bool) → ChangesRow (SetsColumn p j constant symbol) i model.rows rows →
+      SetsPlace model put i j constant symbol
+  SetsPlace-set constant symbol sets = record {
+    equations = refl;
+    unknowns = refl;
+    constants = λ k c.
+        ap (λ rs. constant_in (get_or rs k []) c) sets.rows
+        ∙ told_after constant_in model.rows i sets.row (λ c old. cond (eqb j c) constant old) within sets.change.constants k c
+        ∙ both_tests (eqb i k) (eqb j c) constant (constant_in (get_or model.rows k []) c);
+    symbols = λ k c.
+        ap (λ rs. symbol_in (get_or rs k []) c) sets.rows
+        ∙ told_after symbol_in model.rows i sets.row (λ c old. cond (eqb j c) symbol old) within sets.change.symbols k c
+        ∙ both_tests (eqb i k) (eqb j c) symbol (symbol_in (get_or model.rows k []) c);
+  }
+
+-- a model without one of its equations
+pub IsModel-equation_removed : (p : ℕ) (model : MixedModel) (i : ℕ) → IsModel p model → i < length model.equations → IsModel p (equation_removed model i)
+IsModel-equation_removed p model i is within =
+    let at : i < length model.rows = omega (arith, within, is.one_row_each) in
+    record {
+      equations = IsNameList-remove model.equations i is.equations within;
+      unknowns = is.unknowns;
+      one_row_each = omega (arith, is.one_row_each, length-remove model.equations i within, length-remove model.rows i at);
+      rows = All-remove (λ row. IsRow p row × AreColumnsBelow (length model.unknowns) row) model.rows i at is.rows;
+    }
+
+-- and its data
+pub model_without : {A : Type 0} (equations left unknowns : List (List ℕ)) (rows rest : List (Vec RowEntry A)) (i : ℕ) →
+    left ≡ remove equations i → rest ≡ remove rows i →
+    equation_removed (record { equations = equations; unknowns = unknowns; rows = map (λ row. row.items) rows }) i
+    ≡ record { equations = left; unknowns = unknowns; rows = map (λ row. row.items) rest }
+model_without {A} equations left unknowns rows rest i names others =
+    λ k. record { equations = sym names k; unknowns = unknowns; rows = same k }
+  where
+    same : remove (map (λ (row : Vec RowEntry A). row.items) rows) i ≡ map (λ (row : Vec RowEntry A). row.items) rest
+    same = sym (ap (map (λ (row : Vec RowEntry A). row.items)) others ∙ map-remove (λ (row : Vec RowEntry A). row.items) rows i)
 
 -- one of several vectors is changed
 pub ChangesRow-set : {A : Type 0} (Change : List RowEntry → List RowEntry → Type 0) (rows : List (Vec RowEntry A))

@@ -2,7 +2,7 @@
 use Rattle.std.proofs.Common.{◌≡◌, ◌≢◌, ℕ, ◌+◌, ◌<◌, ◌≤◌, nat_eq, ⊎_elim, Bool, IsTrue, true, false, not, ◌||◌, cond}
 use Rattle.std.proofs.Common.{List, [], ◌∷◌, ◌++◌, length, map, position, get_or, Result, Ok, Err, Some, None, refl}
 use Rattle.std.proofs.Common.{sym, ap, subst, ◌∙◌, arith, ltb, ltb-false, lt-ltb, le-ltb, length-append}
-use Rattle.std.specs.List.{IsDistinct, list_any, position_or_len}
+use Rattle.std.specs.List.{IsDistinct, list_any, position_or_len, remove}
 use Rattle.std.proofs.lemmas.List.Folds.{list_any_at, list_any_none}
 use Rattle.std.proofs.lemmas.List.Quantifiers.{position-Some}
 use Rattle.std.proofs.lemmas.List.Sums.{fails_before_first, prefix_len-le-length}
@@ -13,12 +13,14 @@ use Rattle.std.proofs.lemmas.List.{length-map, map-append}
 use Rattle.std.specs.String.{string_bytes, string_eq}
 use Rattle.std.specs.declared.string.String.{String}
 use Rattle.indexmap.specs.IndexSet.{insert_key}
+use Rattle.std.proofs.lemmas.List.Edits.{length-remove}
 use Rattle.std.proofs.lemmas.List.Elements.{All-push}
 use Rattle.std.proofs.lemmas.Map.Keys.{IsDistinct-push, apart_from_distinct}
 use Rattle.std.proofs.lemmas.Bool.{cases_lt, eqb-true, eqb-false, false_from_ne_true}
 use Rattle.mixed_model.specs.declared.errors.AddError.TheVariants.{Twice, TooMany}
 use Rattle.mixed_model.specs.Names.{is_label, IsNameList, has_name, see, appending, adding, seeing, place_or_end, AnswersAdd}
 use Rattle.mixed_model.specs.declared.errors.AddError.{AddError}
+use Rattle.mixed_model.proofs.ListLaws.{All-remove, IsDistinct-remove}
 
 pub list_any_map : {X Y : Type 0} (test : Y → Bool) (f : X → Y) (xs : List X) → list_any test (map f xs) ≡ list_any (λ x. test (f x)) xs
 list_any_map test f [] = refl
@@ -108,6 +110,14 @@ IsNameList-see names name all label room = by (has_name names name) refl
     by : (b : Bool) → has_name names name ≡ b → IsNameList (see names name)
     by true e = subst IsNameList (sym (see-there names name e)) all
     by false e = subst IsNameList (sym (see-new names name e)) (IsNameList-push names name all label e room)
+
+-- names of which one is taken out
+pub IsNameList-remove : (names : List (List ℕ)) (i : ℕ) → IsNameList names → i < length names → IsNameList (remove names i)
+IsNameList-remove names i all within = record {
+  labels = All-remove (λ name. IsTrue (is_label name)) names i within all.labels;
+  few = omega (arith, all.few, length-remove names i within);
+  distinct = IsDistinct-remove bytes_eq names i within all.distinct;
+}
 
 -- whether a text is among some is told by their bytes
 pub text_is_there : {A : Type 0} (keys : List (String A)) (text : String A) (name : List ℕ) →

@@ -25,15 +25,15 @@ entry_in-None (entry ∷ row) column absent =
     rw (ne_eqb entry.column column (absent 0 entry (omega arith)))
     (entry_in-None row column (λ i d at. absent (suc i) d (omega arith)))
 
--- an entry before the changed one hides nothing of it
-past_first : (first entry : RowEntry) (column : ℕ) (new old : List RowEntry) → first.column < entry.column →
-    entry_in new column ≡ cond (eqb entry.column column) (Some entry) (entry_in old column) →
-    entry_in (first ∷ new) column ≡ cond (eqb entry.column column) (Some entry) (entry_in (first ∷ old) column)
-past_first first entry column new old lower rest = by (eqb first.column column) refl (eqb entry.column column) refl
+-- an entry before the changed place hides nothing of it
+pub past_first : (first : RowEntry) (found : Option RowEntry) (at column : ℕ) (new old : List RowEntry) → first.column < at →
+    entry_in new column ≡ cond (eqb at column) found (entry_in old column) →
+    entry_in (first ∷ new) column ≡ cond (eqb at column) found (entry_in (first ∷ old) column)
+past_first first found at column new old lower rest = by (eqb first.column column) refl (eqb at column) refl
   where
-    by : (a : Bool) → eqb first.column column ≡ a → (b : Bool) → eqb entry.column column ≡ b →
-        entry_in (first ∷ new) column ≡ cond (eqb entry.column column) (Some entry) (entry_in (first ∷ old) column)
-    by true p true q = absurd (omega (arith, lower, eqb-true first.column column p, eqb-true entry.column column q))
+    by : (a : Bool) → eqb first.column column ≡ a → (b : Bool) → eqb at column ≡ b →
+        entry_in (first ∷ new) column ≡ cond (eqb at column) found (entry_in (first ∷ old) column)
+    by true p true q = absurd (omega (arith, lower, eqb-true first.column column p, eqb-true at column q))
     by true p false q = rw (p, q) refl
     by false p b q = rw p rest
 
@@ -44,7 +44,7 @@ entry_in-insert : (row : List RowEntry) (place : ℕ) (entry : RowEntry) (column
 entry_in-insert row zero entry column within before = refl
 entry_in-insert [] (suc place) entry column within before = absurd (omega arith)
 entry_in-insert (first ∷ row) (suc place) entry column within before =
-    past_first first entry column (insert row place entry) row (before 0 first (omega arith) (omega arith))
+    past_first first (Some entry) entry.column column (insert row place entry) row (before 0 first (omega arith) (omega arith))
     (entry_in-insert row place entry column (omega arith) (λ k d low high. before (suc k) d (omega arith) (omega arith)))
 
 IsWithin-insert : (columns : ℕ) (row : List RowEntry) (place : ℕ) (entry : RowEntry) → AreColumnsBelow columns row →
@@ -104,8 +104,13 @@ pub putting_symbol-Ok : (row : List RowEntry) (column : ℕ) → symbol_in row c
 putting_symbol-Ok row column absent = rw absent refl
 
 module _ (p : ℕ) where
+  -- columns that rise from a later one on do so from an earlier one on
+  pub rises_earlier : (first later : ℕ) (row : List RowEntry) → first ≤ later → RisesFrom p later row → RisesFrom p first row
+  rises_earlier first later [] early rises = tt
+  rises_earlier first later (entry ∷ row) early rises = (omega (arith, rises.0), rises.1, rises.2)
+
   -- a place in a row is at least the first column
-  rises_from : (first : ℕ) (row : List RowEntry) → RisesFrom p first row → (i : ℕ) (d : RowEntry) → i < length row → first ≤ (get_or row i d).column
+  pub rises_from : (first : ℕ) (row : List RowEntry) → RisesFrom p first row → (i : ℕ) (d : RowEntry) → i < length row → first ≤ (get_or row i d).column
   rises_from first [] rises i d at = absurd (omega arith)
   rises_from first (entry ∷ row) rises zero d at = rises.0
   rises_from first (entry ∷ row) rises (suc i) d at =
@@ -154,7 +159,7 @@ module _ (p : ℕ) where
       (Some entry) (entry_in xs column)
   entry_in-next first [] entry rest column rises = refl
   entry_in-next first (x ∷ xs) entry rest column rises =
-      past_first x entry column (xs ++ entry ∷ []) xs (before_seam x.column xs entry rest rises.2)
+      past_first x (Some entry) entry.column column (xs ++ entry ∷ []) xs (before_seam x.column xs entry rest rises.2)
       (entry_in-next (x.column + 1) xs entry rest column rises.2)
 
   -- an entry put in the place of another
@@ -171,7 +176,7 @@ module _ (p : ℕ) where
       by false p = rw (p, ap (λ c. eqb c column) same ∙ p) refl
   entry_in-set first (next ∷ row) rises (suc place) entry column within same =
       let later = rises_from (next.column + 1) row rises.2 place entry (omega arith) in
-      past_first next entry column (set row place entry) row (omega (arith, later, same))
+      past_first next (Some entry) entry.column column (set row place entry) row (omega (arith, later, same))
       (entry_in-set (next.column + 1) row rises.2 place entry column (omega arith) same)
 
   -- and before higher ones
@@ -204,7 +209,7 @@ module _ (p : ℕ) where
       (rises.0, rises.1, RisesFrom-set (next.column + 1) row place entry rises.2 filled (omega arith) same)
 
   -- an entry put where it belongs
-  PutsEntry-insert : (row : List RowEntry) (place : ℕ) (entry : RowEntry) → IsRow p row → IsNotEmpty p entry →
+  pub PutsEntry-insert : (row : List RowEntry) (place : ℕ) (entry : RowEntry) → IsRow p row → IsNotEmpty p entry →
       FitsBetween row place entry.column → PutsEntry p row (insert row place entry) entry
   PutsEntry-insert row place entry rises filled fits = record {
     entries = λ column. entry_in-insert row place entry column fits.within fits.before;
@@ -213,7 +218,7 @@ module _ (p : ℕ) where
   }
 
   -- an entry put where one stands
-  PutsEntry-set : (row : List RowEntry) (place : ℕ) (entry : RowEntry) → IsRow p row → IsNotEmpty p entry →
+  pub PutsEntry-set : (row : List RowEntry) (place : ℕ) (entry : RowEntry) → IsRow p row → IsNotEmpty p entry →
       StandsAt row place entry.column → PutsEntry p row (set row place entry) entry
   PutsEntry-set row place entry rises filled stands = record {
     entries = λ column. entry_in-set 0 row rises place entry column stands.within (stands.column_is entry);
@@ -333,7 +338,7 @@ module _ (p : ℕ) where
           (filled.positive constant here, filled.residue constant here)
 
   -- nothing stands before the first column
-  entry_in-before : (first : ℕ) (row : List RowEntry) → RisesFrom p first row → (column : ℕ) → column < first → entry_in row column ≡ None
+  pub entry_in-before : (first : ℕ) (row : List RowEntry) → RisesFrom p first row → (column : ℕ) → column < first → entry_in row column ≡ None
   entry_in-before first row rises column before =
       entry_in-None row column (λ i d at same. let from = rises_from first row rises i d at in omega (arith, from, same))
 

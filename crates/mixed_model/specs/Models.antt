@@ -1,5 +1,5 @@
 -- Models, seen as data, and what the calls of `Mixed` leave.
-use Rattle.std.specs.Prelude.{◌≡◌, ℕ, ◌&&◌, ◌||◌, Bool, List, [], ◌∷◌, ◌++◌, length, nat_eq, if◌then◌else◌, Option, Some, unwrap_or, slice_index_or, All}
+use Rattle.std.specs.Prelude.{◌≡◌, ℕ, ◌&&◌, ◌||◌, Bool, List, [], ◌∷◌, ◌++◌, length, nat_eq, if◌then◌else◌, Option, Some, unwrap_or, slice_index_or, remove, All}
 use Rattle.mixed_matrices.specs.Models.{MixedMatrix}
 use Rattle.mixed_model.specs.Entries.{RowEntry}
 use Rattle.mixed_model.specs.Names.{IsNameList, see}
@@ -53,6 +53,10 @@ empty_model = record { equations = []; unknowns = []; rows = [] }
 abbrev pub with_equation : MixedModel → List ℕ → MixedModel
 with_equation model name = record model { equations = model.equations ++ name ∷ []; rows = model.rows ++ [] ∷ [] }
 
+-- without equation i: later ones move up by one
+abbrev pub equation_removed : MixedModel → ℕ → MixedModel
+equation_removed model i = record model { equations = remove model.equations i; rows = remove model.rows i }
+
 -- one more unknown
 abbrev pub with_unknown : MixedModel → List ℕ → MixedModel
 with_unknown model name = record model { unknowns = model.unknowns ++ name ∷ [] }
@@ -75,3 +79,11 @@ pub record PutsSymbolAt (old new : MixedModel) (i j : ℕ) : Type 0 where
   pub unknowns : new.unknowns ≡ old.unknowns
   pub constants : (k c : ℕ) → constant_of new k c ≡ constant_of old k c
   pub symbols : (k c : ℕ) → symbol_of new k c ≡ (nat_eq i k && nat_eq j c || symbol_of old k c)
+
+-- The new model is the old one with just this constant and this symbol at the place (i, j).
+pub record SetsPlace (old new : MixedModel) (i j : ℕ) (constant : Option ℕ) (symbol : Bool) : Type 0 where
+  pub equations : new.equations ≡ old.equations
+  pub unknowns : new.unknowns ≡ old.unknowns
+  pub constants : (k c : ℕ) → constant_of new k c
+      ≡ (if nat_eq i k && nat_eq j c then constant else constant_of old k c)
+  pub symbols : (k c : ℕ) → symbol_of new k c ≡ (if nat_eq i k && nat_eq j c then symbol else symbol_of old k c)

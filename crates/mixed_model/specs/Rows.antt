@@ -90,6 +90,14 @@ pub record PutsSymbol (p column : ℕ) (old new : List RowEntry) : Type 0 where
   pub row : IsRow p new
   pub within : (columns : ℕ) → column < columns → AreColumnsBelow columns old → AreColumnsBelow columns new
 
+-- The row after a column is set: just this constant and this symbol are there, and all else stays as it was.
+pub record SetsColumn (p column : ℕ) (constant : Option ℕ) (symbol : Bool) (old new : List RowEntry) : Type 0 where
+  pub constants : (other : ℕ) → constant_in new other
+      ≡ (if nat_eq column other then constant else constant_in old other)
+  pub symbols : (other : ℕ) → symbol_in new other ≡ (if nat_eq column other then symbol else symbol_in old other)
+  pub row : IsRow p new
+  pub within : (columns : ℕ) → column < columns → AreColumnsBelow columns old → AreColumnsBelow columns new
+
 -- the rows in a vector of vectors
 abbrev pub rows_of : {A B : Type 0} → Vec (Vec RowEntry A) B → List (List RowEntry)
 rows_of rows = map (λ row. row.items) rows.items

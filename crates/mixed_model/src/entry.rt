@@ -4,6 +4,7 @@ ghost use Rattle.std.specs.Prelude.{◌≡◌};
 ghost use Rattle.std.specs.Iterator.{YieldsFirst, item_count};
 
 use residue_field::Field;
+use std::alloc::AllocError;
 use std::marker::Model;
 
 /// What stands at a place of an equation: a constant other than 0, a symbol, or both; and the column of its unknown,
@@ -34,6 +35,14 @@ impl<F: Field> Entry<F> {
             constant: self.constant,
             symbol: self.symbol,
         }
+    }
+}
+
+impl<F: Field> Clone for Entry<F> {
+    ghost is_clone = { λ entry copy. copy ≡ entry };
+
+    fn clone(&self) -> Result<Entry<F>, AllocError> {
+        Ok(self.copy())
     }
 }
 

@@ -6,7 +6,7 @@ ghost use Rattle.std.specs.Str.{bytes_eq};
 ghost use Rattle.mixed_matrices.specs.Layerings.{has_constant, has_symbol};
 ghost use Rattle.mixed_model.specs.Names.{is_label, adding, seeing, AnswersAdd};
 ghost use Rattle.mixed_model.specs.Rows.{putting, putting_symbol};
-ghost use Rattle.mixed_model.specs.Models.{MixedModel, IsModel, PutsAt, PutsSymbolAt, constant_of, symbol_of, row_of, mixed_matrix_of, empty_model, with_equation, with_unknown, with_seen_unknown};
+ghost use Rattle.mixed_model.specs.Models.{MixedModel, IsModel, PutsAt, PutsSymbolAt, SetsPlace, constant_of, symbol_of, row_of, mixed_matrix_of, empty_model, with_equation, equation_removed, with_unknown, with_seen_unknown};
 
 use crate::entry::{Entries, Entry};
 use crate::errors::AddError;
@@ -59,6 +59,18 @@ impl<F: Field> Mixed<F> {
             equations: Names::new(alloc),
             unknowns: Names::new(alloc),
             rows: Vec::with_capacity(alloc, FIRST_ROOM)?,
+        })
+    }
+
+    /// The same model once more.
+    pub fn copy(&self) -> Result<Mixed<F>, NoMemory>
+        ensures same { IfOk result (λ m. m ≡ self.now) }
+        ensures model { IfOk result (IsModel F.modulus) }
+    {
+        Ok(Mixed {
+            equations: self.equations.copy()?,
+            unknowns: self.unknowns.copy()?,
+            rows: rows::copy_rows(&self.rows)?,
         })
     }
 
@@ -181,6 +193,17 @@ impl<F: Field> Mixed<F> {
         Ok(place)
     }
 
+    /// Takes out equation `i`, with all that stands at its places. Later equations move up by one, and the unknowns
+    /// stay.
+    pub fn remove_equation(&mut self, i: usize)
+        requires { i < length self.old.equations }
+        ensures removed { self.new ≡ equation_removed self.old i }
+        ensures model { IsModel F.modulus self.new }
+    {
+        self.equations.remove(i);
+        self.rows.remove(i);
+    }
+
     /// Adds an unknown, and gives its number. `Twice` comes where the name is there, else `TooMany` where 4,096
     /// unknowns are. A refusal changes nothing.
     pub fn add_unknown(&mut self, name: &str) -> Result<usize, AddError>
@@ -230,6 +253,25 @@ impl<F: Field> Mixed<F> {
         ensures model { IsModel F.modulus self.new }
     {
         rows::put_symbol_in_row(&mut self.rows, i, j)
+    }
+
+    /// Leaves just this constant, which is not 0, and this symbol at the place of equation `i` and unknown `j`. With
+    /// neither of them the place is empty. Where memory runs out nothing changes.
+    pub fn set_place(
+        &mut self,
+        i: usize,
+        j: usize,
+        constant: Option<F>,
+        symbol: bool,
+    ) -> Result<(), NoMemory>
+        requires equation { i < length self.old.equations }
+        requires unknown { j < length self.old.unknowns }
+        requires constant { option_map F.number constant ≢ Some 0 }
+        ensures set { OnOk result (SetsPlace self.old self.new i j (option_map F.number constant) symbol) }
+        ensures kept { OnErr result (self.new ≡ self.old) }
+        ensures model { IsModel F.modulus self.new }
+    {
+        rows::set_in_row(&mut self.rows, i, j, constant, symbol)
     }
 }
 

@@ -1,6 +1,6 @@
 //! Lists of names.
 
-ghost use Rattle.std.specs.Prelude.{◌≡◌, ◌∷◌, ◌++◌, [], ◌<◌, ◌≤◌, IsTrue, false, not, ◌||◌, nat_eq, nat_le, length, map, position, slice_get, Some, Err, IfOk, OnOk, OnErr};
+ghost use Rattle.std.specs.Prelude.{◌≡◌, ◌∷◌, ◌++◌, [], ◌<◌, ◌≤◌, IsTrue, false, not, ◌||◌, nat_eq, nat_le, length, map, position, remove, slice_get, Some, Err, IfOk, OnOk, OnErr};
 ghost use Rattle.std.specs.List.{list_all};
 ghost use Rattle.std.specs.Str.{bytes_eq};
 ghost use Rattle.std.specs.String.{string_bytes};
@@ -10,6 +10,7 @@ ghost use Rattle.mixed_model.specs.Names.{is_label, IsNameList, has_name, see, a
 use crate::errors::AddError;
 use indexmap::IndexSet;
 use limits::EQUATION_LIMIT;
+use out_of_memory::NoMemory;
 use std::alloc::{AllocError, Global};
 use std::marker::Model;
 
@@ -112,6 +113,25 @@ impl Names {
         } else {
             Err(AddError::Twice)
         }
+    }
+
+    /// Takes out the name at a place. Later ones move up by one.
+    pub fn remove(&mut self, place: usize)
+        requires { place < length self.old }
+        ensures removed { self.new ≡ remove self.old place }
+        ensures names { IsNameList self.new }
+    {
+        self.texts.shift_remove_index(place);
+    }
+
+    /// The same list once more.
+    pub fn copy(&self) -> Result<Names, NoMemory>
+        ensures same { IfOk result (λ copy. copy ≡ self.now) }
+        ensures names { IfOk result IsNameList }
+    {
+        Ok(Names {
+            texts: self.texts.clone()?,
+        })
     }
 
     /// The place of a name, which is put last unless it is there. `TooMany` comes where it is not there and 4,096

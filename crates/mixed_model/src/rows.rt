@@ -1,13 +1,14 @@
 //! Rows: the entries of each equation by rising column.
 
-ghost use Rattle.std.specs.Prelude.{◌≡◌, ◌≢◌, ◌<◌, ◌≤◌, ℕ, Some, None, length, All, slice_index_or, vec_len, MatchResult, OnOk, OnErr};
-ghost use Rattle.std.specs.Prelude.{is_some};
+ghost use Rattle.std.specs.Prelude.{◌≡◌, ◌≢◌, ◌<◌, ◌≤◌, ℕ, false, Some, None, is_some, length, All, slice_index_or, vec_len, MatchResult, IfSome, IfOk, OnOk, OnErr};
 ghost use Rattle.std.specs.List.{insert, list_any};
+ghost use Rattle.std.specs.Option.{option_map};
 ghost use Rattle.mixed_model.specs.Names.{AnswersAdd};
-ghost use Rattle.mixed_model.specs.Rows.{IsRow, PutsConstant, PutsSymbol, FitsBetween, StandsAt, ChangesRow, row_entries_at, rows_of, entry_in, constant_in, symbol_in, putting, putting_symbol};
+ghost use Rattle.mixed_model.specs.Rows.{IsNotEmpty, IsRow, PutsEntry, PutsConstant, PutsSymbol, SetsColumn, FitsBetween, StandsAt, ChangesRow, row_entries_at, rows_of, entry_in, constant_in, symbol_in, putting, putting_symbol};
 
 use crate::entry::Entry;
 use crate::errors::AddError;
+use out_of_memory::NoMemory;
 use residue_field::Field;
 use std::alloc::AllocFailed;
 
@@ -102,6 +103,34 @@ pub(crate) fn put_symbol_in_row<F: Field>(
     Ok(())
 }
 
+// Leaves just this constant, which is not 0, and this symbol at a column of row `i`. Where memory runs out nothing
+// changes.
+pub(crate) fn set_in_row<F: Field>(
+    rows: &mut Vec<Vec<Entry<F>>>,
+    i: usize,
+    column: usize,
+    constant: Option<F>,
+    symbol: bool,
+) -> Result<(), NoMemory>
+    requires within { i < vec_len rows.old }
+    requires rows { All (λ row. IsRow F.modulus row.items) rows.old.items }
+    requires constant { option_map F.number constant ≢ Some 0 }
+    ensures set { OnOk result (ChangesRow (SetsColumn F.modulus column (option_map F.number constant) symbol) i
+        (rows_of rows.old) (rows_of rows.new)) }
+    ensures kept { OnErr result (rows_of rows.new ≡ rows_of rows.old) }
+{
+    let row = &mut rows[i];
+    set_column(row, column, constant, symbol)?;
+    Ok(())
+}
+
+// The same rows once more.
+pub(crate) fn copy_rows<F: Field>(rows: &Vec<Vec<Entry<F>>>) -> Result<Vec<Vec<Entry<F>>>, NoMemory>
+    ensures { IfOk result (λ copy. rows_of copy ≡ rows_of rows.now) }
+{
+    Ok(rows.clone()?)
+}
+
 // Puts a constant other than 0 into a row. A refusal changes nothing.
 fn put_constant<F: Field>(
     row: &mut Vec<Entry<F>>,
@@ -164,6 +193,65 @@ fn put_symbol<F: Field>(row: &mut Vec<Entry<F>>, column: usize) -> Result<(), Ad
                 symbol: true,
             },
         )?,
+    }
+    Ok(())
+}
+
+// Leaves just this constant, which is not 0, and this symbol at a column. Where memory runs out nothing changes.
+fn set_column<F: Field>(
+    row: &mut Vec<Entry<F>>,
+    column: usize,
+    constant: Option<F>,
+    symbol: bool,
+) -> Result<(), NoMemory>
+    requires row { IsRow F.modulus row.old.items }
+    requires constant { option_map F.number constant ≢ Some 0 }
+    ensures set { OnOk result
+        (SetsColumn F.modulus column (option_map F.number constant) symbol row.old.items row.new.items) }
+    ensures kept { OnErr result (row.new.items ≡ row.old.items) }
+{
+    if constant.is_none() && !symbol {
+        empty_column(row, column);
+        return Ok(());
+    }
+    in_field(constant);
+    let entry = Entry {
+        column,
+        constant,
+        symbol,
+    };
+    set_entry(row, entry)
+}
+
+// Tells a proof that a constant is below the modulus.
+fn in_field<F: Field>(constant: Option<F>)
+    ensures { IfSome constant (λ value. F.number value < F.modulus) }
+{
+    if let Some(value) = constant {
+        value.in_field();
+    }
+}
+
+// Takes out what stands at a column.
+fn empty_column<F: Field>(row: &mut Vec<Entry<F>>, column: usize)
+    requires { IsRow F.modulus row.old.items }
+    ensures { SetsColumn F.modulus column None false row.old.items row.new.items }
+{
+    if let Ok(place) = place_of(row, column) {
+        row.remove(place);
+    }
+}
+
+// Puts an entry at its column, in the place of what stands there. Where memory runs out nothing changes.
+fn set_entry<F: Field>(row: &mut Vec<Entry<F>>, entry: Entry<F>) -> Result<(), NoMemory>
+    requires row { IsRow F.modulus row.old.items }
+    requires entry { IsNotEmpty F.modulus entry }
+    ensures set { OnOk result (PutsEntry F.modulus row.old.items row.new.items entry) }
+    ensures kept { OnErr result (row.new.items ≡ row.old.items) }
+{
+    match place_of(row, entry.column) {
+        Ok(place) => row[place] = entry,
+        Err(place) => put_entry(row, place, entry)?,
     }
     Ok(())
 }

@@ -9,6 +9,8 @@ mod equations;
 #[cfg(test)]
 mod flowsheets;
 #[cfg(test)]
+mod items;
+#[cfg(test)]
 mod lines;
 #[cfg(test)]
 mod netlists;

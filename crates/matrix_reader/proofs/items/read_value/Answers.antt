@@ -1,7 +1,7 @@
 use Rattle.std.proofs.Common.{codes, sym, ap, ◌∙◌, ◌++◌}
 use Rattle.std.proofs.lemmas.Result.{err_from_is_err_and}
 use Rattle.matrix_reader.proofs.ValueLaws.{read_before, broken_before, read_alone, broken_alone, read_symbol}
-use Rattle.matrix_reader.proofs.item.read_value.Goals as goal
+use Rattle.matrix_reader.proofs.items.read_value.Goals as goal
 
 pub returns-then-eq : goal.returns-then-eq
 returns-then-eq g c = read_symbol g.F.Field.modulus c.args.text.now (g.F.Field.number c.zero-constant.result) (sym c.if-eq.ensures) c.zero-constant.ensures
