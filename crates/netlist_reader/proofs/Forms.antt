@@ -16,8 +16,8 @@ use Rattle.netlist_devices.specs.declared.kind.DeviceKind.TheVariants.{VoltageBy
 use Rattle.netlist_devices.specs.Devices.{Device, is_ground, ground, has_source, nodes_wanted}
 use Rattle.netlist_devices.specs.EquationNames.{equation_words, unknown_words}
 use Rattle.netlist_reader.specs.Terms.{own, node, node_voltage, node_current, difference, current_terms, proportion}
-use Rattle.netlist_reader.specs.Putting.{put_constant, put_difference, put_flow, put_voltage, put_branch_between}
-use Rattle.netlist_reader.specs.Putting.{put_branch, put_two_branches, put_control, put_ratio, put_by}
+use Rattle.netlist_reader.specs.Putting.{put_by, put_constant, put_difference, put_flow, put_voltage}
+use Rattle.netlist_reader.proofs.Parts.{put_branch, put_branch_between, put_control, put_ratio, put_two_branches}
 use Rattle.mixed_model.proofs.NameLaws.{bytes_eq-refl}
 
 -- a node of a device that is not the ground

@@ -1,12 +1,16 @@
 pub mod Apart
+pub mod ByKind
 pub mod EachText
 pub mod EndSteps
 pub mod Forms
 pub mod ModelLaws
 pub mod NameLists
 pub mod NamesDiffer
+pub mod Numbering
 pub mod Owned
+pub mod Parts
 pub mod Placed
+pub mod PlacesOf
 pub mod Sames
 pub mod Steps
 pub mod TextFacts

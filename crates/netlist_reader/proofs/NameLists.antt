@@ -46,7 +46,7 @@ unknowns-differ Opamp name = (refl, tt)
 unknowns-differ Transformer name = (refl, (refl, (refl, (refl, tt))))
 unknowns-differ Gyrator name = (refl, (refl, (refl, (refl, tt))))
 
-nodes-distinct : (devices : List Device) → Differ (nodes_of devices)
+pub nodes-distinct : (devices : List Device) → Differ (nodes_of devices)
 nodes-distinct devices = differ-see [] (filter (λ node. not (is_ground node)) (flat_map (λ device. device.nodes) devices)) tt
 
 pub equations-distinct : (devices : List Device) → Differ (device_names devices) → Differ (equations_of devices)

@@ -111,7 +111,7 @@ module _ (devices : List Device) (i : ℕ) (d : Device) (within : i < length dev
       (own d word) (own-there (λ (device : Device). device.name)
       (λ (device : Device). unknown_words device.kind) devices i d word within is there)
 
-  node-seen : (node : List ℕ) → IsNodeOf d node → has_name (nodes_of devices) node ≡ true
+  pub node-seen : (node : List ℕ) → IsNodeOf d node → has_name (nodes_of devices) node ≡ true
   node-seen node of = seen-there [] (filter (λ node. not (is_ground node))
       (flat_map (λ (device : Device). device.nodes) devices)) node
       (filter-there (flat_map (λ (device : Device). device.nodes) devices) node of.above

@@ -18,8 +18,8 @@ use Rattle.netlist_devices.specs.declared.kind.DeviceKind.TheVariants.{CurrentBy
 use Rattle.netlist_devices.specs.declared.kind.DeviceKind.TheVariants.{VoltageByCurrent, Opamp, Transformer, Gyrator}
 use Rattle.netlist_devices.specs.Devices.{Device, is_ground, ground}
 use Rattle.netlist_reader.specs.Terms.{own, node, difference, current_terms, voltage_is, branch_between, branch, two_branches, control, proportion, terms_by, terms_of}
-use Rattle.netlist_reader.specs.Putting.{put_constant, put_difference, put_flow, put_voltage, put_branch_between}
-use Rattle.netlist_reader.specs.Putting.{put_branch, put_two_branches, put_control, put_ratio, put_by}
+use Rattle.netlist_reader.specs.Putting.{put_by, put_constant, put_difference, put_flow, put_voltage}
+use Rattle.netlist_reader.proofs.Parts.{put_branch, put_branch_between, put_control, put_ratio, put_two_branches}
 
 nothing_more : (n : ℕ) → 0 + n ≡ n
 nothing_more n = omega arith

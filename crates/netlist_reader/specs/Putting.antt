@@ -1,16 +1,17 @@
 -- The terms that are put into a model: each stands at a place of its own.
 use Rattle.std.specs.Prelude.{◌≡◌, ℕ, ◌-◌, ◌%◌, true, false, List, [], ◌∷◌, ◌++◌, codes, if◌then◌else◌, nat_eq}
 use Rattle.std.specs.Str.{bytes_eq}
-use Rattle.mixed_model.specs.Names.{has_name}
+use Rattle.mixed_model.specs.Names.{has_name, name_at}
 use Rattle.mixed_model.specs.declared.errors.AddError.{AddError}
 use Rattle.mixed_model.specs.declared.errors.AddError.TheVariants.{NoMemory}
 use Rattle.mixed_model.specs.Models.{MixedModel}
-use Rattle.term_model.specs.Terms.{Term, constant, dotted}
+use Rattle.term_model.specs.Terms.{Term, constant, dotted, symbol}
 use Rattle.term_model.specs.Putting.{Says}
 use Rattle.netlist_devices.specs.declared.kind.DeviceKind.{DeviceKind}
 use Rattle.netlist_devices.specs.declared.kind.DeviceKind.TheVariants.{Passive, Voltage, Current, VoltageByVoltage, CurrentByVoltage, CurrentByCurrent, VoltageByCurrent, Opamp, Transformer, Gyrator}
 use Rattle.netlist_devices.specs.Devices.{Device, device_names, ground, has_source}
-use Rattle.netlist_reader.specs.Terms.{own, node, difference, current_terms, proportion, terms_of}
+use Rattle.netlist_devices.specs.EquationNames.{equation_words, unknown_words}
+use Rattle.netlist_reader.specs.Terms.{own, node, difference, current_terms, terms_of}
 
 -- a constant, unless it is 0
 abbrev pub put_constant : List ℕ → List ℕ → ℕ → List Term
@@ -27,42 +28,50 @@ put_flow p current plus minus = if bytes_eq plus minus then [] else current_term
 abbrev pub put_voltage : ℕ → List ℕ → List ℕ → List ℕ → List ℕ → List Term
 put_voltage p equation voltage plus minus = constant equation voltage 1 ∷ put_difference p equation minus plus
 
-abbrev pub put_branch_between : ℕ → Device → List ℕ → List ℕ → List ℕ → List ℕ → List ℕ → List Term
-put_branch_between p d kvl voltage current plus minus =
-    put_voltage p (own d kvl) (own d voltage) plus minus ++ put_flow p (own d current) plus minus
+-- between two nodes: a voltage and a current, by the names of these and of the equation
+abbrev pub put_between : ℕ → List ℕ → List ℕ → List ℕ → List ℕ → List ℕ → List Term
+put_between p equation voltage current plus minus =
+    put_voltage p equation voltage plus minus ++ put_flow p current plus minus
 
-abbrev pub put_branch : ℕ → Device → List Term
-put_branch p d = put_branch_between p d (codes "kvl") (codes "v") (codes "i") (node d 0) (node d 1)
+-- symbols in a law at two unknowns
+abbrev pub put_symbols : List ℕ → List ℕ → List ℕ → List Term
+put_symbols law first second = symbol law first ∷ symbol law second ∷ []
 
-abbrev pub put_two_branches : ℕ → Device → List Term
-put_two_branches p d =
-    put_branch_between p d (codes "kvla") (codes "va") (codes "ia") (node d 0) (node d 1)
-    ++ put_branch_between p d (codes "kvlb") (codes "vb") (codes "ib") (node d 2) (node d 3)
+-- the terms of two laws: 1 and -n, n and 1
+abbrev pub put_laws : ℕ → List ℕ → List ℕ → List ℕ → List ℕ → List ℕ → List ℕ → ℕ → List Term
+put_laws p lawa lawb first second third fourth n =
+    constant lawa first 1 ∷ put_constant lawa second ((p - n) % p)
+    ++ put_constant lawb third n ++ constant lawb fourth 1 ∷ []
 
-abbrev pub put_control : ℕ → Device → List Term
-put_control p d = put_voltage p (own d (codes "ctl")) (own d (codes "w")) (node d 2) (node d 3)
-
--- the terms of lawa and lawb: 1 and -n, n and 1
-abbrev pub put_ratio : ℕ → Device → List ℕ → List ℕ → List ℕ → List ℕ → List Term
-put_ratio p d first second third fourth =
-    constant (own d (codes "lawa")) (own d first) 1
-    ∷ put_constant (own d (codes "lawa")) (own d second) ((p - d.number) % p)
-    ++ put_constant (own d (codes "lawb")) (own d third) d.number
-    ++ constant (own d (codes "lawb")) (own d fourth) 1 ∷ []
+-- What is put of a device, by its kind: by its own equations and unknowns and its nodes, each in order, its source's
+-- current and its number.
+abbrev pub put_among : ℕ → DeviceKind → (ℕ → List ℕ) → (ℕ → List ℕ) → (ℕ → List ℕ) → List ℕ → ℕ → List Term
+put_among p Passive e u n source number = put_between p (e 0) (u 0) (u 1) (n 0) (n 1) ++ put_symbols (e 1) (u 0) (u 1)
+put_among p Voltage e u n source number = put_between p (e 0) (u 0) (u 1) (n 0) (n 1) ++ constant (e 1) (u 0) 1 ∷ []
+put_among p Current e u n source number = put_between p (e 0) (u 0) (u 1) (n 0) (n 1) ++ constant (e 1) (u 1) 1 ∷ []
+put_among p VoltageByVoltage e u n source number =
+    put_between p (e 0) (u 0) (u 1) (n 0) (n 1) ++ put_voltage p (e 1) (u 2) (n 2) (n 3)
+    ++ put_symbols (e 2) (u 0) (u 2)
+put_among p CurrentByVoltage e u n source number =
+    put_between p (e 0) (u 0) (u 1) (n 0) (n 1) ++ put_voltage p (e 1) (u 2) (n 2) (n 3)
+    ++ put_symbols (e 2) (u 1) (u 2)
+put_among p CurrentByCurrent e u n source number =
+    put_between p (e 0) (u 0) (u 1) (n 0) (n 1) ++ put_symbols (e 1) (u 1) source
+put_among p VoltageByCurrent e u n source number =
+    put_between p (e 0) (u 0) (u 1) (n 0) (n 1) ++ put_symbols (e 1) (u 0) source
+put_among p Opamp e u n source number = put_flow p (u 0) (n 2) ground ++ put_difference p (e 0) (n 0) (n 1)
+put_among p Transformer e u n source number =
+    put_between p (e 0) (u 0) (u 1) (n 0) (n 1) ++ put_between p (e 1) (u 2) (u 3) (n 2) (n 3)
+    ++ put_laws p (e 2) (e 3) (u 0) (u 2) (u 1) (u 3) number
+put_among p Gyrator e u n source number =
+    put_between p (e 0) (u 0) (u 1) (n 0) (n 1) ++ put_between p (e 1) (u 2) (u 3) (n 2) (n 3)
+    ++ put_laws p (e 2) (e 3) (u 0) (u 3) (u 1) (u 2) number
 
 -- What is put of a device, by its kind.
 abbrev pub put_by : ℕ → DeviceKind → Device → List Term
-put_by p Passive d = put_branch p d ++ proportion d (own d (codes "v")) (own d (codes "i"))
-put_by p Voltage d = put_branch p d ++ constant (own d (codes "law")) (own d (codes "v")) 1 ∷ []
-put_by p Current d = put_branch p d ++ constant (own d (codes "law")) (own d (codes "i")) 1 ∷ []
-put_by p VoltageByVoltage d = put_branch p d ++ put_control p d ++ proportion d (own d (codes "v")) (own d (codes "w"))
-put_by p CurrentByVoltage d = put_branch p d ++ put_control p d ++ proportion d (own d (codes "i")) (own d (codes "w"))
-put_by p CurrentByCurrent d = put_branch p d ++ proportion d (own d (codes "i")) (dotted (codes "i") d.source)
-put_by p VoltageByCurrent d = put_branch p d ++ proportion d (own d (codes "v")) (dotted (codes "i") d.source)
-put_by p Opamp d =
-    put_flow p (own d (codes "i")) (node d 2) ground ++ put_difference p (own d (codes "law")) (node d 0) (node d 1)
-put_by p Transformer d = put_two_branches p d ++ put_ratio p d (codes "va") (codes "vb") (codes "ia") (codes "ib")
-put_by p Gyrator d = put_two_branches p d ++ put_ratio p d (codes "va") (codes "ib") (codes "ia") (codes "vb")
+put_by p kind d =
+    put_among p kind (λ w. own d (name_at (equation_words kind) w)) (λ w. own d (name_at (unknown_words kind) w))
+    (node d) (dotted (codes "i") d.source) d.number
 
 -- a device is none of these, and is not its own source
 pub record IsNew (earlier : List Device) (device : Device) : Type 0 where

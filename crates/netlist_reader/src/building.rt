@@ -6,12 +6,14 @@ ghost use Rattle.mixed_model.specs.Names.{IsNameList};
 ghost use Rattle.term_model.specs.Putting.{IsBlank, IsPlaced, Says};
 ghost use Rattle.netlist_devices.specs.Circuits.{AreSourced, IsCircuit, IsDevice};
 ghost use Rattle.netlist_reader.specs.Models.{IsModelOf};
+ghost use Rattle.netlist_reader.specs.Numbers.{HasDevicePlaces, Numbered, NumbersNodes, numbered_of};
 ghost use Rattle.netlist_reader.specs.Putting.{LacksMemory, PutsDevice, put_by};
 ghost use Rattle.netlist_devices.specs.EquationNames.{equations_of, unknowns_of};
 ghost use Rattle.netlist_reader.specs.Terms.{terms_of};
 
+use crate::places::Places;
 use crate::putting::put_terms;
-use crate::side::{Side, names_on};
+use crate::side::{Side, first_numbers, names_on};
 use crate::terms::Terms;
 use mixed_model::{AddError, Mixed};
 use netlist_devices::{Circuit, Device};
@@ -72,6 +74,8 @@ fn put_devices<F: Field>(
     model: &mut Mixed<F>,
     circuit: &Circuit<F>,
 ) -> Result<(), NoMemory>
+    ghost names: { Numbered }
+    requires names { names ≡ numbered_of circuit.now.devices }
     requires circuit { IsCircuit F.modulus circuit.now }
     requires sourced { AreSourced circuit.now.devices }
     requires equations { model.old.equations ≡ equations_of circuit.now.devices }
@@ -81,8 +85,11 @@ fn put_devices<F: Field>(
     ensures unknowns { OnOk result (model.new.unknowns ≡ model.old.unknowns) }
     ensures says { OnOk result (Says F.modulus (terms_of F.modulus circuit.now.devices) model.new) }
 {
-    for device in &circuit.devices {
-        if let Err(error) = put_device(alloc, model, device) {
+    let equations = first_numbers(alloc, circuit, Side::Equations)?;
+    let unknowns = first_numbers(alloc, circuit, Side::Unknowns)?;
+    for k in 0..circuit.devices.len() {
+        let places = Places::of(alloc, circuit, &equations, &unknowns, k)?;
+        if let Err(error) = put_device(alloc, model, &circuit.devices[k], &places) {
             return Err(want_of_memory(error));
         }
     }
@@ -94,8 +101,14 @@ fn put_device<F: Field>(
     alloc: Global,
     model: &mut Mixed<F>,
     device: &Device<F>,
+    places: &Places,
 ) -> Result<(), AddError>
+    ghost names: { Numbered }
+    requires equations { model.old.equations ≡ names.equations }
+    requires unknowns { model.old.unknowns ≡ names.unknowns }
+    requires nodes { NumbersNodes names }
     requires device { IsDevice F.modulus device.now }
+    requires places { HasDevicePlaces names device.now places.now }
     requires placed { All (IsPlaced model.old.equations model.old.unknowns)
         (put_by F.modulus device.now.kind device.now) }
     ensures equations { model.new.equations ≡ model.old.equations }
@@ -103,7 +116,8 @@ fn put_device<F: Field>(
     ensures says { OnOk result (PutsDevice F.modulus model.old model.new device.now) }
     ensures refused { IfErr result (LacksMemory F.modulus model.old device.now) }
 {
-    let Ok(terms) = Terms::of(alloc, device) else {
+    model.is_model();
+    let Ok(terms) = Terms::of(alloc, device, places) else {
         return Err(AddError::NoMemory);
     };
     put_terms(model, &terms)

@@ -5,6 +5,7 @@ mod building;
 mod examples;
 mod laws;
 mod netlist;
+mod places;
 mod putting;
 mod side;
 mod term;

@@ -6,6 +6,7 @@ ghost use Rattle.term_model.specs.Terms.{dotted};
 ghost use Rattle.netlist_devices.specs.Circuits.{IsCircuit};
 ghost use Rattle.netlist_reader.specs.Naming.{node_word, own_words, names_on};
 ghost use Rattle.netlist_devices.specs.EquationNames.{own_names};
+ghost use Rattle.netlist_reader.specs.Numbers.{AreFirsts};
 
 use netlist_devices::{Circuit, Device, DeviceKind};
 use out_of_memory::NoMemory;
@@ -77,6 +78,24 @@ pub(crate) fn names_on<F: Field>(
     push_nodes(alloc, &mut names, circuit, side.node_word())?;
     push_devices(alloc, &mut names, circuit, side)?;
     Ok(names)
+}
+
+/// The number of the first own name of each device on a side.
+pub(crate) fn first_numbers<F: Field>(
+    alloc: Global,
+    circuit: &Circuit<F>,
+    side: Side,
+) -> Result<Vec<usize>, NoMemory>
+    requires { IsCircuit F.modulus circuit.now }
+    ensures { IfOk result (λ firsts. AreFirsts (own_words side) circuit.now.devices firsts.items) }
+{
+    let mut firsts = Vec::new(alloc);
+    let mut next = circuit.nodes.len();
+    for device in &circuit.devices {
+        firsts.push(next)?;
+        next += side.own_words(device.kind).len();
+    }
+    Ok(firsts)
 }
 
 // Puts the names of the nodes last.

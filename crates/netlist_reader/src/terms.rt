@@ -1,171 +1,190 @@
 //! The terms of a device.
 
-ghost use Rattle.std.specs.Prelude.{◌≡◌, ◌≢◌, ◌+◌, ◌<◌, ◌≤◌, ◌∷◌, ◌++◌, [], codes, length, OnOk, IfOk};
-ghost use Rattle.std.specs.String.{string_bytes};
+ghost use Rattle.std.specs.Prelude.{◌≡◌, ◌<◌, ◌≤◌, ◌∷◌, ◌++◌, [], All, length, OnOk, IfOk};
+ghost use Rattle.std.specs.Str.{bytes_eq};
+ghost use Rattle.limits.specs.Limits.{equation_limit};
+ghost use Rattle.mixed_model.specs.Names.{name_at};
 ghost use Rattle.term_model.specs.Putting.{term_of_value};
-ghost use Rattle.term_model.specs.Terms.{constant, dotted};
 ghost use Rattle.netlist_devices.specs.Circuits.{IsDevice};
-ghost use Rattle.netlist_reader.specs.Putting.{put_constant, put_difference, put_flow, put_voltage, put_branch_between, put_branch, put_two_branches, put_control, put_ratio, put_by};
-ghost use Rattle.netlist_reader.specs.Terms.{own, node, node_voltage, node_current, proportion};
+ghost use Rattle.netlist_devices.specs.Devices.{nodes_wanted};
+ghost use Rattle.netlist_reader.specs.Numbers.{HasDevicePlaces, IsNode, Numbered, NumbersNodes, name_terms, node_named, put_at};
+ghost use Rattle.netlist_reader.specs.Putting.{put_between, put_by, put_constant, put_difference, put_flow, put_laws, put_symbols, put_voltage};
+ghost use Rattle.netlist_reader.specs.Terms.{node_current, node_voltage};
 
+use crate::places::Places;
 use crate::term::Term;
 use netlist_devices::{Device, DeviceKind};
 use out_of_memory::NoMemory;
 use residue_field::Field;
 use std::alloc::Global;
 use std::marker::Model;
-use term_model::{Value, dotted};
+use term_model::Value;
 
-const GROUND: &str = "0";
+// A node by its number, which the ground has not.
+type Node = Option<usize>;
+
+const GROUND: Node = None;
 
 /// The terms of a device, as they are put down.
 #[derive(Drop)]
 pub(crate) struct Terms<F: Field> {
-    alloc: Global,
     items: Vec<Term<F>>,
 }
 
 impl<F: Field> Model for Terms<F> {
     ghost use Rattle.std.specs.Prelude.{List};
-    ghost use Rattle.term_model.specs.Terms.{Term};
+    ghost use Rattle.netlist_reader.specs.Numbers.{NumberedTerm};
 
-    ghost Value = { List Term };
+    ghost Value = { List NumberedTerm };
 
     ghost view = { λ t. t.items.items };
 }
 
 impl<F: Field> Terms<F> {
     /// The terms of a device that leave an entry.
-    pub(crate) fn of(alloc: Global, device: &Device<F>) -> Result<Vec<Term<F>>, NoMemory>
-        requires { IsDevice F.modulus device.now }
-        ensures { IfOk result (λ terms. terms.items ≡ put_by F.modulus device.now.kind device.now) }
+    pub(crate) fn of(
+        alloc: Global,
+        device: &Device<F>,
+        places: &Places,
+    ) -> Result<Vec<Term<F>>, NoMemory>
+        ghost names: { Numbered }
+        requires nodes { NumbersNodes names }
+        requires device { IsDevice F.modulus device.now }
+        requires places { HasDevicePlaces names device.now places.now }
+        ensures { IfOk result (λ terms. name_terms names terms.items ≡ put_by F.modulus device.now.kind device.now) }
     {
         let mut terms = Terms {
-            alloc,
             items: Vec::new(alloc),
         };
-        terms.device(device)?;
+        terms.device(device.kind, places, device.number)?;
         Ok(terms.items)
     }
 
-    // The terms of a device, by its kind.
-    fn device(&mut self, device: &Device<F>) -> Result<(), NoMemory>
-        requires { IsDevice F.modulus device.now }
-        ensures { OnOk result (self.new ≡ self.old ++ put_by F.modulus device.now.kind device.now) }
+    // The terms of a device of a kind, with a number. Its own equations are in order kvl, ctl where it has control nodes,
+    // and law, or kvla, kvlb, lawa and lawb; its own unknowns are v, i and w, or va, ia, vb and ib. An opamp has law and i.
+    fn device(&mut self, kind: DeviceKind, places: &Places, number: F) -> Result<(), NoMemory>
+        ghost names: { Numbered }
+        requires numbers { NumbersNodes names }
+        requires equations { places.now.equations ≤ equation_limit }
+        requires unknowns { places.now.unknowns ≤ equation_limit }
+        requires nodes { length places.now.nodes ≡ nodes_wanted kind }
+        requires within { All (IsNode names.nodes) places.now.nodes }
+        requires number { F.number number < F.modulus }
+        ensures { OnOk result (name_terms names self.new
+            ≡ name_terms names self.old ++ put_at F.modulus kind names places.now (F.number number)) }
     {
-        match device.kind {
+        let (equation, unknown, source) = (places.equations, places.unknowns, places.source);
+        let nodes = &places.nodes;
+        match kind {
             DeviceKind::Passive => {
-                self.branch(device)?;
-                self.proportion(device, "v", "i")
+                self.between(equation, unknown, unknown + 1, nodes[0], nodes[1])?;
+                self.symbols(equation + 1, unknown, unknown + 1)
             }
             DeviceKind::Voltage => {
-                self.branch(device)?;
-                self.own_constant(device, "law", "v", F::one())
+                self.between(equation, unknown, unknown + 1, nodes[0], nodes[1])?;
+                self.put(equation + 1, unknown, Value::Constant(F::one()))
             }
             DeviceKind::Current => {
-                self.branch(device)?;
-                self.own_constant(device, "law", "i", F::one())
+                self.between(equation, unknown, unknown + 1, nodes[0], nodes[1])?;
+                self.put(equation + 1, unknown + 1, Value::Constant(F::one()))
             }
             DeviceKind::VoltageByVoltage => {
-                self.branch(device)?;
-                self.control(device)?;
-                self.proportion(device, "v", "w")
+                self.between(equation, unknown, unknown + 1, nodes[0], nodes[1])?;
+                self.voltage(equation + 1, unknown + 2, nodes[2], nodes[3])?;
+                self.symbols(equation + 2, unknown, unknown + 2)
             }
             DeviceKind::CurrentByVoltage => {
-                self.branch(device)?;
-                self.control(device)?;
-                self.proportion(device, "i", "w")
+                self.between(equation, unknown, unknown + 1, nodes[0], nodes[1])?;
+                self.voltage(equation + 1, unknown + 2, nodes[2], nodes[3])?;
+                self.symbols(equation + 2, unknown + 1, unknown + 2)
             }
             DeviceKind::CurrentByCurrent => {
-                self.branch(device)?;
-                self.proportion_to_source(device, "i")
+                self.between(equation, unknown, unknown + 1, nodes[0], nodes[1])?;
+                self.symbols(equation + 1, unknown + 1, source)
             }
             DeviceKind::VoltageByCurrent => {
-                self.branch(device)?;
-                self.proportion_to_source(device, "v")
+                self.between(equation, unknown, unknown + 1, nodes[0], nodes[1])?;
+                self.symbols(equation + 1, unknown, source)
             }
             DeviceKind::Opamp => {
-                let current = self.own(device, "i")?;
-                self.flow(&current, &device.nodes[2], GROUND)?;
-                let law = self.own(device, "law")?;
-                self.difference(&law, &device.nodes[0], &device.nodes[1])
+                self.flow(unknown, nodes[2], GROUND)?;
+                self.difference(equation, nodes[0], nodes[1])
             }
             DeviceKind::Transformer => {
-                self.two_branches(device)?;
-                self.ratio(device, "va", "vb", "ia", "ib")
+                self.between(equation, unknown, unknown + 1, nodes[0], nodes[1])?;
+                self.between(equation + 1, unknown + 2, unknown + 3, nodes[2], nodes[3])?;
+                self.laws(
+                    (equation + 2, equation + 3),
+                    (unknown, unknown + 2),
+                    (unknown + 1, unknown + 3),
+                    number,
+                )
             }
             DeviceKind::Gyrator => {
-                self.two_branches(device)?;
-                self.ratio(device, "va", "ib", "ia", "vb")
+                self.between(equation, unknown, unknown + 1, nodes[0], nodes[1])?;
+                self.between(equation + 1, unknown + 2, unknown + 3, nodes[2], nodes[3])?;
+                self.laws(
+                    (equation + 2, equation + 3),
+                    (unknown, unknown + 3),
+                    (unknown + 1, unknown + 2),
+                    number,
+                )
             }
         }
     }
 
-    // Between the first two nodes: kvl, and the current.
-    fn branch(&mut self, device: &Device<F>) -> Result<(), NoMemory>
-        requires { 2 ≤ length device.now.nodes }
-        ensures { OnOk result (self.new ≡ self.old ++ put_branch F.modulus device.now) }
-    {
-        self.branch_from(device, 0, "kvl", "v", "i")
-    }
-
-    // Two pairs of nodes: kvla and kvlb, and their currents.
-    fn two_branches(&mut self, device: &Device<F>) -> Result<(), NoMemory>
-        requires { 4 ≤ length device.now.nodes }
-        ensures { OnOk result (self.new ≡ self.old ++ put_two_branches F.modulus device.now) }
-    {
-        self.branch_from(device, 0, "kvla", "va", "ia")?;
-        self.branch_from(device, 2, "kvlb", "vb", "ib")
-    }
-
-    // The voltage between the control nodes.
-    fn control(&mut self, device: &Device<F>) -> Result<(), NoMemory>
-        requires { 4 ≤ length device.now.nodes }
-        ensures { OnOk result (self.new ≡ self.old ++ put_control F.modulus device.now) }
-    {
-        self.voltage_from(device, 2, "ctl", "w")
-    }
-
-    // Between a node and the next: a voltage and a current, by the words of the equation and of these.
-    fn branch_from(
+    // Between two nodes: a voltage and its equation, and a current.
+    fn between(
         &mut self,
-        device: &Device<F>,
-        first: usize,
-        equation: &str,
-        voltage: &str,
-        current: &str,
+        equation: usize,
+        voltage: usize,
+        current: usize,
+        plus: Node,
+        minus: Node,
     ) -> Result<(), NoMemory>
-        requires { first + 1 < length device.now.nodes }
-        ensures { OnOk result (self.new ≡ self.old ++ put_branch_between F.modulus device.now equation.now voltage.now
-            current.now (node device.now first) (node device.now (first + 1))) }
+        ghost names: { Numbered }
+        requires numbers { NumbersNodes names }
+        requires plus { IsNode names.nodes plus }
+        requires minus { IsNode names.nodes minus }
+        ensures { OnOk result (name_terms names self.new ≡ name_terms names self.old
+            ++ put_between F.modulus (name_at names.equations equation) (name_at names.unknowns voltage)
+            (name_at names.unknowns current) (node_named names.nodes plus) (node_named names.nodes minus)) }
     {
-        self.voltage_from(device, first, equation, voltage)?;
-        let current = self.own(device, current)?;
-        self.flow(&current, &device.nodes[first], &device.nodes[first + 1])
+        self.voltage(equation, voltage, plus, minus)?;
+        self.flow(current, plus, minus)
     }
 
-    // An equation says that a voltage is that between a node and the next.
-    fn voltage_from(
+    // An equation says that a voltage is that between two nodes.
+    fn voltage(
         &mut self,
-        device: &Device<F>,
-        first: usize,
-        equation: &str,
-        voltage: &str,
+        equation: usize,
+        voltage: usize,
+        plus: Node,
+        minus: Node,
     ) -> Result<(), NoMemory>
-        requires { first + 1 < length device.now.nodes }
-        ensures { OnOk result (self.new ≡ self.old ++ put_voltage F.modulus (own device.now equation.now)
-            (own device.now voltage.now) (node device.now first) (node device.now (first + 1))) }
+        ghost names: { Numbered }
+        requires numbers { NumbersNodes names }
+        requires plus { IsNode names.nodes plus }
+        requires minus { IsNode names.nodes minus }
+        ensures { OnOk result (name_terms names self.new ≡ name_terms names self.old
+            ++ put_voltage F.modulus (name_at names.equations equation) (name_at names.unknowns voltage)
+            (node_named names.nodes plus) (node_named names.nodes minus)) }
     {
-        self.own_constant(device, equation, voltage, F::one())?;
-        let equation = self.own(device, equation)?;
-        self.difference(&equation, &device.nodes[first + 1], &device.nodes[first])
+        self.put(equation, voltage, Value::Constant(F::one()))?;
+        self.difference(equation, minus, plus)
     }
 
     // u(plus) - u(minus), of which nothing is left at one node.
-    fn difference(&mut self, equation: &str, plus: &str, minus: &str) -> Result<(), NoMemory>
-        ensures { OnOk result (self.new ≡ self.old ++ put_difference F.modulus equation.now plus.now minus.now) }
+    fn difference(&mut self, equation: usize, plus: Node, minus: Node) -> Result<(), NoMemory>
+        ghost names: { Numbered }
+        requires numbers { NumbersNodes names }
+        requires plus { IsNode names.nodes plus }
+        requires minus { IsNode names.nodes minus }
+        ensures { OnOk result (name_terms names self.new ≡ name_terms names self.old
+            ++ put_difference F.modulus (name_at names.equations equation) (node_named names.nodes plus)
+            (node_named names.nodes minus)) }
     {
-        if plus == minus {
+        if are_one(plus, minus) {
             return Ok(());
         }
         self.node_voltage(equation, F::one(), plus)?;
@@ -173,10 +192,16 @@ impl<F: Field> Terms<F> {
     }
 
     // A current leaves plus and enters minus.
-    fn flow(&mut self, current: &str, plus: &str, minus: &str) -> Result<(), NoMemory>
-        ensures { OnOk result (self.new ≡ self.old ++ put_flow F.modulus current.now plus.now minus.now) }
+    fn flow(&mut self, current: usize, plus: Node, minus: Node) -> Result<(), NoMemory>
+        ghost names: { Numbered }
+        requires numbers { NumbersNodes names }
+        requires plus { IsNode names.nodes plus }
+        requires minus { IsNode names.nodes minus }
+        ensures { OnOk result (name_terms names self.new ≡ name_terms names self.old
+            ++ put_flow F.modulus (name_at names.unknowns current) (node_named names.nodes plus)
+            (node_named names.nodes minus)) }
     {
-        if plus == minus {
+        if are_one(plus, minus) {
             return Ok(());
         }
         self.node_current(current, F::one(), plus)?;
@@ -184,112 +209,105 @@ impl<F: Field> Terms<F> {
     }
 
     // Some times the voltage of a node: nothing at the ground.
-    fn node_voltage(&mut self, equation: &str, times: F, node: &str) -> Result<(), NoMemory>
-        requires { F.number times ≢ 0 }
-        ensures { OnOk result (self.new ≡ self.old ++ node_voltage equation.now (F.number times) node.now) }
+    fn node_voltage(&mut self, equation: usize, times: F, node: Node) -> Result<(), NoMemory>
+        ghost names: { Numbered }
+        requires numbers { NumbersNodes names }
+        requires node { IsNode names.nodes node }
+        ensures { OnOk result (name_terms names self.new ≡ name_terms names self.old
+            ++ node_voltage (name_at names.equations equation) (F.number times) (node_named names.nodes node)) }
     {
-        if node == GROUND {
-            return Ok(());
+        match node {
+            Some(voltage) => self.put(equation, voltage, Value::Constant(times)),
+            None => Ok(()),
         }
-        let voltage = dotted(self.alloc, "u", node)?;
-        self.put(equation, &voltage, Value::Constant(times))
     }
 
     // Some times a current, in the equation of a node: the ground has none.
-    fn node_current(&mut self, current: &str, times: F, node: &str) -> Result<(), NoMemory>
-        requires { F.number times ≢ 0 }
-        ensures { OnOk result (self.new ≡ self.old ++ node_current current.now (F.number times) node.now) }
+    fn node_current(&mut self, current: usize, times: F, node: Node) -> Result<(), NoMemory>
+        ghost names: { Numbered }
+        requires numbers { NumbersNodes names }
+        requires node { IsNode names.nodes node }
+        ensures { OnOk result (name_terms names self.new ≡ name_terms names self.old
+            ++ node_current (name_at names.unknowns current) (F.number times) (node_named names.nodes node)) }
     {
-        if node == GROUND {
-            return Ok(());
+        match node {
+            Some(equation) => self.put(equation, current, Value::Constant(times)),
+            None => Ok(()),
         }
-        let equation = dotted(self.alloc, "kcl", node)?;
-        self.put(&equation, current, Value::Constant(times))
     }
 
-    // Symbols in the law at two unknowns of the device.
-    fn proportion(&mut self, device: &Device<F>, first: &str, second: &str) -> Result<(), NoMemory>
-        ensures { OnOk result (self.new ≡ self.old
-            ++ proportion device.now (own device.now first.now) (own device.now second.now)) }
+    // Symbols in a law at two unknowns.
+    fn symbols(&mut self, law: usize, first: usize, second: usize) -> Result<(), NoMemory>
+        ghost names: { Numbered }
+        ensures { OnOk result (name_terms names self.new ≡ name_terms names self.old
+            ++ put_symbols (name_at names.equations law) (name_at names.unknowns first)
+            (name_at names.unknowns second)) }
     {
-        let second = self.own(device, second)?;
-        self.law_between(device, first, &second)
+        self.put(law, first, Value::Symbol)?;
+        self.put(law, second, Value::Symbol)
     }
 
-    // Symbols in the law at an unknown of the device and at its source's current.
-    fn proportion_to_source(&mut self, device: &Device<F>, first: &str) -> Result<(), NoMemory>
-        ensures { OnOk result (self.new ≡ self.old
-            ++ proportion device.now (own device.now first.now) (dotted (codes "i") device.now.source)) }
-    {
-        let current = dotted(self.alloc, "i", &device.source)?;
-        self.law_between(device, first, &current)
-    }
-
-    fn law_between(&mut self, device: &Device<F>, first: &str, second: &str) -> Result<(), NoMemory>
-        ensures { OnOk result (self.new ≡ self.old ++ proportion device.now (own device.now first.now) second.now) }
-    {
-        let law = self.own(device, "law")?;
-        let first = self.own(device, first)?;
-        self.put(&law, &first, Value::Symbol)?;
-        self.put(&law, second, Value::Symbol)
-    }
-
-    // lawa and lawb: 1 and minus the number, the number and 1.
-    fn ratio(
+    // Two laws, each at two unknowns: 1 and minus a number, the number and 1.
+    fn laws(
         &mut self,
-        device: &Device<F>,
-        first: &str,
-        second: &str,
-        third: &str,
-        fourth: &str,
+        laws: (usize, usize),
+        first: (usize, usize),
+        second: (usize, usize),
+        number: F,
     ) -> Result<(), NoMemory>
-        requires { device.now.number < F.modulus }
-        ensures { OnOk result (self.new ≡ self.old
-            ++ put_ratio F.modulus device.now first.now second.now third.now fourth.now) }
+        ghost names: { Numbered }
+        requires { F.number number < F.modulus }
+        ensures { OnOk result (name_terms names self.new ≡ name_terms names self.old
+            ++ put_laws F.modulus (name_at names.equations laws.0) (name_at names.equations laws.1)
+            (name_at names.unknowns first.0) (name_at names.unknowns first.1)
+            (name_at names.unknowns second.0) (name_at names.unknowns second.1) (F.number number)) }
     {
-        self.own_constant(device, "lawa", first, F::one())?;
-        self.own_constant(device, "lawa", second, device.number.neg())?;
-        self.own_constant(device, "lawb", third, device.number)?;
-        self.own_constant(device, "lawb", fourth, F::one())
+        self.constant(laws.0, first.0, F::one())?;
+        self.constant(laws.0, first.1, number.neg())?;
+        self.constant(laws.1, second.0, number)?;
+        self.constant(laws.1, second.1, F::one())
     }
 
-    // A constant in an equation of the device at one of its unknowns, unless it is 0.
-    fn own_constant(
-        &mut self,
-        device: &Device<F>,
-        equation: &str,
-        unknown: &str,
-        constant: F,
-    ) -> Result<(), NoMemory>
-        ensures { OnOk result (self.new ≡ self.old
-            ++ put_constant (own device.now equation.now) (own device.now unknown.now) (F.number constant)) }
+    // A constant in an equation at an unknown, unless it is 0.
+    fn constant(&mut self, equation: usize, unknown: usize, constant: F) -> Result<(), NoMemory>
+        ghost names: { Numbered }
+        ensures { OnOk result (name_terms names self.new ≡ name_terms names self.old
+            ++ put_constant (name_at names.equations equation) (name_at names.unknowns unknown)
+            (F.number constant)) }
     {
         if constant.is_zero() {
             return Ok(());
         }
-        let equation = self.own(device, equation)?;
-        let unknown = self.own(device, unknown)?;
-        self.put(&equation, &unknown, Value::Constant(constant))
-    }
-
-    // The name of an unknown or of an equation of a device, by its word.
-    fn own(&self, device: &Device<F>, word: &str) -> Result<String, NoMemory>
-        ensures { IfOk result (λ name. string_bytes name ≡ own device.now word.now) }
-    {
-        dotted(self.alloc, word, &device.name)
+        self.put(equation, unknown, Value::Constant(constant))
     }
 
     // Puts a term last.
-    fn put(&mut self, equation: &str, unknown: &str, value: Value<F>) -> Result<(), NoMemory>
-        ensures { OnOk result (self.new ≡ self.old ++ term_of_value F.number equation.now unknown.now value ∷ []) }
+    #[tactic(auto, unfolding(crate::specs::Numbers::name_terms))]
+    fn put(&mut self, equation: usize, unknown: usize, value: Value<F>) -> Result<(), NoMemory>
+        ghost names: { Numbered }
+        ensures { OnOk result (name_terms names self.new ≡ name_terms names self.old
+            ++ term_of_value F.number (name_at names.equations equation) (name_at names.unknowns unknown) value ∷ []) }
     {
-        let equation = String::from_str(self.alloc, equation)?;
-        let unknown = String::from_str(self.alloc, unknown)?;
         self.items.push(Term {
             equation,
             unknown,
             value,
         })?;
         Ok(())
+    }
+}
+
+// Whether two nodes are one.
+fn are_one(plus: Node, minus: Node) -> bool
+    ghost names: { Numbered }
+    requires numbers { NumbersNodes names }
+    requires plus { IsNode names.nodes plus }
+    requires minus { IsNode names.nodes minus }
+    ensures { result ≡ bytes_eq (node_named names.nodes plus) (node_named names.nodes minus) }
+{
+    match (plus, minus) {
+        (Some(plus), Some(minus)) => plus == minus,
+        (None, None) => true,
+        _ => false,
     }
 }

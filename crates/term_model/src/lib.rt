@@ -6,5 +6,5 @@ mod putting;
 mod value;
 
 pub use names::dotted;
-pub use putting::put_value;
+pub use putting::{put_value, put_value_at};
 pub use value::Value;

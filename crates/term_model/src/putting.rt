@@ -1,8 +1,8 @@
-//! Values put into a model, by the names of their places.
+//! Values put into a model, by the names of their places or by their numbers.
 
 ghost use Rattle.std.specs.Prelude.{◌≡◌, ◌<◌, ◌∷◌, [], true, length, slice_index_or, OnOk, IfErr};
 ghost use Rattle.mixed_model.specs.Models.{IsModel};
-ghost use Rattle.mixed_model.specs.Names.{has_name};
+ghost use Rattle.mixed_model.specs.Names.{has_name, name_at};
 ghost use Rattle.term_model.specs.Putting.{IsPlaceOf, IsPlaced, CountsAsTerm, LacksRoom, PutsTerms, term_of_value};
 
 use crate::value::Value;
@@ -28,6 +28,29 @@ pub fn put_value<F: Field>(
         (term_of_value F.number equation.now unknown.now value ∷ [])) }
 {
     let (i, j) = place_of(model, equation, unknown);
+    put_value_at(model, i, j, value)
+}
+
+/// Puts a value, a symbol or a constant other than 0, into equation `i` at unknown `j`. Where nothing stands there memory
+/// alone may be wanting.
+pub fn put_value_at<F: Field>(
+    model: &mut Mixed<F>,
+    i: usize,
+    j: usize,
+    value: Value<F>,
+) -> Result<(), AddError>
+    requires equation { i < length model.old.equations }
+    requires unknown { j < length model.old.unknowns }
+    requires constant { CountsAsTerm (term_of_value F.number (name_at model.old.equations i)
+        (name_at model.old.unknowns j) value) }
+    ensures equations { model.new.equations ≡ model.old.equations }
+    ensures unknowns { model.new.unknowns ≡ model.old.unknowns }
+    ensures says { OnOk result (PutsTerms F.modulus model.old model.new
+        (term_of_value F.number (name_at model.old.equations i) (name_at model.old.unknowns j) value ∷ [])) }
+    ensures refused { IfErr result (LacksRoom F.modulus model.old
+        (term_of_value F.number (name_at model.old.equations i) (name_at model.old.unknowns j) value ∷ [])) }
+{
+    model.is_model();
     match value {
         Value::Constant(constant) => {
             constant.in_field();

@@ -1,4 +1,4 @@
-use Rattle.std.proofs.Common.{map, ap, sym, subst, ◌∙◌}
+use Rattle.std.proofs.Common.{map, ap, refl, sym, subst, ◌∙◌}
 use Rattle.std.specs.String.{string_bytes}
 use Rattle.mixed_model.specs.Names.{IsNameList}
 use Rattle.term_model.proofs.Blank.{blank_says}
@@ -15,8 +15,27 @@ add_equations-requires-clause-names g c =
     subst IsNameList (sym (ap (map string_bytes) c.deref-2.ensures.value ∙ c.in_ok-names_on-2.ensures))
     (equations-listed g.F.Field.modulus c.args.circuit.now c.requires.circuit)
 
-pub put_devices-requires-clause-blank : goal.put_devices-requires-clause-blank
-put_devices-requires-clause-blank g c = blank_says g.F.Field.modulus c.add_equations.new.model c.in_ok-add_equations.ensures.blank
+pub put_devices-requires : goal.put_devices-requires
+put_devices-requires g c κs lives = (
+  lives,
+  (
+    refl,
+    (
+      c.requires.circuit,
+      (
+        c.requires.sourced,
+        (
+          c.in_ok-add_equations.ensures.equations ∙ ap (map string_bytes) c.deref-2.ensures.value ∙ c.in_ok-names_on-2.ensures,
+          (
+            c.in_ok-add_equations.ensures.unknowns ∙ c.in_ok-add_unknowns.ensures.unknowns ∙ ap (map string_bytes) c.deref.ensures.value
+                ∙ c.in_ok-names_on.ensures,
+            blank_says g.F.Field.modulus c.add_equations.new.model c.in_ok-add_equations.ensures.blank,
+          ),
+        ),
+      ),
+    ),
+  ),
+)
 
 pub returns : goal.returns
 returns g c = record {

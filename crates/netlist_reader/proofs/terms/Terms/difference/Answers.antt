@@ -1,0 +1,19 @@
+use Rattle.std.proofs.Common.{◌+◌, ◌%◌, ap, sym, ◌∙◌}
+use Rattle.std.proofs.lemmas.Result.{on_ok_weaker}
+use Rattle.mixed_model.specs.Names.{name_at}
+use Rattle.term_model.proofs.Negatives.{minus_one_is}
+use Rattle.netlist_reader.specs.Numbers.{name_terms, node_named}
+use Rattle.netlist_reader.proofs.Numbering.{difference_put}
+use Rattle.netlist_reader.proofs.terms.Terms.difference.Goals as goal
+
+pub returns : goal.returns
+returns g c =
+    let p = g.F.Field.modulus in
+    let names = g.names in
+    let less = minus_one_is p (g.F.Field.number c.neg.result) g.met.F.Field.odd c.neg.ensures.below
+    (ap (λ n. (n + g.F.Field.number c.neg.result) % p) (sym c.one-2.ensures) ∙ c.neg.ensures.negative) in
+    on_ok_weaker c.node_voltage-2.result
+    (difference_put p (name_terms names c.args.self.now) (name_terms names c.node_voltage.new.self) (name_terms names c.node_voltage-2.new.self)
+    (name_at names.equations c.args.equation) (node_named names.nodes c.args.plus) (node_named names.nodes c.args.minus)
+    (g.F.Field.number c.one.result) (g.F.Field.number c.neg.result) c.if-are_one.ensures c.one.ensures less c.in_ok-node_voltage.ensures)
+    c.node_voltage-2.ensures
