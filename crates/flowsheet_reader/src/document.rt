@@ -151,8 +151,6 @@ fn push(names: &mut NameSet, name: &str) -> Result<(), ReadModel>
     ensures pushed { OnOk result (names.new ≡ names.old ++ name.now ∷ []) }
     ensures failed { IfErr result (λ why. why ≡ ReadModel.NoMemory) }
 {
-    match names.push(name) {
-        Ok(()) => Ok(()),
-        Err(_) => Err(ReadModel::NoMemory),
-    }
+    names.push(name)?;
+    Ok(())
 }

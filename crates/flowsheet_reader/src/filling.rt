@@ -139,11 +139,8 @@ fn add_flows<F: Field>(model: &mut Mixed<F>, part: &UnitPart<F>) -> Result<(), N
 }
 
 // The one fault that is left where there is room.
-fn want_of_memory(fault: Fault) -> NoMemory
-    requires { fault ≡ Fault.NoMemory }
+fn want_of_memory(_fault: Fault) -> NoMemory
+    requires { _fault ≡ Fault.NoMemory }
 {
-    match fault {
-        Fault::NoMemory => NoMemory,
-        Fault::Broken(_) => unreachable!(),
-    }
+    NoMemory
 }

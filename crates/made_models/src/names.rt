@@ -56,11 +56,8 @@ fn add_unknowns<F: Field>(alloc: Global, model: &mut Mixed<F>, size: usize) -> R
 }
 
 // The one refusal that is left where names are new and nothing stands at a place.
-pub(crate) fn want_of_memory(error: AddError) -> NoMemory
-    requires { error ≡ AddError.NoMemory }
+pub(crate) fn want_of_memory(_error: AddError) -> NoMemory
+    requires { _error ≡ AddError.NoMemory }
 {
-    match error {
-        AddError::NoMemory => NoMemory,
-        AddError::Twice | AddError::TooMany => unreachable!(),
-    }
+    NoMemory
 }

@@ -137,28 +137,28 @@ module _ (number : ℕ → ℕ) (strict : ℕ → ℕ → Bool) (standing : ℕ 
       few = omega (
         arith,
         A.few,
-        M.more,
-        size_on-less (held_of r) (held_of now) count k within kl was M.free,
+        M.put.more,
+        size_on-less (held_of r) (held_of now) count k within kl was M.put.free,
       );
       least = leasts;
       held = λ j l w h. elim (nat_cases j k) [
-        | inl q ↦ absurd (differ M.free (subst (λ v. held_of now v ≡ true) q h))
-        | inr ne ↦ elim (A.held j l w (sym (M.others j ne) ∙ h)) [
+        | inl q ↦ absurd (differ M.put.free (subst (λ v. held_of now v ≡ true) q h))
+        | inr ne ↦ elim (A.held j l w (sym (M.put.others j ne) ∙ h)) [
           | inl e ↦ inl (still j ne e)
-          | inr b ↦ inr (b.0, b.1, b.2, subst (λ v. bit_in v b.0 j ≡ true) (sym M.waits) b.3, b.4)
+          | inr b ↦ inr (b.0, b.1, b.2, subst (λ v. bit_in v b.0 j ≡ true) (sym M.put.waits) b.3, b.4)
         ]
       ];
       free = λ j l w f. subst (λ v. Contains (heap_items now.keys) (place_by_key n (get_or v.items j 0))) (sym least)
-          (Contains-permutation (key ∷ heap_items r.keys) (heap_items now.keys) (place_by_key n (least_of r j)) M.pushed
+          (Contains-permutation (key ∷ heap_items r.keys) (heap_items now.keys) (place_by_key n (least_of r j)) M.put.pushed
           (elim (nat_cases j k) [
             | inl q ↦ subst (λ v. Contains (key ∷ heap_items r.keys) (place_by_key n (least_of r v))) (sym q)
                 (contains-head key (heap_items r.keys))
             | inr ne ↦ contains-more key (place_by_key n (least_of r j)) (heap_items r.keys)
-                (A.free j l w (sym (M.others j ne) ∙ f))
+                (A.free j l w (sym (M.put.others j ne) ∙ f))
           ]));
-      ready = All-permutation (IsKey number strict standing n) (key ∷ heap_items r.keys) (heap_items now.keys) M.pushed
+      ready = All-permutation (IsKey number strict standing n) (key ∷ heap_items r.keys) (heap_items now.keys) M.put.pushed
           (All-cons (IsKey number strict standing n) key (heap_items r.keys) is_key A.ready);
-      watched = λ l j ll jl b. A.watched l j ll jl (subst (λ v. bit_in v l j ≡ true) M.waits b);
+      watched = λ l j ll jl b. A.watched l j ll jl (subst (λ v. bit_in v l j ≡ true) M.put.waits b);
     }
       where
         key : ℕ
@@ -166,8 +166,8 @@ module _ (number : ℕ → ℕ) (strict : ℕ → ℕ → Bool) (standing : ℕ 
 
         within : (j : ℕ) → j < count → held_of now j ≡ true → held_of r j ≡ true
         within j l h = elim (nat_cases j k) [
-          | inl q ↦ absurd (differ M.free (subst (λ v. held_of now v ≡ true) q h))
-          | inr ne ↦ sym (M.others j ne) ∙ h
+          | inl q ↦ absurd (differ M.put.free (subst (λ v. held_of now v ≡ true) q h))
+          | inr ne ↦ sym (M.put.others j ne) ∙ h
         ]
 
         is : number (place_by_key n key) ≡ k
@@ -303,10 +303,10 @@ module _ (number : ℕ → ℕ) (strict : ℕ → ℕ → Bool) (standing : ℕ 
 pub settled-others : (strict : ℕ → ℕ → Bool) (standing : ℕ → Standing) (n k from : ℕ) (r now : Ready) →
     AreSettledStandings strict standing n k from r now → (j : ℕ) → j ≢ k → held_of now j ≡ held_of r j
 settled-others strict standing n k from r now (inl W) j ne = ap (λ v. members_of v.items j) W.held
-settled-others strict standing n k from r now (inr M) j ne = M.others j ne
+settled-others strict standing n k from r now (inr M) j ne = M.put.others j ne
 
 -- the rows of components before `from` stay
 pub settled-row : (strict : ℕ → ℕ → Bool) (standing : ℕ → Standing) (n k from : ℕ) (r now : Ready) →
     AreSettledStandings strict standing n k from r now → (l j : ℕ) → l < from → j < n → bit_in now.waits l j ≡ bit_in r.waits l j
 settled-row strict standing n k from r now (inl W) l j ll jl = W.set.others l j jl (λ q. omega (arith, W.from_on))
-settled-row strict standing n k from r now (inr M) l j ll jl = ap (λ v. bit_in v l j) M.waits
+settled-row strict standing n k from r now (inr M) l j ll jl = ap (λ v. bit_in v l j) M.put.waits

@@ -78,14 +78,18 @@ pub record IsMadeWait (strict : ℕ → ℕ → Bool) (standing : ℕ → Standi
   pub held : now.held ≡ r.held
   pub keys : now.keys ≡ r.keys
 
--- component k, which leads to none that waits, is ready: the key of its least place is in the heap
-pub record IsMadeReady (strict : ℕ → ℕ → Bool) (standing : ℕ → Standing) (n k : ℕ) (r now : Ready) : Type 0 where
-  pub none_waits : NoneWaitsBelow strict standing k k
+-- the key of component k's least place is put into the heap, and nothing holds the component back
+pub record IsPutReady (n k : ℕ) (r now : Ready) : Type 0 where
   pub free : held_of now k ≡ false
   pub others : (j : ℕ) → j ≢ k → held_of now j ≡ held_of r j
   pub pushed : IsPermutation (place_by_key n (least_of r k) ∷ heap_items r.keys) (heap_items now.keys)
   pub more : heap_len now.keys ≡ heap_len r.keys + 1
   pub waits : now.waits ≡ r.waits
+
+-- component k, which leads to none that waits, is ready
+pub record IsMadeReady (strict : ℕ → ℕ → Bool) (standing : ℕ → Standing) (n k : ℕ) (r now : Ready) : Type 0 where
+  pub none_waits : NoneWaitsBelow strict standing k k
+  pub put : IsPutReady n k r now
 
 abbrev pub AreSettledStandings : (ℕ → ℕ → Bool) → (ℕ → Standing) → ℕ → ℕ → ℕ → Ready → Ready → Type 0
 AreSettledStandings strict standing n k from r now =

@@ -1,15 +1,14 @@
 //! The components that wait to be listed, kept apart: the ready ones in a heap by their least places (Williams 1964), and
 //! each other one in the row of one that holds it back, so that it is looked at again once that one is listed.
 
-ghost use Rattle.std.specs.Prelude.{◌≡◌, ◌≢◌, ℕ, ◌+◌, ◌<◌, ◌≤◌, ◌∷◌, true, false, length, vec_len, IfOk, IfSome, IfNone};
-ghost use Rattle.std.specs.List.Sorted.{IsPermutation};
-ghost use Rattle.std.specs.BinaryHeap.{heap_items, heap_len};
+ghost use Rattle.std.specs.Prelude.{◌≡◌, ◌≢◌, ℕ, ◌+◌, ◌<◌, ◌≤◌, true, false, length, vec_len, IfOk, IfSome, IfNone};
+ghost use Rattle.std.specs.BinaryHeap.{heap_len};
 ghost use Rattle.residue_theory.specs.Sums.{size_on};
 ghost use Rattle.bit_table.specs.Bits.{bit_in};
 ghost use Rattle.minimiser_lattice.specs.Paths.{IsNumbering};
 ghost use Rattle.minimiser_lattice.specs.Components.{HasArrays, component_number, component_places};
 ghost use Rattle.minimiser_lattice.specs.Standings.{IsFreeToStand, IsWaiting, NoneWaitsBelow, standing_in};
-ghost use Rattle.minimiser_lattice.specs.Ready.{AreApartIn, HasRoomFor, IsLeastPlace, AreSettledStandings, held_of, least_of, place_by_key};
+ghost use Rattle.minimiser_lattice.specs.Ready.{AreApartIn, HasRoomFor, IsLeastPlace, IsPutReady, AreSettledStandings, held_of, least_of};
 ghost use Rattle.minimiser_lattice.specs.declared.standing.Standing.{Standing};
 ghost use Rattle.minimiser_lattice.specs.declared.standing.Standing.TheVariants.{Listed};
 
@@ -130,13 +129,7 @@ impl Ready {
         requires held { held_of self.old k ≡ true }
         requires few { heap_len self.old.keys + size_on (held_of self.old) components.now.count ≤ components.now.count }
         requires least { least_of self.old k < component_places components.now }
-        ensures free { held_of self.new k ≡ false }
-        ensures others { (j : ℕ) → j ≢ k → held_of self.new j ≡ held_of self.old j }
-        ensures pushed { IsPermutation
-            (place_by_key (component_places components.now) (least_of self.old k) ∷ heap_items self.old.keys)
-            (heap_items self.new.keys) }
-        ensures more { heap_len self.new.keys ≡ heap_len self.old.keys + 1 }
-        ensures waits { self.new.waits ≡ self.old.waits }
+        ensures ready { IsPutReady (component_places components.now) k self.old self.new }
         ensures least_kept { self.new.least ≡ self.old.least }
         ensures room { HasRoomFor self.new (component_places components.now) }
     {
