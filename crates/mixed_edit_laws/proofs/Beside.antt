@@ -7,7 +7,8 @@ use Rattle.linear_algebra_laws.proofs.SkipLaws.{skip-unskip, unskip, unskip-belo
 use Rattle.mixed_matrices.specs.Arcs.{IsClosedIn, has_base, has_match}
 use Rattle.mixed_matrices.specs.LayeredMatrices.{LayeredMatrix}
 use Rattle.mixed_matrices.specs.Tableaus.{HasTableau, Tableau}
-use Rattle.mixed_pair_laws.proofs.ArcFacts.{EndsInQ, EndsInT, LeadsInQ, LeadsInT, base_found, base_holds, end-q, end-t, end-tells, follows-q, follows-t, free-holds, free-tells, leads-tells, match_found, match_holds}
+use Rattle.mixed_pair_laws.proofs.ArcFacts.{EndsInQ, EndsInT, LeadsInQ, LeadsInT, base_found, base_holds, end-q, end-t}
+use Rattle.mixed_pair_laws.proofs.ArcFacts.{end-tells, follows-q, follows-t, free-holds, free-tells, leads-tells, match_found, match_holds}
 use Rattle.mixed_edit_laws.specs.Removed.{IsQRowBeside, IsTRowBeside}
 
 -- one of the rows but k, or k itself

@@ -1,5 +1,6 @@
 //! How far the structural rank of a layered matrix rises by an edit of its model.
-ghost use Rattle.mixed_edit_laws.specs.ChangeLaws.{WiderModelsHaveTheRank, AddedEquationsRaiseByAtMostTwo, RemovedEquationsRaiseNothing, ChangedEquationsRaiseByAtMostTwo, WiderModelsHaveWiderLayers};
+ghost use Rattle.mixed_edit_laws.specs.ChangeLaws.{WiderModelsHaveTheRank, AddedEquationsRaiseByAtMostTwo};
+ghost use Rattle.mixed_edit_laws.specs.ChangeLaws.{RemovedEquationsRaiseNothing, ChangedEquationsRaiseByAtMostTwo, WiderModelsHaveWiderLayers};
 
 /// New unknowns without entries change no rank.
 pub fn wider_models_have_the_rank()

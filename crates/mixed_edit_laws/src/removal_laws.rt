@@ -1,5 +1,6 @@
 //! How far the structural rank changes by one edit, and how many steps a pair then needs to be best again.
-ghost use Rattle.mixed_edit_laws.specs.RemovalLaws.{QRowsOutTakeAtMostOne, TRowsOutTakeAtMostOne, EmptyColumnsOutTakeNothing, EditsTakeFewSteps, QRowsBesideKeepClosedSets, TRowsBesideKeepClosedSets};
+ghost use Rattle.mixed_edit_laws.specs.RemovalLaws.{QRowsOutTakeAtMostOne, TRowsOutTakeAtMostOne, EmptyColumnsOutTakeNothing};
+ghost use Rattle.mixed_edit_laws.specs.RemovalLaws.{EditsTakeFewSteps, QRowsBesideKeepClosedSets, TRowsBesideKeepClosedSets};
 
 /// Without a Q row the structural rank is the same, or one less.
 pub fn q_rows_out_take_at_most_one()

@@ -1,5 +1,6 @@
 //! Where the rows and the auxiliary column of an equation stand in a layered matrix, and what is left without them.
-ghost use Rattle.mixed_edit_laws.specs.RestLaws.{MembersAreLeft, LayeringsLeaveAnEquation, RestsAreEdits, LayeringsAreTheSame, LayeringsLeaveAnEmptyUnknown, RestsAreNear};
+ghost use Rattle.mixed_edit_laws.specs.RestLaws.{MembersAreLeft, LayeringsLeaveAnEquation, RestsAreEdits};
+ghost use Rattle.mixed_edit_laws.specs.RestLaws.{LayeringsAreTheSame, LayeringsLeaveAnEmptyUnknown, RestsAreNear};
 
 /// The members of a set of which one number is taken out, listed.
 pub fn members_are_left()
