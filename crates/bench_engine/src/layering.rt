@@ -36,7 +36,7 @@ pub(crate) fn layered(
     let split = equations.iter().filter(|places| is_split(places)).count();
     let columns = size.saturating_add(split).min(COLUMN_LIMIT);
     let mut q = Mat::zeros(alloc, with_constants.min(COLUMN_LIMIT), columns)?;
-    let mut t = Pattern::empty(alloc, columns)?;
+    let mut t = Pattern::empty(alloc, columns);
     let mut row = 0_usize;
     let mut auxiliary = size;
     for places in &equations {

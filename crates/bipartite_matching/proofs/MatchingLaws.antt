@@ -1,5 +1,6 @@
 -- What is stored of a matching: at its beginning, after a link and after a parting.
-use Rattle.std.proofs.Common.{◌≡◌, ◌≢◌, ℕ, ◌<◌, ◌≤◌, true, List, length, get_or, replicate, Option, Some, None, slice_set, refl, sym, ◌∙◌, ap, subst, ◌⊎◌, inl, inr, arith}
+use Rattle.std.proofs.Common.{◌≡◌, ◌≢◌, ℕ, ◌<◌, ◌≤◌, true, List, length, get_or, replicate, Option, Some, None, slice_set, refl, sym, ◌∙◌}
+use Rattle.std.proofs.Common.{ap, subst, ◌⊎◌, inl, inr, arith}
 use Rattle.std.proofs.lemmas.List.{get_or_past, get_or-set_same, get_or-set_other, length-set, length-replicate}
 use Rattle.std.proofs.lemmas.List.Elements.{All-replicate}
 use Rattle.sparse_t.specs.Incidences.{Incidence, incidence_rows, touches}

@@ -2,11 +2,12 @@
 
 ghost use Rattle.std.specs.Prelude.{◌≡◌, ◌<◌, ◌≤◌, ℕ, true, false, None, IfOk, IfSome, IfNone, OnOk, OnErr};
 ghost use Rattle.std.specs.List.Sorted.{IsStrictlyIncreasing};
-ghost use Rattle.limits.specs.Limits.{column_limit};
+ghost use Rattle.limits.specs.Limits.{column_limit, grown};
 ghost use Rattle.sparse_t.specs.Lists.{AreAllBelow};
 ghost use Rattle.sparse_t.specs.Incidences.{incidence_rows, touches};
 ghost use Rattle.bipartite_matching.specs.Matchings.{Matching, IsMatching, HasPair, IsRowMatched, IsRowFree, mate_at, empty_matching, with_pair, matching_without, with_row_in, with_row_out, with_column_in, with_column_out};
 
+use limits::grown;
 use number_pairs::NumberPairs;
 use out_of_memory::NoMemory;
 use sparse_t::{Pattern, RoomyPattern};
@@ -49,10 +50,10 @@ impl Match {
         ensures empty { IfOk result (λ m. m ≡ empty_matching t.now) }
         ensures matching { IfOk result (λ m. IsMatching m) }
     {
-        let pattern = t.copy()?;
+        let pattern = RoomyPattern::of(alloc, t)?;
         let pairs = NumberPairs::open(alloc, t.rows(), t.cols())?;
         Ok(Match {
-            pattern: RoomyPattern::of(pattern),
+            pattern,
             pairs,
             row_room: 0,
             column_room: 0,
@@ -110,10 +111,12 @@ impl Match {
         self.pairs.unlink(row, col);
     }
 
-    /// Takes room for at least so many rows and columns. It changes nothing else.
+    /// Takes room for at least so many rows and columns, and where it grows at least an eighth more. It changes nothing else.
     pub fn room(&mut self, rows: usize, cols: usize) -> Result<(), NoMemory>
         ensures pattern { self.new.pattern ≡ self.old.pattern }
         ensures mates { self.new.mates ≡ self.old.mates }
+        ensures grown_rows { OnOk result (self.new.row_room ≡ grown self.old.row_room rows) }
+        ensures grown_cols { OnOk result (self.new.column_room ≡ grown self.old.column_room cols) }
         ensures rows { OnOk result (rows ≤ self.new.row_room) }
         ensures cols { OnOk result (cols ≤ self.new.column_room) }
         ensures more_rows { self.old.row_room ≤ self.new.row_room }
@@ -121,10 +124,12 @@ impl Match {
         ensures err { OnErr result (self.new ≡ self.old) }
         ensures matching { IsMatching self.new }
     {
+        let rows = grown(self.row_room, rows);
+        let cols = grown(self.column_room, cols);
         self.pattern.room(rows, cols)?;
         self.pairs.room(rows, cols)?;
-        self.row_room = self.row_room.max(rows);
-        self.column_room = self.column_room.max(cols);
+        self.row_room = rows;
+        self.column_room = cols;
         Ok(())
     }
 

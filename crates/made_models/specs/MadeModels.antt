@@ -1,5 +1,6 @@
 -- The model of each size: equations e1, e2, .. over as many unknowns x1, x2, .., with up to three drawn entries each.
-use Rattle.std.specs.Prelude.{ℕ, ◌+◌, ◌*◌, ◌/◌, ◌%◌, ◌<◌, ◌≤◌, ◌≡◌, zero, suc, Bool, false, List, [], ◌∷◌, ◌++◌, nat_eq, nat_lt, if◌then◌else◌, Option, Some, None, decimal}
+use Rattle.std.specs.Prelude.{ℕ, ◌+◌, ◌*◌, ◌/◌, ◌%◌, ◌<◌, ◌≤◌, ◌≡◌, zero, suc, Bool, false, List, [], ◌∷◌, ◌++◌, nat_eq, nat_lt}
+use Rattle.std.specs.Prelude.{if◌then◌else◌, Option, Some, None, decimal}
 use Rattle.std.specs.Option.{option_and_then, option_map_or, option_or}
 use Rattle.mixed_model.specs.Models.{MixedModel, constant_of, symbol_of}
 use Rattle.made_models.specs.Draws.{draw}

@@ -5,8 +5,6 @@
 #[cfg(test)]
 mod bits;
 #[cfg(test)]
-mod edits;
-#[cfg(test)]
 mod layers;
 #[cfg(test)]
 mod made;

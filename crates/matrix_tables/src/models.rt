@@ -143,7 +143,7 @@ fn a_split_entry_has_an_auxiliary_column(rt: HostRuntime) -> Result<(), Fail> {
     let mut q = Mat::zeros(alloc, 1, 2)?;
     q.set(0, 0, Res::of(1));
     q.set(0, 1, Res::of(1));
-    let mut t = Pattern::empty(alloc, 2)?;
+    let mut t = Pattern::empty(alloc, 2);
     t.push_row(&[0, 1])?;
     let equations = Vec::from_slice(alloc, &[0])?;
     let columns = Vec::from_slice(alloc, &[Origin::Unknown(0), Origin::Split(0)])?;

@@ -29,7 +29,7 @@ pub fn symbols_of<F: Field>(
     ensures { IfOk result
         (AreRowsOfSymbols (mixed_matrix_of model.now) split.now equations.now (length equations.now)) }
 {
-    let mut t = Pattern::empty(alloc, model.unknowns() + split.len())?;
+    let mut t = Pattern::empty(alloc, model.unknowns() + split.len());
     for equation in equations {
         let columns = touched_by(alloc, model, *equation, split)?;
         t.push_row(&columns)?;

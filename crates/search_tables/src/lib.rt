@@ -7,8 +7,6 @@ mod blocks;
 #[cfg(test)]
 mod chains;
 #[cfg(test)]
-mod match_edits;
-#[cfg(test)]
 mod matchings;
 #[cfg(test)]
 mod orders;

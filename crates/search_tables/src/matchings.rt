@@ -7,7 +7,7 @@ use std::test::Fail;
 
 // Three rows over three columns: the first row touches columns 0 and 1, the second 1 and 2, the third none.
 fn example(alloc: Global) -> Result<Pattern, Fail> {
-    let mut pattern = Pattern::empty(alloc, 3)?;
+    let mut pattern = Pattern::empty(alloc, 3);
     pattern.push_row(&[0, 1])?;
     pattern.push_row(&[1, 2])?;
     pattern.push_row(&[])?;

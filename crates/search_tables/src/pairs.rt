@@ -162,7 +162,7 @@ fn assert_solved(
 
 #[test]
 fn matches_a_triangle_of_symbols(rt: HostRuntime) -> Result<(), Fail> {
-    let mut t = Pattern::empty(rt.alloc(), 2)?;
+    let mut t = Pattern::empty(rt.alloc(), 2);
     t.push_row(&[0, 1])?;
     t.push_row(&[0])?;
     let q = constants(rt.alloc(), 2, &[])?;
@@ -171,7 +171,7 @@ fn matches_a_triangle_of_symbols(rt: HostRuntime) -> Result<(), Fail> {
 
 #[test]
 fn matches_loose_symbols(rt: HostRuntime) -> Result<(), Fail> {
-    let mut t = Pattern::empty(rt.alloc(), 2)?;
+    let mut t = Pattern::empty(rt.alloc(), 2);
     t.push_row(&[0])?;
     t.push_row(&[1])?;
     let q = constants(rt.alloc(), 2, &[])?;
@@ -181,7 +181,7 @@ fn matches_loose_symbols(rt: HostRuntime) -> Result<(), Fail> {
 // The equations x + y and x + ?y, the second one split.
 #[test]
 fn finds_constants_over_a_split_row(rt: HostRuntime) -> Result<(), Fail> {
-    let mut t = Pattern::empty(rt.alloc(), 3)?;
+    let mut t = Pattern::empty(rt.alloc(), 3);
     t.push_row(&[1, 2])?;
     let q = constants(rt.alloc(), 3, &[&[1, 1, 0], &[1, 0, 1]])?;
     assert_solved(&rt, rt.alloc(), q, t, 3, "qtq")
@@ -190,7 +190,7 @@ fn finds_constants_over_a_split_row(rt: HostRuntime) -> Result<(), Fail> {
 // The equations ?x + y and x + ?y, both split.
 #[test]
 fn finds_a_block_of_four_columns(rt: HostRuntime) -> Result<(), Fail> {
-    let mut t = Pattern::empty(rt.alloc(), 4)?;
+    let mut t = Pattern::empty(rt.alloc(), 4);
     t.push_row(&[0, 2])?;
     t.push_row(&[1, 3])?;
     let q = constants(rt.alloc(), 4, &[&[0, 1, 1, 0], &[1, 0, 0, 1]])?;
@@ -200,7 +200,7 @@ fn finds_a_block_of_four_columns(rt: HostRuntime) -> Result<(), Fail> {
 // A constant and a symbol at one place.
 #[test]
 fn finds_a_split_entry(rt: HostRuntime) -> Result<(), Fail> {
-    let mut t = Pattern::empty(rt.alloc(), 2)?;
+    let mut t = Pattern::empty(rt.alloc(), 2);
     t.push_row(&[0, 1])?;
     let q = constants(rt.alloc(), 2, &[&[1, 1]])?;
     assert_solved(&rt, rt.alloc(), q, t, 2, "tq")
@@ -209,12 +209,12 @@ fn finds_a_split_entry(rt: HostRuntime) -> Result<(), Fail> {
 // A column of two symbols stays an end; a column of two constants does not.
 #[test]
 fn tells_ends_from_blocks(rt: HostRuntime) -> Result<(), Fail> {
-    let mut t = Pattern::empty(rt.alloc(), 1)?;
+    let mut t = Pattern::empty(rt.alloc(), 1);
     t.push_row(&[0])?;
     t.push_row(&[0])?;
     let q = constants(rt.alloc(), 1, &[])?;
     assert_solved(&rt, rt.alloc(), q, t, 1, "t!")?;
-    let t = Pattern::empty(rt.alloc(), 1)?;
+    let t = Pattern::empty(rt.alloc(), 1);
     let q = constants(rt.alloc(), 1, &[&[1], &[1]])?;
     assert_solved(&rt, rt.alloc(), q, t, 1, "q")
 }
@@ -222,7 +222,7 @@ fn tells_ends_from_blocks(rt: HostRuntime) -> Result<(), Fail> {
 // Of two columns that always cancel both are in the least minimiser.
 #[test]
 fn finds_columns_that_cancel(rt: HostRuntime) -> Result<(), Fail> {
-    let t = Pattern::empty(rt.alloc(), 2)?;
+    let t = Pattern::empty(rt.alloc(), 2);
     let q = constants(rt.alloc(), 2, &[&[1, 1], &[1, 1]])?;
     assert_solved(&rt, rt.alloc(), q, t, 1, "q-.-")
 }
@@ -230,7 +230,7 @@ fn finds_columns_that_cancel(rt: HostRuntime) -> Result<(), Fail> {
 // Row 0 may take column 0 first, which row 1 needs.
 #[test]
 fn walks_where_a_greedy_pair_stops(rt: HostRuntime) -> Result<(), Fail> {
-    let mut t = Pattern::empty(rt.alloc(), 3)?;
+    let mut t = Pattern::empty(rt.alloc(), 3);
     t.push_row(&[0, 2])?;
     t.push_row(&[0, 1])?;
     t.push_row(&[1])?;
@@ -267,10 +267,10 @@ fn assert_pivots(
 // A column that takes a Q row takes a pivot, and one that takes a T row takes none.
 #[test]
 fn counts_pivots(rt: HostRuntime) -> Result<(), Fail> {
-    let t = Pattern::empty(rt.alloc(), 2)?;
+    let t = Pattern::empty(rt.alloc(), 2);
     let q = constants(rt.alloc(), 2, &[&[1, 1], &[1, 2]])?;
     assert_pivots(&rt, rt.alloc(), q, t, 2)?;
-    let mut t = Pattern::empty(rt.alloc(), 2)?;
+    let mut t = Pattern::empty(rt.alloc(), 2);
     t.push_row(&[0, 1])?;
     t.push_row(&[0])?;
     let q = constants(rt.alloc(), 2, &[])?;
@@ -329,7 +329,7 @@ fn assert_bared<R: Abort>(rt: &R, alloc: Global, bared: &Bared) -> Result<(), Fa
 #[test]
 fn opens_on_a_tableau_that_was_pivoted_and_bared(rt: HostRuntime) -> Result<(), Fail> {
     let rows: &[&[u64]] = &[&[1, 2, 0, 0], &[2, 4, 1, 0]];
-    let mut t = Pattern::empty(rt.alloc(), 4)?;
+    let mut t = Pattern::empty(rt.alloc(), 4);
     t.push_row(&[2, 3])?;
     let one = layered(rt.alloc(), constants(rt.alloc(), 4, rows)?, t)?;
     let bared = Bared {
@@ -340,7 +340,7 @@ fn opens_on_a_tableau_that_was_pivoted_and_bared(rt: HostRuntime) -> Result<(), 
         pivots: 2,
     };
     assert_bared(&rt, rt.alloc(), &bared)?;
-    let mut t = Pattern::empty(rt.alloc(), 4)?;
+    let mut t = Pattern::empty(rt.alloc(), 4);
     t.push_row(&[2, 3])?;
     t.push_row(&[3])?;
     let two = layered(rt.alloc(), constants(rt.alloc(), 4, rows)?, t)?;
@@ -376,7 +376,7 @@ fn looks_of_two_runs<L: Ledger>(
 // the T row, and 3, which it touches too, leads to 2.
 #[test]
 fn looks_once_at_what_is_left_out(rt: HostRuntime) -> Result<(), Fail> {
-    let mut t = Pattern::empty(rt.alloc(), 4)?;
+    let mut t = Pattern::empty(rt.alloc(), 4);
     t.push_row(&[2, 3])?;
     let q = constants(rt.alloc(), 4, &[&[1, 1, 0, 0]])?;
     let layered = layered(rt.alloc(), q, t)?;

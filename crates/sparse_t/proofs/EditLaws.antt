@@ -16,7 +16,9 @@ use Rattle.sparse_t.specs.Columns.{AreIndexed, list_items_at}
 use Rattle.sparse_t.specs.Edits.{RoomyIncidence, IsRoomy}
 use Rattle.sparse_t.proofs.ListLaws.{nat_cases, has-member}
 use Rattle.sparse_t.proofs.ShelfLaws.{all-insert, all-remove}
-use Rattle.sparse_t.proofs.NumberLaws.{skip_other, rising-skip, below-skip, has-skip, has-gap, rising-unskip, below-unskip, has-unskip, put-rising, put-below, put-there, put-others, taken-rising, taken-below, taken-gone, taken-others, rising-length}
+use Rattle.sparse_t.proofs.NumberLaws.{skip_other, rising-skip, below-skip, has-skip, has-gap, rising-unskip, below-unskip, has-unskip}
+use Rattle.sparse_t.proofs.NumberLaws.{put-rising, put-below, put-there, put-others, taken-rising, taken-below, taken-gone, taken-others}
+use Rattle.sparse_t.proofs.NumberLaws.{rising-length}
 
 module _ (rows columns : ShelfLists) (row_room column_room : ℕ) (S : IsRoomy rows columns row_room column_room) where
   raised-list : (s : ShelfLists) (v j : ℕ) → j < length s.lists → shelf_list (numbers_raised s v) j ≡ map (skip v) (shelf_list s j)

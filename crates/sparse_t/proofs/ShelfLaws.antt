@@ -1,5 +1,6 @@
 -- What a write to a shelf's lists leaves.
-use Rattle.std.proofs.Common.{◌≡◌, ◌≢◌, ℕ, suc, ◌+◌, ◌<◌, ◌≤◌, true, false, List, [], ◌∷◌, ◌++◌, length, map, take, drop, get_or, slice_set, sym, ◌∙◌, ap, subst, ◌⊎◌, inl, inr, Result, Ok, Err, is_ok, arith, length-append}
+use Rattle.std.proofs.Common.{◌≡◌, ◌≢◌, ℕ, suc, ◌+◌, ◌<◌, ◌≤◌, true, false, List, [], ◌∷◌, ◌++◌, length, map, take, drop, get_or, slice_set}
+use Rattle.std.proofs.Common.{sym, ◌∙◌, ap, subst, ◌⊎◌, inl, inr, Result, Ok, Err, is_ok, arith, length-append}
 use Rattle.std.proofs.lemmas.List.{get_or-map, map-append, map-set, length-set, length-map, take-map, drop-map, take-append-le, take_all, ext_get_or}
 use Rattle.std.proofs.Math.Seq.{get_or-append_seam}
 use Rattle.std.proofs.Math.ListN.{get_or-append}

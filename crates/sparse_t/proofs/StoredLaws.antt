@@ -12,17 +12,13 @@ use Rattle.sparse_t.proofs.IncidenceLaws.{incidence-last, rows_of-last}
 abbrev seen : List (SmallVec ℕ) → List (SmallVec ℕ) → Incidence
 seen rows columns = record { width = length columns; rows = map (λ row. row.items) rows }
 
-pub row-stored : (p : Incidence) (rows columns : List (SmallVec ℕ)) (i : ℕ) (v : SmallVec ℕ) → record {
-  width =
-      length columns;
-  rows = map (λ row. row.items) rows;
-} ≡ p → AreIndexed rows columns → i < incidence_rows p →
-    v ≡ get_or rows i v →
+pub row-stored : (p : Incidence) (w : ℕ) (rows : List (SmallVec ℕ)) (i : ℕ) (v : SmallVec ℕ) → record { width = w; rows = map (λ row. row.items) rows } ≡ p →
+    IsIncidence (record { width = w; rows = map (λ row. row.items) rows }) → i < incidence_rows p → v ≡ get_or rows i v →
     IsStrictlyIncreasing v.items × AreAllBelow p.width v.items × (columns_at p i ≡ v.items)
-row-stored p rows columns i v e S l r = (subst IsStrictlyIncreasing here (I.rising i l), subst (AreAllBelow p.width) here (I.below i l), here)
+row-stored p w rows i v e S l r = (subst IsStrictlyIncreasing here (I.rising i l), subst (AreAllBelow p.width) here (I.below i l), here)
   where
     I : IsIncidence p
-    I = subst IsIncidence e S.incidence
+    I = subst IsIncidence e S
 
     within : i < length rows
     within = omega (arith, length-map rows (λ (row : SmallVec ℕ). row.items), ap incidence_rows e, l)

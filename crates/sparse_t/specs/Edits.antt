@@ -1,5 +1,5 @@
 -- Patterns with a row or a column more, and with one less.
-use Rattle.std.specs.Prelude.{ℕ, ◌+◌, ◌-◌, ◌<◌, ◌≤◌, List, length, map}
+use Rattle.std.specs.Prelude.{ℕ, ◌+◌, ◌-◌, ◌<◌, ◌≤◌, List, length, map, max}
 use Rattle.std.specs.List.{insert, remove}
 use Rattle.linear_algebra.specs.Parts.{skip, unskip}
 use Rattle.sparse_t.specs.Incidences.{Incidence, IsIncidence, AreRowsAt}
@@ -10,6 +10,13 @@ pub record RoomyIncidence : Type 0 where
   pub pattern : Incidence
   pub row_room : ℕ
   pub column_room : ℕ
+
+-- with room for at least so many rows and columns
+abbrev pub with_pattern_room : RoomyIncidence → ℕ → ℕ → RoomyIncidence
+with_pattern_room p rows columns = record p {
+  row_room = max p.row_room rows;
+  column_room = max p.column_room columns;
+}
 
 -- with the row put in as row v
 abbrev pub row_inserted : Incidence → ℕ → List ℕ → Incidence

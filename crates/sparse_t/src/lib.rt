@@ -1,7 +1,8 @@
-//! Patterns of symbol places: rows as short lists of columns, with the rows of each column beside them.
+//! Patterns of symbol places: rows as short lists of columns, and where they are edited the rows of each column beside them.
 #![tactic(auto)]
 
 mod columns;
+mod indexed;
 mod lists;
 mod moves;
 mod pattern;

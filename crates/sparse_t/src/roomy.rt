@@ -1,19 +1,22 @@
 //! Patterns that gain and lose rows and columns.
 
-ghost use Rattle.std.specs.Prelude.{◌≡◌, ◌≤◌, ◌<◌, ℕ, false, OnOk, OnErr};
+ghost use Rattle.std.specs.Prelude.{◌≡◌, ◌≤◌, ◌<◌, ℕ, false, IfOk, OnOk, OnErr};
 ghost use Rattle.std.specs.List.Sorted.{IsStrictlyIncreasing};
 ghost use Rattle.limits.specs.Limits.{column_limit};
 ghost use Rattle.sparse_t.specs.Lists.{AreAllBelow};
 ghost use Rattle.sparse_t.specs.Incidences.{Incidence, IsIncidence, AreRowsAt, incidence_rows, columns_at, touches};
-ghost use Rattle.sparse_t.specs.Edits.{RoomyIncidence, row_inserted, row_removed, column_inserted, column_removed};
+ghost use Rattle.sparse_t.specs.Edits.{row_inserted, row_removed, column_inserted, column_removed, with_pattern_room, RoomyIncidence};
 
+use crate::indexed::Indexed;
 use crate::lists::holds;
 use crate::pattern::Pattern;
 use crate::shelf::Shelf;
 use out_of_memory::NoMemory;
+use std::alloc::Global;
 use std::marker::Model;
 
-/// A pattern that gains and loses rows and columns, in room that is taken before. Rows and columns are counted from 0.
+/// A pattern that gains and loses rows and columns, in room that is taken before. Rows and columns are counted from 0. It keeps
+/// the columns of each row and the rows of each column.
 #[derive(Drop)]
 pub struct RoomyPattern {
     rows: Shelf,
@@ -38,17 +41,17 @@ impl Model for RoomyPattern {
 }
 
 impl RoomyPattern {
-    /// The pattern, with no room for more. It takes no memory.
-    pub fn of(pattern: Pattern) -> RoomyPattern
-        ensures { result ≡ record { pattern = pattern; row_room = 0; column_room = 0 } }
+    /// A copy of a pattern, with no room for more.
+    pub fn of(alloc: Global, pattern: &Pattern) -> Result<RoomyPattern, NoMemory>
+        ensures { IfOk result (λ p. p ≡ record { pattern = pattern.now; row_room = 0; column_room = 0 }) }
     {
-        let (rows, columns) = pattern.into_lists();
-        RoomyPattern {
+        let (rows, columns) = Indexed::of(alloc, pattern)?.into_lists();
+        Ok(RoomyPattern {
             rows: Shelf::of(rows),
             columns: Shelf::of(columns),
             row_room: 0,
             column_room: 0,
-        }
+        })
     }
 
     /// Tells a proof what a pattern keeps. It does nothing when it runs.
@@ -108,17 +111,13 @@ impl RoomyPattern {
         self.columns.list(col)
     }
 
-    /// Takes room for at least so many rows and columns. Where it takes more, it takes an eighth more at least.
+    /// Takes room for at least so many rows and columns.
     pub fn room(&mut self, rows: usize, cols: usize) -> Result<(), NoMemory>
-        ensures pattern { self.new.pattern ≡ self.old.pattern }
-        ensures rows { OnOk result (rows ≤ self.new.row_room) }
-        ensures cols { OnOk result (cols ≤ self.new.column_room) }
-        ensures more_rows { self.old.row_room ≤ self.new.row_room }
-        ensures more_cols { self.old.column_room ≤ self.new.column_room }
+        ensures ok { OnOk result (self.new ≡ with_pattern_room self.old rows cols) }
         ensures err { OnErr result (self.new ≡ self.old) }
     {
-        let rows = grown(rows, self.row_room);
-        let cols = grown(cols, self.column_room);
+        let rows = rows.max(self.row_room);
+        let cols = cols.max(self.column_room);
         self.rows.room(rows, cols)?;
         self.columns.room(cols, rows)?;
         self.row_room = rows;
@@ -171,17 +170,5 @@ impl RoomyPattern {
     {
         self.rows.lower(at);
         self.columns.take(at);
-    }
-}
-
-// So much room where so much is asked for and so much was there: an eighth more at least, if it grows below 8,192.
-fn grown(asked: usize, had: usize) -> usize
-    ensures asked { asked ≤ result }
-    ensures had { had ≤ result }
-{
-    if asked <= had {
-        had
-    } else {
-        asked.max(had.saturating_add(had / 8).min(8_192))
     }
 }

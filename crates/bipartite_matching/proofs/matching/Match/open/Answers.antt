@@ -6,7 +6,7 @@ use Rattle.bipartite_matching.proofs.matching.Match.open.Goals as goal
 
 pub invariant_of-result : goal.invariant_of-result
 invariant_of-result c =
-    let told : c.of.result.pattern ≡ c.args.t.now = ap (λ (t : RoomyIncidence). t.pattern) c.of.ensures ∙ c.in_ok-pattern.ensures in
-    stored-empty c.of.result c.in_ok-pairs.pairs c.rows.result c.cols.result
+    let told : c.in_ok-pattern.pattern.pattern ≡ c.args.t.now = ap (λ (t : RoomyIncidence). t.pattern) c.in_ok-pattern.ensures in
+    stored-empty c.in_ok-pattern.pattern c.in_ok-pairs.pairs c.rows.result c.cols.result
     (c.rows.ensures.rows ∙ ap incidence_rows (sym told)) (c.cols.ensures.cols ∙ ap (λ (p : Incidence). p.width) (sym told))
     c.in_ok-pairs.ensures

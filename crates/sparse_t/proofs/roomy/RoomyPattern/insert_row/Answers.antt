@@ -6,7 +6,8 @@ use Rattle.sparse_t.specs.Lists.{AreAllBelow}
 use Rattle.sparse_t.specs.Incidences.{incidence_rows}
 use Rattle.sparse_t.specs.Shelves.{ShelfLists, shelf_list, IsNumberPut, AreListsChanged}
 use Rattle.sparse_t.specs.Edits.{RoomyIncidence, IsRoomy, row_inserted}
-use Rattle.sparse_t.proofs.EditLaws.{columns-small, raised-count, raised-rising, raised-missing, raised-room, row-fits, entered-count, roomy-row_in, seen-edited}
+use Rattle.sparse_t.proofs.EditLaws.{columns-small, raised-count, raised-rising, raised-missing, raised-room, row-fits, entered-count}
+use Rattle.sparse_t.proofs.EditLaws.{roomy-row_in, seen-edited}
 use Rattle.sparse_t.proofs.roomy.RoomyPattern.insert_row.Goals as goal
 
 pub raise-requires : goal.raise-requires

@@ -21,7 +21,7 @@ invariant_of-self-2 c =
     let told = c.in_ok-room.ensures.ok in
     let later = c.in_ok-room-2.ensures.ok in
     roomy-wider c.self.inside.rows c.self.inside.columns c.self.inside.row_room c.self.inside.column_room S c.room.new.self c.room-2.new.self
-    c.grown-rows.result c.grown-cols.result (ap (λ (s : ShelfLists). s.lists) told) (ap (λ (s : ShelfLists). s.lists) later)
+    c.max-rows.result c.max-cols.result (ap (λ (s : ShelfLists). s.lists) told) (ap (λ (s : ShelfLists). s.lists) later)
     (omega (arith, ap (λ (s : ShelfLists). s.count) told))
     (omega (arith, ap (λ (s : ShelfLists). s.width) told))
     (omega (arith, ap (λ (s : ShelfLists). s.count) later))

@@ -3,7 +3,7 @@ use Rattle.std.proofs.lemmas.List.{length-map}
 use Rattle.smallvec.specs.SmallVec.{SmallVec}
 use Rattle.sparse_t.specs.Incidences.{Incidence, incidence_rows}
 use Rattle.sparse_t.proofs.StoredLaws.{stored-kept, stored-push}
-use Rattle.sparse_t.proofs.pattern.Pattern.push_row.Goals as goal
+use Rattle.sparse_t.proofs.indexed.Indexed.push_row.Goals as goal
 
 pub invariant_of-self-in_err-enter : goal.invariant_of-self-in_err-enter
 invariant_of-self-in_err-enter c = stored-kept c.self.inside.rows.items c.reserve.new.self.items
