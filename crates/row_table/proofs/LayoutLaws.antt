@@ -1,5 +1,6 @@
 -- The places of the columns as lists.
-use Rattle.std.proofs.Common.{◌≡◌, ℕ, ◌+◌, ◌-◌, ◌<◌, ◌≤◌, Bool, true, false, not, ltb, eqb, cond, List, length, slice_index, slice_index_or, slice_set, inl, inr, ap, sym, subst, ◌∙◌, arith}
+use Rattle.std.proofs.Common.{◌≡◌, ℕ, ◌+◌, ◌-◌, ◌<◌, ◌≤◌, Bool, true, false, not, ltb, eqb, cond, List, length, slice_index, slice_index_or, slice_set, inl}
+use Rattle.std.proofs.Common.{inr, ap, sym, subst, ◌∙◌, arith}
 use Rattle.std.proofs.Math.Path.{fun_ext}
 use Rattle.std.proofs.lemmas.List.{get_or-set_same, get_or-set_other, length-set, get_or_read}
 use Rattle.std.proofs.lemmas.Bool.Decides.{nat_tests}
@@ -9,7 +10,7 @@ use Rattle.row_table.specs.Places.{Places, HaveSlots, exchanged}
 use Rattle.row_table.specs.Layouts.{Layout, IsLayout, IsFirst, layout_places, moved, all, rows_of_layout}
 use Rattle.row_table.proofs.PlaceLaws.{if_same, if_other, exchanged-placed}
 
-set-at : {A : Type 0} (xs : List A) (r : ℕ) (v d : A) → r < length xs →
+pub set-at : {A : Type 0} (xs : List A) (r : ℕ) (v d : A) → r < length xs →
     ◌≡◌ {A = ℕ → A} (λ i. slice_index_or (slice_set xs r v) i d) (λ i. cond (eqb i r) v (slice_index_or xs i d))
 set-at xs r v d rl = fun_ext (λ i. elim (nat_cases i r) [
   | inl q ↦ subst (λ k. slice_index_or (slice_set xs r v) k d ≡ v) (sym q) (get_or-set_same xs r v d rl)
@@ -86,6 +87,8 @@ moved_to l r v g w = record {
   units = slice_set (slice_set l.units g false) v true;
   unit_rows = slice_set l.unit_rows v r;
   slots = slice_set l.slots g w;
+  row_room = l.row_room;
+  column_room = l.column_room;
 }
 
 pub read-laid : (l : Layout) (r v g w : ℕ) → IsLayout l → r < rows_of_layout l → v < all l → (layout_places l).is_unit v ≡ false →

@@ -1,5 +1,6 @@
 -- A matrix beside which changes wait: what each step does to the actual entries.
-use Rattle.std.proofs.Common.{◌≡◌, ℕ, ◌+◌, ◌*◌, ◌%◌, ◌<◌, ◌≢◌, List, [], length, map, slice_index, slice_index_or, slice_set, ◌⊎◌, inl, inr, refl, ap, sym, subst, ◌∙◌, arith, add-one}
+use Rattle.std.proofs.Common.{◌≡◌, ℕ, ◌+◌, ◌*◌, ◌%◌, ◌<◌, ◌≤◌, ◌≢◌, List, [], length, map, slice_index, slice_index_or, slice_set, ◌⊎◌, inl, inr, refl, ap}
+use Rattle.std.proofs.Common.{sym, subst, ◌∙◌, arith, add-one}
 use Rattle.std.proofs.Math.Nat.{mod-mod, zero-mod, mod-eq_of_lt}
 use Rattle.std.proofs.lemmas.List.{get_or-set_same, get_or-set_other, length-set, get_or-map, length-map, map-set}
 use Rattle.residue_theory.specs.Sets.{everything, without}
@@ -52,7 +53,7 @@ sum-taken n t f g y tl zero same =
     ∙ ap (λ s. f t * y t + s) (sym (sum_on-without everything n t (λ w. g w * y w) tl refl))
 
 -- of row i the change t is made
-pub made-same : (p : ℕ) (old now : Kept) (i t k : ℕ) → i < height old.stored → t < old.count →
+pub made-same : (p : ℕ) (old now : Kept) (i t k : ℕ) → old.columns ≤ old.stored.width → t < old.count →
     k ≡ entry old.factors i t →
     now.pending ≡ old.pending → now.count ≡ old.count →
     ((j : ℕ) → j < old.stored.width → entry now.stored i j ≡ (entry old.stored i j + k * entry old.pending t j) % p) →
@@ -60,7 +61,7 @@ pub made-same : (p : ℕ) (old now : Kept) (i t k : ℕ) → i < height old.stor
     entry now.factors i t ≡ 0 → ((u w : ℕ) → u ≢ i → entry now.factors u w ≡ entry old.factors u w) →
     ((w : ℕ) → w ≢ t → entry now.factors i w ≡ entry old.factors i w) →
     IsActuallySame p now old
-made-same p old now i t k il tl factor pending count changed stays zero other_rows other_changes u j ul jl =
+made-same p old now i t k fits tl factor pending count changed stays zero other_rows other_changes u j ul jl =
     elim (nat_cases u i) [
       | inl q ↦ subst (λ x. actual p now x j ≡ actual p old x j) (sym q) here
       | inr ne ↦ ap (λ s. (s + waiting now u j) % p) (stays u j ne)
@@ -80,7 +81,7 @@ made-same p old now i t k il tl factor pending count changed stays zero other_ro
     here =
         agree-add p (entry now.stored i j) (entry old.stored i j + k * entry old.pending t j) (waiting now i j)
         (sum_below old.count (λ w. entry now.factors i w * entry old.pending w j))
-        (ap (λ y. y % p) (changed j jl) ∙ mod-mod (entry old.stored i j + k * entry old.pending t j) p)
+        (ap (λ y. y % p) (changed j (omega (arith, fits, jl))) ∙ mod-mod (entry old.stored i j + k * entry old.pending t j) p)
         (ap (λ y. y % p) (rows_are i))
         ∙ ap (λ y. y % p) (ap (λ f. entry old.stored i j + f * entry old.pending t j + sum_below old.count
         (λ w. entry now.factors i w * entry old.pending w j)) factor
@@ -94,7 +95,12 @@ made-same p old now i t k il tl factor pending count changed stays zero other_ro
 
 -- ---- sizes and shapes
 pub shape-trans : (a b c : Kept) → HasSameShape a b → HasSameShape b c → HasSameShape a c
-shape-trans a b c e h = record { rows_same = e.rows_same ∙ h.rows_same; columns_same = e.columns_same ∙ h.columns_same }
+shape-trans a b c e h = record {
+  rows_same = e.rows_same ∙ h.rows_same;
+  columns_same = e.columns_same ∙ h.columns_same;
+  height_same = e.height_same ∙ h.height_same;
+  width_same = e.width_same ∙ h.width_same;
+}
 
 pub same-trans : (p : ℕ) (a b c : Kept) → HasSameShape b c → IsActuallySame p a b → IsActuallySame p b c →
     IsActuallySame p a c
@@ -160,43 +166,50 @@ settled-actual : (p : ℕ) (k : Kept) (i j : ℕ) → IsSettled k i → actual p
 settled-actual p k i j h = ap (λ s. (entry k.stored i j + s) % p) (settled-none k i j h) ∙ ap (λ y. y % p) (omega arith)
 
 pub flushed-same : (p : ℕ) (old mid : Kept) → HasSameShape mid old → IsActuallySame p mid old →
-    ((u : ℕ) → u < height mid.stored → IsSettled mid u) → IsActuallySame p (record mid { count = 0 }) old
+    ((u : ℕ) → u < mid.rows → IsSettled mid u) → IsActuallySame p (record mid { count = 0 }) old
 flushed-same p old mid shape same settled i j il jl =
     ap (λ y. y % p) (let q : entry mid.stored i j + 0 ≡ entry mid.stored i j = omega arith in q)
     ∙ sym (settled-actual p mid i j (settled i (subst (λ m. i < m) (sym shape.rows_same) il))) ∙ same i j il jl
 
-pub scaled-actual : (p : ℕ) (old mid : Kept) (stored : Table) (i k : ℕ) → i < height old.stored →
+pub scaled-actual : (p : ℕ) (old mid : Kept) (stored : Table) (i k : ℕ) → i < old.rows → AreKeptFactors mid →
     HasSameShape mid old → IsActuallySame p mid old → IsSettled mid i →
     IsRowScaled p (height mid.stored) mid.stored.width (entry mid.stored) (entry stored) i k →
-    IsRowScaled p (height old.stored) old.stored.width (actual p old) (actual p (record mid { stored = stored })) i k
-scaled-actual p old mid stored i k il shape same settled scaled = record {
+    IsRowScaled p old.rows old.columns (actual p old) (actual p (record mid { stored = stored })) i k
+scaled-actual p old mid stored i k il fit shape same settled scaled = record {
   changed = λ j jl.
       ap (λ y. y % p) (settled-actual p (record mid { stored = stored }) i j settled) ∙ mod-mod (entry stored i j) p
-      ∙ scaled.changed j (subst (λ n. j < n) (sym shape.columns_same) jl)
+      ∙ scaled.changed j (omega (arith, shape.columns_same, fit.columns_fit, jl))
       ∙ agree-mul p k (entry mid.stored i j) (actual p old i j) (sym (mod-mod (entry mid.stored i j) p)
       ∙ ap (λ y. y % p) (sym (settled-actual p mid i j settled) ∙ same i j il jl));
   others = λ u j ul jl ne.
       mod-mod (entry stored u j + waiting mid u j) p
       ∙ agree-add p (entry stored u j) (entry mid.stored u j) (waiting mid u j) (waiting mid u j)
-      (scaled.others u j (subst (λ m. u < m) (sym shape.rows_same) ul)
-      (subst (λ n. j < n) (sym shape.columns_same) jl) ne) refl
+      (scaled.others u j (omega (arith, shape.rows_same, fit.rows_fit, ul))
+      (omega (arith, shape.columns_same, fit.columns_fit, jl)) ne) refl
       ∙ same u j ul jl ∙ sym (mod-mod (entry old.stored u j + waiting old u j) p);
 }
 
 -- ---- a unit column
-abbrev with_tables : Kept → Table → Table → Kept
-with_tables old stored pending = record { stored = stored; factors = old.factors; pending = pending; count = old.count }
+abbrev pub with_tables : Kept → Table → Table → Kept
+with_tables old stored pending = record {
+  rows = old.rows;
+  columns = old.columns;
+  stored = stored;
+  factors = old.factors;
+  pending = pending;
+  count = old.count;
+}
 
 pub unit-put : (p : ℕ) → IsPrime p → (old : Kept) (cleared now pending : Table) (r j x : ℕ) → AreKeptFactors old →
-    r < height old.stored →
+    r < old.rows →
     ((t : ℕ) → t < height old.pending → entry pending t j ≡ 0) →
     ((t c : ℕ) → c ≢ j → entry pending t c ≡ entry old.pending t c) →
     ((i : ℕ) → i < height old.stored → entry cleared i j ≡ 0) →
     ((i c : ℕ) → c ≢ j → entry cleared i c ≡ entry old.stored i c) →
     x ≡ 1 → entry now r j ≡ x → ((i c : ℕ) → i ≢ r → entry now i c ≡ entry cleared i c) →
     ((c : ℕ) → c ≢ j → entry now r c ≡ entry cleared r c) →
-    (i c : ℕ) → i < height old.stored → c < old.stored.width →
-    actual p (record { stored = now; factors = old.factors; pending = pending; count = old.count }) i c
+    (i c : ℕ) → i < old.rows → c < old.columns →
+    actual p (with_tables old now pending) i c
     ≡ with_unit (actual p old) r j i c
 unit-put p prime old cleared now pending r j x kept rl none others zeros stays one here other_rows other_columns i c
     il cl = elim (nat_cases c j) [
@@ -227,7 +240,7 @@ unit-put p prime old cleared now pending r j x kept rl none others zeros stays o
     number_here : c ≡ j → (i ≡ r) ⊎ (i ≢ r) → entry now i c ≡ identity i r
     number_here q (inl s) = subst (λ u. entry now u c ≡ identity u r) (sym s) (ap (λ d. entry now r d) q ∙ here ∙ one
         ∙ sym (identity-same r))
-    number_here q (inr ne) = other_rows i c ne ∙ ap (λ d. entry cleared i d) q ∙ zeros i il
+    number_here q (inr ne) = other_rows i c ne ∙ ap (λ d. entry cleared i d) q ∙ zeros i (omega (arith, kept.rows_fit, il))
         ∙ sym (identity-other i r ne)
 
     small : (i ≡ r) ⊎ (i ≢ r) → identity i r < p
@@ -244,12 +257,19 @@ unit-put p prime old cleared now pending r j x kept rl none others zeros stays o
 module _ (p : ℕ) (old : Kept) (put factors pending : Table) (r : ℕ) (f : ℕ → ℕ) (z : ℕ) (settled : IsSettled old r)
     (copied : (j : ℕ) → entry pending old.count j ≡ entry old.stored r j) (stays : (t j : ℕ) → t ≢ old.count →
     entry pending t j ≡ entry old.pending t j)
-    (puts : (i : ℕ) → i < height old.factors → entry put i old.count ≡ f i) (others : (i t : ℕ) → t ≢ old.count →
+    (puts : (i : ℕ) → i < old.rows → entry put i old.count ≡ f i) (others : (i t : ℕ) → t ≢ old.count →
     entry put i t ≡ entry old.factors i t)
     (zero : z ≡ 0) (here : entry factors r old.count ≡ z) (other_rows : (i t : ℕ) → i ≢ r → entry factors i t
     ≡ entry put i t) (other_columns : (t : ℕ) → t ≢ old.count → entry factors r t ≡ entry put r t) where
   abbrev more : Kept
-  more = record { stored = old.stored; factors = factors; pending = pending; count = old.count + 1 }
+  more = record {
+    rows = old.rows;
+    columns = old.columns;
+    stored = old.stored;
+    factors = factors;
+    pending = pending;
+    count = old.count + 1;
+  }
 
   factor-before : (i t : ℕ) → t < old.count → entry factors i t ≡ entry old.factors i t
   factor-before i t tl = elim (nat_cases i r) [
@@ -273,7 +293,7 @@ module _ (p : ℕ) (old : Kept) (put factors pending : Table) (r : ℕ) (f : ℕ
   change-here j = ap (λ s. (entry old.stored r j + s) % p) (more-waits r j 0 (here ∙ zero)
       ∙ (let q : waiting old r j + 0 * entry old.stored r j ≡ waiting old r j = omega arith in q))
 
-  pub change-others : (i j : ℕ) → i < height old.factors → i ≢ r → actual p more i j
+  pub change-others : (i j : ℕ) → i < old.rows → i ≢ r → actual p more i j
       ≡ (actual p old i j + f i * actual p old r j) % p
   change-others i j il ne =
       ap (λ s. (entry old.stored i j + s) % p) (more-waits i j (f i) (other_rows i old.count ne ∙ puts i il))

@@ -170,7 +170,7 @@ module _ (p : ℕ) (prime : IsPrime p) (m n : ℕ) (a b : ℕ → ℕ → ℕ) (
     ];
   }
 
-  keeps : (j : ℕ) → j < n → a r j % p ≡ 0 → (i : ℕ) → i < m → b i j % p ≡ a i j % p
+  pub keeps : (j : ℕ) → j < n → a r j % p ≡ 0 → (i : ℕ) → i < m → b i j % p ≡ a i j % p
   keeps j jl z i il = elim (nat_cases i r) [
     | inl q ↦ subst (λ t. b t j % p ≡ a t j % p) (sym q) (zero ∙ sym z)
     | inr ne ↦ sym (reduced.others i j il jl ne

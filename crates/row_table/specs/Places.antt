@@ -57,3 +57,7 @@ ExchangesReduceTheWhole =
 -- the columns of q, with n columns, and after them the unit columns of the rows
 abbrev pub with_units : ℕ → (ℕ → ℕ → ℕ) → ℕ → ℕ → ℕ
 with_units n q i c = cond (ltb c n) (q i c) (identity i (c - n))
+
+-- the numbers below n + 1 with the last one, n, in the place of k
+abbrev pub last_at : ℕ → ℕ → ℕ → ℕ
+last_at k n i = cond (eqb i k) n i

@@ -32,3 +32,7 @@ ReductionsArePivots =
 -- a and b have m rows and n columns: each row of a that is zero in column v stays in b, other than row r
 abbrev pub ZeroRowsStay : ℕ → ℕ → ℕ → (ℕ → ℕ → ℕ) → (ℕ → ℕ → ℕ) → ℕ → ℕ → Type 0
 ZeroRowsStay p m n a b r v = (i j : ℕ) → i < m → j < n → i ≢ r → a i v % p ≡ 0 → b i j % p ≡ a i j % p
+
+-- a and b have m rows and m columns: each column of a that is zero in row r stays in b
+abbrev pub ZeroColumnsStay : ℕ → ℕ → (ℕ → ℕ → ℕ) → (ℕ → ℕ → ℕ) → ℕ → Type 0
+ZeroColumnsStay p m a b r = (j : ℕ) → j < m → a r j % p ≡ 0 → (i : ℕ) → i < m → b i j % p ≡ a i j % p

@@ -1,9 +1,10 @@
 //! Where the columns of [Q | 1] stand in one table.
 
-ghost use Rattle.std.specs.Prelude.{◌≡◌, ◌≢◌, ℕ, ◌+◌, ◌-◌, ◌<◌, ◌≤◌, Bool, true, false, not, ltb, length, slice_index, slice_index_or, IfOk, IfSome, IfNone, IsTrue, ◌↔◌};
+ghost use Rattle.std.specs.Prelude.{◌≡◌, ◌≢◌, ℕ, ◌+◌, ◌-◌, ◌<◌, ◌≤◌, Bool, true, false, not, ltb, length, slice_index};
+ghost use Rattle.std.specs.Prelude.{slice_index_or, IfOk, IfSome, IfNone, IsTrue, ◌↔◌};
 ghost use Rattle.limits.specs.Limits.{column_limit};
 ghost use Rattle.row_table.specs.Places.{Places, exchanged};
-ghost use Rattle.row_table.specs.Layouts.{Layout, rows_of_layout, all, layout_places, moved, IsFirst};
+ghost use Rattle.row_table.specs.Layouts.{Layout, rows_of_layout, all, layout_places, moved, IsFirst, IsLayout};
 
 use out_of_memory::NoMemory;
 use std::alloc::{AllocError, Global};
@@ -13,15 +14,18 @@ use std::marker::Model;
 /// unit column now, or has a slot in a table that is as wide as the matrix. There are at most 8,192 rows and columns.
 #[derive(Drop)]
 pub struct Placement {
-    columns: usize,
-    basic: Vec<usize>,
-    units: Vec<bool>,
-    rows: Vec<usize>,
-    slots: Vec<usize>,
+    pub(crate) columns: usize,
+    pub(crate) basic: Vec<usize>,
+    pub(crate) units: Vec<bool>,
+    pub(crate) rows: Vec<usize>,
+    pub(crate) slots: Vec<usize>,
+    pub(crate) row_room: usize,
+    pub(crate) column_room: usize,
 }
 
 impl Model for Placement {
-    ghost use Rattle.row_table.specs.Layouts.{Layout, IsLayout};
+    ghost use Rattle.std.specs.Prelude.{vec_capacity};
+    ghost use Rattle.row_table.specs.Layouts.{Layout, HasListRoom, IsLayout};
 
     ghost Value = { Layout };
 
@@ -31,6 +35,8 @@ impl Model for Placement {
       units = t.units.items;
       unit_rows = t.rows.items;
       slots = t.slots.items;
+      row_room = t.row_room;
+      column_room = t.column_room;
     } };
 
     ghost invariant = { λ t. IsLayout (record {
@@ -39,7 +45,17 @@ impl Model for Placement {
       units = t.units.items;
       unit_rows = t.rows.items;
       slots = t.slots.items;
-    }) };
+      row_room = t.row_room;
+      column_room = t.column_room;
+    }) × HasListRoom (record {
+      columns = t.columns;
+      basic = t.basic.items;
+      units = t.units.items;
+      unit_rows = t.rows.items;
+      slots = t.slots.items;
+      row_room = t.row_room;
+      column_room = t.column_room;
+    }) (vec_capacity t.basic) (vec_capacity t.units) (vec_capacity t.rows) (vec_capacity t.slots) };
 }
 
 impl Placement {
@@ -58,7 +74,17 @@ impl Placement {
             units: units(alloc, columns, all)?,
             rows: offsets(alloc, columns, all)?,
             slots: numbers(alloc, 0, all)?,
+            row_room: 0,
+            column_room: 0,
         })
+    }
+
+    /// Tells a proof what the lists keep. It does nothing when it runs.
+    pub fn is_layout(&self)
+        ensures { IsLayout self.now }
+    {
+        // a proof knows what the type keeps once a field is read
+        let _ = &self.basic;
     }
 
     /// The column that is the unit column of a row.

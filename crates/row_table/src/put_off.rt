@@ -23,9 +23,12 @@ const MOST: usize = 16;
 /// actual matrix, to which all changes are made. Rows and columns are counted from 0.
 #[derive(Drop)]
 pub struct PutOff<F: Field> {
-    stored: Mat<F>,
-    factors: Mat<F>,
-    pending: Mat<F>,
+    pub(crate) rows: usize,
+    pub(crate) columns: usize,
+    // these three have room for so many rows and columns, and perhaps for more
+    pub(crate) stored: Mat<F>,
+    pub(crate) factors: Mat<F>,
+    pub(crate) pending: Mat<F>,
     count: usize,
 }
 
@@ -35,6 +38,8 @@ impl<F: Field> Model for PutOff<F> {
     ghost Value = { Kept };
 
     ghost view = { λ t. record {
+      rows = t.rows;
+      columns = t.columns;
       stored = t.stored;
       factors = t.factors;
       pending = t.pending;
@@ -42,6 +47,8 @@ impl<F: Field> Model for PutOff<F> {
     } };
 
     ghost invariant = { λ t. AreKeptFactors (record {
+      rows = t.rows;
+      columns = t.columns;
       stored = t.stored;
       factors = t.factors;
       pending = t.pending;
@@ -54,8 +61,12 @@ impl<F: Field> PutOff<F> {
     pub fn open(alloc: Global, q: &EntryMat<F>) -> Result<PutOff<F>, NoMemory>
         ensures stored { IfOk result (λ t. t.stored ≡ q.now) }
         ensures count { IfOk result (λ t. t.count ≡ 0) }
+        ensures rows { IfOk result (λ t. t.rows ≡ height q.now) }
+        ensures columns { IfOk result (λ t. t.columns ≡ q.now.width) }
     {
         Ok(PutOff {
+            rows: q.rows(),
+            columns: q.cols(),
             stored: q.dense()?,
             factors: Mat::zeros(alloc, q.rows(), MOST)?,
             pending: Mat::zeros(alloc, MOST, q.cols())?,
@@ -65,24 +76,26 @@ impl<F: Field> PutOff<F> {
 
     /// How many rows there are.
     pub fn rows(&self) -> usize
-        ensures rows { result ≡ height self.now.stored }
+        ensures rows { result ≡ self.now.rows }
         ensures few { result ≤ column_limit }
     {
-        self.stored.rows()
+        self.stored.is_matrix();
+        self.rows
     }
 
     /// How many columns there are.
     pub fn columns(&self) -> usize
-        ensures columns { result ≡ self.now.stored.width }
+        ensures columns { result ≡ self.now.columns }
         ensures narrow { result ≤ column_limit }
     {
-        self.stored.cols()
+        self.stored.is_matrix();
+        self.columns
     }
 
     /// The actual entry.
     pub fn entry(&self, i: usize, j: usize) -> F
-        requires row { i < height self.now.stored }
-        requires column { j < self.now.stored.width }
+        requires row { i < self.now.rows }
+        requires column { j < self.now.columns }
         ensures { F.number result ≡ actual F.modulus self.now i j }
     {
         let mut sum = self.stored.get(i, j);
@@ -95,8 +108,8 @@ impl<F: Field> PutOff<F> {
 
     /// Writes the actual entries of a column.
     pub fn column(&self, j: usize, column: &mut [F])
-        requires column { j < self.now.stored.width }
-        requires length { length column.old ≡ height self.now.stored }
+        requires column { j < self.now.columns }
+        requires length { length column.old ≡ self.now.rows }
         ensures length { length column.new ≡ length column.old }
         ensures entries { (i : ℕ) → i < length column.old →
             slice_index (map F.number column.new) i ≡ actual F.modulus self.now i j }
@@ -108,7 +121,7 @@ impl<F: Field> PutOff<F> {
 
     // Makes what waits as change t for row i.
     fn make_one(&mut self, i: usize, t: usize)
-        requires row { i < height self.old.stored }
+        requires row { i < self.old.rows }
         requires waits { t < self.old.count }
         ensures shape { HasSameShape self.new self.old }
         ensures same { IsActuallySame F.modulus self.new self.old }
@@ -128,7 +141,7 @@ impl<F: Field> PutOff<F> {
 
     // Makes all changes that wait for row i.
     fn settle(&mut self, i: usize)
-        requires row { i < height self.old.stored }
+        requires row { i < self.old.rows }
         ensures shape { HasSameShape self.new self.old }
         ensures same { IsActuallySame F.modulus self.new self.old }
         ensures pending { self.new.pending ≡ self.old.pending }
@@ -155,9 +168,9 @@ impl<F: Field> PutOff<F> {
 
     /// Multiplies row i by c.
     pub fn scale_row(&mut self, i: usize, c: F)
-        requires row { i < height self.old.stored }
+        requires row { i < self.old.rows }
         ensures shape { HasSameShape self.new self.old }
-        ensures scaled { IsRowScaled F.modulus (height self.old.stored) self.old.stored.width
+        ensures scaled { IsRowScaled F.modulus self.old.rows self.old.columns
             (actual F.modulus self.old) (actual F.modulus self.new) i (F.number c) }
     {
         self.settle(i);
@@ -166,10 +179,10 @@ impl<F: Field> PutOff<F> {
 
     /// Puts the unit column of row r in the place of column j.
     pub fn put_unit(&mut self, j: usize, r: usize)
-        requires row { r < height self.old.stored }
-        requires column { j < self.old.stored.width }
+        requires row { r < self.old.rows }
+        requires column { j < self.old.columns }
         ensures shape { HasSameShape self.new self.old }
-        ensures put { (i c : ℕ) → i < height self.old.stored → c < self.old.stored.width →
+        ensures put { (i c : ℕ) → i < self.old.rows → c < self.old.columns →
             actual F.modulus self.new i c ≡ with_unit (actual F.modulus self.old) r j i c }
     {
         clear_column(&mut self.pending, j);
@@ -179,12 +192,12 @@ impl<F: Field> PutOff<F> {
 
     /// Adds multiples of row r to all other rows: the factor at i times row r to row i. That of row r is not read.
     pub fn add(&mut self, r: usize, factors: &[F])
-        requires row { r < height self.old.stored }
-        requires length { length factors.now ≡ height self.old.stored }
+        requires row { r < self.old.rows }
+        requires length { length factors.now ≡ self.old.rows }
         ensures shape { HasSameShape self.new self.old }
-        ensures here { (j : ℕ) → j < self.old.stored.width →
+        ensures here { (j : ℕ) → j < self.old.columns →
             actual F.modulus self.new r j ≡ actual F.modulus self.old r j }
-        ensures others { (i j : ℕ) → i < height self.old.stored → j < self.old.stored.width → i ≢ r →
+        ensures others { (i j : ℕ) → i < self.old.rows → j < self.old.columns → i ≢ r →
             actual F.modulus self.new i j ≡ (actual F.modulus self.old i j
             + slice_index (map F.number factors.now) i * actual F.modulus self.old r j) % F.modulus }
     {
@@ -197,14 +210,14 @@ impl<F: Field> PutOff<F> {
 
     // Lets multiples of row r, for which nothing waits, wait.
     fn put_change(&mut self, r: usize, factors: &[F])
-        requires row { r < height self.old.stored }
-        requires length { length factors.now ≡ height self.old.stored }
+        requires row { r < self.old.rows }
+        requires length { length factors.now ≡ self.old.rows }
         requires room { self.old.count < most }
         requires settled { IsSettled self.old r }
         ensures shape { HasSameShape self.new self.old }
-        ensures here { (j : ℕ) → j < self.old.stored.width →
+        ensures here { (j : ℕ) → j < self.old.columns →
             actual F.modulus self.new r j ≡ actual F.modulus self.old r j }
-        ensures others { (i j : ℕ) → i < height self.old.stored → j < self.old.stored.width → i ≢ r →
+        ensures others { (i j : ℕ) → i < self.old.rows → j < self.old.columns → i ≢ r →
             actual F.modulus self.new i j ≡ (actual F.modulus self.old i j
             + slice_index (map F.number factors.now) i * actual F.modulus self.old r j) % F.modulus }
     {
@@ -218,13 +231,13 @@ impl<F: Field> PutOff<F> {
     /// of column j, and the row operations follow that make the column that stood there that unit column. `space` has
     /// an item for each row; its old values are not read.
     pub fn exchange(&mut self, r: usize, j: usize, space: &mut [F])
-        requires row { r < height self.old.stored }
-        requires column { j < self.old.stored.width }
-        requires length { length space.old ≡ height self.old.stored }
+        requires row { r < self.old.rows }
+        requires column { j < self.old.columns }
+        requires length { length space.old ≡ self.old.rows }
         requires entry { actual F.modulus self.old r j ≢ 0 }
         ensures length { length space.new ≡ length space.old }
         ensures shape { HasSameShape self.new self.old }
-        ensures reduced { IsReduced F.modulus (height self.old.stored) self.old.stored.width
+        ensures reduced { IsReduced F.modulus self.old.rows self.old.columns
             (with_unit (actual F.modulus self.old) r j) (actual F.modulus self.new) r
             (λ i. actual F.modulus self.old i j) }
     {
@@ -251,7 +264,7 @@ pub(crate) fn put<F: Field>(m: &mut Mat<F>, i: usize, j: usize, value: F)
 }
 
 // Takes all entries of a column away.
-fn clear_column<F: Field>(m: &mut Mat<F>, j: usize)
+pub(crate) fn clear_column<F: Field>(m: &mut Mat<F>, j: usize)
     requires { j < m.old.width }
     ensures size { HasSameSize m.new m.old }
     ensures cleared { (i : ℕ) → i < height m.old → entry m.new i j ≡ 0 }
@@ -265,12 +278,12 @@ fn clear_column<F: Field>(m: &mut Mat<F>, j: usize)
 // Puts values in the place of a column.
 fn put_column<F: Field>(m: &mut Mat<F>, j: usize, column: &[F])
     requires column { j < m.old.width }
-    requires length { length column.now ≡ height m.old }
+    requires length { length column.now ≤ height m.old }
     ensures size { HasSameSize m.new m.old }
-    ensures put { (i : ℕ) → i < height m.old → entry m.new i j ≡ slice_index (map F.number column.now) i }
+    ensures put { (i : ℕ) → i < length column.now → entry m.new i j ≡ slice_index (map F.number column.now) i }
     ensures others { (i c : ℕ) → c ≢ j → entry m.new i c ≡ entry m.old i c }
 {
-    for i in 0..m.rows() {
+    for i in 0..column.len() {
         put(m, i, j, column[i]);
     }
 }

@@ -1,12 +1,14 @@
 //! A tableau's matrices P and S in one table, with U read off Q.
 
-ghost use Rattle.std.specs.Prelude.{◌≡◌, ◌≢◌, ℕ, ◌+◌, ◌%◌, ◌<◌, ◌≤◌, true, false, IfOk};
+ghost use Rattle.std.specs.Prelude.{◌≡◌, ◌≢◌, ℕ, ◌+◌, ◌%◌, ◌<◌, ◌≤◌, true, false, cond, eqb, IfOk};
 ghost use Rattle.limits.specs.Limits.{column_limit};
 ghost use Rattle.linear_algebra.specs.Products.{identity};
 ghost use Rattle.linear_algebra.specs.RowOperations.{IsPivoted};
 ghost use Rattle.dense_q.specs.Tables.{Table, height, entry, HasSameSize, IsTableOf};
-ghost use Rattle.row_table.specs.Places.{with_units};
-ghost use Rattle.row_table.specs.Reductions.{ZeroRowsStay};
+ghost use Rattle.sparse_q.specs.Tables.{number_in, sparse_rows};
+ghost use Rattle.row_table.specs.Places.{exchanged, with_units};
+ghost use Rattle.row_table.specs.Layouts.{layout_places};
+ghost use Rattle.row_table.specs.Reductions.{IsReduced, ZeroColumnsStay, ZeroRowsStay};
 ghost use Rattle.row_table.specs.RowTables.{Combined, entries, p_part, s_part, u_part, IsCombined};
 
 use crate::layout::Placement;
@@ -15,6 +17,7 @@ use dense_q::Mat;
 use out_of_memory::NoMemory;
 use residue_field::Field;
 use row_entries::EntryMat;
+use sparse_q::SparseMat;
 use std::alloc::Global;
 use std::marker::Model;
 
@@ -24,29 +27,50 @@ use std::marker::Model;
 /// columns are counted from 0. (Murota 2000, chapter 2.)
 #[derive(Drop)]
 pub struct RowTable<F: Field> {
-    q: EntryMat<F>,
-    table: PutOff<F>,
-    places: Placement,
-    space: Vec<F>,
+    pub(crate) q: SparseMat<F>,
+    pub(crate) table: PutOff<F>,
+    pub(crate) places: Placement,
+    pub(crate) space: Vec<F>,
+    pub(crate) row_room: usize,
+    pub(crate) column_room: usize,
 }
 
 impl<F: Field> Model for RowTable<F> {
-    ghost use Rattle.std.specs.Prelude.{◌≡◌, length};
-    ghost use Rattle.dense_q.specs.Tables.{height};
-    ghost use Rattle.row_table.specs.RowTables.{Combined, IsCombined};
+    ghost use Rattle.std.specs.Prelude.{◌≡◌, length, vec_capacity};
+    ghost use Rattle.sparse_q.specs.Tables.{sparse_rows};
+    ghost use Rattle.row_table.specs.RowTables.{Combined, HasTableRoom, IsCombined};
 
     ghost Value = { Combined };
 
-    ghost view = { λ t. record { q = t.q; kept = t.table; layout = t.places } };
+    ghost view = { λ t. record {
+      q = t.q;
+      kept = t.table;
+      layout = t.places;
+      row_room = t.row_room;
+      column_room = t.column_room;
+    } };
 
-    ghost invariant = { λ t. IsCombined F.modulus (record { q = t.q; kept = t.table; layout = t.places })
-        × (length t.space.items ≡ height t.q) };
+    ghost invariant = { λ t. IsCombined F.modulus (record {
+      q = t.q;
+      kept = t.table;
+      layout = t.places;
+      row_room = t.row_room;
+      column_room = t.column_room;
+    }) × (length t.space.items ≡ sparse_rows t.q) × HasTableRoom (record {
+      q = t.q;
+      kept = t.table;
+      layout = t.places;
+      row_room = t.row_room;
+      column_room = t.column_room;
+    }) (vec_capacity t.space) };
 }
 
 impl<F: Field> RowTable<F> {
     /// Before any pivot.
     pub fn open(alloc: Global, q: &EntryMat<F>) -> Result<RowTable<F>, NoMemory>
-        ensures q { IfOk result (λ t. t.q ≡ q.now) }
+        ensures rows { IfOk result (λ t. sparse_rows t.q ≡ height q.now) }
+        ensures columns { IfOk result (λ t. t.q.width ≡ q.now.width) }
+        ensures q { IfOk result (λ t. number_in t.q ≡ entry q.now) }
         ensures p { IfOk result (λ t. p_part F.modulus t ≡ entry q.now) }
         ensures s { IfOk result (λ t. (i j : ℕ) → i < height q.now → j < height q.now →
             s_part F.modulus t i j ≡ identity i j) }
@@ -59,16 +83,18 @@ impl<F: Field> RowTable<F> {
         let places = Placement::first(alloc, rows, columns)?;
         let space = vec![in alloc; F::zero(); rows]?;
         Ok(RowTable {
-            q: q.copy()?,
+            q: SparseMat::of(alloc, q)?,
             table,
             places,
             space,
+            row_room: 0,
+            column_room: 0,
         })
     }
 
     /// How many rows there are.
     pub fn rows(&self) -> usize
-        ensures rows { result ≡ height self.now.q }
+        ensures rows { result ≡ sparse_rows self.now.q }
         ensures few { result ≤ column_limit }
         ensures combined { IsCombined F.modulus self.now }
     {
@@ -86,8 +112,8 @@ impl<F: Field> RowTable<F> {
 
     /// An entry of [P | S].
     pub fn entry(&self, row: usize, column: usize) -> F
-        requires row { row < height self.now.q }
-        requires column { column < self.now.q.width + height self.now.q }
+        requires row { row < sparse_rows self.now.q }
+        requires column { column < self.now.q.width + sparse_rows self.now.q }
         ensures { F.number result ≡ entries F.modulus self.now row column }
     {
         if self.places.is_unit(column) {
@@ -103,27 +129,51 @@ impl<F: Field> RowTable<F> {
 
     /// Makes a column of P the unit column of a row, where its entry is not zero.
     pub fn pivot(&mut self, row: usize, column: usize)
-        requires row { row < height self.old.q }
+        requires row { row < sparse_rows self.old.q }
         requires column { column < self.old.q.width }
         requires entry { p_part F.modulus self.old row column % F.modulus ≢ 0 }
         ensures q { self.new.q ≡ self.old.q }
-        ensures pivoted { IsPivoted F.modulus (height self.old.q) self.old.q.width (p_part F.modulus self.old)
+        ensures pivoted { IsPivoted F.modulus (sparse_rows self.old.q) self.old.q.width (p_part F.modulus self.old)
             (p_part F.modulus self.new) row column }
-        ensures rest { ZeroRowsStay F.modulus (height self.old.q) self.old.q.width (p_part F.modulus self.old)
+        ensures basic { (i : ℕ) → i < sparse_rows self.old.q → (layout_places self.new.layout).basic i
+            ≡ cond (eqb i row) column ((layout_places self.old.layout).basic i) }
+        ensures zero_columns { ZeroColumnsStay F.modulus (sparse_rows self.old.q) (s_part F.modulus self.old)
+            (s_part F.modulus self.new) row }
+        ensures row_room { self.new.row_room ≡ self.old.row_room }
+        ensures column_room { self.new.column_room ≡ self.old.column_room }
+        ensures rest { ZeroRowsStay F.modulus (sparse_rows self.old.q) self.old.q.width (p_part F.modulus self.old)
             (p_part F.modulus self.new) row column }
     {
         if !self.places.is_unit(column) {
-            let slot = self.places.slot(column);
-            self.table.exchange(row, slot, &mut self.space);
-            self.places.exchange(row, column);
+            self.exchange(row, column);
         }
+    }
+
+    // Makes a column of [P | S] that is no unit column that of a row, where its entry is not zero.
+    pub(crate) fn exchange(&mut self, row: usize, column: usize)
+        requires row { row < sparse_rows self.old.q }
+        requires column { column < self.old.q.width + sparse_rows self.old.q }
+        requires other { (layout_places self.old.layout).is_unit column ≡ false }
+        requires entry { entries F.modulus self.old row column % F.modulus ≢ 0 }
+        ensures q { self.new.q ≡ self.old.q }
+        ensures places { layout_places self.new.layout ≡ exchanged (layout_places self.old.layout) row column }
+        ensures p { IsReduced F.modulus (sparse_rows self.old.q) self.old.q.width (p_part F.modulus self.old)
+            (p_part F.modulus self.new) row (λ i. entries F.modulus self.old i column) }
+        ensures s { IsReduced F.modulus (sparse_rows self.old.q) (sparse_rows self.old.q) (s_part F.modulus self.old)
+            (s_part F.modulus self.new) row (λ i. entries F.modulus self.old i column) }
+        ensures row_room { self.new.row_room ≡ self.old.row_room }
+        ensures column_room { self.new.column_room ≡ self.old.column_room }
+    {
+        let slot = self.places.slot(column);
+        self.table.exchange(row, slot, &mut self.space);
+        self.places.exchange(row, column);
     }
 
     // An entry of [Q | 1].
     fn first_entry(&self, row: usize, column: usize) -> F
-        requires row { row < height self.now.q }
-        requires column { column < self.now.q.width + height self.now.q }
-        ensures { F.number result ≡ with_units self.now.q.width (entry self.now.q) row column }
+        requires row { row < sparse_rows self.now.q }
+        requires column { column < self.now.q.width + sparse_rows self.now.q }
+        ensures { F.number result ≡ with_units self.now.q.width (number_in self.now.q) row column }
     {
         let columns = self.q.cols();
         if column < columns {
@@ -137,8 +187,8 @@ impl<F: Field> RowTable<F> {
 
     /// An entry of U.
     pub fn u_entry(&self, row: usize, column: usize) -> F
-        requires row { row < height self.now.q }
-        requires column { column < height self.now.q }
+        requires row { row < sparse_rows self.now.q }
+        requires column { column < sparse_rows self.now.q }
         ensures { F.number result ≡ u_part self.now row column }
     {
         self.first_entry(row, self.places.basic(column))
@@ -147,8 +197,8 @@ impl<F: Field> RowTable<F> {
     // Copies columns of [P | S] from `start` on into row i of a matrix.
     fn fill_row(&self, m: &mut Mat<F>, i: usize, start: usize)
         requires row { i < height m.old }
-        requires in_q { i < height self.now.q }
-        requires columns { start + m.old.width ≤ self.now.q.width + height self.now.q }
+        requires in_q { i < sparse_rows self.now.q }
+        requires columns { start + m.old.width ≤ self.now.q.width + sparse_rows self.now.q }
         ensures size { HasSameSize m.new m.old }
         ensures filled { (j : ℕ) → j < m.old.width → entry m.new i j ≡ entries F.modulus self.now i (start + j) }
         ensures others { (u w : ℕ) → u ≢ i → entry m.new u w ≡ entry m.old u w }
@@ -163,8 +213,8 @@ impl<F: Field> RowTable<F> {
     // Copies a column of U.
     fn fill_column(&self, m: &mut Mat<F>, j: usize)
         requires column { j < m.old.width }
-        requires in_q { j < height self.now.q }
-        requires rows { height m.old ≡ height self.now.q }
+        requires in_q { j < sparse_rows self.now.q }
+        requires rows { height m.old ≡ sparse_rows self.now.q }
         ensures size { HasSameSize m.new m.old }
         ensures filled { (i : ℕ) → i < height m.old → entry m.new i j ≡ u_part self.now i j }
         ensures others { (i w : ℕ) → w ≢ j → entry m.new i w ≡ entry m.old i w }
@@ -177,8 +227,8 @@ impl<F: Field> RowTable<F> {
     // So many columns of [P | S] from `start` on.
     fn part(&self, start: usize, count: usize) -> Result<Mat<F>, NoMemory>
         requires count { count ≤ column_limit }
-        requires columns { start + count ≤ self.now.q.width + height self.now.q }
-        ensures { IfOk result (λ m. IsTableOf (height self.now.q) count
+        requires columns { start + count ≤ self.now.q.width + sparse_rows self.now.q }
+        ensures { IfOk result (λ m. IsTableOf (sparse_rows self.now.q) count
             (λ i j. entries F.modulus self.now i (start + j)) m) }
     {
         let rows = self.q.rows();
@@ -191,7 +241,7 @@ impl<F: Field> RowTable<F> {
 
     /// The matrix P.
     pub fn p(&self) -> Result<Mat<F>, NoMemory>
-        ensures { IfOk result (λ m. IsTableOf (height self.now.q) self.now.q.width
+        ensures { IfOk result (λ m. IsTableOf (sparse_rows self.now.q) self.now.q.width
             (entries F.modulus self.now) m) }
     {
         self.part(0, self.q.cols())
@@ -199,7 +249,7 @@ impl<F: Field> RowTable<F> {
 
     /// The matrix S.
     pub fn s(&self) -> Result<Mat<F>, NoMemory>
-        ensures { IfOk result (λ m. IsTableOf (height self.now.q) (height self.now.q)
+        ensures { IfOk result (λ m. IsTableOf (sparse_rows self.now.q) (sparse_rows self.now.q)
             (s_part F.modulus self.now) m) }
     {
         self.part(self.q.cols(), self.q.rows())
@@ -207,7 +257,7 @@ impl<F: Field> RowTable<F> {
 
     /// The matrix U.
     pub fn u(&self) -> Result<Mat<F>, NoMemory>
-        ensures { IfOk result (λ m. IsTableOf (height self.now.q) (height self.now.q) (u_part self.now) m) }
+        ensures { IfOk result (λ m. IsTableOf (sparse_rows self.now.q) (sparse_rows self.now.q) (u_part self.now) m) }
     {
         let rows = self.q.rows();
         let mut m = Mat::zeros(*self.space.allocator(), rows, rows)?;

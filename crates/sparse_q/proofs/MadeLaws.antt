@@ -1,5 +1,5 @@
 -- Sparse matrices that are made row by row, and rows that are made column by column.
-use Rattle.std.proofs.Common.{◌≡◌, ℕ, ◌+◌, ◌<◌, ◌≤◌, ◌≢◌, inl, inr, Bool, true, false, cond, eqb, not, List, [], ◌∷◌, ◌++◌, map, take, length, slice_index, slice_index_or, slice_set, replicate, refl, sym, subst, ap, ◌∙◌, arith}
+use Rattle.std.proofs.Common.{◌≡◌, ℕ, ◌+◌, ◌<◌, ◌≤◌, ◌≢◌, inl, inr, Bool, true, false, cond, eqb, List, [], ◌∷◌, ◌++◌, map, take, length, slice_index, slice_index_or, slice_set, replicate, refl, sym, subst, ap, ◌∙◌, arith}
 use Rattle.std.specs.List.{All}
 use Rattle.std.proofs.Math.Path.{fun_ext}
 use Rattle.std.proofs.lemmas.Bool.Decides.{nat_tests}
@@ -129,10 +129,6 @@ unlisted bit number f listed = elim (nat_cases number 0) [
 ]
 
 -- ---- a dense matrix has no entries outside
--- where a test says so, a number is zero
-pub unmarked : (n : ℕ) → not (eqb n 0) ≡ false → n ≡ 0
-unmarked n e = grind (arith, nat_tests)
-
 pub past-row : (q : Table) (i j : ℕ) → height q ≤ i → entry q i j ≡ 0
 past-row q i j far = ap (λ row. slice_index row j) (get_or_past q.rows i [] far)
 

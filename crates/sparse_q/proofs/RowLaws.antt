@@ -15,8 +15,8 @@ pub use Rattle.row_entries.proofs.RowLaws.{item, number-push, number-last, numbe
 pub kept-items : (p w room : ℕ) (xs : List Item) → IsKeptRow p w room xs → length xs ≤ 8192
 kept-items p w room xs kept = omega (arith, kept.few, few_before xs w kept.row.rising kept.row.narrow)
 
-pub kept-within : {A : Type 0} (f : A → Item) (p w room : ℕ) (xs : List A) → IsKeptRow p w room (map f xs) → length xs ≤ w
-kept-within f p w room xs kept = omega (arith, length-map xs f, few_before (map f xs) w kept.row.rising kept.row.narrow)
+pub row-within : {A : Type 0} (f : A → Item) (p w : ℕ) (xs : List A) → IsEntryRow p w (map f xs) → length xs ≤ w
+row-within f p w xs row = omega (arith, length-map xs f, few_before (map f xs) w row.rising row.narrow)
 
 module _ {A : Type 0} (f : A → Item) (p w room : ℕ) (old : List A) (kept : IsKeptRow p w room (map f old)) where
   -- there is room for an item behind the last one

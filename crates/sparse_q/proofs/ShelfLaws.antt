@@ -1,8 +1,9 @@
 -- Rows that change one after another, rows that are put beside others, and the room that is kept for them.
 use Rattle.std.proofs.Common.{◌≡◌, ℕ, ◌+◌, ◌-◌, ◌<◌, ◌≤◌, suc, zero, inl, inr, Some, List, [], ◌∷◌, ◌++◌, length, map, take, drop, slice_index_or, slice_set, refl, ap, sym, subst, ◌∙◌, arith, length-append}
-use Rattle.std.specs.List.{All, insert, remove}
+use Rattle.std.specs.List.{All, insert, remove, swap}
 use Rattle.std.proofs.lemmas.List.{length-map, length-set, get_or-map, get_or-set_same, get_or-set_other, get_or_default, get_or_past, ext_get_or}
-use Rattle.std.proofs.lemmas.List.Elements.{All-append, All-cons, All-drop, All-map, All-pop, All-push, All-take}
+use Rattle.std.proofs.lemmas.List.Elements.{All-append, All-cons, All-drop, All-map, All-pop, All-push, All-set, All-take}
+use Rattle.std.proofs.lemmas.List.Edits.{length-swap}
 use Rattle.residue_theory.proofs.SumLaws.{nat_cases}
 use Rattle.sparse_q.specs.Rows.{Row, AreRowsChanged, IsRowCut, IsRowWidened, number_at, row_raised, columns_raised}
 use Rattle.linear_algebra.specs.Parts.{skip}
@@ -265,3 +266,35 @@ column-taken w o v rows new m at view inside cut = subst (λ t. IsColumnTaken t 
   where
     none : Row
     none = record { width = 0; room = 0; items = [] }
+
+-- ---- rows in each other's place
+all-swap : (P : Row → Type 0) (xs : List Row) (i j : ℕ) → i < length xs → j < length xs → All P xs → All P (swap xs i j)
+all-swap P [] i j il jl h = h
+all-swap P (d ∷ ys) i j il jl h = All-set P (slice_set (d ∷ ys) i (slice_index_or (d ∷ ys) j d)) j
+    (slice_index_or (d ∷ ys) i d) (h i d il) (All-set P (d ∷ ys) i (slice_index_or (d ∷ ys) j d) (h j d jl) h)
+
+pub rows-swapped : (w spare_width spare row_room column_room capacity shelf_capacity more : ℕ) (rows shelf new : List Row) (i k : ℕ) →
+    i < length rows → k < length rows → new ≡ swap rows i k → capacity ≤ more →
+    AreSparseRows w rows spare_width × HasShelf rows shelf spare row_room column_room capacity shelf_capacity →
+    AreSparseRows w new spare_width × HasShelf new shelf spare row_room column_room more shelf_capacity
+rows-swapped w spare_width spare row_room column_room capacity shelf_capacity more rows shelf new i k il kl is wider stored = (
+  record {
+    full = subst (All (λ (r : Row). r.width ≡ w)) (sym is) (all-swap (λ (r : Row). r.width ≡ w) rows i k il kl stored.0.full);
+    spare_full = stored.0.spare_full;
+    few = omega (arith, count, stored.0.few);
+    narrow = stored.0.narrow;
+  },
+  record {
+    rows_wide = subst (All (λ (r : Row). column_room ≤ r.room)) (sym is)
+        (all-swap (λ (r : Row). column_room ≤ r.room) rows i k il kl stored.1.rows_wide);
+    shelf_wide = stored.1.shelf_wide;
+    spare_wide = stored.1.spare_wide;
+    few = stored.1.few;
+    enough = omega (arith, count, stored.1.enough);
+    rows_fit = omega (arith, stored.1.rows_fit, wider);
+    shelf_fits = stored.1.shelf_fits;
+  },
+)
+  where
+    count : length new ≡ length rows
+    count = ap (λ rs. length rs) is ∙ length-swap rows i k

@@ -1,6 +1,6 @@
 -- A matrix as its rows of items, and as a function from a row and a column to a number, both counted from 0.
 use Rattle.std.specs.Prelude.{ℕ, ◌+◌, ◌≡◌, ◌≢◌, Bool, List, [], length, map, max, slice_index_or}
-use Rattle.std.specs.List.{insert, remove}
+use Rattle.std.specs.List.{insert, remove, swap}
 use Rattle.linear_algebra.specs.Parts.{skip}
 use Rattle.sparse_q.specs.Rows.{Item, number_at, has_number, columns_raised}
 
@@ -46,6 +46,10 @@ with_empty_row m i = record m { rows = insert m.rows i [] }
 -- m without row i
 abbrev pub without_table_row : SparseTable → ℕ → SparseTable
 without_table_row m i = record m { rows = remove m.rows i }
+
+-- m with rows i and k in each other's place
+abbrev pub with_table_rows_swapped : SparseTable → ℕ → ℕ → SparseTable
+with_table_rows_swapped m i k = record m { rows = swap m.rows i k }
 
 -- m with a column more, column v, at which no row has a number
 abbrev pub with_empty_column : SparseTable → ℕ → SparseTable

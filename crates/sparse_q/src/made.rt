@@ -27,11 +27,7 @@ pub(crate) fn row_of<F: Field>(
     ensures numbers { IfOk result (λ row. (j : ℕ) → number_at row.items j ≡ entry q.now i j) }
 {
     let mut row = SparseRow::empty(alloc, q.cols())?;
-    let mut from = 0;
-    while let Some(entry) = q.next(i, from) {
-        row.push(entry.0, entry.1);
-        from = entry.0 + 1;
-    }
+    row.fill(q.row(i));
     Ok(row)
 }
 
@@ -43,7 +39,7 @@ pub(crate) fn column_of<F: Field>(
     j: usize,
 ) -> Result<SparseRow<F>, NoMemory>
     requires column { j < listed.now.rows }
-    requires rows { listed.now.size ≡ sparse_rows m.now }
+    requires rows { sparse_rows m.now ≤ listed.now.size }
     requires listed { (i : ℕ) → i < sparse_rows m.now → number_in m.now i j ≢ 0 → bit_in listed.now j i ≡ true }
     ensures width { IfOk result (λ column. column.width ≡ sparse_rows m.now) }
     ensures numbers { IfOk result (λ column. (i : ℕ) → number_at column.items i ≡ number_in m.now i j) }

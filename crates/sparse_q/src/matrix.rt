@@ -77,8 +77,8 @@ impl<F: Field> SparseMat<F> {
     /// The matrix with rows and columns in each other's place: `listed` has a row of bits for each column, and in it a
     /// bit set for each row where the column has an entry that is not zero.
     pub fn turned(&self, alloc: Global, listed: &BitTable) -> Result<SparseMat<F>, NoMemory>
-        requires columns { listed.now.rows ≡ self.now.width }
-        requires rows { listed.now.size ≡ sparse_rows self.now }
+        requires columns { self.now.width ≤ listed.now.rows }
+        requires rows { sparse_rows self.now ≤ listed.now.size }
         requires listed { (i j : ℕ) → i < sparse_rows self.now → j < self.now.width → number_in self.now i j ≢ 0 →
             bit_in listed.now j i ≡ true }
         requires outside { (i j : ℕ) → self.now.width ≤ j → number_in self.now i j ≡ 0 }

@@ -2,7 +2,7 @@
 
 ghost use Rattle.std.specs.Prelude.{◌≡◌, ℕ, ◌<◌, ◌≤◌, cond, eqb, OnOk, OnErr};
 ghost use Rattle.limits.specs.Limits.{column_limit};
-ghost use Rattle.sparse_q.specs.Tables.{sparse_rows, number_in, IsColumnTaken, IsRowSet, with_empty_column, with_room, with_empty_row, without_table_row};
+ghost use Rattle.sparse_q.specs.Tables.{sparse_rows, number_in, IsColumnTaken, IsRowSet, with_empty_column, with_room, with_empty_row, with_table_rows_swapped, without_table_row};
 
 use crate::matrix::SparseMat;
 use crate::shelf;
@@ -54,6 +54,15 @@ impl<F: Field> SparseMat<F> {
         if self.shelf.len() < self.row_room {
             let _ = self.shelf.push(row);
         }
+    }
+
+    /// Exchanges rows i and k.
+    pub fn swap_rows(&mut self, i: usize, k: usize)
+        requires i { i < sparse_rows self.old }
+        requires k { k < sparse_rows self.old }
+        ensures { self.new ≡ with_table_rows_swapped self.old i k }
+    {
+        self.rows.swap(i, k);
     }
 
     /// Puts a column in, so that it is column `at`; no row has an entry at it. It takes no memory.

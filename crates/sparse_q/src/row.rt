@@ -3,6 +3,7 @@
 ghost use Rattle.std.specs.Prelude.{◌≡◌, ◌≢◌, ℕ, ◌+◌, ◌*◌, ◌%◌, ◌<◌, ◌≤◌, ◌⊎◌, [], length, IfOk, IfNone, IfSome};
 ghost use Rattle.limits.specs.Limits.{column_limit};
 ghost use Rattle.dense_q.specs.Tables.{height, entry, HasSameSize};
+ghost use Rattle.row_entries.specs.Rows.{items};
 ghost use Rattle.sparse_q.specs.Rows.{IsEntryRow, number_at, item_or, EndsBefore, with_last, IsSum, IsMultiple, IsMerged, has_number};
 ghost use Rattle.residue_theory.specs.Ranges.{HasNone, IsLeast};
 
@@ -190,15 +191,22 @@ impl<F: Field> SparseRow<F> {
         }
     }
 
+    // Becomes the row of such entries, which are copied all at once.
+    pub(crate) fn fill(&mut self, entries: &[Entry<F>])
+        requires { IsEntryRow F.modulus self.old.width (items F.number entries.now) }
+        ensures { self.new ≡ record self.old { items = items F.number entries.now } }
+    {
+        self.entries.clear();
+        // they fit in the room of the row
+        let _ = self.entries.extend_from_slice(entries);
+    }
+
     // Becomes another row.
     pub(crate) fn set(&mut self, source: &SparseRow<F>)
         requires { source.now.width ≡ self.old.width }
         ensures { self.new ≡ record self.old { items = source.now.items } }
     {
-        self.entries.clear();
-        for entry in &source.entries {
-            self.entries.push_reserved(*entry);
-        }
+        self.fill(&source.entries);
     }
 
     // The value at a column.

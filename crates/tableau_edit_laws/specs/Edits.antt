@@ -1,5 +1,6 @@
--- A matrix with a row or a column more or less, told by the numbers in order but for one (`skip`).
-use Rattle.std.specs.Prelude.{ℕ, ◌+◌, ◌*◌, ◌%◌, ◌<◌, ◌≡◌}
+-- A matrix with a row or a column more or less, told by the numbers in order but for one (`skip`), and rows in another
+-- order.
+use Rattle.std.specs.Prelude.{ℕ, ◌+◌, ◌-◌, ◌*◌, ◌%◌, ◌<◌, ◌≡◌, ◌≢◌, cond, eqb}
 use Rattle.residue_theory.specs.Sums.{sum_below}
 use Rattle.linear_algebra.specs.Parts.{skip}
 
@@ -27,3 +28,13 @@ pub record IsRowJoined (p m n : ℕ) (S U P T V R : ℕ → ℕ → ℕ) (e k : 
   pub u_others : (t i : ℕ) → t < m → i < m → V (skip e t) (skip k i) % p ≡ U t i % p
   pub p_row : (j : ℕ) → j < n → R k j % p ≡ (sum_below m (λ i. d i * P i j) + x j) % p
   pub p_others : (i j : ℕ) → i < m → j < n → R (skip k i) j % p ≡ P i j % p
+
+-- the numbers below m but k, each at a place of its own below m - 1: `from` tells which stands there
+pub record AreRowsBut (m k : ℕ) (from : ℕ → ℕ) : Type 0 where
+  pub below : (i : ℕ) → i + 1 < m → from i < m
+  pub others : (i : ℕ) → i + 1 < m → from i ≢ k
+  pub distinct : (i j : ℕ) → i + 1 < m → j + 1 < m → from i ≡ from j → i ≡ j
+
+-- they stay where they are, but for the last one, which takes the place of k
+abbrev pub last_for : ℕ → ℕ → ℕ → ℕ
+last_for m k i = cond (eqb i k) (m - 1) i

@@ -8,7 +8,7 @@ use Rattle.linear_algebra.specs.Parts.{skip, unskip, without_row, without_column
 use Rattle.linear_algebra.specs.Products.{product, Agree, IsInverse}
 use Rattle.row_table.specs.Places.{with_unit}
 use Rattle.row_table.specs.Reductions.{IsReduced}
-use Rattle.tableau_edit_laws.specs.Edits.{IsRowJoined, IsRowIn, IsZeroColumnIn}
+use Rattle.tableau_edit_laws.specs.Edits.{AreRowsBut, IsRowJoined, IsRowIn, IsZeroColumnIn, last_for}
 
 -- where row k alone has an entry in column e of S, row e of a may go: with it row k of S and P, column e of S, row e of
 -- U and its column k
@@ -19,12 +19,32 @@ RowsLeaveTableaus =
     IsInverse p (m - 1) (without_column e (without_row k S)) (without_row e (without_column k U))
     × Agree p (m - 1) n (without_row k P) (product (m - 1) (without_column e (without_row k S)) (without_row e a))
 
+-- and so where the rows that are left stand in another order
+abbrev pub RowsLeaveInAnyOrder : Type 0
+RowsLeaveInAnyOrder =
+    (p m n : ℕ) (a S U P : ℕ → ℕ → ℕ) (e k : ℕ) (from : ℕ → ℕ) → e < m → AreRowsBut m k from →
+    IsInverse p m S U → Agree p m n P (product m S a) → ((i : ℕ) → i < m → i ≢ k → S i e % p ≡ 0) →
+    IsInverse p (m - 1) (λ i t. S (from i) (skip e t)) (λ t i. U (skip e t) (from i))
+    × Agree p (m - 1) n (λ i j. P (from i) j) (product (m - 1) (λ i t. S (from i) (skip e t)) (without_row e a))
+
+-- with the last row in the place of row k
+abbrev pub LastRowsTakePlaces : Type 0
+LastRowsTakePlaces = (m k : ℕ) → k < m → AreRowsBut m k (last_for m k)
+
 -- base columns of other rows than k are a base without row k
 abbrev pub BasesLeaveRows : Type 0
 BasesLeaveRows =
     (p m n : ℕ) (P : ℕ → ℕ → ℕ) (B C : ℕ → Bool) (row : ℕ → ℕ) (k : ℕ) → k < m → IsBase p P m n B row →
     ((b : ℕ) → b < n → C b ≡ true → (B b ≡ true) × (row b ≢ k)) →
     IsBase p (without_row k P) (m - 1) n C (λ b. unskip k (row b))
+
+-- in any order of the rows that are left; `now` tells the places of the rows of base columns
+abbrev pub BasesLeaveRowsInAnyOrder : Type 0
+BasesLeaveRowsInAnyOrder =
+    (p m n : ℕ) (P : ℕ → ℕ → ℕ) (B C : ℕ → Bool) (row now : ℕ → ℕ) (k : ℕ) (from : ℕ → ℕ) → AreRowsBut m k from →
+    IsBase p P m n B row →
+    ((b : ℕ) → b < n → C b ≡ true → (B b ≡ true) × (now b + 1 < m) × (from (now b) ≡ row b)) →
+    IsBase p (λ i j. P (from i) j) (m - 1) n C now
 
 -- the base columns are independent without row e exactly where column e of S has an entry at a row without base column
 abbrev pub BasesStayIndependentWithoutARow : Type 0

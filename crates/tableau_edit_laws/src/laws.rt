@@ -4,6 +4,7 @@
 ghost use Rattle.tableau_edit_laws.specs.Laws.{BasesKeepAJoinedRow, BasesLeaveRows, BasesLoseAColumnWithARow};
 ghost use Rattle.tableau_edit_laws.specs.Laws.{BasesStayIndependentWithoutARow, ColumnsJoinTableaus, ColumnsLeaveTableaus};
 ghost use Rattle.tableau_edit_laws.specs.Laws.{PivotsInSClearAColumn, PivotsInSKeepOtherRows, RowsJoinTableaus};
+ghost use Rattle.tableau_edit_laws.specs.Laws.{BasesLeaveRowsInAnyOrder, LastRowsTakePlaces, RowsLeaveInAnyOrder};
 ghost use Rattle.tableau_edit_laws.specs.Laws.{RowsLeaveTableaus, SomeRowOfSHasAnEntry};
 
 /// A row of S that alone has an entry in a column may go with that column, and with its row of U.
@@ -11,9 +12,24 @@ pub fn rows_leave_tableaus()
     ensures { RowsLeaveTableaus }
 {}
 
+/// The rows that are left may stand in another order.
+pub fn rows_leave_in_any_order()
+    ensures { RowsLeaveInAnyOrder }
+{}
+
+/// One order is that the last row takes the place of the row that goes.
+pub fn last_rows_take_places()
+    ensures { LastRowsTakePlaces }
+{}
+
 /// The base columns of other rows stay a base.
 pub fn bases_leave_rows()
     ensures { BasesLeaveRows }
+{}
+
+/// They do so in any order of the rows.
+pub fn bases_leave_rows_in_any_order()
+    ensures { BasesLeaveRowsInAnyOrder }
 {}
 
 /// The base columns stay independent without a row exactly where a row without base column has an entry in its column of S.

@@ -1,5 +1,4 @@
 use Rattle.std.proofs.Common.{ℕ, ◌≡◌, ◌<◌, ◌+◌, ◌*◌, ◌%◌, arith, map, length, slice_index, ap, sym, subst, ◌∙◌}
-use Rattle.dense_q.specs.Tables.{height}
 use Rattle.row_table.specs.PutOffs.{Kept, actual}
 use Rattle.row_table.proofs.PutOffLaws.{exchange-reduced, scaled_at, value-at}
 use Rattle.row_table.proofs.put_off.PutOff.exchange.Goals as goal
@@ -9,14 +8,14 @@ returns-clause-reduced g c =
     let p = g.F.Field.modulus in
     let old : Kept = c.args.self.now in
     let r = c.args.r in
-    let m : ℕ = height old.stored in
-    let n : ℕ = old.stored.width in
+    let m : ℕ = old.rows in
+    let n : ℕ = old.columns in
     let unit : Kept = c.put_unit.new.self in
     let scaled : Kept = c.scale_row.new.self in
-    let rows_unit : height unit.stored ≡ m = c.put_unit.ensures.shape.rows_same in
-    let columns_unit : unit.stored.width ≡ n = c.put_unit.ensures.shape.columns_same in
-    let rows_scaled : height scaled.stored ≡ m = c.scale_row.ensures.shape.rows_same ∙ rows_unit in
-    let columns_scaled : scaled.stored.width ≡ n = c.scale_row.ensures.shape.columns_same ∙ columns_unit in
+    let rows_unit : unit.rows ≡ m = c.put_unit.ensures.shape.rows_same in
+    let columns_unit : unit.columns ≡ n = c.put_unit.ensures.shape.columns_same in
+    let rows_scaled : scaled.rows ≡ m = c.scale_row.ensures.shape.rows_same ∙ rows_unit in
+    let columns_scaled : scaled.columns ≡ n = c.scale_row.ensures.shape.columns_same ∙ columns_unit in
     let here : r < length c.column.new.column = omega (
       arith,
       c.requires.row,

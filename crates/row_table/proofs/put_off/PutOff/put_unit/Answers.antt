@@ -1,14 +1,15 @@
 use Rattle.std.proofs.Common.{◌<◌, subst, sym}
-use Rattle.dense_q.specs.Tables.{height}
 use Rattle.row_table.specs.PutOffs.{Kept}
 use Rattle.row_table.proofs.PutOffLaws.{unit-put}
 use Rattle.row_table.proofs.put_off.PutOff.put_unit.Goals as goal
 
 pub returns-clause-put : goal.returns-clause-put
 returns-clause-put g c =
-    let row : c.args.r < height c.self.inside.stored =
-    subst (λ (d : Kept). c.args.r < height d.stored) (sym c.self.view_is) c.requires.row in
+    let row : c.args.r < c.self.inside.rows =
+    subst (λ (d : Kept). c.args.r < d.rows) (sym c.self.view_is) c.requires.row in
     rw (← c.self.view_is) (unit-put g.F.Field.modulus g.met.F.Field.prime (record {
+      rows = c.self.inside.rows;
+      columns = c.self.inside.columns;
       stored = c.self.inside.stored;
       factors = c.self.inside.factors;
       pending = c.self.inside.pending;

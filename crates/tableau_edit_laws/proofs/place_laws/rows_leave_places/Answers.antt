@@ -1,5 +1,0 @@
-use Rattle.tableau_edit_laws.proofs.PlaceEdits.{row-leaves, row-leaves-whole}
-use Rattle.tableau_edit_laws.proofs.place_laws.rows_leave_places.Goals as goal
-
-pub returns : goal.returns
-returns c m n all s a k placed kl = (row-leaves m n all s k placed kl, row-leaves-whole m n all s k placed kl a)
