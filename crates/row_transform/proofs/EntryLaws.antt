@@ -35,6 +35,20 @@ set-keeps b c n x y bit i j jl h = elim (nat_cases i x) [
   | inr ne ↦ bit.others i j jl ne ∙ h
 ]
 
+-- what is told of more bits of a row is told of fewer
+pub bit_set-within : (b c : ℕ → ℕ → Bool) (m n x y : ℕ) → m ≤ n → IsBitSet b c n x y → IsBitSet b c m x y
+bit_set-within b c m n x y le bit = record {
+  here = bit.here;
+  row = λ j jl ne. bit.row j (omega arith) ne;
+  others = λ i j jl ne. bit.others i j (omega arith) ne;
+}
+
+pub joined-within : (b c : ℕ → ℕ → Bool) (row : ℕ → Bool) (m n x : ℕ) → m ≤ n → IsJoined b c row n x → IsJoined b c row m x
+joined-within b c row m n x le join = record {
+  here = λ j jl. join.here j (omega arith);
+  others = λ i j jl ne. join.others i j (omega arith) ne;
+}
+
 -- row r of a is listed for its columns before k; nothing that was listed in b is gone
 pub record IsRowListedTo (m : ℕ) (a : ℕ → ℕ → ℕ) (b c : ℕ → ℕ → Bool) (r k : ℕ) : Type 0 where
   pub listed : (j : ℕ) → j < k → a r j ≢ 0 → c j r ≡ true

@@ -1,4 +1,11 @@
 pub mod EntryLaws
+pub mod RoomLaws
 pub mod TableauLaws
 pub mod SpanLaws
 pub mod DenseLaws
+pub mod EntryEdits
+pub mod BaseEdits
+pub mod DenseEdits
+pub mod DenseLeaves
+pub mod FreedBases
+pub mod DenseRemovals

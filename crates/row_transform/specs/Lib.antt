@@ -2,3 +2,4 @@ pub mod Bases
 pub mod Tableaus
 pub mod Entries
 pub mod Dense
+pub mod Edits

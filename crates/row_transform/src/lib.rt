@@ -9,6 +9,6 @@ mod tableau;
 
 pub use base::Base;
 pub use dense::DenseTableau;
-pub use entries::Entries;
+pub use entries::{Entries, Size};
 pub use out_of_memory::NoMemory;
 pub use tableau::{Tableau, TableauParts, Which};

@@ -1,12 +1,15 @@
 //! Tableaus, and the matrices that they keep.
 
-ghost use Rattle.std.specs.Prelude.{◌≡◌, ◌≢◌, ℕ, ◌<◌, ◌≤◌, ◌%◌, Bool, true, false, IfSome, IfNone, IfOk, IsTrue, ◌↔◌};
-ghost use Rattle.limits.specs.Limits.{column_limit};
+ghost use Rattle.std.specs.Prelude.{◌≡◌, ◌≢◌, ℕ, ◌<◌, ◌≤◌, ◌%◌, Bool, true, false, length, map, slice_index};
+ghost use Rattle.std.specs.Prelude.{IfSome, IfNone, IfOk, OnOk, OnErr, IsTrue, IsNone, ◌↔◌};
+ghost use Rattle.limits.specs.Limits.{column_limit, grown};
 ghost use Rattle.residue_theory.specs.Ranges.{HasNone, IsLeast};
 ghost use Rattle.dense_q.specs.Tables.{height, entry};
 ghost use Rattle.row_transform.specs.Bases.{raised};
 ghost use Rattle.row_transform.specs.Tableaus.{TableauState, IsOpened, IsTableau, IsBaseOf, IsBare, IsBaseColumn, IsCandidate, IsPivot, IsDrop, AreTableauParts, has_entry, has_entry_of, matrix_which, width_of};
-ghost use Rattle.linear_algebra.specs.Columns.{IsCombination};
+ghost use Rattle.row_transform.specs.Edits.{IsWithRow, IsWithoutRow, IsWithColumn, IsWithoutColumn, KeepsZeroColumns, Room};
+ghost use Rattle.linear_algebra.specs.Columns.{IsCombination, IsIndependent};
+ghost use Rattle.linear_algebra.specs.Parts.{without_row};
 
 use crate::base::Base;
 use dense_q::Mat;
@@ -34,11 +37,13 @@ pub enum Which {
 /// Row operations on a matrix Q: P = S * Q for an invertible S. Some columns are base columns, each with a row of
 /// its own; in P it is 1 there and 0 elsewhere. Rows and columns are counted from 0. (Murota 2000, chapter 2.)
 ///
-/// It counts its pivots: only `pivot` adds to the count.
+/// It counts its pivots: only `pivot` adds to the count. Rows and columns of Q come and go in room that is taken before.
 pub trait Tableau<F: Field>: Drop {
     ghost state: { Self → TableauState };
 
     ghost pivots: { Self → ℕ };
+
+    ghost room_of: { Self → Room };
 
     /// The tableau of a matrix before any row operation, with no base column.
     fn open(alloc: Global, q: &EntryMat<F>) -> Result<Self, NoMemory>
@@ -156,14 +161,73 @@ pub trait Tableau<F: Field>: Drop {
         requires entry { (state self.old).p row col % F.modulus ≢ 0 }
         requires no_base { (state self.old).base col ≡ false }
         ensures pivoted { IsPivot F.modulus (state self.old) (state self.new) row col }
-        ensures counted { pivots self.new ≡ raised (pivots self.old) 1 };
+        ensures zero_columns { KeepsZeroColumns F.modulus (state self.old).rows (state self.old).s (state self.new).s
+            row }
+        ensures counted { pivots self.new ≡ raised (pivots self.old) 1 }
+        ensures room { room_of self.new ≡ room_of self.old };
 
     /// Takes a base column out of the base.
     fn drop_base(&mut self, col: usize)
         requires col { col < (state self.old).columns }
         requires base { (state self.old).base col ≡ true }
         ensures dropped { IsDrop (state self.old) (state self.new) col }
-        ensures counted { pivots self.new ≡ pivots self.old };
+        ensures counted { pivots self.new ≡ pivots self.old }
+        ensures room { room_of self.new ≡ room_of self.old };
+
+    /// Takes room for at least so many rows and columns, and where it grows at least an eighth more. It changes nothing else. A
+    /// refusal leaves the room as it was.
+    fn room(&mut self, rows: usize, cols: usize) -> Result<(), NoMemory>
+        requires rows { rows ≤ column_limit }
+        requires cols { cols ≤ column_limit }
+        ensures same { state self.new ≡ state self.old }
+        ensures counted { pivots self.new ≡ pivots self.old }
+        ensures grown_rows { OnOk result (grown (room_of self.old).rows rows ≤ (room_of self.new).rows) }
+        ensures grown_cols { OnOk result (grown (room_of self.old).columns cols ≤ (room_of self.new).columns) }
+        ensures rows { OnOk result (rows ≤ (room_of self.new).rows) }
+        ensures cols { OnOk result (cols ≤ (room_of self.new).columns) }
+        ensures more_rows { (room_of self.old).rows ≤ (room_of self.new).rows }
+        ensures more_cols { (room_of self.old).columns ≤ (room_of self.new).columns }
+        ensures err { OnErr result (room_of self.new ≡ room_of self.old) };
+
+    /// Puts a row into Q as row `at`, and keeps the base. It takes no memory.
+    fn insert_row(&mut self, at: usize, items: &[F])
+        requires at { at ≤ (state self.old).rows }
+        requires items { length items.now ≡ (state self.old).columns }
+        requires rows { (state self.old).rows < (room_of self.old).rows }
+        requires cols { (state self.old).columns ≤ (room_of self.old).columns }
+        requires few { (state self.old).rows < column_limit }
+        ensures row { IsWithRow F.modulus (state self.old) (state self.new) at
+            (λ j. slice_index (map F.number items.now) j) }
+        ensures counted { pivots self.new ≡ pivots self.old }
+        ensures room { room_of self.new ≡ room_of self.old };
+
+    /// Takes row `at` out of Q. The base stays where it is independent without that row; else it loses one column, which
+    /// this gives.
+    fn remove_row(&mut self, at: usize) -> Option<usize>
+        requires at { at < (state self.old).rows }
+        ensures row { IsWithoutRow F.modulus (state self.old) (state self.new) at result }
+        ensures none { IsNone result ↔ IsIndependent F.modulus (without_row at (state self.old).q)
+            (state self.new).rows (state self.old).columns (state self.old).base }
+        ensures counted { pivots self.new ≡ pivots self.old }
+        ensures room { room_of self.new ≡ room_of self.old };
+
+    /// Puts a column of zeros into Q as column `at`. It is no base column. It takes no memory.
+    fn insert_column(&mut self, at: usize)
+        requires at { at ≤ (state self.old).columns }
+        requires rows { (state self.old).rows ≤ (room_of self.old).rows }
+        requires cols { (state self.old).columns < (room_of self.old).columns }
+        requires few { (state self.old).columns < column_limit }
+        ensures column { IsWithColumn F.modulus (state self.old) (state self.new) at }
+        ensures counted { pivots self.new ≡ pivots self.old }
+        ensures room { room_of self.new ≡ room_of self.old };
+
+    /// Takes column `at` out of Q, which has no entry in it.
+    fn remove_column(&mut self, at: usize)
+        requires at { at < (state self.old).columns }
+        requires empty { (i : ℕ) → i < (state self.old).rows → (state self.old).q i at % F.modulus ≡ 0 }
+        ensures column { IsWithoutColumn F.modulus (state self.old) (state self.new) at }
+        ensures counted { pivots self.new ≡ pivots self.old }
+        ensures room { room_of self.new ≡ room_of self.old };
 
     /// The entry of one of the matrices.
     fn entry_of(&self, which: Which, row: usize, col: usize) -> F

@@ -2,3 +2,11 @@ pub mod OpenLaws
 pub mod TransformLaws
 pub mod EntryLaws
 pub mod SparseLaws
+pub mod RoomLaws
+pub mod JoinLaws
+pub mod ReduceLaws
+pub mod LeaveLaws
+pub mod ColumnEdits
+pub mod RowJoins
+pub mod RowLeaves
+pub mod Grown

@@ -11,10 +11,12 @@ use Rattle.linear_algebra.specs.RowOperations.{IsPivoted}
 use Rattle.dense_q.specs.Tables.{Table, height, entry, IsTableOf}
 use Rattle.sparse_q.specs.Tables.{SparseTable, sparse_rows, number_in, HasSize, IsRowSet}
 use Rattle.row_transform.specs.Bases.{BaseLists, is_base, base_row, IsBaseDropped}
+use Rattle.row_transform.specs.Edits.{KeepsZeroColumns, Room}
 use Rattle.row_transform.specs.Tableaus.{IsTableau, IsPivot, IsOpened, AreTableauParts}
 use Rattle.row_transform.proofs.TableauLaws.{base-taken, base-dropped, no_column}
 use Rattle.row_table.specs.Reductions.{IsReduced, with_column_as}
 use Rattle.sparse_tableau.proofs.OpenLaws.{opened-inverse, opened-product}
+use Rattle.sparse_tableau.proofs.TransformLaws.{reduced-zero}
 use Rattle.sparse_tableau.specs.Sparse.{Sparse, IsSparse, sparse_state}
 use Rattle.row_table.proofs.ReductionLaws.{first-inverse, reduced-pivoted}
 
@@ -25,15 +27,15 @@ column-other : (a : ℕ → ℕ → ℕ) (r i t : ℕ) (x : ℕ → ℕ) → t �
 column-other a r i t x ne = grind (arith, nat_tests)
 
 -- ---- before any operation
-module _ (p : ℕ) (m n : ℕ) (of : Table) (q pp s v : SparseTable) (base : BaseLists) (m_is : m ≡ height of)
+module _ (p : ℕ) (m n : ℕ) (of : Table) (q pp s v : SparseTable) (base : BaseLists) (room : Room) (m_is : m ≡ height of)
     (n_is : n ≡ of.width)
     (p_size : HasSize (height of) of.width pp) (p_is : number_in pp ≡ entry of)
     (q_size : HasSize of.width (height of) q) (q_is : number_in q ≡ transposed (entry of))
     (s_size : HasSize m m s) (s_is : (i j : ℕ) → i < m → number_in s i j ≡ identity i j) (v_size : HasSize m m v)
     (v_is : (i j : ℕ) → i < m → number_in v i j ≡ identity i j)
-    (base_is : base ≡ record { columns = replicate m None; rows = replicate n None; takes = 0 }) where
+    (base_is : base ≡ record { columns = replicate m None; rows = replicate n None; takes = 0; row_room = 0; column_room = 0 }) where
   start : Sparse
-  start = record { q = q; p = pp; s = s; v = v; base = base }
+  start = record { q = q; p = pp; s = s; v = v; base = base; room = room }
 
   rows_are : sparse_rows pp ≡ m
   rows_are = p_size.rows_are ∙ sym m_is
@@ -69,7 +71,7 @@ module _ (p : ℕ) (m n : ℕ) (of : Table) (q pp s v : SparseTable) (base : Bas
       differ : (y : ℕ) → is_base base y ≡ true → ⊥
       differ y h = let e : is_base base y ≡ false = none y in cc
 
-  pub opened-sparse : IsSparse p (record { q = q; p = pp; s = s; v = v; base = base })
+  pub opened-sparse : IsSparse p (record { q = q; p = pp; s = s; v = v; base = base; room = room })
   unfolding start
   opened-sparse = record {
     q_size = record {
@@ -85,7 +87,7 @@ module _ (p : ℕ) (m n : ℕ) (of : Table) (q pp s v : SparseTable) (base : Bas
   }
 
   pub opened-state : IsOpened p (height of) of.width (entry of)
-      (sparse_state (record { q = q; p = pp; s = s; v = v; base = base }))
+      (sparse_state (record { q = q; p = pp; s = s; v = v; base = base; room = room }))
   opened-state = record {
     rows_are = p_size.rows_are;
     columns_are = p_size.width_is;
@@ -100,8 +102,8 @@ module _ (p : ℕ) (m n : ℕ) (of : Table) (q pp s v : SparseTable) (base : Bas
       turned i j = grind (arith, nat_tests)
 
 -- ---- a pivot: q, the columns of Q, stays, and row r of v becomes its row c
-module _ (p : ℕ) (prime : IsPrime p) (q pp s v pn sn vn : SparseTable) (base now : BaseLists) (r c : ℕ)
-    (kept : IsSparse p (record { q = q; p = pp; s = s; v = v; base = base }))
+module _ (p : ℕ) (prime : IsPrime p) (q pp s v pn sn vn : SparseTable) (base now : BaseLists) (room : Room) (r c : ℕ)
+    (kept : IsSparse p (record { q = q; p = pp; s = s; v = v; base = base; room = room }))
     (rl : r < sparse_rows pp) (cl : c < pp.width) (some : number_in pp r c % p ≢ 0)
     (p_size : HasSize (sparse_rows pp) pp.width pn) (s_size : HasSize (sparse_rows s) s.width sn)
     (p_reduced : IsReduced p (sparse_rows pp) pp.width (number_in pp) (number_in pn) r (λ i. number_in pp i c))
@@ -140,7 +142,7 @@ module _ (p : ℕ) (prime : IsPrime p) (q pp s v pn sn vn : SparseTable) (base n
       (number_in sn) (number_in pn) r c rl cl kept.tableau.product_is kept.tableau.inverse p_reduced on_s
 
   pub pivoted-sparse : length now.columns ≡ length base.columns → length now.rows ≡ length base.rows →
-      IsSparse p (record { q = q; p = pn; s = sn; v = vn; base = now })
+      IsSparse p (record { q = q; p = pn; s = sn; v = vn; base = now; room = room })
   pivoted-sparse rows columns = record {
     q_size = record {
       rows_are = kept.q_size.rows_are ∙ sym p_size.width_is;
@@ -173,8 +175,8 @@ module _ (p : ℕ) (prime : IsPrime p) (q pp s v pn sn vn : SparseTable) (base n
     };
   }
 
-  pub pivoted-state : IsPivot p (sparse_state (record { q = q; p = pp; s = s; v = v; base = base }))
-      (sparse_state (record { q = q; p = pn; s = sn; v = vn; base = now })) r c
+  pub pivoted-state : IsPivot p (sparse_state (record { q = q; p = pp; s = s; v = v; base = base; room = room }))
+      (sparse_state (record { q = q; p = pn; s = sn; v = vn; base = now; room = room })) r c
   pivoted-state = record {
     rows_same = p_size.rows_are;
     columns_same = p_size.width_is;
@@ -182,6 +184,10 @@ module _ (p : ℕ) (prime : IsPrime p) (q pp s v pn sn vn : SparseTable) (base n
     pivoted = pivot-pivoted;
     taken = taken_at;
   }
+
+  -- the columns of S that are zero in row r stay
+  pub zero-columns : KeepsZeroColumns p m (number_in s) (number_in sn) r
+  zero-columns = reduced-zero p prime m m (number_in s) (number_in sn) r (λ i. number_in pp i c) rl some on_s
 
 -- ---- a column leaves the base
 pub dropped-sparse : (p : ℕ) (t : Sparse) (now : BaseLists) (c : ℕ) → IsSparse p t → length now.columns ≡ length

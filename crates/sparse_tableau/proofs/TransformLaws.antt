@@ -1,11 +1,13 @@
 -- A pivot of a sparse matrix row by row: what leads back from the rows so far.
 use Rattle.std.proofs.Common.{◌≡◌, ℕ, ◌+◌, ◌*◌, ◌%◌, ◌<◌, ◌≤◌, ◌≢◌, ◌⊎◌, inl, inr, refl, sym, subst, ap, ◌∙◌, arith}
 use Rattle.std.proofs.Math.Nat.{zero-mod, mod-mod, mod-add-mod, mod-eq_of_lt}
+use Rattle.residue_theory.specs.Residues.{IsPrime}
 use Rattle.residue_theory.proofs.SumLaws.{nat_cases}
 use Rattle.residue_theory.proofs.SetLaws.{lt_cases}
-use Rattle.residue_theory.proofs.ResidueLaws.{agree-mul, agree-add, vanishes-mul}
+use Rattle.residue_theory.proofs.ResidueLaws.{agree-mul, agree-add, vanishes-mul, vanishes_factor}
 use Rattle.sparse_q.specs.Tables.{SparseTable, number_in, HasSize, IsRowSet}
 use Rattle.row_table.specs.Reductions.{IsReduced}
+use Rattle.sparse_tableau.specs.Sparse.{HasSameRoom}
 
 -- row r of a leads back from that of b, and so do the rows before row n; the rows from n on are those of a
 pub record IsReducedTo (p : ℕ) (a b : ℕ → ℕ → ℕ) (r : ℕ) (k : ℕ → ℕ) (n : ℕ) : Type 0 where
@@ -117,3 +119,21 @@ some-factor p k f one z =
     let none : (k * f) % p ≡ 0 =
     ap (λ y. k * y % p) z ∙ ap (λ y. y % p) (let e : k * 0 ≡ 0 = omega arith in e) ∙ zero-mod p in
     omega arith
+
+-- the columns that are zero in the row of a pivot stay
+pub reduced-zero : (p : ℕ) → IsPrime p → (m n : ℕ) (a b : ℕ → ℕ → ℕ) (r : ℕ) (k : ℕ → ℕ) → r < m → k r % p ≢ 0 → IsReduced p m n a b r k →
+    (j : ℕ) → j < n → a r j % p ≡ 0 → (i : ℕ) → i < m → b i j % p ≡ a i j % p
+reduced-zero p prime m n a b r k rl ne reduced j jl z i il = elim (nat_cases i r) [
+  | inl q ↦ subst (λ t. b t j % p ≡ a t j % p) (sym q) (none ∙ sym z)
+  | inr other ↦
+      ap (λ y. y % p) (let e : b i j ≡ b i j + 0 = omega arith in e)
+      ∙ agree-add p (b i j) (b i j) 0 (k i * b r j) refl (zero-mod p ∙ sym (vanishes-mul p (k i) (b r j) none))
+      ∙ sym (reduced.others i j il jl other)
+]
+  where
+    none : b r j % p ≡ 0
+    none = vanishes_factor p prime (k r) (b r j) ne (sym (reduced.here j jl) ∙ z)
+
+-- the room of a matrix of which a row was set
+pub room-set : (a b c : SparseTable) (i : ℕ) (f : ℕ → ℕ) → HasSameRoom a b → IsRowSet b c i f → HasSameRoom a c
+room-set a b c i f room put = record { row_room = put.row_room ∙ room.row_room; column_room = put.column_room ∙ room.column_room }

@@ -1,2 +1,4 @@
 pub mod Listings
 pub mod Sparse
+pub mod Joins
+pub mod Leaves

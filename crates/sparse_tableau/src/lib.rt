@@ -1,6 +1,8 @@
 //! A tableau of sparse matrices. It keeps Q, and puts columns of Q into U, so that a pivot writes one column of U.
 #![tactic(auto)]
 
+mod joining;
+mod leaving;
 mod listing;
 mod sparse;
 mod transform;

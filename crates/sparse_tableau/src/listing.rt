@@ -4,7 +4,7 @@ ghost use Rattle.std.specs.Prelude.{◌≡◌, ◌≢◌, ℕ, ◌<◌, true, If
 ghost use Rattle.residue_theory.specs.Ranges.{HasNone, IsLeast};
 ghost use Rattle.bit_table.specs.Bits.{bit_in};
 ghost use Rattle.sparse_q.specs.Tables.{sparse_rows, number_in};
-ghost use Rattle.row_transform.specs.Entries.{HasSizeOf, IsSpread};
+ghost use Rattle.row_transform.specs.Entries.{HasSizeOf, HasTableSize, IsSpread};
 ghost use Rattle.sparse_tableau.specs.Listings.{AreNumbersListed, has_number_at};
 
 use residue_field::Field;
@@ -15,7 +15,7 @@ use sparse_q::SparseMat;
 pub(crate) fn list_row<F: Field>(entries: &mut Entries, m: &SparseMat<F>, row: usize)
     requires row { row < sparse_rows m.now }
     requires size { HasSizeOf (sparse_rows m.now) m.now.width entries.old.bits }
-    ensures size { HasSizeOf (sparse_rows m.now) m.now.width entries.new.bits }
+    ensures size { HasTableSize entries.old.bits entries.new.bits }
     ensures listed { (j : ℕ) → j < m.now.width → number_in m.now row j ≢ 0 → bit_in entries.new.bits j row ≡ true }
     ensures kept { (i j : ℕ) → i < sparse_rows m.now → bit_in entries.old.bits j i ≡ true →
         bit_in entries.new.bits j i ≡ true }
@@ -59,7 +59,7 @@ pub(crate) fn spread<F: Field>(entries: &mut Entries, p: &SparseMat<F>, row: usi
     requires row { row < sparse_rows p.now }
     requires col { col < p.now.width }
     requires size { HasSizeOf (sparse_rows p.now) p.now.width entries.old.bits }
-    ensures size { HasSizeOf (sparse_rows p.now) p.now.width entries.new.bits }
+    ensures size { HasTableSize entries.old.bits entries.new.bits }
     ensures spread { IsSpread (sparse_rows p.now) p.now.width (number_in p.now) (bit_in entries.old.bits)
         (bit_in entries.new.bits) row col }
 {

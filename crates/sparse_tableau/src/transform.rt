@@ -4,8 +4,11 @@ ghost use Rattle.std.specs.Prelude.{◌≡◌, ◌≢◌, ℕ, ◌+◌, ◌*◌,
 ghost use Rattle.sparse_q.specs.Tables.{sparse_rows, number_in, HasSize, IsRowSet};
 ghost use Rattle.bit_table.specs.Bits.{bit_in};
 ghost use Rattle.row_table.specs.Reductions.{IsReduced};
-ghost use Rattle.row_transform.specs.Entries.{HasSizeOf};
+ghost use Rattle.row_transform.specs.Entries.{HasSizeOf, HasTableSize};
+ghost use Rattle.sparse_tableau.specs.Listings.{AreSparseEntriesListed};
+ghost use Rattle.sparse_tableau.specs.Sparse.{HasSameRoom};
 
+use crate::listing;
 use residue_field::Field;
 use row_transform::Entries;
 use sparse_q::SparseMat;
@@ -33,7 +36,7 @@ impl<F: Field> Transform<F> {
     }
 
     // Adds a multiple of row `source` to row `target`.
-    fn add(&mut self, target: usize, source: usize, factor: F)
+    pub(crate) fn add(&mut self, target: usize, source: usize, factor: F)
         requires target { target < sparse_rows self.old.p }
         requires source { source < sparse_rows self.old.p }
         requires same { sparse_rows self.old.s ≡ sparse_rows self.old.p }
@@ -57,6 +60,8 @@ impl<F: Field> Transform<F> {
         requires entry { number_in self.old.p row col ≢ 0 }
         ensures p_size { HasSize (sparse_rows self.old.p) self.old.p.width self.new.p }
         ensures s_size { HasSize (sparse_rows self.old.s) self.old.s.width self.new.s }
+        ensures p_room { HasSameRoom self.old.p self.new.p }
+        ensures s_room { HasSameRoom self.old.s self.new.s }
         ensures p_reduced { IsReduced F.modulus (sparse_rows self.old.p) self.old.p.width (number_in self.old.p)
             (number_in self.new.p) row (λ i. number_in self.old.p i col) }
         ensures s_reduced { IsReduced F.modulus (sparse_rows self.old.s) self.old.s.width (number_in self.old.s)
@@ -73,6 +78,36 @@ impl<F: Field> Transform<F> {
                 self.add(i, row, entry.neg());
             }
             from = i + 1;
+        }
+    }
+
+    // Makes a row the only one with an entry in a column of S, by row operations. The entries of P are listed.
+    pub(crate) fn clear(&mut self, entries: &mut Entries, row: usize, col: usize)
+        requires row { row < sparse_rows self.old.p }
+        requires col { col < self.old.s.width }
+        requires same { sparse_rows self.old.s ≡ sparse_rows self.old.p }
+        requires listed { AreSparseEntriesListed F.modulus self.old.p entries.old.bits }
+        requires entry { number_in self.old.s row col ≢ 0 }
+        ensures p_size { HasSize (sparse_rows self.old.p) self.old.p.width self.new.p }
+        ensures s_size { HasSize (sparse_rows self.old.s) self.old.s.width self.new.s }
+        ensures p_room { HasSameRoom self.old.p self.new.p }
+        ensures s_room { HasSameRoom self.old.s self.new.s }
+        ensures p_reduced { IsReduced F.modulus (sparse_rows self.old.p) self.old.p.width (number_in self.old.p)
+            (number_in self.new.p) row (λ i. number_in self.old.s i col) }
+        ensures s_reduced { IsReduced F.modulus (sparse_rows self.old.s) self.old.s.width (number_in self.old.s)
+            (number_in self.new.s) row (λ i. number_in self.old.s i col) }
+        ensures listed { AreSparseEntriesListed F.modulus self.new.p entries.new.bits }
+        ensures bits { HasTableSize entries.old.bits entries.new.bits }
+    {
+        let entry = self.s.get(row, col);
+        let factor = entry.inv().unwrap();
+        self.scale(row, factor);
+        for i in 0..self.p.rows() {
+            let entry = self.s.get(i, col);
+            if i != row && !entry.is_zero() {
+                self.add(i, row, entry.neg());
+                listing::list_row(entries, &self.p, i);
+            }
         }
     }
 }

@@ -1,7 +1,8 @@
-use Rattle.std.proofs.Common.{◌∙◌, subst}
-use Rattle.bit_table.specs.Bits.{bit_in, IsBitSet}
+use Rattle.std.proofs.Common.{arith}
+use Rattle.bit_table.specs.Bits.{bit_in}
 use Rattle.sparse_q.specs.Tables.{sparse_rows, number_in}
-use Rattle.row_transform.proofs.EntryLaws.{row_listed-next, row_listed-all}
+use Rattle.row_transform.proofs.EntryEdits.{size-next}
+use Rattle.row_transform.proofs.EntryLaws.{bit_set-within, row_listed-next, row_listed-all}
 use Rattle.sparse_tableau.proofs.listing.list_row.Goals as goal
 
 pub loop-col-preserved : goal.loop-col-preserved
@@ -10,15 +11,12 @@ loop-col-preserved g c =
     let inv = c.loop-col.invariant in
     let now = bit_in c.loop-col.entries.bits in
     record {
-      size = record {
-        columns_are = c.set.ensures.rows ∙ inv.size.columns_are;
-        rows_are = c.set.ensures.size ∙ inv.size.rows_are;
-      };
+      size = size-next c.args.entries.now.bits c.loop-col.entries.bits c.set.new.self inv.size c.set.ensures.rows c.set.ensures.size;
       so_far = row_listed-next (sparse_rows m) m.width (number_in m) (bit_in c.args.entries.now.bits) now
           (bit_in c.set.new.self) c.args.row c.loop-col.from c.in-Some.col inv.so_far c.requires.row
           c.in-Some.ensures.least
-          (subst (λ k. IsBitSet now (bit_in c.set.new.self) k c.in-Some.col c.args.row) inv.size.rows_are
-          c.set.ensures.set);
+          (bit_set-within now (bit_in c.set.new.self) (sparse_rows m) c.loop-col.entries.bits.size c.in-Some.col c.args.row
+          (omega (arith, inv.size.size_same, c.requires.size.rows_fit)) c.set.ensures.set);
     }
 
 pub returns-clause-listed : goal.returns-clause-listed

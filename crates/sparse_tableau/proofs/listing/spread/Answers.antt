@@ -1,7 +1,8 @@
-use Rattle.std.proofs.Common.{◌∙◌, arith, inl, subst}
-use Rattle.bit_table.specs.Bits.{bit_in, IsJoined}
+use Rattle.std.proofs.Common.{arith, inl}
+use Rattle.bit_table.specs.Bits.{bit_in}
 use Rattle.sparse_q.specs.Tables.{sparse_rows, number_in}
-use Rattle.row_transform.proofs.EntryLaws.{spread-past, spread-join, spread-skip, spread-done}
+use Rattle.row_transform.proofs.EntryEdits.{size-next}
+use Rattle.row_transform.proofs.EntryLaws.{joined-within, spread-past, spread-join, spread-skip, spread-done}
 use Rattle.sparse_tableau.proofs.listing.spread.Goals as goal
 use Rattle.sparse_tableau.proofs.listing.spread.Goals.{then-other-col, else-other-col}
 
@@ -16,14 +17,11 @@ loop-other-preserved g c =
     other c.in-Some.ensures.least.none_before in
     elim c.if-other-col.branch [
       | then-other-col w ↦ rw w.entries-is (record {
-        size = record {
-          columns_are = w.join.ensures.rows ∙ inv.size.columns_are;
-          rows_are = w.join.ensures.size ∙ inv.size.rows_are;
-        };
+        size = size-next c.args.entries.now.bits c.loop-other.entries.bits w.join.new.self inv.size w.join.ensures.rows w.join.ensures.size;
         spread = spread-join (sparse_rows p) (number_in p) before now c.args.row c.args.col other past
             (bit_in w.join.new.self) w.if-other-col.true
-            (subst (λ k. IsJoined now (bit_in w.join.new.self) (now c.args.col) k other) inv.size.rows_are
-            w.join.ensures.joined);
+            (joined-within now (bit_in w.join.new.self) (now c.args.col) (sparse_rows p) c.loop-other.entries.bits.size other
+            (omega (arith, inv.size.size_same, c.requires.size.rows_fit)) w.join.ensures.joined);
       })
       | else-other-col w ↦ rw w.entries-is (record {
         size = inv.size;

@@ -13,9 +13,13 @@ returns c =
       columns = p.rights;
       rows = p.lefts;
       takes = c.saturating_add-self-inside.result;
+      row_room = p.left_room;
+      column_room = p.right_room;
     }) c.link.ensures
     ∙ ap (λ (n : ℕ). record {
       columns = slice_set c.self.inside.pairs.rights c.args.row (Some c.args.column);
       rows = slice_set c.self.inside.pairs.lefts c.args.column (Some c.args.row);
       takes = n;
+      row_room = c.self.inside.pairs.left_room;
+      column_room = c.self.inside.pairs.right_room;
     }) counted)

@@ -1,5 +1,5 @@
 use Rattle.std.proofs.Common.{◌≡◌, ◌%◌, eqb, not, subst, ◌∙◌, ap}
-use Rattle.dense_q.specs.Tables.{height}
+use Rattle.sparse_q.specs.Tables.{sparse_rows}
 use Rattle.bit_table.specs.Bits.{bit_in}
 use Rattle.row_table.specs.RowTables.{Combined, p_part}
 use Rattle.row_transform.specs.Dense.{Dense}
@@ -12,11 +12,11 @@ returns-clause-none g c =
     let p = g.F.Field.modulus in
     let t : Combined = c.args.self.now.table in
     let bits = c.self.inside.entries.bits in
-    let listed : AreEntriesListed p (height t.q) t.q.width (p_part p t) bits =
-    subst (λ (d : Dense). AreEntriesListed p (height d.table.q) d.table.q.width (p_part p d.table) bits) c.self.view_is
+    let listed : AreEntriesListed p (sparse_rows t.q) t.q.width (p_part p t) bits =
+    subst (λ (d : Dense). AreEntriesListed p (sparse_rows d.table.q) d.table.q.width (p_part p d.table) bits) c.self.view_is
     c.self.invariant.1 in
-    let rows : c.rows.result ≡ height t.q = c.rows.ensures.rows ∙ ap (λ (d : Dense). height d.table.q) c.self.view_is in
-    if_none-listed (λ i. not (eqb (p_part p t i c.args.col % p) 0)) (bit_in bits c.args.col) (height t.q)
+    let rows : c.rows.result ≡ sparse_rows t.q = c.rows.ensures.rows ∙ ap (λ (d : Dense). sparse_rows d.table.q) c.self.view_is in
+    if_none-listed (λ i. not (eqb (p_part p t i c.args.col % p) 0)) (bit_in bits c.args.col) (sparse_rows t.q)
     (λ i il some. listed.listed i c.args.col il c.requires (some_of (p_part p t i c.args.col % p) some)) c.args.from
     c.rows.result rows c.next.result c.next.ensures.none
 
@@ -25,10 +25,10 @@ returns-clause-some g c =
     let p = g.F.Field.modulus in
     let t : Combined = c.args.self.now.table in
     let bits = c.self.inside.entries.bits in
-    let listed : AreEntriesListed p (height t.q) t.q.width (p_part p t) bits =
-    subst (λ (d : Dense). AreEntriesListed p (height d.table.q) d.table.q.width (p_part p d.table) bits) c.self.view_is
+    let listed : AreEntriesListed p (sparse_rows t.q) t.q.width (p_part p t) bits =
+    subst (λ (d : Dense). AreEntriesListed p (sparse_rows d.table.q) d.table.q.width (p_part p d.table) bits) c.self.view_is
     c.self.invariant.1 in
-    let rows : c.rows.result ≡ height t.q = c.rows.ensures.rows ∙ ap (λ (d : Dense). height d.table.q) c.self.view_is in
-    if_candidate-listed (λ i. not (eqb (p_part p t i c.args.col % p) 0)) (bit_in bits c.args.col) (height t.q)
+    let rows : c.rows.result ≡ sparse_rows t.q = c.rows.ensures.rows ∙ ap (λ (d : Dense). sparse_rows d.table.q) c.self.view_is in
+    if_candidate-listed (λ i. not (eqb (p_part p t i c.args.col % p) 0)) (bit_in bits c.args.col) (sparse_rows t.q)
     (λ i il some. listed.listed i c.args.col il c.requires (some_of (p_part p t i c.args.col % p) some)) c.args.from
     c.rows.result rows c.next.result c.next.ensures.least

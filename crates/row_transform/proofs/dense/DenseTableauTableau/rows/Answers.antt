@@ -3,4 +3,9 @@ use Rattle.row_transform.proofs.dense.DenseTableauTableau.rows.Goals as goal
 
 pub returns-clause-tableau : goal.returns-clause-tableau
 returns-clause-tableau g c = rw (← c.self.view_is) (dense-tableau g.F.Field.modulus
-    (record { table = c.self.inside.table; base = c.self.inside.base }) c.rows.ensures.combined c.self.invariant.0)
+    (record {
+      table = c.self.inside.table;
+      base = c.self.inside.base;
+      row_room = c.self.inside.row_room;
+      column_room = c.self.inside.column_room;
+    }) c.rows.ensures.combined c.self.invariant.0)

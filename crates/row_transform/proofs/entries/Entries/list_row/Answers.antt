@@ -1,7 +1,8 @@
-use Rattle.std.proofs.Common.{◌∙◌, subst}
+use Rattle.std.proofs.Common.{arith}
 use Rattle.dense_q.specs.Tables.{height, entry}
-use Rattle.bit_table.specs.Bits.{bit_in, IsBitSet}
-use Rattle.row_transform.proofs.EntryLaws.{row_listed-next, row_listed-all}
+use Rattle.bit_table.specs.Bits.{bit_in}
+use Rattle.row_transform.proofs.EntryEdits.{size-next}
+use Rattle.row_transform.proofs.EntryLaws.{bit_set-within, row_listed-next, row_listed-all}
 use Rattle.row_transform.proofs.entries.Entries.list_row.Goals as goal
 
 pub loop-col-preserved : goal.loop-col-preserved
@@ -10,14 +11,11 @@ loop-col-preserved g c =
     let inv = c.loop-col.invariant in
     let now = bit_in c.loop-col.self.bits in
     record {
-      size = record {
-        columns_are = c.set.ensures.rows ∙ inv.size.columns_are;
-        rows_are = c.set.ensures.size ∙ inv.size.rows_are;
-      };
+      size = size-next c.args.self.now.bits c.loop-col.self.bits c.set.new.self inv.size c.set.ensures.rows c.set.ensures.size;
       so_far = row_listed-next (height q) q.width (entry q) (bit_in c.args.self.now.bits) now (bit_in c.set.new.self)
           c.args.row c.loop-col.from c.in-Some.col inv.so_far c.requires.row c.in-Some.ensures.least
-          (subst (λ k. IsBitSet now (bit_in c.set.new.self) k c.in-Some.col c.args.row) inv.size.rows_are
-          c.set.ensures.set);
+          (bit_set-within now (bit_in c.set.new.self) (height q) c.loop-col.self.bits.size c.in-Some.col c.args.row
+          (omega (arith, inv.size.size_same, c.requires.size.rows_fit)) c.set.ensures.set);
     }
 
 pub returns-clause-listed : goal.returns-clause-listed

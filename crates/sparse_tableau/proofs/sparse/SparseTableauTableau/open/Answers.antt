@@ -6,8 +6,9 @@ use Rattle.row_transform.specs.Tableaus.{IsOpened}
 use Rattle.dense_q.specs.Tables.{height, entry}
 use Rattle.row_transform.proofs.EntryLaws.{listed-entries}
 use Rattle.sparse_tableau.specs.Listings.{AreNumbersListed, AreSparseEntriesListed}
-use Rattle.sparse_tableau.specs.Sparse.{IsSparse, sparse_state}
+use Rattle.sparse_tableau.specs.Sparse.{IsSparse, HasSparseRoom, sparse_state}
 use Rattle.sparse_tableau.proofs.EntryLaws.{numbers-listed, diagonal-listed}
+use Rattle.sparse_tableau.proofs.RoomLaws.{no-room}
 use Rattle.sparse_tableau.proofs.SparseLaws.{opened-sparse, opened-state}
 use Rattle.sparse_tableau.proofs.sparse.SparseTableauTableau.open.Goals as goal
 
@@ -28,9 +29,18 @@ invariant_of-result-2 g c =
       s = c.in_ok-s.s;
       v = v;
       base = c.in_ok-empty.field-0;
-    }) × AreSparseEntriesListed m p c.in_ok-entries.entries.bits × AreNumbersListed v c.in_ok-u_entries.u_entries.bits) (sym c.v.view_is) (
+      room = record { rows = 0; columns = 0 };
+    }) × AreSparseEntriesListed m p c.in_ok-entries.entries.bits × AreNumbersListed v c.in_ok-u_entries.u_entries.bits
+    × HasSparseRoom (record {
+      q = c.in_ok-turned.field-0;
+      p = p;
+      s = c.in_ok-s.s;
+      v = v;
+      base = c.in_ok-empty.field-0;
+      room = record { rows = 0; columns = 0 };
+    }) c.in_ok-entries.entries.bits c.in_ok-u_entries.u_entries.bits) (sym c.v.view_is) (
       opened-sparse m c.rows-rows.result c.cols-columns.result c.args.q.now c.in_ok-turned.field-0 p c.in_ok-s.s
-          c.in_ok-v.v c.in_ok-empty.field-0 c.rows-rows.ensures.rows c.cols-columns.ensures.cols
+          c.in_ok-v.v c.in_ok-empty.field-0 (record { rows = 0; columns = 0 }) c.rows-rows.ensures.rows c.cols-columns.ensures.cols
           c.in_ok-p.ensures.size c.in_ok-p.ensures.numbers turned_size turned_numbers c.in_ok-s.ensures.size c.in_ok-s.ensures.numbers c.in_ok-v.ensures.size
           c.in_ok-v.ensures.numbers c.in_ok-empty.ensures,
       listed-entries m (sparse_rows p) p.width (number_in p) c.in_ok-entries.entries.bits
@@ -38,6 +48,8 @@ invariant_of-result-2 g c =
           c.in_ok-p.ensures.numbers c.in_ok-entries.ensures),
       diagonal-listed c.rows-rows.result c.in_ok-v.v c.in_ok-u_entries.u_entries.bits c.in_ok-v.ensures.size
           c.in_ok-v.ensures.numbers c.in_ok-u_entries.ensures,
+      no-room c.in_ok-turned.field-0 p c.in_ok-s.s c.in_ok-v.v c.in_ok-empty.field-0 c.in_ok-entries.entries.bits
+          c.in_ok-u_entries.u_entries.bits,
     )
 
 pub returns-clause-opened : goal.returns-clause-opened
@@ -57,9 +69,10 @@ returns-clause-opened g c =
       s = c.in_ok-s.s;
       v = v;
       base = c.in_ok-empty.field-0;
+      room = record { rows = 0; columns = 0 };
     }))) (sym c.v.view_is)
     (opened-state m c.rows-rows.result c.cols-columns.result of c.in_ok-turned.field-0 c.in_ok-p.p c.in_ok-s.s
-    c.in_ok-v.v c.in_ok-empty.field-0 c.rows-rows.ensures.rows c.cols-columns.ensures.cols c.in_ok-p.ensures.size
+    c.in_ok-v.v c.in_ok-empty.field-0 (record { rows = 0; columns = 0 }) c.rows-rows.ensures.rows c.cols-columns.ensures.cols c.in_ok-p.ensures.size
     c.in_ok-p.ensures.numbers turned_size turned_numbers c.in_ok-s.ensures.size
     c.in_ok-s.ensures.numbers c.in_ok-v.ensures.size c.in_ok-v.ensures.numbers c.in_ok-empty.ensures)
 

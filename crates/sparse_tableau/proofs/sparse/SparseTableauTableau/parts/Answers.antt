@@ -15,6 +15,7 @@ returns g c =
       v =
           inside.v;
       base = inside.base;
+      room = record { rows = inside.row_room; columns = inside.column_room };
     })
     c.in_ok-s.s c.in_ok-v.v c.in_ok-u.u c.in_ok-p.p c.self.invariant.0 c.in_ok-s.ensures c.in_ok-v.ensures
     c.in_ok-u.ensures c.in_ok-p.ensures)

@@ -2,7 +2,7 @@ use Rattle.std.proofs.Common.{◌≡◌, ◌⊎◌, ◌+◌, ◌*◌, ◌%◌, �
 use Rattle.residue_theory.proofs.SumLaws.{nat_cases}
 use Rattle.residue_theory.proofs.SetLaws.{differ}
 use Rattle.sparse_q.specs.Tables.{sparse_rows, number_in}
-use Rattle.sparse_tableau.proofs.TransformLaws.{reduced-scaled, reduced-past, reduced-skip, reduced-add, reduced-all, size-set, some-factor}
+use Rattle.sparse_tableau.proofs.TransformLaws.{reduced-scaled, reduced-past, reduced-skip, reduced-add, reduced-all, room-set, size-set, some-factor}
 use Rattle.sparse_tableau.proofs.transform.Transform.pivot.Goals as goal
 use Rattle.sparse_tableau.proofs.transform.Transform.pivot.Goals.{then-i-row+then-not-is_zero, else-i-row, else-i-row-via-then-i-row+else-not-is_zero, else-i-row-via-else-i-row}
 
@@ -24,6 +24,8 @@ loop-i-init g c =
       within = omega arith;
       p_size = c.scale.ensures.p.size;
       s_size = c.scale.ensures.s.size;
+      p_room = record { row_room = c.scale.ensures.p.row_room; column_room = c.scale.ensures.p.column_room };
+      s_room = record { row_room = c.scale.ensures.s.row_room; column_room = c.scale.ensures.s.column_room };
       on_p = reduced-scaled modulus c.args.self.now.p c.scale.new.self.p c.args.row k _ g.met.F.Field.prime.above_one
           one c.scale.ensures.p;
       on_s = reduced-scaled modulus c.args.self.now.s c.scale.new.self.s c.args.row k _ g.met.F.Field.prime.above_one
@@ -59,6 +61,8 @@ loop-i-preserved g c =
                 w.add.ensures.p;
             s_size = size-set (sparse_rows first.s) first.s.width old.s w.add.new.self.s c.in-Some.i _ inv.s_size
                 w.add.ensures.s;
+            p_room = room-set first.p old.p w.add.new.self.p c.in-Some.i _ inv.p_room w.add.ensures.p;
+            s_room = room-set first.s old.s w.add.new.self.s c.in-Some.i _ inv.s_room w.add.ensures.s;
             on_p = reduced-add modulus (number_in first.p) (number_in old.p) c.args.row k c.in-Some.i on_p
                 (number_in w.add.new.self.p)
                 (g.F.Field.number w.neg.result) w.if-i-row.true zero w.add.ensures.p.changed w.add.ensures.p.others;
@@ -78,6 +82,8 @@ loop-i-preserved g c =
             within = omega (arith, small);
             p_size = inv.p_size;
             s_size = inv.s_size;
+            p_room = inv.p_room;
+            s_room = inv.s_room;
             on_p = reduced-skip modulus (number_in first.p) (number_in old.p) c.args.row k c.in-Some.i on_p why;
             on_s = reduced-skip modulus (number_in first.s) (number_in old.s) c.args.row k c.in-Some.i on_s why;
           })
