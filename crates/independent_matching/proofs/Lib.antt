@@ -12,3 +12,8 @@ pub mod LeftLaws
 pub mod NextLaws
 pub mod ReadyLaws
 pub mod VainLaws
+pub mod EditLaws
+pub mod EditSteps
+pub mod PlaceLaws
+pub mod FreeLaws
+pub mod UpdateLaws

@@ -1,5 +1,5 @@
 -- An engine before its first search.
-use Rattle.std.proofs.Common.{◌≡◌, ◌<◌, ◌≤◌, ◌⊎◌, ◌&&◌, ℕ, Bool, false, true, not, replicate, Option, None}
+use Rattle.std.proofs.Common.{◌≡◌, ◌<◌, ◌≤◌, ◌⊎◌, ℕ, false, replicate, Option, None}
 use Rattle.std.proofs.Common.{inl, inr, refl, sym, ap, subst, is_some, slice_index_or, arith}
 use Rattle.std.proofs.lemmas.List.{get_or-replicate, get_or_past, length-replicate}
 use Rattle.residue_theory.specs.Residues.{IsPrime}
@@ -11,7 +11,6 @@ use Rattle.linear_algebra_laws.proofs.Products.{product-kernel}
 use Rattle.sparse_t.specs.Incidences.{Incidence}
 use Rattle.bipartite_matching.specs.Matchings.{Matching, empty_matching}
 use Rattle.row_transform.specs.Tableaus.{TableauState, IsOpened, IsTableau}
-use Rattle.mixed_matrices.specs.Arcs.{is_free}
 use Rattle.mixed_matrices.specs.Tableaus.{HasTableau}
 use Rattle.mixed_model.specs.Layers.{Layers, layered_matrix_of}
 use Rattle.independent_matching.specs.Engines.{AreOpenedEntries, IsBareOver, layers}
@@ -44,13 +43,6 @@ module _ (p : ℕ) (S : TableauState) (M : Matching) (no_base : (y : ℕ) → y 
     };
     apart = λ j l h. absurd (differ (no_base j l) h);
   }
-
-  pub all-free : (x : ℕ) → x < S.columns → is_free (tableau_of_pair S M) x ≡ true
-  unfolding is_free
-  all-free x l = neither (S.base x) (is_matched M x) (no_base x l) (unmatched x)
-    where
-      neither : (a b : Bool) → a ≡ false → b ≡ false → (not a && not b) ≡ true
-      neither a b e f = grind arith
 
   pub open-size : 0 ≡ size_of S M
   open-size = omega (arith, size-zero S.base S.columns (λ j l. no_base j l), size-zero (is_matched M) S.columns (λ j l. unmatched j))

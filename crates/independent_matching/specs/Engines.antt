@@ -14,7 +14,11 @@ use Rattle.mixed_matrices.specs.Pairs.{IsBest, pair_size}
 use Rattle.mixed_matrices.specs.SetFunctions.{IsMinimiser}
 use Rattle.mixed_matrices.specs.StructuralRanks.{IsLayeredRank}
 use Rattle.mixed_matrices.specs.Tableaus.{Tableau, HasTableau}
-use Rattle.independent_matching.specs.Sides.{layers_of, size_of, tableau_of_pair}
+use Rattle.dense_q.specs.Tables.{entry}
+use Rattle.mixed_model.specs.Layers.{Layers, layered_matrix_of}
+use Rattle.independent_matching.specs.Changes.{IsEdit}
+use Rattle.independent_matching.specs.declared.change.Change.{Change}
+use Rattle.independent_matching.specs.Sides.{is_matched, layers_of, size_of, tableau_of_pair}
 
 -- the tableau of Q, the matching in T, what the last search found, how many pivots and looks there were, and how many
 -- searches the last run made
@@ -170,3 +174,29 @@ pub record HasStayed (A : Type 0) (state : A → TableauState) (p : ℕ) (old no
       ≡ old.looks + size_on (vain_of now.found) (state old.tableau).columns
   pub looked : now.looks ≡ old.looks + now.found.looks
   pub all_looks : now.found.all_looks ≡ counted_on old.found.all_looks now.found.looks
+
+-- no pivot and no look is told, and no search
+pub record IsStarted (A : Type 0) (e : Standing A) : Type 0 where
+  pub none_told : (e.pivots ≡ 0) × (e.looks ≡ 0) × (e.searches ≡ 0)
+  pub fresh : IsFresh e.found
+
+-- all is as before, but there may be more room
+pub record HasKept (A : Type 0) (state : A → TableauState) (count : A → ℕ) (old now : Standing A) : Type 0 where
+  pub tableau : state now.tableau ≡ state old.tableau
+  pub counted : count now.tableau ≡ count old.tableau
+  pub matching : now.matching ≡ old.matching
+  pub found : now.found ≡ old.found
+  pub told : (now.pivots ≡ old.pivots) × (now.looks ≡ old.looks) × (now.searches ≡ old.searches)
+
+-- the engine is at a best pair, and `new` is its layered matrix after the change
+pub record IsEditOfBest (p : ℕ) (change : Change) (S : TableauState) (M : Matching) (new : Layers) : Type 0 where
+  pub entries : ℕ → ℕ → ℕ
+  pub opened : AreOpenedEntries p S entries
+  pub best : IsBest p (layers entries S M) S.base (is_matched M)
+  pub edit : IsEdit change (layers entries S M) new
+
+-- the engine is at a best pair of `new`
+pub record IsUpdated (A : Type 0) (state : A → TableauState) (p : ℕ) (new : Layers) (e : Standing A) : Type 0 where
+  pub layers_are : layers (entry new.q) (state e.tableau) e.matching ≡ layered_matrix_of new
+  pub entries : AreOpenedEntries p (state e.tableau) (entry new.q)
+  pub solved : IsSolved p (layered_matrix_of new) (tableau_of_pair (state e.tableau) e.matching) (vain_of e.found)

@@ -1,9 +1,10 @@
 //! The engine: a pair of independent columns of Q and matched columns of T that grows column by column, along shortest
 //! walks of its exchange graph, and what it tells (Murota 2000, chapter 2: augmentation of an independent matching).
 
-ghost use Rattle.std.specs.Prelude.{◌≡◌, ◌≤◌, ℕ, ◌+◌, ◌*◌, ◌<◌, true, IfOk, IsTrue, IsFalse, is_some, Option, length, IfSome, IfNone};
+ghost use Rattle.std.specs.Prelude.{◌≡◌, ◌≤◌, ℕ, ◌+◌, ◌-◌, ◌*◌, ◌<◌, max, true, is_some, Option, length};
+ghost use Rattle.std.specs.Prelude.{IfOk, IsTrue, IsFalse, IfSome, IfNone, OnOk, OnErr};
 ghost use Rattle.dense_q.specs.Tables.{entry, height};
-ghost use Rattle.sparse_t.specs.Incidences.{incidence_rows};
+ghost use Rattle.sparse_t.specs.Incidences.{IsIncidence, incidence_rows};
 ghost use Rattle.bipartite_matching.specs.Matchings.{HasPair, IsMatching, IsRowFree, mate_at};
 ghost use Rattle.residue_theory.specs.Sums.{size_on};
 ghost use Rattle.mixed_matrices.specs.Arcs.{is_end, is_free, leads_to};
@@ -12,13 +13,20 @@ ghost use Rattle.exchange_graph.specs.Results.{vain_of};
 ghost use Rattle.mixed_matrices.specs.Tableaus.{HasTableau};
 ghost use Rattle.mixed_model.specs.Layers.{layered_matrix_of};
 ghost use Rattle.independent_matching.specs.Engines.{Standing, AreOpenedEntries, HasGrown, HasRun, HasStayed};
+ghost use Rattle.mixed_matrices.specs.LayeredMatrices.{LayeredMatrix};
+ghost use Rattle.independent_matching.specs.Changes.{IsEdit};
+ghost use Rattle.independent_matching.specs.Edits.{IsChain, IsEdited, IsFollowing};
 ghost use Rattle.independent_matching.specs.Engines.{IsBareOver, IsOpenedOver, layers};
+ghost use Rattle.independent_matching.specs.Engines.{ArePivotsMade, HasKept, IsEditOfBest, IsStarted, IsUpdated};
 ghost use Rattle.independent_matching.specs.Sides.{layers_of, size_of, tableau_of_pair};
 ghost use Rattle.independent_matching.specs.Turns.{turn_of};
 
+use crate::change::Change;
+use crate::fresh::Fresh;
 use crate::marks::Marks;
 use crate::mover::Mover;
 use crate::pair::Pair;
+use crate::places::Places;
 use crate::resting::Resting;
 use bipartite_matching::Match;
 use exchange_graph::{Arcs, Search, Steps};
@@ -230,6 +238,98 @@ impl<F: Field, T: Tableau<F>> Engine<F, T> {
             made = self.size - before + 1;
         }
         self.searches = made;
+    }
+
+    /// Goes on to a best pair of `new`, which is the layered matrix of the model after a change of one equation: a best
+    /// pair is kept through the change but for two columns at most. Each count starts at 0 again, and what was left
+    /// out is forgotten. All memory is taken before the first change; where it is refused, all stays as it is, but
+    /// there may be more room.
+    ///
+    /// It searches at most seven times, and takes at most fourteen steps for each column of the wider matrix.
+    pub fn update<L: Ledger, M: Ledger>(
+        &mut self,
+        new: &Layered<F>,
+        change: Change,
+        searches: &mut Steps<L>,
+        steps: &mut Steps<M>,
+    ) -> Result<(), NoMemory>
+        requires best { IsEditOfBest F.modulus change (T.state self.old.tableau) self.old.matching new.now }
+        ensures updated { OnOk result (IsUpdated T T.state F.modulus new.now self.new) }
+        ensures kept { OnErr result (HasKept T T.state T.pivots self.old self.new) }
+        ensures counted { OnOk result (searches.new ≡ searches.old + self.new.searches) }
+        ensures told { OnOk result (steps.new ≡ steps.old + (self.new.pivots + self.new.looks)) }
+        ensures made { OnOk result (ArePivotsMade (T.pivots self.old.tableau) (T.pivots self.new.tableau) 0
+            self.new.pivots) }
+        ensures searches { searches.new ≤ searches.old + 7 }
+        ensures steps { steps.new ≤ steps.old + 14 * max (T.state self.old.tableau).columns new.now.q.width }
+    {
+        new.are_layers();
+        let places = self.places_of(new, change);
+        self.go_on(new, places)?;
+        self.run_counted(searches, steps);
+        Ok(())
+    }
+
+    // What an edit takes out of the layered matrix, and what it puts in.
+    fn places_of(&self, new: &Layered<F>, change: Change) -> Places
+        requires { IsEditOfBest F.modulus change (T.state self.now.tableau) self.now.matching new.now }
+        ensures chain { (q : ℕ → ℕ → ℕ) →
+            IsEdit change (layers q (T.state self.now.tableau) self.now.matching) new.now → IsChain F.modulus
+            (layers q (T.state self.now.tableau) self.now.matching) (layered_matrix_of new.now) result }
+        ensures pair { IsEdited F.modulus (layers_of (T.state self.now.tableau) self.now.matching)
+            (size_of (T.state self.now.tableau) self.now.matching) (T.state self.now.tableau) self.now.matching }
+    {
+        let pair = &self.mover.pair;
+        pair.tableau.is_tableau();
+        let pattern = pair.mates.pattern();
+        Places::of(
+            new,
+            change,
+            pair.tableau.rows(),
+            pattern.rows(),
+            pair.tableau.columns(),
+        )
+    }
+
+    // Follows an edit with the pair, and starts anew from it.
+    fn go_on(&mut self, new: &Layered<F>, places: Places) -> Result<(), NoMemory>
+        requires { IsFollowing F.modulus (layered_matrix_of new.now) places (T.state self.old.tableau)
+            self.old.matching }
+        ensures edited { OnOk result ((L : LayeredMatrix) (least : ℕ) →
+            IsChain F.modulus L (layered_matrix_of new.now) places →
+            IsEdited F.modulus L least (T.state self.old.tableau) self.old.matching →
+            IsEdited F.modulus (layered_matrix_of new.now) (least - 2) (T.state self.new.tableau) self.new.matching) }
+        ensures started { OnOk result (IsStarted T self.new) }
+        ensures counted { OnOk result (T.pivots self.new.tableau ≡ T.pivots self.old.tableau) }
+        ensures incidence { OnOk result (IsIncidence self.new.matching.pattern × IsIncidence new.now.t) }
+        ensures pair { OnOk result (HasTableau F.modulus (layers_of (T.state self.new.tableau) self.new.matching)
+            (tableau_of_pair (T.state self.new.tableau) self.new.matching)) }
+        ensures kept { OnErr result (HasKept T T.state T.pivots self.old self.new) }
+    {
+        new.q.is_matrix();
+        new.t.is_pattern();
+        let fresh = Fresh::take(*self.resting.free.allocator(), new, places.put.q)?;
+        let Fresh {
+            items,
+            search,
+            mut resting,
+            mut marks,
+        } = fresh;
+        self.mover
+            .pair
+            .room(new.q_rows(), new.t_rows(), new.columns())?;
+        self.mover.pair.follow(new, places, &items);
+        self.mover.pair.tableau.is_tableau();
+        self.mover.pair.mates.pattern().is_pattern();
+        marks.look(&mut resting, &self.mover.pair);
+        self.size = resting.taken();
+        self.mover.marks = marks;
+        self.mover.pivots = 0;
+        self.resting = resting;
+        self.search = search;
+        self.looks = 0;
+        self.searches = 0;
+        Ok(())
     }
 
     /// How many columns the pair has.

@@ -29,10 +29,9 @@ pub struct Marks {
 }
 
 impl Marks {
-    // So many free columns, none of them an end.
-    fn empty(alloc: Global, columns: usize) -> Result<(Resting, Self), NoMemory>
-        ensures sized { IfOk result (λ (r, m). AreKeptMarks columns r m) }
-        ensures free { IfOk result (λ (r, m). (x : ℕ) → x < columns → members_of r.free.items x ≡ true) }
+    /// So many free columns, none of them an end: room for the marks of a pair with so many columns.
+    pub fn empty(alloc: Global, columns: usize) -> Result<(Resting, Self), NoMemory>
+        ensures { IfOk result (λ (r, m). AreKeptMarks columns r m) }
     {
         let resting = Resting {
             free: vec![in alloc; true; columns]?,
@@ -48,23 +47,42 @@ impl Marks {
         Ok((resting, marks))
     }
 
-    /// The marks of a pair that has no column.
+    /// The marks of a pair.
     pub fn open<F: Field, T: Tableau<F>>(
         alloc: Global,
         pair: &Pair<F, T>,
     ) -> Result<(Resting, Self), NoMemory>
         requires width { pair.now.mates.pattern.width ≡ (T.state pair.now.tableau).columns }
-        requires free { (x : ℕ) → x < (T.state pair.now.tableau).columns →
-            is_free (tableau_of_pair (T.state pair.now.tableau) pair.now.mates) x ≡ true }
         ensures { IfOk result (λ (r, m). AreMarks F.modulus (T.state pair.now.tableau) pair.now.mates r m) }
     {
-        let columns = pair.tableau.columns();
-        let (mut resting, mut marks) = Marks::empty(alloc, columns)?;
-        for x in 0..columns {
-            marks.find_t_row(&mut resting, pair, x);
-            marks.find_q_row(&resting, pair, x, 0);
-        }
+        let (mut resting, mut marks) = Marks::empty(alloc, pair.tableau.columns())?;
+        marks.look(&mut resting, pair);
         Ok((resting, marks))
+    }
+
+    /// Looks at each column of a pair.
+    pub fn look<F: Field, T: Tableau<F>>(&mut self, resting: &mut Resting, pair: &Pair<F, T>)
+        requires width { pair.now.mates.pattern.width ≡ (T.state pair.now.tableau).columns }
+        requires sized { AreKeptMarks (T.state pair.now.tableau).columns resting.old self.old }
+        ensures { AreMarks F.modulus (T.state pair.now.tableau) pair.now.mates resting.new self.new }
+    {
+        self.first = 0;
+        resting.mark_free(pair);
+        self.look_for_rows(resting, pair);
+    }
+
+    // Looks for rows of each column that no column has.
+    fn look_for_rows<F: Field, T: Tableau<F>>(&mut self, resting: &mut Resting, pair: &Pair<F, T>)
+        requires width { pair.now.mates.pattern.width ≡ (T.state pair.now.tableau).columns }
+        requires sized { AreKeptMarks (T.state pair.now.tableau).columns resting.old self.old }
+        requires free { (x : ℕ) → x < (T.state pair.now.tableau).columns → members_of resting.old.free.items x
+            ≡ is_free (tableau_of_pair (T.state pair.now.tableau) pair.now.mates) x }
+        ensures { AreMarks F.modulus (T.state pair.now.tableau) pair.now.mates resting.new self.new }
+    {
+        for x in 0..pair.tableau.columns() {
+            self.find_t_row(resting, pair, x);
+            self.find_q_row(resting, pair, x, 0);
+        }
     }
 
     // Marks x as an end, or as none.

@@ -7,13 +7,8 @@ use Rattle.exchange_graph.specs.Results.{vain_of}
 use Rattle.exchange_graph.specs.Sweeps.{IsLeftOut}
 use Rattle.mixed_matrices.specs.Arcs.{is_end, is_free, leads_to}
 use Rattle.independent_matching.specs.Sides.{is_matched, layers_of, tableau_of_pair}
-use Rattle.independent_matching.proofs.OpenLaws.{all-free, empty-unmatched, open-size, open-tableau, over-bare, over-entries, over-layers, tableau-kernel}
+use Rattle.independent_matching.proofs.OpenLaws.{empty-unmatched, open-size, open-tableau, over-bare, over-entries, over-layers, tableau-kernel}
 use Rattle.independent_matching.proofs.engine.Engine.open_on.Goals as goal
-
-pub open-requires-2-clause-free : goal.open-requires-2-clause-free
-open-requires-2-clause-free g c =
-    all-free g.F.Field.modulus (g.T.Tableau.state c.args.tableau) c.in_ok-open.field-0 (over-bare c.requires)
-    (λ y. subst (λ m. is_matched m y ≡ false) (sym c.in_ok-open.ensures.empty) (empty-unmatched c.l.inside.t y))
 
 pub invariant_of-result : goal.invariant_of-result
 invariant_of-result g c =
