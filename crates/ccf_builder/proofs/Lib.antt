@@ -16,3 +16,5 @@ pub mod NextBlock
 pub mod PartTables
 pub mod TakenLists
 pub mod PlacedParts
+pub mod ListedParts
+pub mod CanonicalLists

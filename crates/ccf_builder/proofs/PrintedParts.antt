@@ -1,13 +1,13 @@
 -- The printed parts of an engine's arcs keep their rules.
-use Rattle.std.proofs.Common.{◌≡◌, ℕ, ◌+◌, ◌-◌, ◌<◌, ◌≤◌, inl, inr, Bool, true, false, cond, eqb, ◌&&◌, List, [], ◌∷◌}
+use Rattle.std.proofs.Common.{◌≡◌, ℕ, ◌<◌, Bool, true, false, cond, eqb, ◌&&◌, List, [], ◌∷◌}
 use Rattle.std.proofs.Common.{◌++◌, length, map, get_or, slice_get, slice_index_or, Some, refl, ap, sym, ◌∙◌, subst}
 use Rattle.std.proofs.Common.{arith}
-use Rattle.std.proofs.lemmas.List.{get_or-map, get_or_past, length-map}
-use Rattle.residue_theory.proofs.SetLaws.{differ, both_true, eqb_from, eqb_true, not_true, lt_cases, some_below-holds}
+use Rattle.std.proofs.lemmas.List.{get_or-map, length-map}
+use Rattle.residue_theory.proofs.SetLaws.{differ, both_true, eqb_from, some_below-holds}
 use Rattle.dense_q.specs.Tables.{entry}
 use Rattle.bipartite_matching.specs.Matchings.{Matching}
 use Rattle.closed_sets.specs.Blocks.{IsBelow}
-use Rattle.closed_sets.specs.Closed.{IsMiddle, NoEndReached}
+use Rattle.closed_sets.specs.Closed.{NoEndReached}
 use Rattle.closed_sets.specs.Orders.{IsCover}
 use Rattle.closed_sets.specs.Rules.{KeepsPlaceRules as KeepsPlaces}
 use Rattle.mixed_matrices.specs.Arcs.{has_base, has_match, is_end, is_free, leads_to}
@@ -30,13 +30,14 @@ use Rattle.ccf_builder.specs.Decompositions.{IsDecomposition}
 use Rattle.ccf_builder.specs.Pairs.{ListsPairs, IsMate}
 use Rattle.ccf_builder.specs.Placings.{PlacesColumns, PlacesRows, Placing, HasPart, HasBlock, ListsBelow, ListsPart}
 use Rattle.ccf_builder.specs.Solutions.{IsSolution}
-use Rattle.cert_text.proofs.PrintedRules.{has-below}
-use Rattle.ccf_builder.proofs.PairLists.{same-tests}
 use Rattle.ccf_builder.proofs.PrintedPair.{L, F, G, solved, base_told, base_has, base_low, mate_told, mate_has}
 use Rattle.ccf_builder.proofs.PrintedPair.{mate_low, printed-arc, printed-free, printed-end}
 use Rattle.ccf_builder.proofs.RowParts.{bare-part, column-part, part_of_row, row-bounded, row-part, row-with-below}
+use Rattle.ccf_builder.proofs.ListedParts.{bounded as listed-bounded, column-few as listed-few, column-place as listed-place}
+use Rattle.ccf_builder.proofs.ListedParts.{column-told as listed-told, columns-once as listed-once}
+use Rattle.ccf_builder.proofs.ListedParts.{covers-listed, order-listed, rules-listed}
 use Rattle.ccf_builder.proofs.PartLists.{IsOfBlocks, once, place, place_of_part}
-use Rattle.ccf_builder.proofs.SameRules.{same-below, same-clear, same-rules}
+use Rattle.ccf_builder.proofs.SameRules.{same-clear}
 use Rattle.cert_text.specs.Printing.{PrintsMatrix}
 
 -- no rows and no columns
@@ -45,30 +46,6 @@ no_part = record { columns = []; q_rows = []; t_rows = [] }
 
 abbrev pub no_block : CcfBlock
 no_block = record { part = no_part; lower = [] }
-
-place-few : (b : ℕ) (part : Part) → IsOfBlocks b part → place_of_part b part ≤ b + 1
-place-few b First is = omega arith
-place-few b (Block k) is = omega (arith, is)
-place-few b Last is = omega arith
-
--- a column of the first part, of the last one, and of a block
-first-code : (b : ℕ) (f l : Bool) (k : ℕ) → eqb (place_of_part b (cond f First (cond l Last (Block k)))) 0 ≡ f
-first-code b true l k = refl
-first-code b false true k = not_true (eqb (b + 1) 0) (λ h. absurd (let e : b + 1 ≡ 0 = eqb_true (b + 1) 0 h in omega (arith, e)))
-first-code b false false k = not_true (eqb (k + 1) 0) (λ h. absurd (let e : k + 1 ≡ 0 = eqb_true (k + 1) 0 h in omega (arith, e)))
-
-last-code : (b : ℕ) (f l : Bool) (k : ℕ) → (f ≡ true → l ≡ true → ⊥) → (f ≡ false → l ≡ false → k < b) →
-    eqb (place_of_part b (cond f First (cond l Last (Block k)))) (b + 1) ≡ l
-last-code b true true k apart low = absurd (apart refl refl)
-last-code b true false k apart low = not_true (eqb 0 (b + 1)) (λ h. absurd (let e : 0 ≡ b + 1 = eqb_true 0 (b + 1) h in omega (arith, e)))
-last-code b false true k apart low = eqb_from (b + 1) (b + 1) refl
-last-code b false false k apart low = not_true (eqb (k + 1) (b + 1))
-    (λ h. absurd (let e : k + 1 ≡ b + 1 = eqb_true (k + 1) (b + 1) h in omega (arith, e, low refl refl)))
-
-block-code : (b : ℕ) (f l : Bool) (k : ℕ) → f ≡ false → l ≡ false → place_of_part b (cond f First (cond l Last (Block k))) - 1 ≡ k
-block-code b true l k ef el = absurd (differ ef refl)
-block-code b false true k ef el = absurd (differ el refl)
-block-code b false false k ef el = let e : (k + 1) - 1 ≡ k = omega arith in e
 
 -- the lists of one kind of a part: its columns, its Q rows or its T rows
 module _ (list_of : CcfPart → List ℕ) (parts : List Part) (blocks : List CcfBlock)
@@ -111,35 +88,42 @@ module _ (p : ℕ) (of : Layers) (S : TableauState) (M : Matching) (reached : �
   pub rules : KeepsPlaces arc S.columns decomposed.starts decomposed.ends v.first v.last v.block v.blocks v.covers
   rules = decomposed.rules clear
 
-  -- the part of a column is one that there is
-  pub bounded : (x : ℕ) → x < S.columns → IsOfBlocks v.blocks (part_in v x)
-  bounded x xl = by (v.first x) (v.last x) refl refl
-    where
-      by : (f l : Bool) → v.first x ≡ f → v.last x ≡ l → IsOfBlocks v.blocks (cond f First (cond l Last (Block (v.block x))))
-      by true l ef el = tt
-      by false true ef el = tt
-      by false false ef el = rules.number x (record { below = xl; not_first = ef; not_last = el })
-
-  pub bounded-here : (x : ℕ) → x < S.columns → IsOfBlocks (length blocks) (part_in v x)
-  bounded-here x xl = subst (λ b. IsOfBlocks b (part_in v x)) (sym count) (bounded x xl)
-
-  pub column-told : (x : ℕ) → x < S.columns → slice_get placing.columns x ≡ Some (part_in v x)
-  column-told x xl = of_columns.at x (subst (λ n. x < n) (sym decomposed.places) xl)
-
   -- the columns
   column_blocks : (k : ℕ) → k < length blocks → ListsPart placing.columns (Block k) (get_or blocks k no_block).part.columns
   column_blocks k kb = (in_blocks k no_block kb).part.columns
 
+  lower_list : (k : ℕ) → k < length blocks → ListsBelow (λ j. v.covers k j ≡ true) k (get_or (map (λ (block : CcfBlock). block.lower) blocks) k [])
+  lower_list k kb = subst (λ list. ListsBelow (λ j. v.covers k j ≡ true) k list)
+      (sym (get_or-map (λ (block : CcfBlock). block.lower) blocks k no_block [] kb)) (in_blocks k no_block kb).lower
+
+  pub bounded : (x : ℕ) → x < S.columns → IsOfBlocks v.blocks (part_in v x)
+  bounded = listed-bounded arc S.columns decomposed.starts decomposed.ends v decomposed.places decomposed.lattice rules placing.columns of_columns
+      (length blocks) count first.columns last.columns (middle_lists (λ part. part.columns) placing.columns blocks column_blocks)
+      (map (λ (block : CcfBlock). block.lower) blocks) (middle-count (λ part. part.columns) placing.columns blocks column_blocks)
+      (length-map blocks (λ (block : CcfBlock). block.lower)) of_first.columns
+      (middle-lists (λ part. part.columns) placing.columns blocks column_blocks) of_last.columns lower_list
+
+  pub column-told : (x : ℕ) → x < S.columns → slice_get placing.columns x ≡ Some (part_in v x)
+  column-told = listed-told arc S.columns decomposed.starts decomposed.ends v decomposed.places decomposed.lattice rules placing.columns of_columns
+      (length blocks) count first.columns last.columns (middle_lists (λ part. part.columns) placing.columns blocks column_blocks)
+      (map (λ (block : CcfBlock). block.lower) blocks) (middle-count (λ part. part.columns) placing.columns blocks column_blocks)
+      (length-map blocks (λ (block : CcfBlock). block.lower)) of_first.columns
+      (middle-lists (λ part. part.columns) placing.columns blocks column_blocks) of_last.columns lower_list
+
   pub columns-once : StandsOnce S.columns (first.columns ∷ (map (λ (block : CcfBlock). block.part.columns) blocks ++ last.columns ∷ []))
-  columns-once = once (length blocks) S.columns placing.columns (of_columns.count ∙ decomposed.places) first.columns last.columns
-      (middle_lists (λ part. part.columns) placing.columns blocks column_blocks) (middle-count (λ part. part.columns) placing.columns blocks column_blocks)
-      of_first.columns (middle-lists (λ part. part.columns) placing.columns blocks column_blocks) of_last.columns (part_in v) column-told bounded-here
+  columns-once = listed-once arc S.columns decomposed.starts decomposed.ends v decomposed.places decomposed.lattice rules placing.columns of_columns
+      (length blocks) count first.columns last.columns (middle_lists (λ part. part.columns) placing.columns blocks column_blocks)
+      (map (λ (block : CcfBlock). block.lower) blocks) (middle-count (λ part. part.columns) placing.columns blocks column_blocks)
+      (length-map blocks (λ (block : CcfBlock). block.lower)) of_first.columns
+      (middle-lists (λ part. part.columns) placing.columns blocks column_blocks) of_last.columns lower_list
 
   pub column-place : (x : ℕ) → x < S.columns → place_of
       (first.columns ∷ (map (λ (block : CcfBlock). block.part.columns) blocks ++ last.columns ∷ [])) x ≡ place_of_part (length blocks) (part_in v x)
-  column-place = place (length blocks) S.columns placing.columns (of_columns.count ∙ decomposed.places) first.columns last.columns
-      (middle_lists (λ part. part.columns) placing.columns blocks column_blocks) (middle-count (λ part. part.columns) placing.columns blocks column_blocks)
-      of_first.columns (middle-lists (λ part. part.columns) placing.columns blocks column_blocks) of_last.columns (part_in v) column-told bounded-here
+  column-place = listed-place arc S.columns decomposed.starts decomposed.ends v decomposed.places decomposed.lattice rules placing.columns of_columns
+      (length blocks) count first.columns last.columns (middle_lists (λ part. part.columns) placing.columns blocks column_blocks)
+      (map (λ (block : CcfBlock). block.lower) blocks) (middle-count (λ part. part.columns) placing.columns blocks column_blocks)
+      (length-map blocks (λ (block : CcfBlock). block.lower)) of_first.columns
+      (middle-lists (λ part. part.columns) placing.columns blocks column_blocks) of_last.columns lower_list
 
   -- the Q rows
   abbrev pub q_part : ℕ → Part
@@ -227,7 +211,11 @@ module _ (p : ℕ) (of : Layers) (S : TableauState) (M : Matching) (reached : �
   rows-printed : HasRows N H printed
   unfolding has_base has_match
   rows-printed = record {
-    columns = λ x xl. subst (λ n. n ≤ length blocks + 1) (sym (column-place x xl)) (place-few (length blocks) (part_in v x) (bounded-here x xl));
+    columns = listed-few arc S.columns decomposed.starts decomposed.ends v decomposed.places decomposed.lattice rules placing.columns of_columns
+        (length blocks) count first.columns last.columns (middle_lists (λ part. part.columns) placing.columns blocks column_blocks)
+        (map (λ (block : CcfBlock). block.lower) blocks) (middle-count (λ part. part.columns) placing.columns blocks column_blocks)
+        (length-map blocks (λ (block : CcfBlock). block.lower)) of_first.columns
+        (middle-lists (λ part. part.columns) placing.columns blocks column_blocks) of_last.columns lower_list;
     base = λ y yl h.
         q_row-place (row_with base y) (row-with-below (IsBaseColumn S) S.rows S.columns base bases S.base S.row
         (base_told p of S M reached solution tableau) (base_has p of S M reached solution tableau)
@@ -269,38 +257,6 @@ module _ (p : ℕ) (of : Layers) (S : TableauState) (M : Matching) (reached : �
         (eqb_from (row_with mates y) i same)))));
   }
 
-  first_same : (x : ℕ) → x < S.columns → v.first x ≡ in_first printed x
-  first_same x xl = sym (ap (λ k. eqb k 0) (column-place x xl) ∙ first-code (length blocks) (v.first x) (v.last x) (v.block x))
-
-  last_same : (x : ℕ) → x < S.columns → v.last x ≡ in_last printed x
-  last_same x xl = sym (ap (λ k. eqb k (length blocks + 1)) (column-place x xl) ∙ last-code (length blocks) (v.first x) (v.last x) (v.block x)
-      (λ f l. rules.apart x xl f l) (λ f l. subst (λ b. v.block x < b) (sym count) (rules.number x (record { below = xl; not_first = f; not_last = l }))))
-
-  block_same : (x : ℕ) → x < S.columns → v.first x ≡ false → v.last x ≡ false → v.block x ≡ block_of printed x
-  block_same x xl f l = sym (ap (λ k. k - 1) (column-place x xl) ∙ block-code (length blocks) (v.first x) (v.last x) (v.block x) f l)
-
-  lower_list : (k : ℕ) → k < length blocks → ListsBelow (λ j. v.covers k j ≡ true) k (get_or (map (λ (block : CcfBlock). block.lower) blocks) k [])
-  lower_list k kb = subst (λ list. ListsBelow (λ j. v.covers k j ≡ true) k list)
-      (sym (get_or-map (λ (block : CcfBlock). block.lower) blocks k no_block [] kb)) (in_blocks k no_block kb).lower
-
-  pub lower_falls : (k l : ℕ) → lower l k ≡ true → k < l
-  lower_falls k l h = elim (lt_cases l (length blocks)) [
-    | inl low ↦ has-below l (get_or (map (λ (block : CcfBlock). block.lower) blocks) l []) k (lower_list l low).rising.below h
-    | inr high ↦
-        let past : get_or (map (λ (block : CcfBlock). block.lower) blocks) l [] ≡ [] =
-        get_or_past (map (λ (block : CcfBlock). block.lower) blocks) l []
-        (subst (λ n. n ≤ l) (sym (length-map blocks (λ (block : CcfBlock). block.lower))) high) in
-        absurd (differ refl (subst (λ list. has list k ≡ true) past h))
-  ]
-
-  lower_same : (l k : ℕ) → l < length blocks → k < length blocks → v.covers l k ≡ lower l k
-  lower_same l k lb kb = elim (lt_cases k l) [
-    | inl before ↦ same-tests (v.covers l k) (lower l k) ((lower_list l lb).exact k before).1 ((lower_list l lb).exact k before).0
-    | inr after ↦ same-tests (v.covers l k) (lower l k)
-        (λ h. absurd (omega (arith, rules.falling k l h, after)))
-        (λ h. absurd (omega (arith, lower_falls k l h, after)))
-  ]
-
   starts_same : (x : ℕ) → x < S.columns → decomposed.starts x ≡ is_free H x
   starts_same x xl = decomposed.starts_are x xl ∙ printed-free p of S M reached solution tableau base mates bases matched P prints_p x xl
 
@@ -311,30 +267,27 @@ module _ (p : ℕ) (of : Layers) (S : TableauState) (M : Matching) (reached : �
   arcs_same x y xl yl = printed-arc p of S M reached solution tableau base mates bases matched P prints_p x xl y yl
 
   rules-same : KeepsPlaces (leads_to p N H) S.columns (is_free H) (is_end p N H) (in_first printed) (in_last printed) (block_of printed) (length blocks) lower
-  rules-same = same-rules arc (leads_to p N H) S.columns decomposed.starts (is_free H) decomposed.ends (is_end p N H) arcs_same starts_same ends_same
-      v.first (in_first printed) v.last (in_last printed) v.block (block_of printed) (length blocks) v.covers lower first_same last_same
-      (λ x is. block_same x is.below is.not_first is.not_last) lower_same lower_falls
-      (subst (λ b. KeepsPlaces arc S.columns decomposed.starts decomposed.ends v.first v.last v.block b v.covers) (sym count) rules)
-
-  middle_block : (x : ℕ) → IsMiddle arc S.columns decomposed.starts decomposed.ends x → v.block x ≡ block_of printed x
-  middle_block x (xl, no_start, no_end) = block_same x xl
-      (not_true (v.first x) (λ h. no_start ((decomposed.lattice.parts.first x xl).0 h)))
-      (not_true (v.last x) (λ h. no_end ((decomposed.lattice.parts.last x xl).0 h)))
+  rules-same = rules-listed arc S.columns decomposed.starts decomposed.ends v decomposed.places decomposed.lattice rules placing.columns of_columns
+      (length blocks) count first.columns last.columns (middle_lists (λ part. part.columns) placing.columns blocks column_blocks)
+      (map (λ (block : CcfBlock). block.lower) blocks) (middle-count (λ part. part.columns) placing.columns blocks column_blocks)
+      (length-map blocks (λ (block : CcfBlock). block.lower)) of_first.columns
+      (middle-lists (λ part. part.columns) placing.columns blocks column_blocks) of_last.columns lower_list
+      (leads_to p N H) (is_free H) (is_end p N H) arcs_same starts_same ends_same
 
   order-same : IsBelow (leads_to p N H) S.columns (is_free H) (is_end p N H) (block_of printed) (length blocks) v.below
-  order-same = same-below arc (leads_to p N H) S.columns decomposed.starts (is_free H) decomposed.ends (is_end p N H) arcs_same starts_same ends_same
-      v.block (block_of printed) (length blocks) v.below middle_block
-      (subst (λ b. IsBelow arc S.columns decomposed.starts decomposed.ends v.block b v.below) (sym count) decomposed.lattice.order)
-
-  covers : IsCover v.below (length blocks) v.covers
-  covers = subst (λ b. IsCover v.below b v.covers) (sym count) decomposed.lattice.covers
+  order-same = order-listed arc S.columns decomposed.starts decomposed.ends v decomposed.places decomposed.lattice rules placing.columns of_columns
+      (length blocks) count first.columns last.columns (middle_lists (λ part. part.columns) placing.columns blocks column_blocks)
+      (map (λ (block : CcfBlock). block.lower) blocks) (middle-count (λ part. part.columns) placing.columns blocks column_blocks)
+      (length-map blocks (λ (block : CcfBlock). block.lower)) of_first.columns
+      (middle-lists (λ part. part.columns) placing.columns blocks column_blocks) of_last.columns lower_list
+      (leads_to p N H) (is_free H) (is_end p N H) arcs_same starts_same ends_same
 
   lists-same : IsCover v.below (length blocks) lower
-  lists-same = record {
-    is_below = λ k l kb lb h. covers.is_below k l kb lb (lower_same l k lb kb ∙ h);
-    none_between = λ k m l kb mb lb h. covers.none_between k m l kb mb lb (lower_same l k lb kb ∙ h);
-    all = λ k l kb lb h none. sym (lower_same l k lb kb) ∙ covers.all k l kb lb h none;
-  }
+  lists-same = covers-listed arc S.columns decomposed.starts decomposed.ends v decomposed.places decomposed.lattice rules placing.columns of_columns
+      (length blocks) count first.columns last.columns (middle_lists (λ part. part.columns) placing.columns blocks column_blocks)
+      (map (λ (block : CcfBlock). block.lower) blocks) (middle-count (λ part. part.columns) placing.columns blocks column_blocks)
+      (length-map blocks (λ (block : CcfBlock). block.lower)) of_first.columns
+      (middle-lists (λ part. part.columns) placing.columns blocks column_blocks) of_last.columns lower_list
 
   pub parts-printed : KeepsPartRules p N H printed v.below lower
   parts-printed = record { rows = rows-printed; rules = rules-same; order = order-same; lists = lists-same }

@@ -7,3 +7,4 @@ pub mod Finest
 pub mod Placings
 pub mod Matrices
 pub mod Printings
+pub mod Canonical

@@ -7,6 +7,8 @@ use Rattle.cert_text.specs.Readings.{pair_at}
 use Rattle.cert_text.specs.declared.part.CcfPart.{CcfPart}
 use Rattle.cert_text.specs.declared.part.CcfBlock.{CcfBlock}
 use Rattle.ccf_builder.specs.Tabulations.{Tabulates}
+use Rattle.ccf_builder.specs.declared.canonical.Block.{Block as Columns}
+use Rattle.ccf_builder.specs.declared.canonical.Parts.{Parts}
 use Rattle.ccf_builder.specs.declared.part_lists.PartLists.{PartLists}
 use Rattle.minimiser_lattice.specs.Parts.{PlaceParts, part_in}
 use Rattle.minimiser_lattice.specs.declared.lattice.Part.{Part}
@@ -79,13 +81,27 @@ pub record HasPart (placing : Placing) (part : Part) (c : CcfPart) : Type 0 wher
 abbrev pub ListsLower : PlaceParts → ℕ → List ℕ → Type 0
 ListsLower v k = ListsBelow (λ j. v.covers k j ≡ true) k
 
--- block k with list k of its columns, of its Q rows and of its T rows, and the blocks that it covers
-pub record IsBlockOf (v : PlaceParts) (column_lists q_lists t_lists : List (Vec ℕ)) (k : ℕ) (block : CcfBlock)
-    : Type 0 where
-  pub columns : (d : Vec ℕ) → block.part.columns ≡ (slice_index_or column_lists k d).items
+-- block k with list k of its columns, and the blocks that it covers
+pub record IsColumnBlock (v : PlaceParts) (column_lists : List (Vec ℕ)) (k : ℕ) (block : Columns) : Type 0 where
+  pub columns : (d : Vec ℕ) → block.columns ≡ (slice_index_or column_lists k d).items
+  pub lower : ListsLower v k block.lower
+
+-- the columns in each part, and the blocks that each block covers
+pub record ListsColumns (v : PlaceParts) (columns : List Part) (parts : Parts) : Type 0 where
+  pub first : ListsPart columns First parts.first
+  pub count : length parts.blocks.items ≡ v.blocks
+  pub columns_are : (k : ℕ) (d : Columns) → k < length parts.blocks.items →
+      ListsPart columns (Block k) (slice_index_or parts.blocks.items k d).columns
+  pub lower : (k : ℕ) (d : Columns) → k < length parts.blocks.items →
+      ListsLower v k (slice_index_or parts.blocks.items k d).lower
+  pub last : ListsPart columns Last parts.last
+
+-- block k of the columns with list k of the Q rows and of the T rows
+pub record IsBlockOf (blocks : List Columns) (q_lists t_lists : List (Vec ℕ)) (k : ℕ) (block : CcfBlock) : Type 0 where
+  pub columns : (d : Columns) → block.part.columns ≡ (slice_index_or blocks k d).columns
   pub q_rows : (d : Vec ℕ) → block.part.q_rows ≡ (slice_index_or q_lists k d).items
   pub t_rows : (d : Vec ℕ) → block.part.t_rows ≡ (slice_index_or t_lists k d).items
-  pub lower : ListsLower v k block.lower
+  pub lower : (d : Columns) → block.lower ≡ (slice_index_or blocks k d).lower
 
 -- block k: its columns and rows, and the blocks that it covers
 pub record HasBlock (placing : Placing) (v : PlaceParts) (k : ℕ) (block : CcfBlock) : Type 0 where

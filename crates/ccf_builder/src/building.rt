@@ -16,7 +16,7 @@ use crate::choice::has_few_entries;
 use crate::decomposition::decompose;
 use crate::matrices::{PrintedTableau, symbols_of, tableau_of};
 use crate::pairs::{PairLists, pair_of};
-use crate::parts::{PrintedParts, parts_of};
+use crate::printed_parts::{PrintedParts, parts_of};
 use crate::solution::solve;
 use cert_text::{Ccf, Items, Shape};
 use independent_matching::Engine;

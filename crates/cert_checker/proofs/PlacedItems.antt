@@ -1,5 +1,6 @@
 -- The items of a row, printed.
-use Rattle.std.proofs.Common.{◌≡◌, ℕ, ◌+◌, ◌<◌, ◌≢◌, false, zero, suc, cond, eqb, List, [], ◌∷◌, length, map, get_or, slice_index, inl, inr, refl, ap, sym, ◌∙◌, subst, arith}
+use Rattle.std.proofs.Common.{◌≡◌, ℕ, ◌+◌, ◌<◌, ◌≢◌, false, zero, suc, cond, eqb, List, [], ◌∷◌, length, map, get_or, slice_index, inl, inr}
+use Rattle.std.proofs.Common.{refl, ap, sym, ◌∙◌, subst, arith}
 use Rattle.std.specs.List.Sorted.{IsStrictlyIncreasing}
 use Rattle.std.proofs.lemmas.List.{get_or-map, length-map}
 use Rattle.residue_theory.proofs.SumLaws.{nat_cases}

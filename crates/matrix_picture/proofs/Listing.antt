@@ -1,5 +1,6 @@
 -- Lists that are put item by item, and entries that are looked up.
-use Rattle.std.proofs.Common.{◌≡◌, ◌==◌, ◌||◌, ℕ, zero, suc, ◌+◌, ◌<◌, List, [], ◌∷◌, ◌++◌, length, get_or, drop, map, ap, refl, sym, ◌∙◌, append_assoc, slice_index_or}
+use Rattle.std.proofs.Common.{◌≡◌, ◌==◌, ◌||◌, ℕ, zero, suc, ◌+◌, ◌<◌, List, [], ◌∷◌, ◌++◌, length, get_or, drop, map, ap, refl, sym, ◌∙◌}
+use Rattle.std.proofs.Common.{append_assoc, slice_index_or}
 use Rattle.std.specs.List.{list_any}
 use Rattle.text_writer.proofs.Putting.{drop_next}
 use Rattle.cert_text.specs.Contents.{numbered, numbered_rows}

@@ -5,7 +5,8 @@ use Rattle.cert_text.specs.Contents.{Contents}
 use Rattle.mixed_model.specs.Layers.{Layers}
 use Rattle.mixed_model.specs.Models.{MixedModel}
 use Rattle.matrix_picture.specs.Names.{name_of_column, name_of_row}
-use Rattle.matrix_picture.specs.Texts.{column_name_text, column_names_text, entry_text, frame_text, framed_text, frames_text, placed_text, row_name_text, row_names_text, drawn_row_text, rows_text}
+use Rattle.matrix_picture.specs.Texts.{column_name_text, column_names_text, entry_text, frame_text, framed_text, frames_text, placed_text}
+use Rattle.matrix_picture.specs.Texts.{row_name_text, row_names_text, drawn_row_text, rows_text}
 use Rattle.matrix_picture.specs.declared.layout.Frame.{Frame}
 use Rattle.matrix_picture.specs.declared.layout.Row.{Row}
 

@@ -1,4 +1,4 @@
-use Rattle.std.proofs.Common.{ℕ, length, arith}
+use Rattle.std.proofs.Common.{arith}
 use Rattle.std.proofs.lemmas.List.{length-map}
 use Rattle.row_entries.specs.declared.entry.Entry.{Entry}
 use Rattle.row_entries.specs.Rows.{Item, items}

@@ -1,7 +1,7 @@
 use Rattle.std.proofs.Common.{◌≡◌, ◌≤◌, ◌-◌, true}
 use Rattle.minimiser_lattice.specs.Views.{parts_in}
 use Rattle.ccf_builder.specs.Placings.{ListsBelow}
-use Rattle.ccf_builder.proofs.parts.lower_blocks.Given as goal
+use Rattle.ccf_builder.proofs.canonical.lower_blocks.Given as goal
 
 abbrev pub invariant-loop-j : goal.invariant-loop-j
 invariant-loop-j l = record {

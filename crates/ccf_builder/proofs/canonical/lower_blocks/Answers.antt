@@ -3,7 +3,7 @@ use Rattle.residue_theory.proofs.SetLaws.{differ}
 use Rattle.minimiser_lattice.specs.Views.{parts_in}
 use Rattle.ccf_builder.specs.Placings.{ListsBelow}
 use Rattle.ccf_builder.proofs.MemberLists.{lists-more, lists-past}
-use Rattle.ccf_builder.proofs.parts.lower_blocks.Goals as goal
+use Rattle.ccf_builder.proofs.canonical.lower_blocks.Goals as goal
 
 pub loop-j-preserved : goal.loop-j-preserved
 loop-j-preserved c =
