@@ -1,5 +1,6 @@
 -- The entries of one equation: what stands at the places of its row.
-use Rattle.std.specs.Prelude.{◌≡◌, ℕ, ◌+◌, ◌<◌, ◌≤◌, Bool, true, false, ◌||◌, List, [], ◌∷◌, nat_eq, if◌then◌else◌, Option, Some, None, is_some, length, map, slice_index_or, slice_set, Result, Ok, Err, All}
+use Rattle.std.specs.Prelude.{◌≡◌, ℕ, ◌+◌, ◌<◌, ◌≤◌, Bool, true, false, ◌||◌, List, [], ◌∷◌, nat_eq, if◌then◌else◌, Option, Some, None}
+use Rattle.std.specs.Prelude.{is_some, length, map, slice_index_or, slice_set, Result, Ok, Err, All}
 use Rattle.std.specs.List.{AllWithin}
 use Rattle.std.specs.declared.vec.Vec.{Vec}
 use Rattle.mixed_model.specs.declared.errors.AddError.{AddError}
