@@ -1,5 +1,6 @@
 -- The model that a flowsheet's document gives, and the first rule that it breaks.
-use Rattle.std.specs.Prelude.{◌≡◌, ◌⊎◌, ℕ, ◌+◌, List, [], ◌∷◌, ◌++◌, codes, if◌then◌else◌, length, nat_eq, nat_le, Option, Some, None, Result, Ok, Err, IsUtf8, pos}
+use Rattle.std.specs.Prelude.{◌≡◌, ◌⊎◌, ℕ, ◌+◌, List, [], ◌∷◌, ◌++◌, codes, if◌then◌else◌, length, nat_eq, nat_le, Option, Some, None}
+use Rattle.std.specs.Prelude.{Result, Ok, Err, IsUtf8, pos}
 use Rattle.limits.specs.Limits.{equation_limit}
 use Rattle.refusals.specs.declared.Place.TheVariants.{Component, Document, Stream, Unit as UnitPlace}
 use Rattle.refusals.specs.declared.ReadModel.{ReadModel}

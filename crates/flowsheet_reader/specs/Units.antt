@@ -14,7 +14,8 @@ use Rattle.document_values.specs.Chains.{◌>>=◌, keeping, some_or}
 use Rattle.unit_equations.specs.Kinds.{balance, keys_of, kind_beside, kinds, mixer, reactor, relation, separator, specification, tee}
 use Rattle.unit_equations.specs.Parts.{UnitPart}
 use Rattle.flowsheet_reader.specs.Sheets.{Scope, Sheet, has_system_room, scope_of, sheet_with_unit}
-use Rattle.document_values.specs.Values.{declared_name, declared_names, due, has_only, list_of_length, list_with, members_in, new_name, residue_in, numbers_in, members_of_value, text_of}
+use Rattle.document_values.specs.Values.{declared_name, declared_names, due, has_only, list_of_length, list_with, members_in, new_name}
+use Rattle.document_values.specs.Values.{residue_in, numbers_in, members_of_value, text_of}
 
 -- the stream at a key, none of those named before in the unit
 abbrev pub stream_at : Scope → List (List ℕ) → List ℕ → Members → Result (List ℕ) Why

@@ -1,5 +1,6 @@
 -- Devices, and what the words of a line give.
-use Rattle.std.specs.Prelude.{ℕ, ◌+◌, Bool, true, false, ◌||◌, List, [], ◌∷◌, map, fold, filter, not, take, drop, codes, if◌then◌else◌, slice_index_or, Option, Some, None}
+use Rattle.std.specs.Prelude.{ℕ, ◌+◌, Bool, true, false, ◌||◌, List, [], ◌∷◌, map, fold, filter, not, take, drop, codes, if◌then◌else◌}
+use Rattle.std.specs.Prelude.{slice_index_or, Option, Some, None}
 use Rattle.std.specs.List.{flat_map}
 use Rattle.std.specs.Option.{option_or, option_map, option_to_list}
 use Rattle.std.specs.Result.{result_unwrap_or}
@@ -7,7 +8,8 @@ use Rattle.std.specs.Str.{bytes_eq, str_to_ascii_lowercase}
 use Rattle.line_lexer.specs.Numbers.{number_of}
 use Rattle.mixed_model.specs.Names.{see}
 use Rattle.netlist_devices.specs.declared.kind.DeviceKind.{DeviceKind}
-use Rattle.netlist_devices.specs.declared.kind.DeviceKind.TheVariants.{Passive, Voltage, Current, VoltageByVoltage, CurrentByVoltage, CurrentByCurrent, VoltageByCurrent, Opamp, Transformer, Gyrator}
+use Rattle.netlist_devices.specs.declared.kind.DeviceKind.TheVariants.{Passive, Voltage, Current, VoltageByVoltage, CurrentByVoltage}
+use Rattle.netlist_devices.specs.declared.kind.DeviceKind.TheVariants.{CurrentByCurrent, VoltageByCurrent, Opamp, Transformer, Gyrator}
 
 -- A device: its nodes in the order in which they stand, the name of its source and the residue of its number, where its
 -- kind has one.

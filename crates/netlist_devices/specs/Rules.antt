@@ -14,7 +14,8 @@ use Rattle.line_reader.specs.LineRules.{Rules}
 use Rattle.mixed_model.specs.Names.{has_name}
 use Rattle.netlist_devices.specs.declared.kind.DeviceKind.{DeviceKind}
 use Rattle.netlist_devices.specs.declared.kind.DeviceKind.TheVariants.{Voltage, Opamp}
-use Rattle.netlist_devices.specs.Devices.{Device, kind_of, is_directive, has_source, ends_with_number, words_wanted, from_name, word_after_nodes, device_of, devices_in, device_names, is_ground}
+use Rattle.netlist_devices.specs.Devices.{Device, kind_of, is_directive, has_source, ends_with_number, words_wanted, from_name}
+use Rattle.netlist_devices.specs.Devices.{word_after_nodes, device_of, devices_in, device_names, is_ground}
 use Rattle.netlist_devices.specs.EquationNames.{equations_of, unknowns_of}
 
 -- a rule that is kept where this holds

@@ -1,10 +1,12 @@
 -- The names that the numbers of a circuit stand for.
 use Rattle.std.proofs.Common.{◌≡◌, ℕ, ◌+◌, ◌-◌, append_assoc, ◌<◌, ◌≤◌, All, Bool, true, false, cond, not, List, [], ◌∷◌, ◌++◌}
-use Rattle.std.proofs.Common.{map, filter, codes, length, take, get_or, position, nat_eq, Option, Some, None, refl, sym, ap, subst, ◌∙◌, arith, ltb, ltb-true, ltb-false}
+use Rattle.std.proofs.Common.{map, filter, codes, length, take, get_or, position, nat_eq, Option, Some, None, refl, sym, ap, subst, ◌∙◌}
+use Rattle.std.proofs.Common.{arith, ltb, ltb-true, ltb-false}
 use Rattle.std.specs.Prelude.{IsTrue}
 use Rattle.std.specs.List.{AllByRecursion, flat_map}
 use Rattle.std.specs.Str.{bytes_eq}
-use Rattle.std.proofs.lemmas.List.{get_or-append-add, get_or-map, get_or_append_left, get_or_default, get_or_past, get_or_push, length-append, length-map, take_more}
+use Rattle.std.proofs.lemmas.List.{get_or-append-add, get_or-map, get_or_append_left, get_or_default, get_or_past, get_or_push}
+use Rattle.std.proofs.lemmas.List.{length-append, length-map, take_more}
 use Rattle.std.proofs.lemmas.List.Concat.{get_or-flat_map}
 use Rattle.std.proofs.lemmas.List.Folds.{length-flat_map-take}
 use Rattle.std.proofs.lemmas.Bool.{eqb-false, eqb-true}

@@ -17,7 +17,8 @@ use Rattle.netlist_devices.specs.declared.kind.DeviceKind.TheVariants.{Passive, 
 use Rattle.netlist_devices.specs.declared.kind.DeviceKind.TheVariants.{CurrentByVoltage, CurrentByCurrent}
 use Rattle.netlist_devices.specs.declared.kind.DeviceKind.TheVariants.{VoltageByCurrent, Opamp, Transformer, Gyrator}
 use Rattle.netlist_devices.specs.Devices.{Device, is_ground, ground}
-use Rattle.netlist_reader.specs.Terms.{own, node, difference, current_terms, voltage_is, branch_between, branch, two_branches, control, proportion, terms_by, terms_of}
+use Rattle.netlist_reader.specs.Terms.{own, node, difference, current_terms, voltage_is, branch_between, branch, two_branches, control}
+use Rattle.netlist_reader.specs.Terms.{proportion, terms_by, terms_of}
 use Rattle.netlist_reader.specs.Putting.{put_by, put_constant, put_difference, put_flow, put_voltage}
 use Rattle.netlist_reader.proofs.Parts.{put_branch, put_branch_between, put_control, put_ratio, put_two_branches}
 

@@ -8,7 +8,8 @@ use Rattle.mixed_model.specs.Models.{MixedModel}
 use Rattle.term_model.specs.Terms.{Term, constant, dotted, symbol}
 use Rattle.term_model.specs.Putting.{Says}
 use Rattle.netlist_devices.specs.declared.kind.DeviceKind.{DeviceKind}
-use Rattle.netlist_devices.specs.declared.kind.DeviceKind.TheVariants.{Passive, Voltage, Current, VoltageByVoltage, CurrentByVoltage, CurrentByCurrent, VoltageByCurrent, Opamp, Transformer, Gyrator}
+use Rattle.netlist_devices.specs.declared.kind.DeviceKind.TheVariants.{Passive, Voltage, Current, VoltageByVoltage, CurrentByVoltage}
+use Rattle.netlist_devices.specs.declared.kind.DeviceKind.TheVariants.{CurrentByCurrent, VoltageByCurrent, Opamp, Transformer, Gyrator}
 use Rattle.netlist_devices.specs.Devices.{Device, device_names, ground, has_source}
 use Rattle.netlist_devices.specs.EquationNames.{equation_words, unknown_words}
 use Rattle.netlist_reader.specs.Terms.{own, node, difference, current_terms, terms_of}
