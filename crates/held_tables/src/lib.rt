@@ -6,3 +6,5 @@
 mod counted;
 #[cfg(test)]
 mod kept_pair;
+#[cfg(test)]
+mod parts;
