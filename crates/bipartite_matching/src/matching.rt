@@ -5,7 +5,9 @@ ghost use Rattle.std.specs.List.Sorted.{IsStrictlyIncreasing};
 ghost use Rattle.limits.specs.Limits.{column_limit, grown};
 ghost use Rattle.sparse_t.specs.Lists.{AreAllBelow};
 ghost use Rattle.sparse_t.specs.Incidences.{incidence_rows, touches};
-ghost use Rattle.bipartite_matching.specs.Matchings.{Matching, IsMatching, HasPair, IsRowMatched, IsRowFree, mate_at, empty_matching, with_pair, matching_without, with_row_in, with_row_out, with_column_in, with_column_out};
+ghost use Rattle.bipartite_matching.specs.Matchings.{Matching, IsMatching, HasPair, IsRowMatched, IsRowFree, mate_at};
+ghost use Rattle.bipartite_matching.specs.Matchings.{empty_matching, with_pair, matching_without, with_row_in, with_row_out};
+ghost use Rattle.bipartite_matching.specs.Matchings.{with_column_in, with_column_out};
 
 use limits::grown;
 use number_pairs::NumberPairs;

@@ -1,5 +1,6 @@
 -- Bits in rows of words.
-use Rattle.std.proofs.Common.{◌≡◌, ℕ, ◌+◌, ◌-◌, ◌*◌, ◌/◌, ◌%◌, ◌^◌, ◌<◌, ◌≤◌, ◌≢◌, false, ◌||◌, ◌==◌, ◌⊎◌, inl, inr, List, length, get_or, set, bit_and, bit_or, w64, ap, sym, subst, ◌∙◌, arith}
+use Rattle.std.proofs.Common.{◌≡◌, ℕ, ◌+◌, ◌-◌, ◌*◌, ◌/◌, ◌%◌, ◌^◌, ◌<◌, ◌≤◌, ◌≢◌, false, ◌||◌, ◌==◌, ◌⊎◌, inl, inr, List}
+use Rattle.std.proofs.Common.{length, get_or, set, bit_and, bit_or, w64, ap, sym, subst, ◌∙◌, arith}
 use Rattle.std.specs.Int.{bit_at, trailing_zeros}
 use Rattle.std.specs.Int.Bits.{or_zero_r}
 use Rattle.std.proofs.Math.Nat.{mul-le-mul_left}

@@ -21,11 +21,13 @@ use Rattle.cert_text.specs.declared.version.Version.TheVariants.{One, Two}
 use Rattle.cert_reader.specs.Limits.{certificate_limit}
 use Rattle.cert_reader.specs.CertLines.{row_lines, contents_lines, version_lines, body_lines, certificate_lines, IsCertificate}
 use Rattle.cert_reader.specs.Fronts.{◌>>=◌}
-use Rattle.cert_reader.specs.LineReading.{version_at, field_line_at, field_at, kind_at, echo_at, shape_at, pairs_line_at, entries_line_at, columns_line_at, tail_at}
+use Rattle.cert_reader.specs.LineReading.{version_at, field_line_at, field_at, kind_at, echo_at, shape_at, pairs_line_at}
+use Rattle.cert_reader.specs.LineReading.{entries_line_at, columns_line_at, tail_at}
 use Rattle.cert_reader.specs.CertReading.{then_at, rows_at, all_blocks_at, parts_at, matrices_at, pieces_at, Matrices}
 use Rattle.cert_reader.specs.CertReading.{Pieces, size_at, rank_at, contents_from, contents_at, body_at, field_count, certificate_at}
 use Rattle.cert_reader.proofs.Spells.{Spells, Any}
-use Rattle.cert_reader.proofs.LineKinds.{version_line, field_line, Spells-version, Spells-field_line, Spells-kind, Spells-count, Spells-echo, Spells-shape, Spells-pairs_line}
+use Rattle.cert_reader.proofs.LineKinds.{version_line, field_line, Spells-version, Spells-field_line, Spells-kind}
+use Rattle.cert_reader.proofs.LineKinds.{Spells-count, Spells-echo, Spells-shape, Spells-pairs_line}
 use Rattle.cert_reader.proofs.LineKinds.{Spells-entries_line, Spells-columns_line, Spells-tail}
 use Rattle.cert_reader.proofs.Lines.{Reads, Reads-then, Reads-pair, Reads-map, Reads-line, Reads-nothing}
 use Rattle.cert_reader.proofs.Rows.{Reads-same, AreRows, rows-some, Reads-rows, rows-to, rows-from, row_lines-count}

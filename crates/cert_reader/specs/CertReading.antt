@@ -8,7 +8,8 @@ use Rattle.cert_text.specs.declared.part.CcfBlock.{CcfBlock}
 use Rattle.cert_text.specs.declared.version.Version.{Version}
 use Rattle.cert_text.specs.declared.version.Version.TheVariants.{One, Two}
 use Rattle.cert_reader.specs.Fronts.{◌>>=◌, text_at, begins_with}
-use Rattle.cert_reader.specs.LineReading.{version_at, field_at, kind_at, count_at, echo_at, shape_at, pairs_line_at, entries_line_at, columns_line_at, tail_at, block_at}
+use Rattle.cert_reader.specs.LineReading.{version_at, field_at, kind_at, count_at, echo_at, shape_at, pairs_line_at}
+use Rattle.cert_reader.specs.LineReading.{entries_line_at, columns_line_at, tail_at, block_at}
 
 -- what is read, and what is read then, so many lines later
 abbrev pub then_at : {A B : Type 0} → ℕ → (ℕ → List ℕ → Result (A × List ℕ) ℕ) →

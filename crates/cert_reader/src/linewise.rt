@@ -5,7 +5,8 @@ ghost use Rattle.cert_text.specs.Contents.{numbered};
 ghost use Rattle.cert_text.specs.Ranges.{IsShape};
 ghost use Rattle.cert_text.specs.Texts.{head_text};
 ghost use Rattle.cert_reader.specs.Fronts.{GivesReading, text_at};
-ghost use Rattle.cert_reader.specs.LineReading.{kind_at, count_at, echo_at, spaced_at, head_at, shape_at, pairs_line_at, entries_line_at, columns_line_at, part_at, tail_at, block_at};
+ghost use Rattle.cert_reader.specs.LineReading.{kind_at, count_at, echo_at, spaced_at, head_at, shape_at, pairs_line_at};
+ghost use Rattle.cert_reader.specs.LineReading.{entries_line_at, columns_line_at, part_at, tail_at, block_at};
 
 use crate::fault::ReadCert;
 use crate::fronts::{behind, number_at, text_at};

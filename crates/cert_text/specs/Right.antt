@@ -12,7 +12,8 @@ use Rattle.mixed_matrices.specs.Pairs.{IsPair}
 use Rattle.mixed_matrices.specs.SetFunctions.{IsMinimiser}
 use Rattle.mixed_matrices.specs.StructuralRanks.{IsStructuralRank}
 use Rattle.cert_text.specs.Contents.{Contents}
-use Rattle.cert_text.specs.Readings.{matrix_of, pattern_of, pair_at, has_column, row_with, column_lists, q_row_lists, t_row_lists, parts_of, lower_of, StandsOnce, ColumnsDiffer, IsUnitColumn}
+use Rattle.cert_text.specs.Readings.{matrix_of, pattern_of, pair_at, has_column, row_with, column_lists, q_row_lists}
+use Rattle.cert_text.specs.Readings.{t_row_lists, parts_of, lower_of, StandsOnce, ColumnsDiffer, IsUnitColumn}
 
 -- the printed numbers are those of M and L
 pub record HasShape (M : MixedMatrix) (L : LayeredMatrix) (c : Contents) : Type 0 where

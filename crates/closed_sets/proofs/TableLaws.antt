@@ -8,7 +8,8 @@ use Rattle.closed_sets.specs.Tables.{Tells, IsReadyIn, IsBlockPut}
 use Rattle.residue_theory.proofs.SumLaws.{nat_cases}
 use Rattle.residue_theory.proofs.SetLaws.{differ}
 use Rattle.closed_sets.proofs.SetLaws.{test_cases, size_on-less}
-use Rattle.closed_sets.proofs.Listings.{Started, IsReady, placed_with, block_with, started-next, started-all, waiting_or_all, find_ready, kinds, kept, put, number_of-before, number_of-now}
+use Rattle.closed_sets.proofs.Listings.{Started, IsReady, placed_with, block_with, started-next, started-all, waiting_or_all}
+use Rattle.closed_sets.proofs.Listings.{find_ready, kinds, kept, put, number_of-before, number_of-now}
 use Rattle.closed_sets.proofs.Hulls.{reaches}
 
 module _ (arc : ℕ → ℕ → Bool) (n : ℕ) (starts ends : ℕ → Bool) where

@@ -2,7 +2,9 @@
 //! their order and their one listing. Each law is the contract of a function that does nothing.
 #![tactic(auto)]
 
-ghost use Rattle.closed_sets.specs.Laws.{ReachedPlacesAreASet, ReachedSetIsLeast, ClosedSetsAreTold, ClosedSetsAreIdeals, ThereIsOneListing, BelowIsAnOrder, CoversGenerate, RulesMakeParts, PartsKeepRules, ExampleOfClosed, ExampleOfReaching, ExampleOfListing};
+ghost use Rattle.closed_sets.specs.Laws.{ReachedPlacesAreASet, ReachedSetIsLeast, ClosedSetsAreTold, ClosedSetsAreIdeals};
+ghost use Rattle.closed_sets.specs.Laws.{ThereIsOneListing, BelowIsAnOrder, CoversGenerate, RulesMakeParts, PartsKeepRules};
+ghost use Rattle.closed_sets.specs.Laws.{ExampleOfClosed, ExampleOfReaching, ExampleOfListing};
 
 /// What is reached from a set is a set.
 pub fn reached_places_are_a_set()

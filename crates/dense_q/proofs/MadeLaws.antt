@@ -1,5 +1,7 @@
 -- Matrices that are made row by row.
-use Rattle.std.proofs.Common.{◌≡◌, ℕ, suc, zero, ◌+◌, ◌*◌, ◌%◌, ◌<◌, ◌≤◌, ◌≢◌, inl, inr, List, [], ◌∷◌, ◌++◌, map, take, length, replicate, slice_index, slice_index_or, slice_set, refl, sym, subst, ap, ◌∙◌, Vec, vec_len, arith, add-one, length-append}
+use Rattle.std.proofs.Common.{◌≡◌, ℕ, suc, zero, ◌+◌, ◌*◌, ◌%◌, ◌<◌, ◌≤◌, ◌≢◌, inl, inr, List, [], ◌∷◌, ◌++◌, map, take}
+use Rattle.std.proofs.Common.{length, replicate, slice_index, slice_index_or, slice_set, refl, sym, subst, ap, ◌∙◌, Vec}
+use Rattle.std.proofs.Common.{vec_len, arith, add-one, length-append}
 use Rattle.std.specs.List.{All}
 use Rattle.std.specs.Vec.{with_items}
 use Rattle.std.proofs.Math.ListN.{get_or-append}

@@ -1,5 +1,6 @@
 -- Tables of numbers: what a change of one row does to the entries.
-use Rattle.std.proofs.Common.{◌≡◌, ℕ, ◌+◌, ◌*◌, ◌%◌, ◌<◌, ◌≤◌, ◌≢◌, List, [], ◌∷◌, map, length, slice_index, slice_index_or, slice_set, refl, sym, subst, ap, ◌∙◌, Vec, vec_len, arith}
+use Rattle.std.proofs.Common.{◌≡◌, ℕ, ◌+◌, ◌*◌, ◌%◌, ◌<◌, ◌≤◌, ◌≢◌, List, [], ◌∷◌, map, length, slice_index, slice_index_or}
+use Rattle.std.proofs.Common.{slice_set, refl, sym, subst, ap, ◌∙◌, Vec, vec_len, arith}
 use Rattle.std.specs.List.{All, AllWithin, swap}
 use Rattle.std.specs.Vec.{with_item, with_items}
 use Rattle.std.proofs.lemmas.List.{map-set, get_or-map, get_or-set_same, get_or-set_other, length-map, length-set, set-set, with_items_is}

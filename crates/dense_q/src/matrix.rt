@@ -6,7 +6,8 @@ ghost use Rattle.linear_algebra.specs.Products.{identity};
 ghost use Rattle.linear_algebra.specs.RowOperations.{IsRowAdded, IsRowScaled};
 ghost use Rattle.residue_field.specs.Rows.{plus_multiple};
 ghost use Rattle.dense_q.specs.Rows.{multiple};
-ghost use Rattle.dense_q.specs.Tables.{Table, IsMatrix, AreResidues, HasSameSize, IsTableOf, IsProduct, height, row_at, entry, zero_table, with_row, table_with_entry, with_rows_swapped, with_last_row};
+ghost use Rattle.dense_q.specs.Tables.{Table, IsMatrix, AreResidues, HasSameSize, IsTableOf, IsProduct, height, row_at};
+ghost use Rattle.dense_q.specs.Tables.{entry, zero_table, with_row, table_with_entry, with_rows_swapped, with_last_row};
 
 use crate::rows;
 use out_of_memory::NoMemory;

@@ -9,7 +9,8 @@ ghost use Rattle.mixed_model.specs.Names.{has_name};
 ghost use Rattle.toml.specs.Data.{get_member};
 ghost use Rattle.toml.specs.View.{table_view, view};
 ghost use Rattle.document_values.specs.Answers.{AnswersAs, GivesAnswer};
-ghost use Rattle.document_values.specs.Values.{declared_name, declared_names, due, has_only, list_of, list_of_length, list_with, new_name, residue_in, numbers_in, members_of_value, text_of};
+ghost use Rattle.document_values.specs.Values.{declared_name, declared_names, due, has_only, list_of, list_of_length};
+ghost use Rattle.document_values.specs.Values.{list_with, new_name, residue_in, numbers_in, members_of_value, text_of};
 ghost use Rattle.document_values.specs.Words.{texts};
 
 use crate::names::{Declared, NameSet};

@@ -7,7 +7,8 @@ ghost use Rattle.toml.specs.View.{table_view, view};
 ghost use Rattle.document_values.specs.Values.{has_only};
 ghost use Rattle.document_values.specs.Answers.{AddsName, GivesAnswer, Reads};
 ghost use Rattle.document_values.specs.Chains.{keeping};
-ghost use Rattle.flowsheet_reader.specs.Models.{component_in, components_in, components_of, document_keys, list_at_key, new_stream, stream_in, streams_in, streams_of, version_of};
+ghost use Rattle.flowsheet_reader.specs.Models.{component_in, components_in, components_of, document_keys, list_at_key};
+ghost use Rattle.flowsheet_reader.specs.Models.{new_stream, stream_in, streams_in, streams_of, version_of};
 
 use document_values::{NameSet, at, find, has_only, list, new_name};
 use limits::EQUATION_LIMIT;

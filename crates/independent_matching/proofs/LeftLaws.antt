@@ -8,7 +8,8 @@ use Rattle.mixed_augmentation_laws.proofs.Moves.{test_cases}
 use Rattle.mixed_matrices.specs.Tableaus.{Tableau}
 use Rattle.independent_matching.specs.declared.row.Row.{Row}
 use Rattle.independent_matching.specs.declared.row.Row.TheVariants.{Q, T}
-use Rattle.independent_matching.specs.Sides.{AreRowsLeft, AreRowsMoving, HasNoMate, Takes, in_q, is_matched, layers_of, mate_of, number, row_had, tableau_of_pair}
+use Rattle.independent_matching.specs.Sides.{AreRowsLeft, AreRowsMoving, HasNoMate, Takes, in_q, is_matched, layers_of}
+use Rattle.independent_matching.specs.Sides.{mate_of, number, row_had, tableau_of_pair}
 use Rattle.independent_matching.proofs.MoveLaws.{had-base, had-mate, had-none}
 
 some_is_no_none : {A : Type 0} (a : A) → None ≡ Some a → ⊥

@@ -13,7 +13,7 @@ equation_limit = 4096
 abbrev pub column_limit : ℕ
 column_limit = 8192
 
--- the room that is taken where there was so much and so much is asked for: where it grows, at least an eighth more, as far as
--- the limit of rows and columns
+-- the room that is taken where there was so much and so much is asked for: where it grows, at least an eighth more, as
+-- far as the limit of rows and columns
 abbrev pub grown : ℕ → ℕ → ℕ
 grown had asked = cond (leb asked had) had (max asked (min (had + had / 8) column_limit))

@@ -1,5 +1,7 @@
 -- A test at each lane of a vector, and the first place that passes it.
-use Rattle.std.proofs.Common.{◌≡◌, ℕ, ◌+◌, ◌*◌, ◌%◌, ◌^◌, ◌<◌, ◌≤◌, Bool, true, false, not, cond, ⊎_elim, List, [], ◌∷◌, map, length, get_or, position, nat_lt, Option, Some, None, MatchOption, Fits, w8, refl, sym, ap, ap₂, ◌∙◌, arith, lt-ltb, le-ltb}
+use Rattle.std.proofs.Common.{◌≡◌, ℕ, ◌+◌, ◌*◌, ◌%◌, ◌^◌, ◌<◌, ◌≤◌, Bool, true, false, not, cond, ⊎_elim, List, [], ◌∷◌, map}
+use Rattle.std.proofs.Common.{length, get_or, position, nat_lt, Option, Some, None, MatchOption, Fits, w8, refl, sym, ap}
+use Rattle.std.proofs.Common.{ap₂, ◌∙◌, arith, lt-ltb, le-ltb}
 use Rattle.std.specs.List.{prefix_len}
 use Rattle.std.specs.Simd.Lanes.{mask_l, top, Each1}
 use Rattle.std.proofs.lemmas.Bool.{agree_below, agree_below_at, cases_lt}

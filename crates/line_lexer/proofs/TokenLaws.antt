@@ -15,7 +15,8 @@ use Rattle.std.proofs.lemmas.List.Sums.{prefix_len-le-length, prefix_len-drop_ye
 use Rattle.std.proofs.lemmas.Str.{IsAscii-drop, IsUtf8-from_ascii}
 use Rattle.line_lexer.proofs.PlaceLaws.{position_or_len-Some, position_or_len-None}
 use Rattle.line_lexer.specs.Cuts.{CutsToken}
-use Rattle.line_lexer.specs.Tokens.{is_blank, is_comment_sign, is_odd, is_text_byte, is_clean, uncommented, pieces_from, onto_first_part, has_bytes, tokens_from}
+use Rattle.line_lexer.specs.Tokens.{is_blank, is_comment_sign, is_odd, is_text_byte, is_clean, uncommented, pieces_from}
+use Rattle.line_lexer.specs.Tokens.{onto_first_part, has_bytes, tokens_from}
 
 -- blanks before a token only move its place
 pub tokens_after_blanks : (i : ℕ) (text : List ℕ) → tokens_from i text ≡ tokens_from

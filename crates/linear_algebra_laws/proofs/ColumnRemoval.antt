@@ -9,7 +9,9 @@ use Rattle.residue_theory.proofs.SetLaws.{differ}
 use Rattle.residue_theory.proofs.CountLaws.{size-without}
 use Rattle.linear_algebra.specs.Columns.{CombinesToZero, IsIndependent, IsRank, IsCombination}
 use Rattle.linear_algebra.specs.Parts.{skip, without_column}
-use Rattle.linear_algebra_laws.proofs.Ranks.{Basis, basis, basis-rank, rank_of-basis, rank_exists, rank-unique, combination_of-largest, combines-through, combination-within, independent-within, none_independent}
+use Rattle.linear_algebra_laws.proofs.Ranks.{Basis, basis, basis-rank, rank_of-basis, rank_exists, rank-unique}
+use Rattle.linear_algebra_laws.proofs.Ranks.{combination_of-largest, combines-through, combination-within}
+use Rattle.linear_algebra_laws.proofs.Ranks.{independent-within, none_independent}
 use Rattle.linear_algebra_laws.proofs.RankLaws.{rank-monotone}
 use Rattle.linear_algebra_laws.proofs.SkipLaws.{skip-other, skip-below, unskip, unskip-below, skip-unskip, unskip-skip, sum_on-skip}
 

@@ -1,6 +1,7 @@
 -- Gauss elimination as one induction over the equations: either the only solution is zero, and
 -- then there are no more unknowns than equations, or a solution is not zero.
-use Rattle.std.proofs.Common.{◌≡◌, ℕ, zero, suc, ◌+◌, ◌*◌, ◌%◌, ◌<◌, ◌≤◌, ◌≢◌, Bool, true, false, cond, not, ◌&&◌, eqb, ◌⊎◌, inl, inr, refl, ap, sym, subst, ◌∙◌, arith}
+use Rattle.std.proofs.Common.{◌≡◌, ℕ, zero, suc, ◌+◌, ◌*◌, ◌%◌, ◌<◌, ◌≤◌, ◌≢◌, Bool, true, false, cond, not, ◌&&◌, eqb, ◌⊎◌}
+use Rattle.std.proofs.Common.{inl, inr, refl, ap, sym, subst, ◌∙◌, arith}
 use Rattle.residue_theory.specs.Sets.{without}
 use Rattle.residue_theory.specs.Sums.{sum_on, size_on}
 use Rattle.residue_theory.specs.Residues.{IsPrime}

@@ -1,10 +1,12 @@
 -- Pivots bring any independent set of columns into unit columns.
-use Rattle.std.proofs.Common.{◌≡◌, ◌+◌, ◌-◌, ◌*◌, ◌%◌, ◌<◌, ◌≤◌, ◌≢◌, ◌&&◌, ◌⊎◌, ◌∙◌, ℕ, zero, suc, Bool, true, false, cond, eqb, ltb, inl, inr, refl, ap, sym, subst, arith}
+use Rattle.std.proofs.Common.{◌≡◌, ◌+◌, ◌-◌, ◌*◌, ◌%◌, ◌<◌, ◌≤◌, ◌≢◌, ◌&&◌, ◌⊎◌, ◌∙◌, ℕ, zero, suc, Bool, true, false, cond}
+use Rattle.std.proofs.Common.{eqb, ltb, inl, inr, refl, ap, sym, subst, arith}
 use Rattle.std.proofs.lemmas.Bool.Decides.{nat_tests}
 use Rattle.std.proofs.Math.Nat.{zero-mod, mod-eq_of_lt}
 use Rattle.residue_theory.proofs.CountLaws.{sum-with_one}
 use Rattle.residue_theory.proofs.ResidueLaws.{agree-add, agree-mul, inverse, lacks, vanishes-add, vanishes-mul, vanishes-rest, vanishes_factor}
-use Rattle.residue_theory.proofs.SetLaws.{both-first, both-second, both_true, differ, eqb_from, search_below, with_one-member, with_one-new, with_one-other, zero_cases}
+use Rattle.residue_theory.proofs.SetLaws.{both-first, both-second, both_true, differ, eqb_from, search_below}
+use Rattle.residue_theory.proofs.SetLaws.{with_one-member, with_one-new, with_one-other, zero_cases}
 use Rattle.residue_theory.proofs.SumLaws.{nat_cases, sum_on-add, sum_on-ext, sum_on-mul}
 use Rattle.residue_theory.specs.Residues.{IsPrime}
 use Rattle.residue_theory.specs.Sets.{IsWithin, with_one}

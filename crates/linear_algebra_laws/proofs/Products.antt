@@ -8,7 +8,8 @@ use Rattle.residue_theory.specs.Residues.{IsPrime}
 use Rattle.linear_algebra.specs.Columns.{IsIndependent, IsRank, Combines}
 use Rattle.linear_algebra.specs.Products.{product, identity, IsInverse, Agree}
 use Rattle.residue_theory.proofs.SumLaws.{sum_on-add, sum_on-mul, sum_on-ext, sum_on-swap, sum_on-without, sum_on-none, nat_cases, without-member}
-use Rattle.residue_theory.proofs.ResidueLaws.{vanishes-mul, vanishes-sum, vanishes_by, vanishes-rest, agree-add, agree-mul, agree-sum, agree_of, vanishes_factor, lacks}
+use Rattle.residue_theory.proofs.ResidueLaws.{vanishes-mul, vanishes-sum, vanishes_by, vanishes-rest, agree-add, agree-mul}
+use Rattle.residue_theory.proofs.ResidueLaws.{agree-sum, agree_of, vanishes_factor, lacks}
 use Rattle.residue_theory.proofs.CountLaws.{size-everything}
 use Rattle.linear_algebra.specs.Kernels.{SameKernel}
 use Rattle.linear_algebra.specs.Parts.{with_column}

@@ -8,7 +8,8 @@ use Rattle.linear_algebra.specs.Columns.{IsIndependent, IsRank, Combines, IsComb
 use Rattle.residue_theory.proofs.SumLaws.{sum_on-mul, sum_on-ext, sum_on-swap, sum_on-within, sum_on-none, sum_on-without, nat_cases, without-member}
 use Rattle.residue_theory.proofs.SetLaws.{differ, lt_cases, with_one-member, with_one-new, with_one-other, choice}
 use Rattle.residue_theory.proofs.CountLaws.{sum-with_one}
-use Rattle.residue_theory.proofs.ResidueLaws.{vanishes-mul, vanishes-sum, vanishes_by, vanishes-rest, agree-mul, agree-sum, agree_of, negative_inverse, HasNegativeInverse}
+use Rattle.residue_theory.proofs.ResidueLaws.{vanishes-mul, vanishes-sum, vanishes_by, vanishes-rest, agree-mul, agree-sum}
+use Rattle.residue_theory.proofs.ResidueLaws.{agree_of, negative_inverse, HasNegativeInverse}
 use Rattle.linear_algebra_laws.proofs.Elimination.{Dichotomy, dichotomy}
 
 -- ---- combinations

@@ -1,5 +1,6 @@
 -- In a block triangular matrix the ranks of the diagonal parts add up to at most the rank.
-use Rattle.std.proofs.Common.{◌≡◌, ℕ, zero, suc, ◌+◌, ◌*◌, ◌%◌, ◌<◌, ◌≤◌, ◌≢◌, Bool, true, false, cond, ◌&&◌, eqb, ◌⊎◌, inl, inr, refl, ap, sym, subst, ◌∙◌, arith}
+use Rattle.std.proofs.Common.{◌≡◌, ℕ, zero, suc, ◌+◌, ◌*◌, ◌%◌, ◌<◌, ◌≤◌, ◌≢◌, Bool, true, false, cond, ◌&&◌, eqb, ◌⊎◌, inl}
+use Rattle.std.proofs.Common.{inr, refl, ap, sym, subst, ◌∙◌, arith}
 use Rattle.std.proofs.Math.Nat.{zero-mod}
 use Rattle.residue_theory.specs.Sets.{nothing, everything}
 use Rattle.residue_theory.specs.Sums.{sum_on, size_on, sum_below}

@@ -1,5 +1,7 @@
 //! A base of unit columns, as a tableau has one.
-ghost use Rattle.linear_algebra_laws.specs.BaseLaws.{BasesAreIndependent, BasesShowTheRank, BasesSpanWhatIsZeroElsewhere, IndependentColumnsBecomeABase, TableauTellsTheSpan, TableauTellsTheRank};
+ghost use Rattle.linear_algebra_laws.specs.BaseLaws.{BasesAreIndependent, BasesShowTheRank, BasesSpanWhatIsZeroElsewhere};
+ghost use Rattle.linear_algebra_laws.specs.BaseLaws.{IndependentColumnsBecomeABase, TableauTellsTheSpan};
+ghost use Rattle.linear_algebra_laws.specs.BaseLaws.{TableauTellsTheRank};
 
 /// A base is independent.
 pub fn bases_are_independent()

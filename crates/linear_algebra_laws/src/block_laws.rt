@@ -1,5 +1,7 @@
 //! Matrices that are put together from others, and parts of a matrix.
-ghost use Rattle.linear_algebra_laws.specs.BlockLaws.{StackedRankIsAtMostTheSum, DiagonalRanksAreAtMostTheRank, PartsAreTheirRows, PartsHaveAtMostTheRank, ColumnPartsHaveTheirRank, StackedColumnsAreAtMostRankAndRows};
+ghost use Rattle.linear_algebra_laws.specs.BlockLaws.{StackedRankIsAtMostTheSum, DiagonalRanksAreAtMostTheRank};
+ghost use Rattle.linear_algebra_laws.specs.BlockLaws.{PartsAreTheirRows, PartsHaveAtMostTheRank, ColumnPartsHaveTheirRank};
+ghost use Rattle.linear_algebra_laws.specs.BlockLaws.{StackedColumnsAreAtMostRankAndRows};
 
 /// One matrix above another has at most the ranks of both together.
 pub fn stacked_rank_is_at_most_the_sum()

@@ -1,5 +1,9 @@
 //! Independent columns and the rank of a set of columns.
-ghost use Rattle.linear_algebra_laws.specs.RankLaws.{EachSetHasOneRank, IndependentSetsExtend, SpanningSetsShowTheRank, LargestSetsSpan, OtherColumnsJoin, CombinationsAreNoMore, ColumnsAreNoMoreThanRows, RankIsAtMostTheRows, RankIsMonotone, RankIsSubmodular, RankIsSubadditive, OneMoreColumnAddsAtMostOne, TransposesHaveTheRank};
+ghost use Rattle.linear_algebra_laws.specs.RankLaws.{EachSetHasOneRank, IndependentSetsExtend, SpanningSetsShowTheRank};
+ghost use Rattle.linear_algebra_laws.specs.RankLaws.{LargestSetsSpan, OtherColumnsJoin, CombinationsAreNoMore};
+ghost use Rattle.linear_algebra_laws.specs.RankLaws.{ColumnsAreNoMoreThanRows, RankIsAtMostTheRows, RankIsMonotone};
+ghost use Rattle.linear_algebra_laws.specs.RankLaws.{RankIsSubmodular, RankIsSubadditive, OneMoreColumnAddsAtMostOne};
+ghost use Rattle.linear_algebra_laws.specs.RankLaws.{TransposesHaveTheRank};
 
 /// Every set of columns has a rank, and only one.
 pub fn each_set_has_one_rank()

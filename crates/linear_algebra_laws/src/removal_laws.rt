@@ -1,5 +1,10 @@
 //! A matrix with one row or one column less, or one more.
-ghost use Rattle.linear_algebra_laws.specs.RemovalLaws.{OneMoreRowAddsAtMostOne, OneRowLessTakesAtMostOne, RankStaysWithoutRow, RankFallsWithoutRow, TableauTellsTheRowsThatMayGo, OneColumnLessTakesAtMostOne, RankStaysWithoutColumn, OneColumnBesideAddsAtMostOne, RankStaysWithColumnBeside, RankStaysWithoutACombinedRow, RankOfASetStaysWithoutACombinedRow};
+ghost use Rattle.linear_algebra_laws.specs.RemovalLaws.{OneMoreRowAddsAtMostOne, OneRowLessTakesAtMostOne};
+ghost use Rattle.linear_algebra_laws.specs.RemovalLaws.{RankStaysWithoutRow, RankFallsWithoutRow};
+ghost use Rattle.linear_algebra_laws.specs.RemovalLaws.{TableauTellsTheRowsThatMayGo, OneColumnLessTakesAtMostOne};
+ghost use Rattle.linear_algebra_laws.specs.RemovalLaws.{RankStaysWithoutColumn, OneColumnBesideAddsAtMostOne};
+ghost use Rattle.linear_algebra_laws.specs.RemovalLaws.{RankStaysWithColumnBeside, RankStaysWithoutACombinedRow};
+ghost use Rattle.linear_algebra_laws.specs.RemovalLaws.{RankOfASetStaysWithoutACombinedRow};
 
 /// One more row keeps the rank or adds one.
 pub fn one_more_row_adds_at_most_one()

@@ -1,5 +1,9 @@
 //! Row operations, and products with an invertible matrix.
-ghost use Rattle.linear_algebra_laws.specs.RowOperationLaws.{InverseOnOneSideIsInverse, InvertibleProductsKeepIndependence, InvertibleProductsKeepTheRank, AddedRowsKeepTheKernel, ScaledRowsKeepTheKernel, SameKernelHasTheRank, EntriesDecideTheKernel, AddedRowsKeepTheInverse, ScaledRowsKeepTheInverse};
+ghost use Rattle.linear_algebra_laws.specs.RowOperationLaws.{InverseOnOneSideIsInverse, InvertibleProductsKeepIndependence};
+ghost use Rattle.linear_algebra_laws.specs.RowOperationLaws.{InvertibleProductsKeepTheRank, AddedRowsKeepTheKernel};
+ghost use Rattle.linear_algebra_laws.specs.RowOperationLaws.{ScaledRowsKeepTheKernel, SameKernelHasTheRank};
+ghost use Rattle.linear_algebra_laws.specs.RowOperationLaws.{EntriesDecideTheKernel, AddedRowsKeepTheInverse};
+ghost use Rattle.linear_algebra_laws.specs.RowOperationLaws.{ScaledRowsKeepTheInverse};
 
 /// For square matrices, `S * U = 1` alone shows that `U * S = 1`.
 pub fn inverse_on_one_side_is_inverse()

@@ -5,7 +5,9 @@ ghost use Rattle.std.specs.Str.{bytes_eq};
 ghost use Rattle.mixed_model.specs.Names.{is_label};
 ghost use Rattle.mixed_model.specs.Models.{IsModel, empty_model};
 ghost use Rattle.refusals.specs.Faults.{OnBroken};
-ghost use Rattle.matrix_reader.specs.ReaderStates.{MarkedFrom, UnmarkedFrom, SeenFrom, UnseenFrom, ReadsItem, ReadsItems, AddsEquation, ReadsEquation, SeesUnknown, SeesUnknowns, ReadsUnknowns, ReadsLine};
+ghost use Rattle.matrix_reader.specs.ReaderStates.{MarkedFrom, UnmarkedFrom, SeenFrom, UnseenFrom, ReadsItem, ReadsItems};
+ghost use Rattle.matrix_reader.specs.ReaderStates.{AddsEquation, ReadsEquation, SeesUnknown, SeesUnknowns, ReadsUnknowns};
+ghost use Rattle.matrix_reader.specs.ReaderStates.{ReadsLine};
 
 use crate::items;
 use crate::place::put_value;

@@ -16,7 +16,8 @@ use Rattle.closed_sets.proofs.SetLaws.{test_cases, size_on-bound, size_on-less}
 use Rattle.exchange_graph.specs.Marks.{members_of}
 use Rattle.bit_table.specs.Bits.{bit_in}
 use Rattle.minimiser_lattice.specs.Standings.{IsFreeToStand, IsWaiting, NoneWaitsBelow, is_listed}
-use Rattle.minimiser_lattice.specs.Ready.{AreApart, HasRoomFor, IsKey, IsLeastPlace, IsMadeReady, IsMadeWait, AreSettledStandings, held_of, least_of, place_by_key}
+use Rattle.minimiser_lattice.specs.Ready.{AreApart, HasRoomFor, IsKey, IsLeastPlace, IsMadeReady, IsMadeWait}
+use Rattle.minimiser_lattice.specs.Ready.{AreSettledStandings, held_of, least_of, place_by_key}
 use Rattle.minimiser_lattice.specs.declared.ready.Ready.{Ready}
 use Rattle.minimiser_lattice.specs.declared.standing.Standing.{Standing}
 use Rattle.minimiser_lattice.specs.declared.standing.Standing.TheVariants.{Listed}

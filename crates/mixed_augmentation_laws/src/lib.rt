@@ -2,7 +2,8 @@
 //! Analysis, chapter 2, independent matching). No code.
 #![tactic(auto)]
 
-ghost use Rattle.mixed_augmentation_laws.specs.Laws.{EndsHaveAFreeRow, ShortestWalksAreRoutes, MovesBegin, MovesGoOn, MovesEndInALargerPair, RoutesHaveFewPivots};
+ghost use Rattle.mixed_augmentation_laws.specs.Laws.{EndsHaveAFreeRow, ShortestWalksAreRoutes, MovesBegin, MovesGoOn};
+ghost use Rattle.mixed_augmentation_laws.specs.Laws.{MovesEndInALargerPair, RoutesHaveFewPivots};
 ghost use Rattle.mixed_augmentation_laws.specs.SealedLaws.{SealedSetsHoldTheirRows, MovesLeaveSealedSets};
 ghost use Rattle.mixed_augmentation_laws.specs.SealedLaws.{RoutesMissSealedSets, RoutesLeaveSealedSets};
 ghost use Rattle.mixed_augmentation_laws.specs.SealedLaws.{SealedSetsStaySealed, ShortestWalksFromSomeAreRoutes};

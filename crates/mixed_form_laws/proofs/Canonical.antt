@@ -14,7 +14,8 @@ use Rattle.mixed_matrices.specs.LayeredMatrices.{LayeredMatrix}
 use Rattle.mixed_matrices.specs.SetFunctions.{IsMinimiser}
 use Rattle.mixed_matrices.specs.Tableaus.{HasTableau, Tableau}
 use Rattle.mixed_pair_laws.proofs.Minimisers.{closed-minimiser, least_set, least_set-closed, minimiser-closed}
-use Rattle.mixed_form_laws.proofs.CheckedParts.{block-held, checked-clear, checked-listing, first-from, from-first, last-to, middle-of_block, of_block-middle, of_block-number, to-last}
+use Rattle.mixed_form_laws.proofs.CheckedParts.{block-held, checked-clear, checked-listing, first-from, from-first, last-to}
+use Rattle.mixed_form_laws.proofs.CheckedParts.{middle-of_block, of_block-middle, of_block-number, to-last}
 
 module _ (p : ℕ) (prime : IsPrime p) (L : LayeredMatrix) (F : Tableau) (tab : HasTableau p L F) (G : Parts)
     (below lower : ℕ → ℕ → Bool) (K : KeepsPartRules p L F G below lower) where

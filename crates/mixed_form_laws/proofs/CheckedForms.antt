@@ -19,7 +19,8 @@ use Rattle.mixed_matrices.specs.StructuralRanks.{IsLayeredRank}
 use Rattle.mixed_matrices.specs.Tableaus.{IsTableau, Tableau}
 use Rattle.mixed_pair_laws.proofs.ArcFacts.{EndsInQ, EndsInT, base_found, end-q, end-t, end-tells, free-tells, leads-q, leads-t, match_found, no_base, no_match}
 use Rattle.mixed_pair_laws.proofs.TableauParts.{full_columns-rank, full_rows-rank}
-use Rattle.mixed_form_laws.proofs.CheckedParts.{block-held, end-last, entry-falls, first-from, free-first, last-to, of_block-middle, of_block-number, symbol-falls}
+use Rattle.mixed_form_laws.proofs.CheckedParts.{block-held, end-last, entry-falls, first-from, free-first, last-to}
+use Rattle.mixed_form_laws.proofs.CheckedParts.{of_block-middle, of_block-number, symbol-falls}
 
 zero_or : (x : ℕ) → (x ≡ 0) ⊎ (0 < x)
 zero_or x = grind arith

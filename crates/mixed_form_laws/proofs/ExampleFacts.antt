@@ -11,11 +11,13 @@ use Rattle.closed_sets.specs.Walks.{Mutual, ReachesOn}
 use Rattle.mixed_matrices.specs.Arcs.{ReachesEnd, ReachesIn, has_base, has_match, is_end, is_free, leads_to}
 use Rattle.mixed_matrices.specs.CanonicalParts.{AreCanonical, IsBlockBelow, IsHeldWith, IsLowerBlock, IsOfBlock}
 use Rattle.mixed_matrices.specs.CheckerRules.{HasRows, KeepsPartRules, block_of, in_first, in_last}
-use Rattle.mixed_matrices.specs.Examples.{symbol_triangle, tall_parts, tall_symbols, tall_tableau, triangle_below, triangle_lower, triangle_parts, triangle_tableau, turned_parts, whole_parts}
+use Rattle.mixed_matrices.specs.Examples.{symbol_triangle, tall_parts, tall_symbols, tall_tableau, triangle_below}
+use Rattle.mixed_matrices.specs.Examples.{triangle_lower, triangle_parts, triangle_tableau, turned_parts, whole_parts}
 use Rattle.mixed_matrices.specs.Forms.{IsForm, IsOrdered}
 use Rattle.mixed_matrices.specs.SetFunctions.{IsMinimiser}
 use Rattle.mixed_matrices.specs.Tableaus.{IsTableau}
-use Rattle.mixed_pair_laws.proofs.ExampleFacts.{below_one, below_two, triangle-arcs, triangle-closed, triangle-has_tableau, triangle-leads, triangle-no_end, triangle-no_free}
+use Rattle.mixed_pair_laws.proofs.ExampleFacts.{below_one, below_two, triangle-arcs, triangle-closed, triangle-has_tableau}
+use Rattle.mixed_pair_laws.proofs.ExampleFacts.{triangle-leads, triangle-no_end, triangle-no_free}
 use Rattle.mixed_pair_laws.proofs.Minimisers.{closed-minimiser, minimiser-closed}
 use Rattle.mixed_form_laws.proofs.Canonical.{below-block, checked-canonical, lower-block}
 use Rattle.mixed_form_laws.proofs.CheckedForms.{checked-form, checked-ordered}

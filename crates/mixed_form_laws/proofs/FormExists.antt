@@ -9,7 +9,8 @@ use Rattle.closed_sets.proofs.SetLaws.{not-make, not-true}
 use Rattle.closed_sets.proofs.WalkLaws.{from-reaches, reaches-join}
 use Rattle.closed_sets.specs.Blocks.{IsBelow, IsListing}
 use Rattle.closed_sets.specs.Orders.{IsCover}
-use Rattle.mixed_matrices.specs.Arcs.{HasNoWalk, IsFromFree, IsOfMiddle, IsReachedFromFree, ReachesEnd, ReachesIn, has_base, has_match, is_end, is_free, leads_to}
+use Rattle.mixed_matrices.specs.Arcs.{HasNoWalk, IsFromFree, IsOfMiddle, IsReachedFromFree, ReachesEnd, ReachesIn, has_base}
+use Rattle.mixed_matrices.specs.Arcs.{has_match, is_end, is_free, leads_to}
 use Rattle.mixed_matrices.specs.CheckerRules.{HasRows, IsListingIn, KeepsPartRules, block_of, in_first, in_last}
 use Rattle.mixed_matrices.specs.Forms.{Parts}
 use Rattle.mixed_matrices.specs.LayeredMatrices.{LayeredMatrix}

@@ -13,7 +13,8 @@ use Rattle.mixed_matrices.specs.LayeredMatrices.{LayeredMatrix}
 use Rattle.mixed_matrices.specs.SetFunctions.{IsMinimiser}
 use Rattle.mixed_matrices.specs.Tableaus.{HasTableau, Tableau}
 use Rattle.mixed_form_laws.proofs.Canonical.{checked-closed, checked-minimiser, holds-first, holds-no_last}
-use Rattle.mixed_form_laws.proofs.CheckedParts.{block-held, checked-clear, checked-listing, first-from, from-first, middle-of_block, of_block-middle, of_block-number, place}
+use Rattle.mixed_form_laws.proofs.CheckedParts.{block-held, checked-clear, checked-listing, first-from, from-first}
+use Rattle.mixed_form_laws.proofs.CheckedParts.{middle-of_block, of_block-middle, of_block-number, place}
 
 module _ (p : ℕ) (prime : IsPrime p) (L : LayeredMatrix) (F : Tableau) (tab : HasTableau p L F) (G : Parts)
     (below lower : ℕ → ℕ → Bool) (K : KeepsPartRules p L F G below lower) where

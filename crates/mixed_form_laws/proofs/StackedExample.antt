@@ -13,7 +13,8 @@ use Rattle.closed_sets.specs.Walks.{Mutual, ReachesOn}
 use Rattle.mixed_matrices.specs.Arcs.{IsClosedIn, ReachesIn, has_base, has_match, is_end, is_free, leads_to}
 use Rattle.mixed_matrices.specs.CanonicalParts.{AreCanonical}
 use Rattle.mixed_matrices.specs.CheckerRules.{KeepsPartRules, block_of, in_first, in_last}
-use Rattle.mixed_matrices.specs.Examples.{stacked_inverse, stacked_matrix, stacked_model, stacked_origins, stacked_parts, stacked_tableau, stacked_transform, triangle_below, triangle_lower}
+use Rattle.mixed_matrices.specs.Examples.{stacked_inverse, stacked_matrix, stacked_model, stacked_origins, stacked_parts}
+use Rattle.mixed_matrices.specs.Examples.{stacked_tableau, stacked_transform, triangle_below, triangle_lower}
 use Rattle.mixed_matrices.specs.Forms.{IsForm}
 use Rattle.mixed_matrices.specs.Layerings.{IsLayeredMatrixOf, gives_q, has_symbol}
 use Rattle.mixed_matrices.specs.SetFunctions.{IsMinimiser}

@@ -1,5 +1,8 @@
 //! Parts that keep the rules beside a tableau are the canonical parts, and their ideals the minimisers.
-ghost use Rattle.mixed_form_laws.specs.CanonicalLaws.{CheckedPartsAreCanonical, CheckedOrderIsCanonical, CheckedListsAreCanonical, IdealsAreTheMinimisers, EachLayeredMatrixHasACanonicalForm, CanonicalPartsAreOne, RulesAreKeptByRightParts};
+ghost use Rattle.mixed_form_laws.specs.CanonicalLaws.{CheckedPartsAreCanonical, CheckedOrderIsCanonical};
+ghost use Rattle.mixed_form_laws.specs.CanonicalLaws.{CheckedListsAreCanonical, IdealsAreTheMinimisers};
+ghost use Rattle.mixed_form_laws.specs.CanonicalLaws.{EachLayeredMatrixHasACanonicalForm, CanonicalPartsAreOne};
+ghost use Rattle.mixed_form_laws.specs.CanonicalLaws.{RulesAreKeptByRightParts};
 
 /// Parts that keep the rules are the canonical parts.
 pub fn checked_parts_are_canonical()

@@ -2,9 +2,14 @@
 ghost use Rattle.std.specs.Prelude.{◌≡◌, ℕ, Bool, true, false};
 ghost use Rattle.residue_theory.specs.Sets.{only};
 ghost use Rattle.linear_algebra.specs.Products.{identity};
-ghost use Rattle.mixed_matrices.specs.CanonicalParts.{AreCanonical, AreRightParts, IsBlockBelow, IsHeldWith, IsIdealOf, IsLeastColumn, IsLowerBlock, IsOfBlock, IsReadyAt};
+ghost use Rattle.mixed_matrices.specs.CanonicalParts.{AreCanonical, AreRightParts, IsBlockBelow, IsHeldWith, IsIdealOf};
+ghost use Rattle.mixed_matrices.specs.CanonicalParts.{IsLeastColumn, IsLowerBlock, IsOfBlock, IsReadyAt};
 ghost use Rattle.mixed_matrices.specs.CheckerRules.{HasRows, IsListingIn, KeepsPartRules, block_of, in_first, in_last};
-ghost use Rattle.mixed_matrices.specs.Examples.{loose_parts, loose_symbols, loose_tableau, stacked_inverse, stacked_matrix, stacked_model, stacked_origins, stacked_parts, stacked_tableau, stacked_transform, symbol_triangle, tall_parts, tall_symbols, tall_tableau, triangle_below, triangle_lower, triangle_parts, triangle_tableau, turned_parts, whole_parts};
+ghost use Rattle.mixed_matrices.specs.Examples.{loose_parts, loose_symbols, loose_tableau, stacked_inverse, stacked_matrix};
+ghost use Rattle.mixed_matrices.specs.Examples.{stacked_model, stacked_origins, stacked_parts, stacked_tableau};
+ghost use Rattle.mixed_matrices.specs.Examples.{stacked_transform, symbol_triangle, tall_parts, tall_symbols, tall_tableau};
+ghost use Rattle.mixed_matrices.specs.Examples.{triangle_below, triangle_lower, triangle_parts, triangle_tableau};
+ghost use Rattle.mixed_matrices.specs.Examples.{turned_parts, whole_parts};
 ghost use Rattle.mixed_matrices.specs.Forms.{IsAsFine, IsEmptyAt, IsForm, IsOrdered, IsTriangular, diagonal_part, part_columns, part_rows};
 ghost use Rattle.mixed_matrices.specs.Layerings.{IsLayeredMatrixOf};
 ghost use Rattle.mixed_matrices.specs.SetFunctions.{IsMinimiser};

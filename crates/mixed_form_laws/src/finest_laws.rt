@@ -1,5 +1,6 @@
 //! What holds of every form, and that the canonical parts are the finest.
-ghost use Rattle.mixed_form_laws.specs.FinestLaws.{DiagonalRanksAddUp, FirstPartsAreMinimisers, CanonicalPartsAreFinest, FormsShowTheRank, RowsStandWithTheirColumns, RowPartsHaveOneSize};
+ghost use Rattle.mixed_form_laws.specs.FinestLaws.{DiagonalRanksAddUp, FirstPartsAreMinimisers, CanonicalPartsAreFinest};
+ghost use Rattle.mixed_form_laws.specs.FinestLaws.{FormsShowTheRank, RowsStandWithTheirColumns, RowPartsHaveOneSize};
 
 /// The structural ranks of the diagonal parts add up to at most the structural rank.
 pub fn diagonal_ranks_add_up()

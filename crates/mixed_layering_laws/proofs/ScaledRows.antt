@@ -1,7 +1,8 @@
 -- T rows scaled: the kernel stays, and values that are not zero at the auxiliary places become -1 there.
 use Rattle.std.proofs.Common.{◌≡◌, ℕ, ◌+◌, ◌*◌, ◌%◌, ◌<◌, ◌≢◌, Bool, true, false, cond, refl, ap, sym, subst, ◌∙◌, arith}
 use Rattle.std.proofs.Math.Nat.{mod-eq_of_lt}
-use Rattle.residue_theory.proofs.ResidueLaws.{HasNegativeInverse, agree-mul, agree-sum, negative_inverse, vanishes-mul, vanishes-rest, vanishes_by, vanishes_factor}
+use Rattle.residue_theory.proofs.ResidueLaws.{HasNegativeInverse, agree-mul, agree-sum, negative_inverse, vanishes-mul}
+use Rattle.residue_theory.proofs.ResidueLaws.{vanishes-rest, vanishes_by, vanishes_factor}
 use Rattle.residue_theory.proofs.SetLaws.{both-first, both_true, choose, differ}
 use Rattle.residue_theory.proofs.SumLaws.{sum_on-mul}
 use Rattle.residue_theory.specs.Residues.{IsPrime}

@@ -1,5 +1,6 @@
 //! The rank of a layered matrix beside that of its model (Murota, chapter 4).
-ghost use Rattle.mixed_layering_laws.specs.LayeringLaws.{EachModelHasALayeredMatrix, LayeredMatricesShowTheRank, LayeringsAddTheSplitRows, MinusOnesAddTheSplitRows};
+ghost use Rattle.mixed_layering_laws.specs.LayeringLaws.{EachModelHasALayeredMatrix, LayeredMatricesShowTheRank};
+ghost use Rattle.mixed_layering_laws.specs.LayeringLaws.{LayeringsAddTheSplitRows, MinusOnesAddTheSplitRows};
 
 /// With -1 at the auxiliary places a layered matrix has the rank of the model's value, and one more for each split row.
 pub fn minus_ones_add_the_split_rows()

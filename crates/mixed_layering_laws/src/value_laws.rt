@@ -1,5 +1,7 @@
 //! The values of the symbols: which changes keep a rank (Murota, chapter 4).
-ghost use Rattle.mixed_layering_laws.specs.LayeringLaws.{AuxiliaryValuesMayBeMinusOne, OneSymbolMayBeOneOrTwo, OnesAndTwosReachTheLayeredRank, OnesAndTwosReachTheRank, ScaledRowsOfSymbolsKeepTheRank};
+ghost use Rattle.mixed_layering_laws.specs.LayeringLaws.{AuxiliaryValuesMayBeMinusOne, OneSymbolMayBeOneOrTwo};
+ghost use Rattle.mixed_layering_laws.specs.LayeringLaws.{OnesAndTwosReachTheLayeredRank, OnesAndTwosReachTheRank};
+ghost use Rattle.mixed_layering_laws.specs.LayeringLaws.{ScaledRowsOfSymbolsKeepTheRank};
 
 /// T rows multiplied by numbers that are not zero keep the rank of every column set.
 pub fn scaled_rows_of_symbols_keep_the_rank()

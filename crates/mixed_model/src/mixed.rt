@@ -6,7 +6,9 @@ ghost use Rattle.std.specs.Str.{bytes_eq};
 ghost use Rattle.mixed_matrices.specs.Layerings.{has_constant, has_symbol};
 ghost use Rattle.mixed_model.specs.Names.{is_label, adding, seeing, AnswersAdd};
 ghost use Rattle.mixed_model.specs.Rows.{putting, putting_symbol};
-ghost use Rattle.mixed_model.specs.Models.{MixedModel, IsModel, PutsAt, PutsSymbolAt, SetsPlace, constant_of, symbol_of, row_of, mixed_matrix_of, empty_model, with_equation, equation_removed, with_unknown, with_seen_unknown};
+ghost use Rattle.mixed_model.specs.Models.{MixedModel, IsModel, PutsAt, PutsSymbolAt, SetsPlace, constant_of, symbol_of};
+ghost use Rattle.mixed_model.specs.Models.{row_of, mixed_matrix_of, empty_model, with_equation, equation_removed};
+ghost use Rattle.mixed_model.specs.Models.{with_unknown, with_seen_unknown};
 
 use crate::entry::{Entries, Entry};
 use crate::errors::AddError;

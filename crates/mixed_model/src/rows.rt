@@ -1,10 +1,13 @@
 //! Rows: the entries of each equation by rising column.
 
-ghost use Rattle.std.specs.Prelude.{◌≡◌, ◌≢◌, ◌<◌, ◌≤◌, ℕ, false, Some, None, is_some, length, All, slice_index_or, vec_len, MatchResult, IfSome, IfOk, OnOk, OnErr};
+ghost use Rattle.std.specs.Prelude.{◌≡◌, ◌≢◌, ◌<◌, ◌≤◌, ℕ, false, Some, None, is_some, length, All, slice_index_or, vec_len};
+ghost use Rattle.std.specs.Prelude.{MatchResult, IfSome, IfOk, OnOk, OnErr};
 ghost use Rattle.std.specs.List.{insert, list_any};
 ghost use Rattle.std.specs.Option.{option_map};
 ghost use Rattle.mixed_model.specs.Names.{AnswersAdd};
-ghost use Rattle.mixed_model.specs.Rows.{IsNotEmpty, IsRow, PutsEntry, PutsConstant, PutsSymbol, SetsColumn, FitsBetween, StandsAt, ChangesRow, row_entries_at, rows_of, entry_in, constant_in, symbol_in, putting, putting_symbol};
+ghost use Rattle.mixed_model.specs.Rows.{IsNotEmpty, IsRow, PutsEntry, PutsConstant, PutsSymbol, SetsColumn, FitsBetween};
+ghost use Rattle.mixed_model.specs.Rows.{StandsAt, ChangesRow, row_entries_at, rows_of, entry_in, constant_in, symbol_in};
+ghost use Rattle.mixed_model.specs.Rows.{putting, putting_symbol};
 
 use crate::entry::Entry;
 use crate::errors::AddError;

@@ -1,7 +1,8 @@
 -- What the tests on a tableau say: rows with base or match, free columns, ends, and what leads to what.
 use Rattle.std.proofs.Common.{◌≡◌, ◌%◌, ◌<◌, ◌≢◌, ◌&&◌, ◌||◌, ◌⊎◌, ℕ, Bool, true, false, not, eqb, inl, inr, subst, arith}
 use Rattle.std.proofs.lemmas.Bool.Decides.{nat_tests}
-use Rattle.residue_theory.proofs.SetLaws.{both-first, both-second, both_true, differ, either-first, either-second, either_cases, eqb_from, eqb_true, some_below-found, some_below-holds}
+use Rattle.residue_theory.proofs.SetLaws.{both-first, both-second, both_true, differ, either-first, either-second}
+use Rattle.residue_theory.proofs.SetLaws.{either_cases, eqb_from, eqb_true, some_below-found, some_below-holds}
 use Rattle.residue_theory.proofs.SumLaws.{nat_cases}
 use Rattle.residue_theory.specs.Sets.{some_below}
 use Rattle.linear_algebra.specs.Bases.{HasNoBase}

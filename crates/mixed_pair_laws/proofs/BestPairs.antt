@@ -3,7 +3,8 @@
 use Rattle.std.proofs.Common.{◌≡◌, ◌+◌, ◌-◌, ◌<◌, ◌≤◌, ◌≢◌, ◌&&◌, ◌⊎◌, ◌∙◌, ℕ, zero, suc, Bool, true, false, not, eqb, inl, inr, refl, sym, subst, arith}
 use Rattle.std.proofs.lemmas.Bool.Decides.{nat_tests}
 use Rattle.residue_theory.proofs.CountLaws.{size-zero}
-use Rattle.residue_theory.proofs.SetLaws.{both-first, both-second, both_true, choice, differ, either-first, either-second, either_cases, first_on, some_below-found, some_below-holds}
+use Rattle.residue_theory.proofs.SetLaws.{both-first, both-second, both_true, choice, differ, either-first, either-second}
+use Rattle.residue_theory.proofs.SetLaws.{either_cases, first_on, some_below-found, some_below-holds}
 use Rattle.residue_theory.proofs.SumLaws.{member-without, nat_cases, size_on-within, sum_on-without}
 use Rattle.residue_theory.specs.Residues.{IsPrime}
 use Rattle.residue_theory.specs.Sets.{both, either, some_below, without}

@@ -1,7 +1,8 @@
 -- The bound |pair| ≤ p(X) + N is reached exactly at the closed column sets.
 use Rattle.std.proofs.Common.{◌≡◌, ◌+◌, ◌%◌, ◌<◌, ◌≤◌, ◌≢◌, ◌&&◌, ◌⊎◌, ◌∙◌, ℕ, Bool, true, false, eqb, inl, inr, refl, sym, subst, arith}
 use Rattle.residue_theory.proofs.CountLaws.{counts, counts-equal, counts-less, size-injection, size-surjection, sum-with_one}
-use Rattle.residue_theory.proofs.SetLaws.{both-first, both-refused, both-second, both_true, eqb_false, eqb_true, first_on, some_below-found, some_below-holds, with_one-other}
+use Rattle.residue_theory.proofs.SetLaws.{both-first, both-refused, both-second, both_true, eqb_false, eqb_true, first_on}
+use Rattle.residue_theory.proofs.SetLaws.{some_below-found, some_below-holds, with_one-other}
 use Rattle.residue_theory.proofs.SumLaws.{member-without, nat_cases, sum_on-without}
 use Rattle.residue_theory.specs.Residues.{IsPrime}
 use Rattle.residue_theory.specs.Sets.{IsWithin, both, with_one, without}
@@ -15,7 +16,9 @@ use Rattle.mixed_matrices.specs.LayeredMatrices.{LayeredMatrix}
 use Rattle.mixed_matrices.specs.Pairs.{pair_size}
 use Rattle.mixed_matrices.specs.SetFunctions.{IsRho, gamma, touches_set}
 use Rattle.mixed_matrices.specs.Tableaus.{HasTableau, Tableau}
-use Rattle.mixed_pair_laws.proofs.ArcFacts.{EndsInQ, EndsInT, LeadsInQ, LeadsInT, base_found, end-q, end-t, end-tells, follows-q, follows-t, free-holds, free-tells, leads-tells, match_found, no_base, no_match}
+use Rattle.mixed_pair_laws.proofs.ArcFacts.{EndsInQ, EndsInT, LeadsInQ, LeadsInT, base_found, end-q, end-t, end-tells}
+use Rattle.mixed_pair_laws.proofs.ArcFacts.{follows-q, follows-t, free-holds, free-tells, leads-tells, match_found, no_base}
+use Rattle.mixed_pair_laws.proofs.ArcFacts.{no_match}
 use Rattle.mixed_pair_laws.proofs.PairBounds.{matched-count}
 
 -- each entry of a column of X is in the row of a base column of X, each symbol in that of a matched one

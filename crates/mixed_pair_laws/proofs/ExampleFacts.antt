@@ -14,7 +14,8 @@ use Rattle.linear_algebra_laws.proofs.RankLaws.{rank-size, rank_of-independent}
 use Rattle.linear_algebra_laws.proofs.Ranks.{none_independent, rank-unique}
 use Rattle.closed_sets.proofs.WalkLaws.{reaches-self}
 use Rattle.mixed_matrices.specs.Arcs.{HasNoWalk, IsClosedIn, has_base, has_match, is_end, is_free, leads_to}
-use Rattle.mixed_matrices.specs.Examples.{cancelling_model, empty_tableau, split_matrix, split_model, split_origins, split_tableau, symbol_triangle, tall_model, triangle_tableau}
+use Rattle.mixed_matrices.specs.Examples.{cancelling_model, empty_tableau, split_matrix, split_model, split_origins}
+use Rattle.mixed_matrices.specs.Examples.{split_tableau, symbol_triangle, tall_model, triangle_tableau}
 use Rattle.mixed_matrices.specs.Layerings.{AreMembers, IsLayeredMatrixOf, gives_q, has_symbol}
 use Rattle.mixed_matrices.specs.Models.{value}
 use Rattle.mixed_matrices.specs.Pairs.{IsBest, IsMatching, IsPair}

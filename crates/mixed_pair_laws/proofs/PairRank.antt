@@ -3,7 +3,8 @@ use Rattle.std.proofs.Common.{◌≡◌, ◌+◌, ◌*◌, ◌%◌, ◌<◌, ◌
 use Rattle.std.proofs.Math.Nat.{zero-mod}
 use Rattle.residue_theory.proofs.CountLaws.{size-either, size-outside}
 use Rattle.residue_theory.proofs.ResidueLaws.{agree-sum, sum-one, vanishes-mul, vanishes_by}
-use Rattle.residue_theory.proofs.SetLaws.{both-first, both-second, both_true, differ, either-first, either-second, either_cases, eqb_from, eqb_true, some_below-holds}
+use Rattle.residue_theory.proofs.SetLaws.{both-first, both-second, both_true, differ, either-first, either-second}
+use Rattle.residue_theory.proofs.SetLaws.{either_cases, eqb_from, eqb_true, some_below-holds}
 use Rattle.residue_theory.proofs.SumLaws.{sum_on-within}
 use Rattle.residue_theory.specs.Residues.{IsPrime}
 use Rattle.residue_theory.specs.Sets.{both, either, everything}

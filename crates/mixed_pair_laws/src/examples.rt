@@ -3,8 +3,10 @@
 ghost use Rattle.std.specs.Prelude.{◌≡◌, ◌-◌, true, false};
 ghost use Rattle.residue_theory.specs.Sets.{everything, nothing, only};
 ghost use Rattle.linear_algebra.specs.Products.{identity};
-ghost use Rattle.mixed_matrices.specs.Arcs.{HasNoWalk, IsClosedIn, IsFromFree, IsOfMiddle, IsReachedFromFree, ReachesEnd, ReachesIn, has_base, has_match, is_end, is_free, leads_to};
-ghost use Rattle.mixed_matrices.specs.Examples.{cancelling_model, empty_tableau, split_matrix, split_model, split_origins, split_tableau, symbol_triangle, tall_model, triangle_tableau};
+ghost use Rattle.mixed_matrices.specs.Arcs.{HasNoWalk, IsClosedIn, IsFromFree, IsOfMiddle, IsReachedFromFree, ReachesEnd};
+ghost use Rattle.mixed_matrices.specs.Arcs.{ReachesIn, has_base, has_match, is_end, is_free, leads_to};
+ghost use Rattle.mixed_matrices.specs.Examples.{cancelling_model, empty_tableau, split_matrix, split_model, split_origins};
+ghost use Rattle.mixed_matrices.specs.Examples.{split_tableau, symbol_triangle, tall_model, triangle_tableau};
 ghost use Rattle.mixed_matrices.specs.LayeredMatrices.{AreSameLayers, layered_part, layered_value};
 ghost use Rattle.mixed_matrices.specs.Layerings.{AreMembers, IsLayeredMatrixOf};
 ghost use Rattle.mixed_matrices.specs.Models.{AreSameModels, value};

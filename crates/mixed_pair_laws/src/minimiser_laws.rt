@@ -1,5 +1,6 @@
 //! The column sets at which p is least, also read from a tableau in which no end is reached from a free column.
-ghost use Rattle.mixed_pair_laws.specs.MinimiserLaws.{RankIsTheLeastBound, MinimumIsSizeLessColumns, MinimisersAreTheClosedSets, ReachedColumnsAreTheLeastMinimiser};
+ghost use Rattle.mixed_pair_laws.specs.MinimiserLaws.{RankIsTheLeastBound, MinimumIsSizeLessColumns};
+ghost use Rattle.mixed_pair_laws.specs.MinimiserLaws.{MinimisersAreTheClosedSets, ReachedColumnsAreTheLeastMinimiser};
 
 /// The structural rank is the least p(X) and the number of columns together.
 pub fn rank_is_the_least_bound()

@@ -1,5 +1,7 @@
 //! Pairs, and the bound that the set function p gives for their size (Murota, chapter 2, independent matching).
-ghost use Rattle.mixed_pair_laws.specs.PairLaws.{PairsAreBounded, TableausHoldPairs, TransformsKeepTheKernel, ClosedSetsReachTheBound, PairsWithoutWalkAreBest, SomePairReachesTheBound, EachPairHasATableau};
+ghost use Rattle.mixed_pair_laws.specs.PairLaws.{PairsAreBounded, TableausHoldPairs, TransformsKeepTheKernel};
+ghost use Rattle.mixed_pair_laws.specs.PairLaws.{ClosedSetsReachTheBound, PairsWithoutWalkAreBest, SomePairReachesTheBound};
+ghost use Rattle.mixed_pair_laws.specs.PairLaws.{EachPairHasATableau};
 
 /// No pair is larger than p(X) and the number of columns together, for any column set X.
 pub fn pairs_are_bounded()

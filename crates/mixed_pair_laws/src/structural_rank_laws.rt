@@ -1,5 +1,9 @@
 //! The structural rank of models and of layered matrices (Murota, chapter 4).
-ghost use Rattle.mixed_pair_laws.specs.StructuralRankLaws.{EachModelHasOneRank, EachLayeredMatrixHasOneRank, PairsThatReachTheBoundShowTheRank, PairsWithoutWalkShowTheRank, BestPairsShowTheRank, MatchingValuesReachThePair, SameModelsHaveTheSameRank, SameLayersHaveTheSameRank, EmptiedEquationsAreLeftOut, EmptiedUnknownsAreLeftOut};
+ghost use Rattle.mixed_pair_laws.specs.StructuralRankLaws.{EachModelHasOneRank, EachLayeredMatrixHasOneRank};
+ghost use Rattle.mixed_pair_laws.specs.StructuralRankLaws.{PairsThatReachTheBoundShowTheRank, PairsWithoutWalkShowTheRank};
+ghost use Rattle.mixed_pair_laws.specs.StructuralRankLaws.{BestPairsShowTheRank, MatchingValuesReachThePair};
+ghost use Rattle.mixed_pair_laws.specs.StructuralRankLaws.{SameModelsHaveTheSameRank, SameLayersHaveTheSameRank};
+ghost use Rattle.mixed_pair_laws.specs.StructuralRankLaws.{EmptiedEquationsAreLeftOut, EmptiedUnknownsAreLeftOut};
 
 /// Every mixed matrix has one structural rank, at most the number of its rows and of its columns.
 pub fn each_model_has_one_rank()

@@ -16,7 +16,9 @@ use Rattle.mixed_matrices.specs.Layerings.{AreMembers, IsLayeredMatrixOf}
 use Rattle.mixed_matrices.specs.Tableaus.{HasTableau, IsTableau}
 use Rattle.mixed_pair_laws.proofs.ExampleFacts.{below_one, below_two}
 use Rattle.mixed_form_laws.proofs.Canonical.{checked-canonical}
-use Rattle.mixed_report_laws.specs.Examples.{plain_origins, tall_constant_parts, tall_constant_tableau, tall_constants, tall_inverse, tall_symbol_model, tall_transform, wide_model, wide_parts, wide_symbols, wide_tableau}
+use Rattle.mixed_report_laws.specs.Examples.{plain_origins, tall_constant_parts, tall_constant_tableau, tall_constants}
+use Rattle.mixed_report_laws.specs.Examples.{tall_inverse, tall_symbol_model, tall_transform, wide_model, wide_parts}
+use Rattle.mixed_report_laws.specs.Examples.{wide_symbols, wide_tableau}
 
 -- no member, and all members
 no_members : (n : ℕ) (at : ℕ → ℕ) → AreMembers (λ k. false) n at 0

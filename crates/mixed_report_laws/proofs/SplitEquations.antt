@@ -1,6 +1,7 @@
 -- Without a split equation the rank is that of the layered matrix without its T row: the auxiliary column is then the unit
 -- column of its Q row.
-use Rattle.std.proofs.Common.{◌≡◌, ℕ, zero, suc, ◌+◌, ◌-◌, ◌<◌, ◌≤◌, ◌≢◌, Bool, true, false, cond, not, ◌&&◌, eqb, ltb, inl, inr, refl, ap, sym, subst, ◌∙◌, arith}
+use Rattle.std.proofs.Common.{◌≡◌, ℕ, zero, suc, ◌+◌, ◌-◌, ◌<◌, ◌≤◌, ◌≢◌, Bool, true, false, cond, not, ◌&&◌, eqb, ltb, inl}
+use Rattle.std.proofs.Common.{inr, refl, ap, sym, subst, ◌∙◌, arith}
 use Rattle.residue_theory.proofs.SetLaws.{both_true, differ, eqb_from, eqb_true, lt_cases, not_true}
 use Rattle.residue_theory.proofs.SumLaws.{member-without, nat_cases}
 use Rattle.residue_theory.specs.Residues.{IsPrime}

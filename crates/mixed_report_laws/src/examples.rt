@@ -3,7 +3,8 @@
 ghost use Rattle.std.specs.Prelude.{◌+◌};
 ghost use Rattle.linear_algebra.specs.Columns.{IsRank};
 ghost use Rattle.residue_theory.specs.Sets.{everything, without};
-ghost use Rattle.mixed_matrices.specs.Examples.{split_matrix, split_model, split_origins, stacked_matrix, stacked_model, stacked_origins, tall_model, tall_symbols};
+ghost use Rattle.mixed_matrices.specs.Examples.{split_matrix, split_model, split_origins, stacked_matrix, stacked_model};
+ghost use Rattle.mixed_matrices.specs.Examples.{stacked_origins, tall_model, tall_symbols};
 ghost use Rattle.mixed_matrices.specs.LayeredMatrices.{layered_part};
 ghost use Rattle.mixed_matrices.specs.Layerings.{IsLayeredMatrixOf};
 ghost use Rattle.mixed_matrices.specs.Models.{value};

@@ -1,5 +1,7 @@
 //! Surplus equations and undetermined unknowns by the minimisers of a layered matrix.
-ghost use Rattle.mixed_report_laws.specs.MinimiserTests.{MinimisersTellSurplusRowsOfConstants, MinimisersTellSurplusRowsOfSymbols, MinimisersTellUndeterminedUnknowns};
+ghost use Rattle.mixed_report_laws.specs.MinimiserTests.{MinimisersTellSurplusRowsOfConstants};
+ghost use Rattle.mixed_report_laws.specs.MinimiserTests.{MinimisersTellSurplusRowsOfSymbols};
+ghost use Rattle.mixed_report_laws.specs.MinimiserTests.{MinimisersTellUndeterminedUnknowns};
 
 /// An unknown is undetermined exactly where each minimiser holds its column.
 pub fn minimisers_tell_undetermined_unknowns()

@@ -1,5 +1,7 @@
 //! Surplus equations and undetermined unknowns by the canonical parts of a layered matrix.
-ghost use Rattle.mixed_report_laws.specs.PartTests.{SurplusRowsOfConstantsAreUsedInTheLastTail, SurplusRowsOfSymbolsAreInTheLastTail, UndeterminedUnknownsAreInTheFirstTail};
+ghost use Rattle.mixed_report_laws.specs.PartTests.{SurplusRowsOfConstantsAreUsedInTheLastTail};
+ghost use Rattle.mixed_report_laws.specs.PartTests.{SurplusRowsOfSymbolsAreInTheLastTail};
+ghost use Rattle.mixed_report_laws.specs.PartTests.{UndeterminedUnknownsAreInTheFirstTail};
 
 /// An unknown is undetermined exactly where its column is in the first tail.
 pub fn undetermined_unknowns_are_in_the_first_tail()

@@ -1,5 +1,7 @@
 //! The structural rank of a model without one of its equations or unknowns.
-ghost use Rattle.mixed_report_laws.specs.RemovalLaws.{EachEquationHasARow, RemovedEquationsAreEmptiedRowsOfConstants, RemovedEquationsAreEmptiedRowsOfSymbols, RemovedUnknownsAreEmptiedColumns};
+ghost use Rattle.mixed_report_laws.specs.RemovalLaws.{EachEquationHasARow, RemovedEquationsAreEmptiedRowsOfConstants};
+ghost use Rattle.mixed_report_laws.specs.RemovalLaws.{RemovedEquationsAreEmptiedRowsOfSymbols};
+ghost use Rattle.mixed_report_laws.specs.RemovalLaws.{RemovedUnknownsAreEmptiedColumns};
 
 /// A model without an unknown has the structural rank of its layered matrix without that column, less the split rows.
 pub fn removed_unknowns_are_emptied_columns()

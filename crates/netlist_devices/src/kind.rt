@@ -2,7 +2,8 @@
 
 ghost use Rattle.std.specs.Prelude.{◌≡◌, length, take};
 ghost use Rattle.std.specs.Str.{str_to_ascii_lowercase};
-ghost use Rattle.netlist_devices.specs.Devices.{directives, ends_with_number, has_source, is_directive, kind_beside, kind_of, letters, nodes_wanted, words_wanted};
+ghost use Rattle.netlist_devices.specs.Devices.{directives, ends_with_number, has_source, is_directive, kind_beside};
+ghost use Rattle.netlist_devices.specs.Devices.{kind_of, letters, nodes_wanted, words_wanted};
 ghost use Rattle.netlist_devices.specs.Rules.{is_opamp, is_voltage};
 ghost use Rattle.netlist_devices.specs.EquationNames.{equation_words, unknown_words};
 

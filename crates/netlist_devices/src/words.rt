@@ -1,6 +1,7 @@
 //! Devices, read by the words of their lines.
 
-ghost use Rattle.std.specs.Prelude.{◌≡◌, ◌<◌, true, false, length, [], Some, None, map, take, if◌then◌else◌, nat_eq, nat_le, slice_index_or, IfOk, IfSome, MatchResult};
+ghost use Rattle.std.specs.Prelude.{◌≡◌, ◌<◌, true, false, length, [], Some, None, map, take, if◌then◌else◌, nat_eq, nat_le};
+ghost use Rattle.std.specs.Prelude.{slice_index_or, IfOk, IfSome, MatchResult};
 ghost use Rattle.std.specs.List.{list_all};
 ghost use Rattle.std.specs.Result.{result_unwrap_or};
 ghost use Rattle.std.specs.String.{string_bytes};

@@ -6,7 +6,9 @@ ghost use Rattle.line_reader.specs.LineRules.{line_rule};
 ghost use Rattle.netlist_devices.specs.EquationNames.{unknowns_of, equations_of};
 ghost use Rattle.netlist_devices.specs.Rules.{device_rules, ground_rule, source_rule};
 ghost use Rattle.netlist_reader.specs.Models.{GivesModel, IsRefusal};
-ghost use Rattle.netlist_reader.specs.Examples.{devices_of, controlled_source, opamps, transformer, loop, constants_in, symbols_in, refusal, two_lines, controlled_text, controlled_model, loses_no_term, all_kinds};
+ghost use Rattle.netlist_reader.specs.Examples.{devices_of, controlled_source, opamps, transformer, loop, constants_in};
+ghost use Rattle.netlist_reader.specs.Examples.{symbols_in, refusal, two_lines, controlled_text, controlled_model};
+ghost use Rattle.netlist_reader.specs.Examples.{loses_no_term, all_kinds};
 
 use refusals::{Place, Why};
 

@@ -1,12 +1,15 @@
 -- What one number more and one less leave of lists that point back at each other.
-use Rattle.std.proofs.Common.{◌≡◌, ℕ, ◌+◌, ◌^◌, ◌<◌, ◌≤◌, ◌≢◌, ◌⊎◌, inl, inr, ◌++◌, sym, subst, ◌∙◌, ap, refl, arith, List, length, take, drop, Option, Some, None, slice_index_or}
+use Rattle.std.proofs.Common.{◌≡◌, ℕ, ◌+◌, ◌^◌, ◌<◌, ◌≤◌, ◌≢◌, ◌⊎◌, inl, inr, ◌++◌, sym, subst, ◌∙◌, ap, refl, arith, List}
+use Rattle.std.proofs.Common.{length, take, drop, Option, Some, None, slice_index_or}
 use Rattle.std.proofs.lemmas.Bool.Decides.{nat_tests}
 use Rattle.std.proofs.lemmas.List.{take-append-le, take_all, get_or-map, get_or_past, length-map}
-use Rattle.std.proofs.lemmas.List.Edits.{length-insert, get_or-insert_below, get_or-insert_at, get_or-insert_above, length-remove, get_or-remove_below, get_or-remove_above}
+use Rattle.std.proofs.lemmas.List.Edits.{length-insert, get_or-insert_below, get_or-insert_at, get_or-insert_above}
+use Rattle.std.proofs.lemmas.List.Edits.{length-remove, get_or-remove_below, get_or-remove_above}
 use Rattle.std.specs.List.{insert, remove}
 use Rattle.std.specs.Option.{option_map}
 use Rattle.linear_algebra.specs.Parts.{skip, unskip}
-use Rattle.number_pairs.specs.Pairs.{PointsBack, PairLists, IsOneToOne, ArePairsStored, all_moved, left_at, right_at, left_inserted, left_removed, right_inserted, right_removed}
+use Rattle.number_pairs.specs.Pairs.{PointsBack, PairLists, IsOneToOne, ArePairsStored, all_moved, left_at, right_at}
+use Rattle.number_pairs.specs.Pairs.{left_inserted, left_removed, right_inserted, right_removed}
 
 pub lt_cases : (i j : ℕ) → (i < j) ⊎ (j ≤ i)
 lt_cases i j = grind arith

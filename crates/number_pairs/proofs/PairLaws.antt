@@ -1,5 +1,6 @@
 -- Lists that point back at each other.
-use Rattle.std.proofs.Common.{◌≡◌, ℕ, ◌<◌, ◌≤◌, ◌≢◌, ◌⊎◌, inl, inr, sym, subst, ◌∙◌, ap, arith, List, length, replicate, Option, Some, None, slice_index_or, slice_set, IfSome, IfNone}
+use Rattle.std.proofs.Common.{◌≡◌, ℕ, ◌<◌, ◌≤◌, ◌≢◌, ◌⊎◌, inl, inr, sym, subst, ◌∙◌, ap, arith, List, length, replicate}
+use Rattle.std.proofs.Common.{Option, Some, None, slice_index_or, slice_set, IfSome, IfNone}
 use Rattle.std.proofs.Math.ListN.{get_or-eq_default}
 use Rattle.std.proofs.lemmas.List.{get_or-set_same, get_or-set_other, get_or-replicate, length-replicate, length-set}
 use Rattle.number_pairs.specs.Pairs.{PointsBack, PairLists, IsOneToOne, ArePairsStored, left_at, right_at, no_pairs, paired, parted}

@@ -1,7 +1,8 @@
 //! Pairs of numbers, found from either side.
 
 ghost use Rattle.std.specs.Prelude.{◌≡◌, ◌≢◌, ℕ, ◌<◌, ◌≤◌, length, Some, None, IfOk, IfSome, IfNone, OnOk, OnErr};
-ghost use Rattle.number_pairs.specs.Pairs.{PairLists, IsOneToOne, left_at, right_at, no_pairs, paired, parted, left_inserted, left_removed, right_inserted, right_removed, with_pair_room};
+ghost use Rattle.number_pairs.specs.Pairs.{PairLists, IsOneToOne, left_at, right_at, no_pairs, paired, parted};
+ghost use Rattle.number_pairs.specs.Pairs.{left_inserted, left_removed, right_inserted, right_removed, with_pair_room};
 
 use crate::moves::{lower, raise};
 use out_of_memory::NoMemory;

@@ -1,6 +1,7 @@
 -- Items of a list, by their place in it.
 use Rattle.std.proofs.Common.{◌≡◌, ℕ, zero, suc, ◌<◌, ◌≤◌, true, eqb, ◌&&◌, inl, inr, List, [], ◌∷◌, length, slice_index_or, refl, ap, subst, arith}
-use Rattle.residue_theory.proofs.SetLaws.{differ, both_true, both-first, both-second, either_cases, either-first, either-second, eqb_true, eqb_from, lt_cases, le_cases}
+use Rattle.residue_theory.proofs.SetLaws.{differ, both_true, both-first, both-second, either_cases, either-first}
+use Rattle.residue_theory.proofs.SetLaws.{either-second, eqb_true, eqb_from, lt_cases, le_cases}
 use Rattle.part_rules.specs.Listed.{arc_in}
 use Rattle.part_orders.specs.Orders.{AreLowerItems}
 

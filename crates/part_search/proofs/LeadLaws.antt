@@ -1,5 +1,6 @@
 -- Where arcs may lead, and arcs that all lead where they may.
-use Rattle.std.proofs.Common.{◌≡◌, ◌≢◌, ℕ, zero, suc, ◌+◌, ◌<◌, ◌⊎◌, Bool, true, ◌&&◌, eqb, List, [], ◌∷◌, length, slice_index, slice_index_or, inl, inr, refl, sym, subst, ◌∙◌, arith}
+use Rattle.std.proofs.Common.{◌≡◌, ◌≢◌, ℕ, zero, suc, ◌+◌, ◌<◌, ◌⊎◌, Bool, true, ◌&&◌, eqb, List, [], ◌∷◌, length}
+use Rattle.std.proofs.Common.{slice_index, slice_index_or, inl, inr, refl, sym, subst, ◌∙◌, arith}
 use Rattle.residue_theory.proofs.SetLaws.{differ, both_true, both-first, both-second, either_cases, either-first, either-second, eqb_true, eqb_from}
 use Rattle.residue_theory.proofs.SumLaws.{nat_cases}
 use Rattle.closed_sets.specs.Walks.{ReachesOn}

@@ -1,6 +1,7 @@
 -- A source and a sink in memory, as contracts see them, and what each of their calls does.
 -- Calls are counted from 1, a flush among them; `fails` lists the numbers of the calls that fail.
-use Rattle.std.specs.Prelude.{◌≡◌, ◌⊎◌, ℕ, ◌+◌, ◌-◌, ◌≤◌, ◌<◌, List, [], ◌++◌, length, take, drop, Bool, true, false, cond, ◌==◌, min, Contains, Result, Ok, Err}
+use Rattle.std.specs.Prelude.{◌≡◌, ◌⊎◌, ℕ, ◌+◌, ◌-◌, ◌≤◌, ◌<◌, List, [], ◌++◌, length, take, drop, Bool, true, false, cond}
+use Rattle.std.specs.Prelude.{◌==◌, min, Contains, Result, Ok, Err}
 use Rattle.port_io.specs.Causes.{one_more}
 use Rattle.port_io.specs.Asking.{asked_for, gave}
 use Rattle.port_io.specs.declared.asking.Asked.{Asked}

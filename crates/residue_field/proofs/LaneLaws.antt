@@ -1,6 +1,7 @@
 -- Lanes by their places, and what sixteen places make of a row.
 use Rattle.std.proofs.Common.{◌≡◌, ℕ, ◌+◌, ◌-◌, ◌*◌, ◌/◌, ◌%◌, ◌^◌, ◌<◌, ◌≤◌, inl, inr, Bool, false}
-use Rattle.std.proofs.Common.{cond, ltb, lt-ltb, le-ltb, List, length, slice_index, slice_set, get_or, map, replicate, bit_and, w32, refl, sym, ap, subst, ◌∙◌, arith}
+use Rattle.std.proofs.Common.{cond, ltb, lt-ltb, le-ltb, List, length, slice_index, slice_set, get_or, map, replicate}
+use Rattle.std.proofs.Common.{bit_and, w32, refl, sym, ap, subst, ◌∙◌, arith}
 use Rattle.std.proofs.lemmas.Bool.{cases_lt}
 use Rattle.std.proofs.lemmas.List.{ext_get_or, get_or-set_other}
 use Rattle.std.proofs.lemmas.Grind.{get_or-set_at}

@@ -1,9 +1,11 @@
 -- Counting members: injections, sets put together, and the parts of a set.
-use Rattle.std.proofs.Common.{◌≡◌, ℕ, zero, suc, ◌+◌, ◌<◌, ◌≤◌, ◌≢◌, Bool, true, false, cond, ◌&&◌, ◌||◌, not, eqb, leb, ◌⊎◌, inl, inr, refl, ap, sym, subst, ◌∙◌, arith}
+use Rattle.std.proofs.Common.{◌≡◌, ℕ, zero, suc, ◌+◌, ◌<◌, ◌≤◌, ◌≢◌, Bool, true, false, cond, ◌&&◌, ◌||◌, not, eqb, leb, ◌⊎◌}
+use Rattle.std.proofs.Common.{inl, inr, refl, ap, sym, subst, ◌∙◌, arith}
 use Rattle.std.proofs.lemmas.Bool.Decides.{nat_tests}
 use Rattle.residue_theory.specs.Sets.{everything, without, with_one, both, either, IsApart, IsWithin}
 use Rattle.residue_theory.specs.Sums.{sum_on, size_on, sum_below}
-use Rattle.residue_theory.proofs.SumLaws.{sum_on-add, sum_on-same, sum_on-without, sum_on-none, sum_on-ext, size_on-within, nat_cases, without-member, member-without}
+use Rattle.residue_theory.proofs.SumLaws.{sum_on-add, sum_on-same, sum_on-without, sum_on-none, sum_on-ext, size_on-within}
+use Rattle.residue_theory.proofs.SumLaws.{nat_cases, without-member, member-without}
 use Rattle.residue_theory.proofs.SetLaws.{differ, both_true, both-first, both-second, with_one-new, with_one-without, choice, eqb_from}
 
 -- ---- small sizes

@@ -1,5 +1,6 @@
 -- How a base changes where rows and columns come and go.
-use Rattle.std.proofs.Common.{◌≡◌, false, ℕ, ◌+◌, ◌<◌, ◌≤◌, ◌≢◌, true, cond, eqb, refl, sym, subst, ap, ◌∙◌, arith, length, Option, Some, None, is_some, unwrap_or, slice_index_or, slice_set, inl, inr}
+use Rattle.std.proofs.Common.{◌≡◌, false, ℕ, ◌+◌, ◌<◌, ◌≤◌, ◌≢◌, true, cond, eqb, refl, sym, subst, ap, ◌∙◌, arith, length}
+use Rattle.std.proofs.Common.{Option, Some, None, is_some, unwrap_or, slice_index_or, slice_set, inl, inr}
 use Rattle.std.proofs.lemmas.Bool.Decides.{nat_tests}
 use Rattle.std.proofs.lemmas.List.{get_or-set_same, get_or-set_other, length-map}
 use Rattle.std.proofs.lemmas.List.Edits.{length-remove}

@@ -1,5 +1,6 @@
 -- The rows that are listed for the columns of a matrix: while they are listed, and after a pivot.
-use Rattle.std.proofs.Common.{◌≡◌, ℕ, ◌+◌, ◌%◌, ◌<◌, ◌≤◌, ◌≢◌, ◌||◌, Bool, true, false, eqb, not, ◌⊎◌, inl, inr, refl, sym, subst, ap, ◌∙◌, arith, Option, Some, None, IfSome, IfNone}
+use Rattle.std.proofs.Common.{◌≡◌, ℕ, ◌+◌, ◌%◌, ◌<◌, ◌≤◌, ◌≢◌, ◌||◌, Bool, true, false, eqb, not, ◌⊎◌, inl, inr, refl, sym}
+use Rattle.std.proofs.Common.{subst, ap, ◌∙◌, arith, Option, Some, None, IfSome, IfNone}
 use Rattle.std.proofs.Math.Nat.{zero-mod}
 use Rattle.std.proofs.lemmas.Bool.Decides.{nat_tests}
 use Rattle.residue_theory.specs.Ranges.{HasNone, IsLeast}

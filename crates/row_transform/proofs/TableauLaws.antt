@@ -1,5 +1,6 @@
 -- What the base of a tableau shows, and how it changes.
-use Rattle.std.proofs.Common.{◌≡◌, ℕ, ◌*◌, ◌%◌, ◌<◌, ◌≢◌, Bool, true, false, eqb, ◌&&◌, not, ◌⊎◌, inl, inr, sym, subst, ap, ◌∙◌, arith, replicate, slice_index_or, is_some, None, Option, List, ◌≤◌}
+use Rattle.std.proofs.Common.{◌≡◌, ℕ, ◌*◌, ◌%◌, ◌<◌, ◌≢◌, Bool, true, false, eqb, ◌&&◌, not, ◌⊎◌, inl, inr, sym, subst, ap}
+use Rattle.std.proofs.Common.{◌∙◌, arith, replicate, slice_index_or, is_some, None, Option, List, ◌≤◌}
 use Rattle.std.proofs.Math.ListN.{get_or-eq_default}
 use Rattle.std.proofs.lemmas.List.{get_or-replicate, length-replicate}
 use Rattle.std.proofs.lemmas.Bool.Decides.{nat_tests}

@@ -1,14 +1,19 @@
 -- Rows of items as they are stored, and sums item by item.
-use Rattle.std.proofs.Common.{◌≡◌, ℕ, suc, ◌+◌, ◌*◌, ◌%◌, ◌<◌, ◌≤◌, ◌≢◌, ◌⊎◌, inl, inr, Bool, true, false, cond, eqb, List, [], ◌∷◌, ◌++◌, take, length, map, slice_index_or, slice_set, ap, sym, subst, ◌∙◌, arith}
+use Rattle.std.proofs.Common.{◌≡◌, ℕ, suc, ◌+◌, ◌*◌, ◌%◌, ◌<◌, ◌≤◌, ◌≢◌, ◌⊎◌, inl, inr, Bool, true, false, cond, eqb, List}
+use Rattle.std.proofs.Common.{[], ◌∷◌, ◌++◌, take, length, map, slice_index_or, slice_set, ap, sym, subst, ◌∙◌, arith}
 use Rattle.std.proofs.Math.Nat.{zero-mod, mod-eq_of_lt, mod-add-mod, add-mod-mod}
-use Rattle.std.proofs.lemmas.List.{take_all, get_or_default, length-map, map-append, get_or-map, ext_get_or, length-set, get_or-set_same, get_or-set_other, map-set}
+use Rattle.std.proofs.lemmas.List.{take_all, get_or_default, length-map, map-append, get_or-map, ext_get_or, length-set}
+use Rattle.std.proofs.lemmas.List.{get_or-set_same, get_or-set_other, map-set}
 use Rattle.std.proofs.lemmas.Bool.Decides.{nat_tests}
 use Rattle.residue_theory.proofs.SumLaws.{nat_cases}
 use Rattle.residue_theory.specs.Residues.{IsPrime}
 use Rattle.residue_theory.proofs.ResidueLaws.{vanishes_factor}
 use Rattle.sparse_q.specs.Rows.{Item, Row, number_at, item_or, EndsBefore, IsRising, IsEntryRow, with_last, IsSum, IsMultiple, IsMerged}
 use Rattle.sparse_q.specs.Storage.{IsKeptRow}
-pub use Rattle.row_entries.proofs.RowLaws.{item, number-push, number-last, number-absent, number-before, rising-rest, number-here, number-below, either, last-before, pushed-row, few_before, next-above, lt_or_past, place-within, column-narrow, number-narrow, number-taken, columns-rise, place-found, at-absent, at-here, next-none, next-least}
+pub use Rattle.row_entries.proofs.RowLaws.{item, number-push, number-last, number-absent, number-before, rising-rest}
+pub use Rattle.row_entries.proofs.RowLaws.{number-here, number-below, either, last-before, pushed-row, few_before}
+pub use Rattle.row_entries.proofs.RowLaws.{next-above, lt_or_past, place-within, column-narrow, number-narrow, number-taken}
+pub use Rattle.row_entries.proofs.RowLaws.{columns-rise, place-found, at-absent, at-here, next-none, next-least}
 
 -- ---- a row as it is stored
 -- there are no more items than columns

@@ -2,7 +2,8 @@
 
 ghost use Rattle.std.specs.Prelude.{◌≡◌, ℕ, ◌<◌, ◌≤◌, cond, eqb, OnOk, OnErr};
 ghost use Rattle.limits.specs.Limits.{column_limit};
-ghost use Rattle.sparse_q.specs.Tables.{sparse_rows, number_in, IsColumnTaken, IsRowSet, with_empty_column, with_room, with_empty_row, with_table_rows_swapped, without_table_row};
+ghost use Rattle.sparse_q.specs.Tables.{sparse_rows, number_in, IsColumnTaken, IsRowSet, with_empty_column, with_room};
+ghost use Rattle.sparse_q.specs.Tables.{with_empty_row, with_table_rows_swapped, without_table_row};
 
 use crate::matrix::SparseMat;
 use crate::shelf;

@@ -34,7 +34,7 @@ impl Model for Indexed {
 }
 
 impl Indexed {
-    // The lists of a pattern.
+    /// The lists of a pattern.
     pub fn of(alloc: Global, pattern: &Pattern) -> Result<Indexed, NoMemory>
         ensures { IfOk result (λ p. p ≡ pattern.now) }
     {
@@ -70,7 +70,7 @@ impl Indexed {
         Ok(())
     }
 
-    // Its rows, and the rows of each column.
+    /// Its rows, and the rows of each column.
     pub fn into_lists(self) -> (Vec<Numbers>, Vec<Numbers>)
         ensures indexed { AreIndexed result.0.items result.1.items }
         ensures pattern { self ≡ record {

@@ -9,7 +9,8 @@ ghost use Rattle.linear_algebra.specs.Parts.{skip, unskip};
 ghost use Rattle.smallvec.specs.SmallVec.{HasRoomFor};
 ghost use Rattle.sparse_t.specs.Lists.{AreAllBelow};
 ghost use Rattle.sparse_t.specs.Columns.{capacity_at, list_items_at, HasRoom, HasSameItems};
-ghost use Rattle.sparse_t.specs.Shelves.{ShelfLists, AreWide, AreListsChanged, IsNumberPut, IsNumberTaken, shelf_list, list_put, list_taken, numbers_raised, numbers_lowered, with_shelf_room};
+ghost use Rattle.sparse_t.specs.Shelves.{ShelfLists, AreWide, AreListsChanged, IsNumberPut, IsNumberTaken, shelf_list};
+ghost use Rattle.sparse_t.specs.Shelves.{list_put, list_taken, numbers_raised, numbers_lowered, with_shelf_room};
 
 use crate::lists::Numbers;
 use crate::moves::{lower, raise};

@@ -1,5 +1,6 @@
 -- A row that joins, less the rows of the base columns.
-use Rattle.std.proofs.Common.{◌≡◌, ℕ, ◌+◌, ◌-◌, ◌*◌, ◌%◌, ◌<◌, ◌≤◌, ◌≢◌, List, length, map, slice_index, slice_index_or, true, false, zero, suc, inl, inr, refl, sym, subst, ap, ◌∙◌, arith}
+use Rattle.std.proofs.Common.{◌≡◌, ℕ, ◌+◌, ◌-◌, ◌*◌, ◌%◌, ◌<◌, ◌≤◌, ◌≢◌, List, length, map, slice_index, slice_index_or}
+use Rattle.std.proofs.Common.{true, false, zero, suc, inl, inr, refl, sym, subst, ap, ◌∙◌, arith}
 use Rattle.std.proofs.Math.Nat.{mod-mod}
 use Rattle.std.proofs.lemmas.List.{get_or-map}
 use Rattle.residue_theory.specs.Residues.{IsPrime}

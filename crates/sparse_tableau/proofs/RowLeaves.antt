@@ -1,5 +1,6 @@
 -- A row leaves a sparse tableau.
-use Rattle.std.proofs.Common.{◌≡◌, ℕ, ◌+◌, ◌-◌, ◌*◌, ◌%◌, ◌<◌, ◌≢◌, ◌⊎◌, ◌↔◌, Bool, true, false, cond, eqb, inl, inr, refl, sym, subst, ap, ◌∙◌, arith, length, Option, Some, None, IfSome, IfNone, IsNone, IsSome}
+use Rattle.std.proofs.Common.{◌≡◌, ℕ, ◌+◌, ◌-◌, ◌*◌, ◌%◌, ◌<◌, ◌≢◌, ◌⊎◌, ◌↔◌, Bool, true, false, cond, eqb, inl, inr, refl}
+use Rattle.std.proofs.Common.{sym, subst, ap, ◌∙◌, arith, length, Option, Some, None, IfSome, IfNone, IsNone, IsSome}
 use Rattle.std.proofs.Math.Nat.{zero-mod}
 use Rattle.std.proofs.lemmas.Bool.Decides.{nat_tests}
 use Rattle.residue_theory.specs.Residues.{IsPrime}

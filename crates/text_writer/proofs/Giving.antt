@@ -1,5 +1,6 @@
 -- Bytes that are given to a sink until it fails.
-use Rattle.std.proofs.Common.{◌≡◌, ℕ, ◌+◌, ◌≤◌, Bool, true, false, List, [], ◌++◌, length, take, drop, append_assoc, append-nil, length-append, Result, Ok, Err, OnOk, IfErr, refl, ap, sym, subst, ◌∙◌, arith}
+use Rattle.std.proofs.Common.{◌≡◌, ℕ, ◌+◌, ◌≤◌, Bool, true, false, List, [], ◌++◌, length, take, drop, append_assoc}
+use Rattle.std.proofs.Common.{append-nil, length-append, Result, Ok, Err, OnOk, IfErr, refl, ap, sym, subst, ◌∙◌, arith}
 use Rattle.std.proofs.lemmas.List.{length-take-le, take-append-drop}
 use Rattle.port_io.specs.Bytes.{Appended}
 use Rattle.port_io.specs.Causes.{FailedLast, HasCause, shown}

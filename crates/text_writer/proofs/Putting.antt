@@ -1,5 +1,6 @@
 -- Texts that are put one after the other.
-use Rattle.std.proofs.Common.{◌≡◌, ℕ, ◌+◌, ◌<◌, List, [], ◌∷◌, ◌++◌, length, get_or, drop, drop-cons, add-one, append_assoc, append-nil, Result, OnOk, IfErr, refl, ap, sym, subst, ◌∙◌, true, false}
+use Rattle.std.proofs.Common.{◌≡◌, ℕ, ◌+◌, ◌<◌, List, [], ◌∷◌, ◌++◌, length, get_or, drop, drop-cons, add-one, append_assoc}
+use Rattle.std.proofs.Common.{append-nil, Result, OnOk, IfErr, refl, ap, sym, subst, ◌∙◌, true, false}
 use Rattle.port_io.specs.declared.ports.Sink.{Ghosts}
 use Rattle.port_io.specs.declared.writing.WriteFault.{WriteFault}
 use Rattle.text_writer.specs.Giving.{nothing_given, HasGiven, Gives, IsWritten}

@@ -1,5 +1,6 @@
 use Rattle.std.proofs.Common.{◌≡◌, ℕ, refl, arith}
-use Rattle.mixed_form_laws.proofs.StackedExample.{first-minimiser, second-no_minimiser, stacked-canonical, stacked-form, stacked-is_tableau, stacked-layered, stacked-rank, stacked-rules_kept}
+use Rattle.mixed_form_laws.proofs.StackedExample.{first-minimiser, second-no_minimiser, stacked-canonical, stacked-form}
+use Rattle.mixed_form_laws.proofs.StackedExample.{stacked-is_tableau, stacked-layered, stacked-rank, stacked-rules_kept}
 use Rattle.mixed_form_laws.proofs.examples.stacked_equations_at_examples.Goals as goal
 
 pub returns-clause-layered : goal.returns-clause-layered

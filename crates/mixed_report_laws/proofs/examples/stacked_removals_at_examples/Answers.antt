@@ -1,6 +1,7 @@
 use Rattle.std.proofs.Common.{◌≡◌, ◌+◌, ◌<◌, ◌≢◌, ◌%◌, ℕ, zero, suc, refl, arith}
 use Rattle.residue_theory.proofs.Primes.{prime_65521}
-use Rattle.mixed_matrices.specs.Examples.{stacked_inverse, stacked_matrix, stacked_model, stacked_origins, stacked_parts, stacked_tableau, stacked_transform, triangle_below, triangle_lower}
+use Rattle.mixed_matrices.specs.Examples.{stacked_inverse, stacked_matrix, stacked_model, stacked_origins, stacked_parts}
+use Rattle.mixed_matrices.specs.Examples.{stacked_tableau, stacked_transform, triangle_below, triangle_lower}
 use Rattle.mixed_matrices.specs.Layerings.{gives_q, has_symbol}
 use Rattle.mixed_form_laws.proofs.StackedExample.{stacked-canonical, stacked-is_tableau, stacked-layered, stacked-rules_kept}
 use Rattle.mixed_report_laws.proofs.ExampleRanks.{stacked_first-rank, stacked_second-rank}

@@ -4,10 +4,12 @@ use Rattle.linear_algebra.specs.Products.{identity}
 use Rattle.mixed_matrices.specs.Examples.{tall_model, tall_parts, tall_symbols, tall_tableau}
 use Rattle.mixed_matrices.specs.Layerings.{gives_q, has_symbol}
 use Rattle.mixed_form_laws.proofs.ExampleFacts.{tall-rules_kept}
-use Rattle.mixed_report_laws.proofs.ExampleParts.{tall_constants-is_tableau, tall_constants-kept, tall_constants-layered, tall_symbols-is_tableau, tall_symbols-layered}
+use Rattle.mixed_report_laws.proofs.ExampleParts.{tall_constants-is_tableau, tall_constants-kept, tall_constants-layered}
+use Rattle.mixed_report_laws.proofs.ExampleParts.{tall_symbols-is_tableau, tall_symbols-layered}
 use Rattle.mixed_report_laws.proofs.Tails.{last-untouched, used-stays}
 use Rattle.mixed_report_laws.proofs.Tests.{rho-surplus, untouched-surplus}
-use Rattle.mixed_report_laws.specs.Examples.{plain_origins, tall_constant_parts, tall_constant_tableau, tall_constants, tall_inverse, tall_symbol_model, tall_transform}
+use Rattle.mixed_report_laws.specs.Examples.{plain_origins, tall_constant_parts, tall_constant_tableau, tall_constants}
+use Rattle.mixed_report_laws.specs.Examples.{tall_inverse, tall_symbol_model, tall_transform}
 use Rattle.mixed_report_laws.proofs.examples.surplus_equations_at_examples.Goals as goal
 
 above_zero : (x : ℕ) → suc x ≡ zero → ⊥

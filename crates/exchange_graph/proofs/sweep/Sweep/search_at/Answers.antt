@@ -9,7 +9,8 @@ use Rattle.exchange_graph.specs.Sweeps.{AreLookedAtInVain, IsShortestFromOne}
 use Rattle.exchange_graph.specs.SweepStates.{left_by, sweep_places}
 use Rattle.exchange_graph.specs.declared.sweep.Sweep.{Sweep}
 use Rattle.exchange_graph.proofs.ItemLaws.{mark_read}
-use Rattle.exchange_graph.proofs.SweepLaws.{found-few, found-looks, found-outside, left-few, left-grown, left-held, left-looked, left-size, left-vain, looked-vain}
+use Rattle.exchange_graph.proofs.SweepLaws.{found-few, found-looks, found-outside, left-few, left-grown, left-held}
+use Rattle.exchange_graph.proofs.SweepLaws.{left-looked, left-size, left-vain, looked-vain}
 use Rattle.exchange_graph.proofs.sweep.Sweep.search_at.Goals as goal
 
 pub count-requires-clause-few : goal.count-requires-clause-few

@@ -6,7 +6,9 @@ use Rattle.bit_table.specs.Bits.{bit_in}
 use Rattle.row_transform.proofs.EntryEdits.{size-next}
 use Rattle.row_transform.proofs.EntryLaws.{joined-within, spread-join, spread-skip, spread-done}
 use Rattle.row_transform.proofs.entries.Entries.spread.Goals as goal
-use Rattle.row_transform.proofs.entries.Entries.spread.Goals.{then-other-col+then-not-is_zero, else-other-col, else-other-col-via-then-other-col+else-not-is_zero, else-other-col-via-else-other-col}
+use Rattle.row_transform.proofs.entries.Entries.spread.Goals.{then-other-col+then-not-is_zero, else-other-col}
+use Rattle.row_transform.proofs.entries.Entries.spread.Goals.{else-other-col-via-then-other-col+else-not-is_zero}
+use Rattle.row_transform.proofs.entries.Entries.spread.Goals.{else-other-col-via-else-other-col}
 
 pub loop-other-preserved : goal.loop-other-preserved
 loop-other-preserved g c =

@@ -4,7 +4,9 @@ use Rattle.row_transform.proofs.EntryEdits.{same_size, sizes-joined}
 use Rattle.sparse_tableau.proofs.EntryLaws.{row_set-entries, scaled-entries}
 use Rattle.sparse_tableau.proofs.TransformLaws.{reduced-scaled, reduced-skip, reduced-add, room-set, size-set, some-factor}
 use Rattle.sparse_tableau.proofs.transform.Transform.clear.Goals as goal
-use Rattle.sparse_tableau.proofs.transform.Transform.clear.Goals.{then-i-row+then-not-is_zero, else-i-row, else-i-row-via-then-i-row+else-not-is_zero, else-i-row-via-else-i-row}
+use Rattle.sparse_tableau.proofs.transform.Transform.clear.Goals.{then-i-row+then-not-is_zero, else-i-row}
+use Rattle.sparse_tableau.proofs.transform.Transform.clear.Goals.{else-i-row-via-then-i-row+else-not-is_zero}
+use Rattle.sparse_tableau.proofs.transform.Transform.clear.Goals.{else-i-row-via-else-i-row}
 
 pub scale-requires-clause-factor : goal.scale-requires-clause-factor
 scale-requires-clause-factor g c =

@@ -4,7 +4,9 @@ use Rattle.residue_theory.proofs.SetLaws.{differ}
 use Rattle.sparse_q.specs.Tables.{sparse_rows, number_in}
 use Rattle.sparse_tableau.proofs.TransformLaws.{reduced-scaled, reduced-past, reduced-skip, reduced-add, reduced-all, room-set, size-set, some-factor}
 use Rattle.sparse_tableau.proofs.transform.Transform.pivot.Goals as goal
-use Rattle.sparse_tableau.proofs.transform.Transform.pivot.Goals.{then-i-row+then-not-is_zero, else-i-row, else-i-row-via-then-i-row+else-not-is_zero, else-i-row-via-else-i-row}
+use Rattle.sparse_tableau.proofs.transform.Transform.pivot.Goals.{then-i-row+then-not-is_zero, else-i-row}
+use Rattle.sparse_tableau.proofs.transform.Transform.pivot.Goals.{else-i-row-via-then-i-row+else-not-is_zero}
+use Rattle.sparse_tableau.proofs.transform.Transform.pivot.Goals.{else-i-row-via-else-i-row}
 
 pub scale-requires-clause-factor : goal.scale-requires-clause-factor
 scale-requires-clause-factor g c =
