@@ -3,6 +3,7 @@ use Rattle.std.specs.Prelude.{ℕ, ◌≤◌, ◌≡◌, length}
 use Rattle.limits.specs.Limits.{column_limit}
 use Rattle.bit_table.specs.Bits.{Bits}
 use Rattle.sparse_q.specs.Tables.{SparseTable, sparse_rows, number_in, HasSize}
+use Rattle.row_table.specs.Reductions.{IsReduced}
 use Rattle.row_transform.specs.Bases.{BaseLists, is_base, base_row}
 use Rattle.row_transform.specs.Edits.{Room}
 use Rattle.row_transform.specs.Tableaus.{TableauState, IsTableau}
@@ -46,6 +47,12 @@ pub record HasTableRoom (rows columns : ℕ) (m : SparseTable) : Type 0 where
 pub record HasSameRoom (m n : SparseTable) : Type 0 where
   pub row_room : n.row_room ≡ m.row_room
   pub column_room : n.column_room ≡ m.column_room
+
+-- b is a reduced by row r with the factors k, in the room of a
+pub record IsTableReduced (modulus : ℕ) (a b : SparseTable) (r : ℕ) (k : ℕ → ℕ) : Type 0 where
+  pub size : HasSize (sparse_rows a) a.width b
+  pub room : HasSameRoom a b
+  pub reduced : IsReduced modulus (sparse_rows a) a.width (number_in a) (number_in b) r k
 
 -- each part has the room of the tableau; the bits tell the entries of P and of V
 pub record HasSparseRoom (t : Sparse) (entries u_entries : Bits) : Type 0 where

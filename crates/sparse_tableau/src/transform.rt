@@ -1,12 +1,11 @@
 //! Row operations on a sparse matrix, with their own matrix.
 
 ghost use Rattle.std.specs.Prelude.{◌≡◌, ◌≢◌, ℕ, ◌+◌, ◌*◌, ◌%◌, ◌<◌, true};
-ghost use Rattle.sparse_q.specs.Tables.{sparse_rows, number_in, HasSize, IsRowSet};
+ghost use Rattle.sparse_q.specs.Tables.{sparse_rows, number_in, IsRowSet};
 ghost use Rattle.bit_table.specs.Bits.{bit_in};
-ghost use Rattle.row_table.specs.Reductions.{IsReduced};
 ghost use Rattle.row_transform.specs.Entries.{HasSizeOf, HasTableSize};
 ghost use Rattle.sparse_tableau.specs.Listings.{AreSparseEntriesListed};
-ghost use Rattle.sparse_tableau.specs.Sparse.{HasSameRoom};
+ghost use Rattle.sparse_tableau.specs.Sparse.{IsTableReduced};
 
 use crate::listing;
 use residue_field::Field;
@@ -58,14 +57,8 @@ impl<F: Field> Transform<F> {
         requires listed { (i : ℕ) → i < sparse_rows self.old.p → number_in self.old.p i col % F.modulus ≢ 0 →
             bit_in entries.now.bits col i ≡ true }
         requires entry { number_in self.old.p row col ≢ 0 }
-        ensures p_size { HasSize (sparse_rows self.old.p) self.old.p.width self.new.p }
-        ensures s_size { HasSize (sparse_rows self.old.s) self.old.s.width self.new.s }
-        ensures p_room { HasSameRoom self.old.p self.new.p }
-        ensures s_room { HasSameRoom self.old.s self.new.s }
-        ensures p_reduced { IsReduced F.modulus (sparse_rows self.old.p) self.old.p.width (number_in self.old.p)
-            (number_in self.new.p) row (λ i. number_in self.old.p i col) }
-        ensures s_reduced { IsReduced F.modulus (sparse_rows self.old.s) self.old.s.width (number_in self.old.s)
-            (number_in self.new.s) row (λ i. number_in self.old.p i col) }
+        ensures p { IsTableReduced F.modulus self.old.p self.new.p row (λ i. number_in self.old.p i col) }
+        ensures s { IsTableReduced F.modulus self.old.s self.new.s row (λ i. number_in self.old.p i col) }
     {
         let entry = self.p.get(row, col);
         let inverse = entry.inv().unwrap();
@@ -88,14 +81,8 @@ impl<F: Field> Transform<F> {
         requires same { sparse_rows self.old.s ≡ sparse_rows self.old.p }
         requires listed { AreSparseEntriesListed F.modulus self.old.p entries.old.bits }
         requires entry { number_in self.old.s row col ≢ 0 }
-        ensures p_size { HasSize (sparse_rows self.old.p) self.old.p.width self.new.p }
-        ensures s_size { HasSize (sparse_rows self.old.s) self.old.s.width self.new.s }
-        ensures p_room { HasSameRoom self.old.p self.new.p }
-        ensures s_room { HasSameRoom self.old.s self.new.s }
-        ensures p_reduced { IsReduced F.modulus (sparse_rows self.old.p) self.old.p.width (number_in self.old.p)
-            (number_in self.new.p) row (λ i. number_in self.old.s i col) }
-        ensures s_reduced { IsReduced F.modulus (sparse_rows self.old.s) self.old.s.width (number_in self.old.s)
-            (number_in self.new.s) row (λ i. number_in self.old.s i col) }
+        ensures p { IsTableReduced F.modulus self.old.p self.new.p row (λ i. number_in self.old.s i col) }
+        ensures s { IsTableReduced F.modulus self.old.s self.new.s row (λ i. number_in self.old.s i col) }
         ensures listed { AreSparseEntriesListed F.modulus self.new.p entries.new.bits }
         ensures bits { HasTableSize entries.old.bits entries.new.bits }
     {

@@ -43,7 +43,7 @@ invariant_of-self g c =
           c.pivot.new.self.p
           c.pivot.new.self.s c.copy_row.new.self inside.base c.take.new.self room c.args.row c.args.col
           c.self.invariant.0 rl cl some
-          c.pivot.ensures.p_size c.pivot.ensures.s_size c.pivot.ensures.p_reduced c.pivot.ensures.s_reduced
+          c.pivot.ensures.p.size c.pivot.ensures.s.size c.pivot.ensures.p.reduced c.pivot.ensures.s.reduced
           c.copy_row.ensures c.take.ensures.taken c.take.ensures.rows c.take.ensures.columns,
       pivoted-listed modulus inside.transform.p c.pivot.new.self.p inside.entries.bits c.close.new.self.bits
           c.args.row c.args.col cl
@@ -52,15 +52,15 @@ invariant_of-self g c =
           c.pivot.new.self.p
           c.pivot.new.self.s c.copy_row.new.self inside.base c.take.new.self room c.args.row c.args.col
           c.self.invariant.0 rl cl some
-          c.pivot.ensures.p_size c.pivot.ensures.s_size c.pivot.ensures.p_reduced c.pivot.ensures.s_reduced
+          c.pivot.ensures.p.size c.pivot.ensures.s.size c.pivot.ensures.p.reduced c.pivot.ensures.s.reduced
           c.copy_row.ensures c.take.ensures.taken)
-          c.pivot.ensures.p_reduced closed_size c.pivot.ensures.p_size,
+          c.pivot.ensures.p.reduced closed_size c.pivot.ensures.p.size,
       row_set-listed inside.v c.copy_row.new.self inside.u_entries.bits c.list_row.new.entries.bits c.args.row
           (number_in inside.columns c.args.col) c.self.invariant.2 c.copy_row.ensures u_size
           c.list_row.ensures.listed c.list_row.ensures.kept,
       room-kept inside.columns p inside.transform.s inside.v inside.columns c.pivot.new.self.p c.pivot.new.self.s c.copy_row.new.self
           inside.base c.take.new.self room inside.entries.bits inside.u_entries.bits c.close.new.self.bits c.list_row.new.entries.bits
-          (same-room inside.columns) c.pivot.ensures.p_room c.pivot.ensures.s_room
+          (same-room inside.columns) c.pivot.ensures.p.room c.pivot.ensures.s.room
           (room-set inside.v inside.v c.copy_row.new.self c.args.row (number_in inside.columns c.args.col) (same-room inside.v) c.copy_row.ensures)
           c.take.ensures.row_room c.take.ensures.column_room sizes c.list_row.ensures.size c.self.invariant.3,
     )
@@ -81,7 +81,7 @@ returns-clause-pivoted g c =
     c.pivot.new.self.p
     c.pivot.new.self.s c.copy_row.new.self inside.base c.take.new.self room c.args.row c.args.col c.self.invariant.0 rl
     cl some
-    c.pivot.ensures.p_size c.pivot.ensures.s_size c.pivot.ensures.p_reduced c.pivot.ensures.s_reduced
+    c.pivot.ensures.p.size c.pivot.ensures.s.size c.pivot.ensures.p.reduced c.pivot.ensures.s.reduced
     c.copy_row.ensures c.take.ensures.taken)
 
 pub returns-clause-zero_columns : goal.returns-clause-zero_columns
@@ -100,5 +100,5 @@ returns-clause-zero_columns g c =
     c.pivot.new.self.p
     c.pivot.new.self.s c.copy_row.new.self inside.base c.take.new.self room c.args.row c.args.col c.self.invariant.0 rl
     cl some
-    c.pivot.ensures.p_size c.pivot.ensures.s_size c.pivot.ensures.p_reduced c.pivot.ensures.s_reduced
+    c.pivot.ensures.p.size c.pivot.ensures.s.size c.pivot.ensures.p.reduced c.pivot.ensures.s.reduced
     c.copy_row.ensures c.take.ensures.taken)

@@ -54,7 +54,7 @@ invariant_of-self g c =
     let bn = c.list_as-2.new.self.bits in (
       row-left modulus prime q p s v base room kept e k el kl some c.clear.new.self.p c.clear.new.self.s c.remove_column.new.self
           c.swap_remove.new.m c.take_line_out.new.m c.take_line_out-2.new.m c.free_row-told.new.self c.swap_remove_row.new.self
-          c.free_row-told.result c.clear.ensures.p_size c.clear.ensures.s_size c.clear.ensures.p_reduced c.clear.ensures.s_reduced
+          c.free_row-told.result c.clear.ensures.p.size c.clear.ensures.s.size c.clear.ensures.p.reduced c.clear.ensures.s.reduced
           c.free_row-told.ensures.bare c.free_row-told.ensures.none c.free_row-told.ensures.dropped c.free_row-told.ensures.rows
           c.free_row-told.ensures.columns c.remove_column.ensures c.swap_remove.ensures c.take_line_out.ensures c.take_line_out-2.ensures
           c.swap_remove_row.ensures
@@ -62,7 +62,7 @@ invariant_of-self g c =
           c.pivots_in_s_keep_other_rows.ensures c.rows_leave_in_any_order.ensures,
       row-left-entries modulus prime q p s v base room kept e k el kl some c.clear.new.self.p c.clear.new.self.s c.remove_column.new.self
           c.swap_remove.new.m c.take_line_out.new.m c.take_line_out-2.new.m c.free_row-told.new.self c.swap_remove_row.new.self
-          c.free_row-told.result c.clear.ensures.p_size c.clear.ensures.s_size c.clear.ensures.p_reduced c.clear.ensures.s_reduced
+          c.free_row-told.result c.clear.ensures.p.size c.clear.ensures.s.size c.clear.ensures.p.reduced c.clear.ensures.s.reduced
           c.free_row-told.ensures.bare c.free_row-told.ensures.none c.free_row-told.ensures.dropped c.free_row-told.ensures.rows
           c.free_row-told.ensures.columns c.remove_column.ensures c.swap_remove.ensures c.take_line_out.ensures c.take_line_out-2.ensures
           c.swap_remove_row.ensures
@@ -71,7 +71,7 @@ invariant_of-self g c =
           (subst (λ w. IsRowListedAs w a1 an (c.rows-rows.result - 1) k) c.cols-columns.ensures.cols c.list_as.ensures)),
       row-left-numbers modulus prime q p s v base room kept e k el kl some c.clear.new.self.p c.clear.new.self.s c.remove_column.new.self
           c.swap_remove.new.m c.take_line_out.new.m c.take_line_out-2.new.m c.free_row-told.new.self c.swap_remove_row.new.self
-          c.free_row-told.result c.clear.ensures.p_size c.clear.ensures.s_size c.clear.ensures.p_reduced c.clear.ensures.s_reduced
+          c.free_row-told.result c.clear.ensures.p.size c.clear.ensures.s.size c.clear.ensures.p.reduced c.clear.ensures.s.reduced
           c.free_row-told.ensures.bare c.free_row-told.ensures.none c.free_row-told.ensures.dropped c.free_row-told.ensures.rows
           c.free_row-told.ensures.columns c.remove_column.ensures c.swap_remove.ensures c.take_line_out.ensures c.take_line_out-2.ensures
           c.swap_remove_row.ensures
@@ -81,8 +81,8 @@ invariant_of-self g c =
       room-kept q p s v c.remove_column.new.self c.swap_remove.new.m c.take_line_out.new.m c.take_line_out-2.new.m base
           c.swap_remove_row.new.self room a b an bn
           (record { row_room = c.remove_column.ensures.row_room; column_room = c.remove_column.ensures.column_room })
-          (rooms-joined p c.clear.new.self.p c.swap_remove.new.m c.clear.ensures.p_room c.swap_remove.ensures.room)
-          (rooms-joined s c.clear.new.self.s c.take_line_out.new.m c.clear.ensures.s_room c.take_line_out.ensures.room)
+          (rooms-joined p c.clear.new.self.p c.swap_remove.new.m c.clear.ensures.p.room c.swap_remove.ensures.room)
+          (rooms-joined s c.clear.new.self.s c.take_line_out.new.m c.clear.ensures.s.room c.take_line_out.ensures.room)
           c.take_line_out-2.ensures.room
           (c.swap_remove_row.ensures.counts.row_room ∙ c.free_row-told.ensures.counts.row_room)
           (c.swap_remove_row.ensures.counts.column_room ∙ c.free_row-told.ensures.counts.column_room)
@@ -111,7 +111,7 @@ returns-clause-row g c =
     rw (← c.self.view_is)
     (row-left-state modulus prime q p s v base room kept e k el kl some c.clear.new.self.p c.clear.new.self.s c.remove_column.new.self
     c.swap_remove.new.m c.take_line_out.new.m c.take_line_out-2.new.m c.free_row-told.new.self c.swap_remove_row.new.self
-    c.free_row-told.result c.clear.ensures.p_size c.clear.ensures.s_size c.clear.ensures.p_reduced c.clear.ensures.s_reduced
+    c.free_row-told.result c.clear.ensures.p.size c.clear.ensures.s.size c.clear.ensures.p.reduced c.clear.ensures.s.reduced
     c.free_row-told.ensures.bare c.free_row-told.ensures.none c.free_row-told.ensures.dropped c.free_row-told.ensures.rows
     c.free_row-told.ensures.columns c.remove_column.ensures c.swap_remove.ensures c.take_line_out.ensures c.take_line_out-2.ensures
     c.swap_remove_row.ensures
@@ -138,7 +138,7 @@ returns-clause-none g c =
     rw (← c.self.view_is)
     (row-left-none modulus prime q p s v base room kept e k el kl some c.clear.new.self.p c.clear.new.self.s c.remove_column.new.self
     c.swap_remove.new.m c.take_line_out.new.m c.take_line_out-2.new.m c.free_row-told.new.self c.swap_remove_row.new.self
-    c.free_row-told.result c.clear.ensures.p_size c.clear.ensures.s_size c.clear.ensures.p_reduced c.clear.ensures.s_reduced
+    c.free_row-told.result c.clear.ensures.p.size c.clear.ensures.s.size c.clear.ensures.p.reduced c.clear.ensures.s.reduced
     c.free_row-told.ensures.bare c.free_row-told.ensures.none c.free_row-told.ensures.dropped c.free_row-told.ensures.rows
     c.free_row-told.ensures.columns c.remove_column.ensures c.swap_remove.ensures c.take_line_out.ensures c.take_line_out-2.ensures
     c.swap_remove_row.ensures

@@ -2,7 +2,7 @@ use Rattle.std.proofs.Common.{◌≡◌, ◌⊎◌, ◌+◌, ◌*◌, ◌%◌, �
 use Rattle.sparse_q.specs.Tables.{sparse_rows, number_in}
 use Rattle.row_transform.proofs.EntryEdits.{same_size, sizes-joined}
 use Rattle.sparse_tableau.proofs.EntryLaws.{row_set-entries, scaled-entries}
-use Rattle.sparse_tableau.proofs.TransformLaws.{reduced-scaled, reduced-skip, reduced-add, room-set, size-set, some-factor}
+use Rattle.sparse_tableau.proofs.TransformLaws.{reduced-scaled, reduced-all, reduced-skip, reduced-add, room-set, size-set, some-factor}
 use Rattle.sparse_tableau.proofs.transform.Transform.clear.Goals as goal
 use Rattle.sparse_tableau.proofs.transform.Transform.clear.Goals.{then-i-row+then-not-is_zero, else-i-row}
 use Rattle.sparse_tableau.proofs.transform.Transform.clear.Goals.{else-i-row-via-then-i-row+else-not-is_zero}
@@ -84,3 +84,27 @@ loop-i-preserved g c =
             bits = inv.bits;
           })
     ]
+
+pub returns-clause-p : goal.returns-clause-p
+returns-clause-p g c =
+    let first = c.args.self.now in
+    let k : ℕ → ℕ = λ i. number_in first.s i c.args.col in
+    let inv = c.loop-i.invariant in
+    record {
+      size = inv.p_size;
+      room = inv.p_room;
+      reduced = reduced-all g.F.Field.modulus (number_in first.p) (number_in c.loop-i.self.p) c.args.row k c.loop-i.i inv.on_p
+          (sparse_rows first.p) first.p.width (omega arith);
+    }
+
+pub returns-clause-s : goal.returns-clause-s
+returns-clause-s g c =
+    let first = c.args.self.now in
+    let k : ℕ → ℕ = λ i. number_in first.s i c.args.col in
+    let inv = c.loop-i.invariant in
+    record {
+      size = inv.s_size;
+      room = inv.s_room;
+      reduced = reduced-all g.F.Field.modulus (number_in first.s) (number_in c.loop-i.self.s) c.args.row k c.loop-i.i inv.on_s
+          (sparse_rows first.s) first.s.width (omega arith);
+    }

@@ -91,30 +91,42 @@ loop-i-preserved g c =
           })
     ]
 
-pub returns-clause-p_reduced : goal.returns-clause-p_reduced
-returns-clause-p_reduced g c =
+pub returns-clause-p : goal.returns-clause-p
+returns-clause-p g c =
     let modulus = g.F.Field.modulus in
     let first = c.args.self.now in
     let k : ℕ → ℕ = λ i. number_in first.p i c.args.col in
     let inv = c.loop-i.invariant in
-    reduced-all modulus (number_in first.p) (number_in c.loop-i.self.p) c.args.row k (sparse_rows first.p)
-    (reduced-past modulus (number_in first.p) (number_in c.loop-i.self.p) c.args.row k c.loop-i.from inv.on_p
-    (sparse_rows first.p) inv.within (λ j le less. elim (nat_cases (k j % modulus) 0) [
+    let past : (j : ℕ) → c.loop-i.from ≤ j → j < sparse_rows first.p → (j ≡ c.args.row) ⊎ (k j % modulus ≡ 0) =
+    λ j le less. elim (nat_cases (k j % modulus) 0) [
       | inl z ↦ inr z
       | inr ne ↦ absurd (differ (c.in_default.ensures.none j le (omega (arith, less, c.rows-rows.ensures.rows, c.scale.ensures.p.size.rows_are)))
           (c.requires.listed j less ne))
-    ])) (sparse_rows first.p) first.p.width (omega arith)
+    ] in
+    record {
+      size = inv.p_size;
+      room = inv.p_room;
+      reduced = reduced-all modulus (number_in first.p) (number_in c.loop-i.self.p) c.args.row k (sparse_rows first.p)
+          (reduced-past modulus (number_in first.p) (number_in c.loop-i.self.p) c.args.row k c.loop-i.from inv.on_p
+          (sparse_rows first.p) inv.within past) (sparse_rows first.p) first.p.width (omega arith);
+    }
 
-pub returns-clause-s_reduced : goal.returns-clause-s_reduced
-returns-clause-s_reduced g c =
+pub returns-clause-s : goal.returns-clause-s
+returns-clause-s g c =
     let modulus = g.F.Field.modulus in
     let first = c.args.self.now in
     let k : ℕ → ℕ = λ i. number_in first.p i c.args.col in
     let inv = c.loop-i.invariant in
-    reduced-all modulus (number_in first.s) (number_in c.loop-i.self.s) c.args.row k (sparse_rows first.p)
-    (reduced-past modulus (number_in first.s) (number_in c.loop-i.self.s) c.args.row k c.loop-i.from inv.on_s
-    (sparse_rows first.p) inv.within (λ j le less. elim (nat_cases (k j % modulus) 0) [
+    let past : (j : ℕ) → c.loop-i.from ≤ j → j < sparse_rows first.p → (j ≡ c.args.row) ⊎ (k j % modulus ≡ 0) =
+    λ j le less. elim (nat_cases (k j % modulus) 0) [
       | inl z ↦ inr z
       | inr ne ↦ absurd (differ (c.in_default.ensures.none j le (omega (arith, less, c.rows-rows.ensures.rows, c.scale.ensures.p.size.rows_are)))
           (c.requires.listed j less ne))
-    ])) (sparse_rows first.s) first.s.width (omega (arith, c.requires.same))
+    ] in
+    record {
+      size = inv.s_size;
+      room = inv.s_room;
+      reduced = reduced-all modulus (number_in first.s) (number_in c.loop-i.self.s) c.args.row k (sparse_rows first.p)
+          (reduced-past modulus (number_in first.s) (number_in c.loop-i.self.s) c.args.row k c.loop-i.from inv.on_s
+          (sparse_rows first.p) inv.within past) (sparse_rows first.s) first.s.width (omega (arith, c.requires.same));
+    }
