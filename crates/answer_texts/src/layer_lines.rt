@@ -85,8 +85,8 @@ fn put_head<K: Sink>(out: &mut TextWriter<'_, K>, letter: u8, number: u64)
     out.piece(b" ");
 }
 
-// Puts the name of a column.
-pub(crate) fn put_column_name<F: Field, K: Sink>(
+/// Puts the name of a column: that of its unknown, or a star and that of its split equation.
+pub fn put_column_name<F: Field, K: Sink>(
     out: &mut TextWriter<'_, K>,
     model: &Mixed<F>,
     origin: Origin,
