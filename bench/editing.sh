@@ -7,24 +7,9 @@
 # crates/bench_update/out/bench_update, which `rt run` in that folder builds.
 set -eu
 . "$(dirname "$0")/program.sh"
+. "$(dirname "$0")/shapes.sh"
 edits=${EDITS:-$(cd "$(dirname "$0")/../crates" && pwd)/bench_update/out/bench_update}
 test -x "$edits" || { echo "no $edits: see crates/bench_update" >&2; exit 1; }
-
-# A square grid of so many nodes a side, with a resistor between neighbours and one from the last node to ground.
-resistors() {
-    awk -v side="$1" '
-        function resistor(from, to) { print "R" ++count " " from " " to " 1k" }
-        function node(i, j) { return "n" i "_" j }
-
-        BEGIN {
-            print "V1 " node(0, 0) " 0 5"
-            for (i = 0; i < side; i++) for (j = 0; j < side; j++) {
-                if (j + 1 < side) resistor(node(i, j), node(i, j + 1))
-                if (i + 1 < side) resistor(node(i, j), node(i + 1, j))
-            }
-            resistor(node(side - 1, side - 1), 0)
-        }'
-}
 
 # The instructions of the program of edits with these words on the input.
 counted() {
@@ -35,7 +20,7 @@ counted() {
 row() {
     local family=$1 size=$2 kind=matrix tableau=sparse analysed nothing edit taken
     case $family in
-    resistors) kind=netlist; resistors "$size" > "$work/input" ;;
+    resistors) kind=netlist; grid "$size" > "$work/input" ;;
     *) equations "$family" "$size" > "$work/input" ;;
     esac
     analysed=$(instructions "$work/input" analyse "$kind")
