@@ -26,7 +26,7 @@ pub enum Edit {
 }
 
 impl Edit {
-    pub fn named(name: &str) -> Option<Edit> {
+    pub(crate) fn named(name: &str) -> Option<Edit> {
         match name {
             "nothing" => Some(Edit::Nothing),
             "added" => Some(Edit::Added),
@@ -47,7 +47,7 @@ pub struct Told {
 }
 
 /// What is told of a model after an edit.
-pub fn tell<T: Tableau<Res>>(alloc: Global, model: Mixed<Res>, edit: Edit) -> Result<Told, Fault> {
+pub(crate) fn tell<T: Tableau<Res>>(alloc: Global, model: Mixed<Res>, edit: Edit) -> Result<Told, Fault> {
     edited::<T, Brand, Brand>(alloc, model, edit, Blank::new(1), Blank::new(1))
 }
 

@@ -1,2 +1,2 @@
 pub mod HeldLaws
-mod SeenLaws
+pub mod DeskLaws

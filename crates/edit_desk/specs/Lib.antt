@@ -1,1 +1,4 @@
 pub mod Held
+pub mod Desks
+pub mod Dialogues
+pub mod Answers

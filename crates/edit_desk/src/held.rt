@@ -6,7 +6,7 @@ ghost use Rattle.independent_matching.specs.Changes.{IsAfter};
 ghost use Rattle.mixed_matrices.specs.StructuralRanks.{IsStructuralRank};
 ghost use Rattle.mixed_model.specs.Layers.{layered_matrix_of};
 ghost use Rattle.mixed_model.specs.Models.{mixed_matrix_of};
-ghost use Rattle.edit_desk.specs.Held.{HasStayedHeld};
+ghost use Rattle.edit_desk.specs.Held.{HasStayedHeld, IsHeld};
 
 use ccf_builder::{Parts, parts};
 use exchange_graph::Steps;
@@ -70,6 +70,14 @@ impl<F: Field, T: Tableau<F>> Held<F, T> {
             layered,
             engine,
         })
+    }
+
+    // Tells a proof what a held model keeps. It does nothing when it runs.
+    pub(crate) fn is_held(&self)
+        ensures { IsHeld T T.state F.modulus self.now }
+    {
+        // a proof knows what the type keeps once a field is read
+        let _ = &self.model;
     }
 
     /// The model.

@@ -5,10 +5,11 @@ ghost use Rattle.mixed_edit_laws.specs.Changes.{IsAdded, IsRemoved};
 ghost use Rattle.mixed_model.specs.Models.{mixed_matrix_of};
 
 use crate::counted::Counted;
-use edit_desk::{Held, set_item};
+use edit_desk::Held;
 use exchange_graph::Steps;
 use independent_matching::Change;
 use mixed_model::{Mixed, is_label};
+use model_edits::set_item;
 use residue_field::{Field, Res};
 use row_transform::Tableau;
 use sparse_tableau::SparseTableau;

@@ -1,8 +1,9 @@
 //! The canonical parts that a held model tells, of two small models.
 
 use ccf_builder::Parts;
-use edit_desk::{Held, set_item};
+use edit_desk::Held;
 use mixed_model::{Mixed, is_label};
+use model_edits::set_item;
 use residue_field::Res;
 use sparse_tableau::SparseTableau;
 use std::alloc::Global;
