@@ -1,0 +1,4 @@
+pub mod ReplyPieces
+pub mod PartsLaws
+pub mod LineLaws
+pub mod Talks
