@@ -47,7 +47,11 @@ pub struct Told {
 }
 
 /// What is told of a model after an edit.
-pub(crate) fn tell<T: Tableau<Res>>(alloc: Global, model: Mixed<Res>, edit: Edit) -> Result<Told, Fault> {
+pub(crate) fn tell<T: Tableau<Res>>(
+    alloc: Global,
+    model: Mixed<Res>,
+    edit: Edit,
+) -> Result<Told, Fault> {
     edited::<T, Brand, Brand>(alloc, model, edit, Blank::new(1), Blank::new(1))
 }
 
