@@ -1,0 +1,3 @@
+pub mod ListedColumns
+pub mod OneNames
+pub mod OneText

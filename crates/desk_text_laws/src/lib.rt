@@ -1,0 +1,4 @@
+//! Laws of what a desk prints. No code.
+#![tactic(auto)]
+
+pub mod laws;
