@@ -1,6 +1,6 @@
 //! The lines of a reply, put into a writer.
 
-ghost use Rattle.std.specs.Prelude.{◌≡◌, ◌<◌, ◌+◌, ℕ, List, codes, length};
+ghost use Rattle.std.specs.Prelude.{◌<◌, ◌+◌};
 ghost use Rattle.std.specs.List.{All};
 ghost use Rattle.limits.specs.Limits.{column_limit};
 ghost use Rattle.desk_texts.specs.Ranges.{ArePartsIn, IsBlockIn};

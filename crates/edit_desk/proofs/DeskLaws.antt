@@ -1,26 +1,23 @@
 -- What a line does on a desk, from what it does to one model.
-use Rattle.std.proofs.Common.{◌≡◌, ◌≢◌, ℕ, zero, suc, ◌+◌, ◌++◌, ◌*◌, ◌<◌, ◌≤◌, true, cond, List, [], ◌∷◌, length, map, set, get_or, position, nat_lt, max}
-use Rattle.std.proofs.Common.{Vec, Option, Some, None, Result, Ok, Err, IfOk, OnOk, refl, sym, ap, subst, ◌∙◌, arith, codes, unwrap_or, ltb-true}
+use Rattle.std.proofs.Common.{◌≡◌, ℕ, zero, suc, ◌+◌, ◌++◌, ◌*◌, ◌<◌, ◌≤◌, List, [], ◌∷◌, length, set, get_or, max}
+use Rattle.std.proofs.Common.{Vec, Some, None, Result, Ok, Err, IfOk, OnOk, refl, sym, ap, subst, ◌∙◌, arith, codes, unwrap_or}
 use Rattle.std.proofs.Common.{get_or-set_same, get_or-set_other, length-set}
 use Rattle.std.specs.Vec.{with_items}
 use Rattle.std.proofs.lemmas.List.{get_or-map, length-map, map-append, map-set, set-get_or, with_items_is}
-use Rattle.std.specs.Option.{option_or}
 use Rattle.refusals.specs.Faults.{OnBroken}
 use Rattle.refusals.specs.declared.Why.{Why}
 use Rattle.refusals.specs.declared.fault.Fault.{Fault}
 use Rattle.refusals.specs.declared.fault.Fault.TheVariants.{Broken, NoMemory}
-use Rattle.line_lexer.specs.Tokens.{is_clean, words_of}
+use Rattle.line_lexer.specs.Tokens.{words_of}
 use Rattle.line_reader.proofs.Rules.{first_broken, first_kept}
 use Rattle.mixed_model.specs.Layers.{Layers, layered_matrix_of}
 use Rattle.mixed_model.specs.Models.{MixedModel, empty_model, mixed_matrix_of}
 use Rattle.mixed_layering.specs.Layers.{AreLayersOf}
 use Rattle.mixed_matrices.specs.Layerings.{gives_q, has_symbol}
-use Rattle.mixed_matrices.specs.StructuralRanks.{IsStructuralRank}
 use Rattle.residue_theory.specs.Sets.{both}
 use Rattle.residue_theory.specs.Sums.{size_on}
 use Rattle.model_edits.specs.Commands.{edit_rule, line_front_rule, model_named}
-use Rattle.model_edits.specs.Edits.{IsEditOf}
-use Rattle.edit_desk.specs.Desks.{IsAsked, IsChangedBy, IsEditedTo, IsReplaced, NamesModel, behind_rule, desk_rule, model_at}
+use Rattle.edit_desk.specs.Desks.{IsChangedBy, IsEditedTo, IsReplaced, NamesModel, behind_rule, desk_rule, model_at}
 use Rattle.edit_desk.specs.Desks.{HasTicked, IsReply, TellsOfModel, empty_models}
 use Rattle.model_edits.proofs.OrderLaws.{named-below}
 use Rattle.model_edits.specs.Orders.{IsSaidOrder, edit_word, task_words, words_behind}

@@ -1,6 +1,6 @@
 //! A held model that is edited or asked.
 
-ghost use Rattle.std.specs.Prelude.{◌≡◌, ◌≤◌, ◌+◌, ◌*◌, max, None, Some, IfOk, IfErr, OnOk, OnErr};
+ghost use Rattle.std.specs.Prelude.{◌≡◌, ◌≤◌, ◌+◌, ◌*◌, max, Some, IfOk, IfErr, OnOk, OnErr};
 ghost use Rattle.independent_matching.specs.Changes.{IsAfter};
 ghost use Rattle.mixed_model.specs.Layers.{layered_matrix_of};
 ghost use Rattle.mixed_model.specs.Models.{MixedModel, mixed_matrix_of};

@@ -1,6 +1,6 @@
 //! A model that is edited, with its layered matrix and an engine at a best pair of it.
 
-ghost use Rattle.std.specs.Prelude.{◌≡◌, ◌≤◌, ◌<◌, ◌+◌, ◌*◌, ℕ, max, IfOk, OnOk, OnErr};
+ghost use Rattle.std.specs.Prelude.{◌≡◌, ◌≤◌, ◌<◌, ◌+◌, ◌*◌, max, IfOk, OnOk, OnErr};
 ghost use Rattle.ccf_builder.specs.Canonical.{AreCanonicalLists};
 ghost use Rattle.independent_matching.specs.Changes.{IsAfter};
 ghost use Rattle.mixed_matrices.specs.StructuralRanks.{IsStructuralRank};

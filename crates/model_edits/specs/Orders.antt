@@ -1,5 +1,5 @@
 -- A line as a command, and a model after it.
-use Rattle.std.specs.Prelude.{ℕ, ◌≡◌, ◌∷◌, true, List, [], None, Option, Some, Result, Ok, Err, codes, map}
+use Rattle.std.specs.Prelude.{ℕ, ◌≡◌, ◌∷◌, true, List, [], None, Some, Result, Ok, Err, codes, map}
 use Rattle.refusals.specs.declared.Why.{Why}
 use Rattle.line_lexer.specs.Tokens.{is_clean, words_of}
 use Rattle.mixed_edit_laws.specs.Changes.{IsAdded, IsChanged, IsRemoved}

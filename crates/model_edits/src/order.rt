@@ -1,6 +1,6 @@
 //! A line as a command.
 
-ghost use Rattle.std.specs.Prelude.{◌≡◌, ◌≢◌, ◌≤◌, ◌<◌, ◌+◌, ◌∷◌, ℕ, [], None, Some, length, map, decimal, true, MatchOption, MatchResult, codes};
+ghost use Rattle.std.specs.Prelude.{◌≡◌, ◌≢◌, ◌≤◌, ◌<◌, ◌+◌, ◌∷◌, [], None, Some, length, map, decimal, true, MatchOption, MatchResult, codes};
 ghost use Rattle.line_lexer.specs.Tokens.{is_clean, words_of};
 ghost use Rattle.model_edits.specs.Commands.{line_front_rule, model_named};
 ghost use Rattle.model_edits.specs.Orders.{AnswersOrder, IsSaidOrder};

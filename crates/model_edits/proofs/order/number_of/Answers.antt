@@ -1,4 +1,4 @@
-use Rattle.std.proofs.Common.{rules, ◌≡◌, ◌+◌, true, decimal, refl, subst, arith}
+use Rattle.std.proofs.Common.{rules, ◌≡◌, true, refl, subst, arith}
 use Rattle.std.specs.Str.{bytes_eq}
 use Rattle.model_edits.proofs.OrderLaws.{named-first, named-none}
 use Rattle.model_edits.proofs.order.number_of.Goals as goal

@@ -1,8 +1,7 @@
 use Rattle.std.proofs.Common.{rules, ◌≡◌, ◌<◌, length, None, Some, refl, sym, subst, ◌∙◌}
-use Rattle.std.proofs.lemmas.Result.{IfErr-weaker, IfOk-weaker, err_from_is_err_and}
+use Rattle.std.proofs.lemmas.Result.{IfErr-weaker, IfOk-weaker}
 use Rattle.model_edits.specs.Commands.{line_front_rule}
 use Rattle.model_edits.specs.Orders.{IsSaidOrder}
-use Rattle.refusals.specs.declared.fault.Fault.{Fault}
 use Rattle.edit_desk.specs.Answers.{models_of}
 use Rattle.edit_desk.proofs.DeskLaws.{asked, asked-ticked, changed, front-refused, if-ok-both, model-below, on_broken, refused, ticked, written-models}
 use Rattle.edit_desk.proofs.desk.Desk.answer.Goals as goal
