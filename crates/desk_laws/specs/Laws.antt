@@ -33,7 +33,7 @@ OtherModelsDoNotMatter =
     AllZip (λ turn other. IsSameReply turn.reply other.reply) (turns_of count k turns) alone
     × (model_at own k ≡ model_at models k)
 
--- a model has one rank and one list of canonical parts: what is told of it is what any analysis of it tells
+-- a model has one rank and one list of canonical parts: whoever tells of it so tells the same
 abbrev pub OneThingIsTold : Type 0
 OneThingIsTold =
     (p : ℕ) (model : MixedModel) (rank other : ℕ) (parts others : Parts) → IsPrime p →
