@@ -36,7 +36,7 @@ moved-below p L G H blocks same k l b = (
       (ox.0, subst (λ n. k < n) (sym blocks) ox.1, same x ox.0 ∙ ox.2) (oy.0, subst (λ n. l < n) (sym blocks) oy.1, same y oy.0 ∙ oy.2),
 )
 
-moved-lower : (p : ℕ) (L : LayeredMatrix) (G H : Forms) → G.blocks ≡ H.blocks → ((x : ℕ) → x < L.columns → G.column x ≡ H.column x) →
+pub moved-lower : (p : ℕ) (L : LayeredMatrix) (G H : Forms) → G.blocks ≡ H.blocks → ((x : ℕ) → x < L.columns → G.column x ≡ H.column x) →
     (k l : ℕ) → IsLowerBlock p L G k l → IsLowerBlock p L H k l
 moved-lower p L G H blocks same k l b = record {
   below = moved-below p L G H blocks same k l b.below;
@@ -45,11 +45,11 @@ moved-lower p L G H blocks same k l b = record {
 }
 
 -- the lists before a last one, and the last one
-record AreBoth (lists others : List (List ℕ)) (last end : List ℕ) : Type 0 where
-  lists_are : lists ≡ others
-  last_is : last ≡ end
+pub record AreBoth (lists others : List (List ℕ)) (last end : List ℕ) : Type 0 where
+  pub lists_are : lists ≡ others
+  pub last_is : last ≡ end
 
-parted : (lists others : List (List ℕ)) (last end : List ℕ) → length lists ≡ length others → lists ++ last ∷ [] ≡ others ++ end ∷ [] →
+pub parted : (lists others : List (List ℕ)) (last end : List ℕ) → length lists ≡ length others → lists ++ last ∷ [] ≡ others ++ end ∷ [] →
     AreBoth lists others last end
 parted [] [] last end long same = record { lists_are = refl; last_is = cc }
 parted [] (other ∷ others) last end long same = absurd (omega arith)
@@ -61,13 +61,13 @@ parted (list ∷ lists) (other ∷ others) last end long same =
     record { lists_are = ap (λ x. x ∷ lists) first ∙ ap (λ xs. other ∷ xs) both.lists_are; last_is = both.last_is }
 
 -- blocks are told by their lists
-block-is : (a b : Block) → a.columns ≡ b.columns → a.lower ≡ b.lower → a ≡ b
+pub block-is : (a b : Block) → a.columns ≡ b.columns → a.lower ≡ b.lower → a ≡ b
 block-is a b columns lower = λ i. record { columns = columns i; lower = lower i }
 
-abbrev columns_in : List Block → List (List ℕ)
+abbrev pub columns_in : List Block → List (List ℕ)
 columns_in blocks = map (λ (block : Block). block.columns) blocks
 
-abbrev lowers_in : List Block → List (List ℕ)
+abbrev pub lowers_in : List Block → List (List ℕ)
 lowers_in blocks = map (λ (block : Block). block.lower) blocks
 
 blocks-are : (xs ys : List Block) → columns_in xs ≡ columns_in ys → lowers_in xs ≡ lowers_in ys → xs ≡ ys
@@ -90,22 +90,24 @@ record AreSaid (parts others : Parts) : Type 0 where
 columns-long : (v : Parts) → length (columns_in v.blocks.items) ≡ length v.blocks.items
 columns-long v = length-map v.blocks.items (λ (block : Block). block.columns)
 
-listed-long : (v : Parts) → length (listed_columns v) ≡ length v.blocks.items + 2
+pub listed-long : (v : Parts) → length (listed_columns v) ≡ length v.blocks.items + 2
 listed-long v = omega (arith, columns-long v, length-append (columns_in v.blocks.items) (v.last ∷ []))
 
-lower-long : (v : Parts) → length (lowers_in v.blocks.items) ≡ length v.blocks.items
+pub lower-long : (v : Parts) → length (lowers_in v.blocks.items) ≡ length v.blocks.items
 lower-long v = length-map v.blocks.items (λ (block : Block). block.lower)
+
+-- lists that rise at each place
+pub everywhere : (n : ℕ) (lists : List (List ℕ)) → ((k : ℕ) → AreRising n (get_or lists k [])) → All (AreRising n) lists
+everywhere n lists each k d kl = subst (AreRising n) (get_or_default lists k [] d kl) (each k)
 
 -- lists that tell the parts of one layered matrix are the same
 module _ (p : ℕ) (prime : IsPrime p) (L : LayeredMatrix) (v w : Parts) (are : AreCanonicalLists p L v) (them : AreCanonicalLists p L w) where
   one : (length v.blocks.items ≡ length w.blocks.items) × ((x : ℕ) → x < L.columns → (listed_parts v).column x ≡ (listed_parts w).column x)
   one = canonical-one p prime L (listed_parts v) (listed_parts w) are.canonical them.canonical
 
-  everywhere : (lists : List (List ℕ)) → ((k : ℕ) → AreRising L.columns (get_or lists k [])) → All (AreRising L.columns) lists
-  everywhere lists each k d kl = subst (AreRising L.columns) (get_or_default lists k [] d kl) (each k)
-
   columns : listed_columns v ≡ listed_columns w
-  columns = same-places L.columns (listed_columns v) (listed_columns w) (everywhere (listed_columns v) are.rising) (everywhere (listed_columns w) them.rising)
+  columns = same-places L.columns (listed_columns v) (listed_columns w) (everywhere L.columns (listed_columns v) are.rising)
+      (everywhere L.columns (listed_columns w) them.rising)
       are.once them.once (let many : length v.blocks.items ≡ length w.blocks.items = one.0 in omega (arith, listed-long v, listed-long w, many)) one.1
 
   lower-one : (l : ℕ) → l < length v.blocks.items → lower_list v l ≡ lower_list w l
@@ -158,7 +160,7 @@ module _ (p : ℕ) (L K : LayeredMatrix) (w : Parts) (same : AreSameLayers p L K
   resized-lists : AreCanonicalLists p (with_entries L K.q K.t) w
   resized-lists = in_size (λ A. AreCanonicalLists p A w) them
 
-  moved : AreCanonicalLists p L w
+  pub moved : AreCanonicalLists p L w
   moved = record {
     once = resized-lists.once;
     rising = resized-lists.rising;
