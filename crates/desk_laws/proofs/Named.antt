@@ -8,7 +8,7 @@ use Rattle.line_lexer.specs.Tokens.{is_clean, words_of}
 use Rattle.mixed_model.specs.Models.{MixedModel}
 use Rattle.model_edits.specs.Commands.{edit_rule, front_rule, line_front_rule, model_named}
 use Rattle.edit_desk.specs.Desks.{NamesModel, behind_rule, desk_rule, model_at}
-use Rattle.edit_desk.specs.Dialogues.{is_model, model_in}
+use Rattle.edit_desk.specs.Dialogues.{is_number, model_in}
 
 pub naming : (count : ℕ) (line : List ℕ) (k : ℕ) (word : List ℕ) (words : List (List ℕ)) →
     NamesModel count line k word words → model_in count (words_of line) ≡ Some k
@@ -31,7 +31,7 @@ name-one count line k l word other words others one two =
     words-one (model_named count) (words_of line) k l word other one.number two.number words others one.words_are two.words_are one.named two.named
 
 module _ (p k : ℕ) (old own : List MixedModel) (long : length own ≡ length old) (same : model_at own k ≡ model_at old k) where
-  at-number : (word number : List ℕ) (words : List (List ℕ)) (named : Option ℕ) → model_named (length old) number ≡ named → is_model k named ≡ true →
+  at-number : (word number : List ℕ) (words : List (List ℕ)) (named : Option ℕ) → model_named (length old) number ≡ named → is_number k named ≡ true →
       behind_rule p own (word ∷ number ∷ words) ≡ behind_rule p old (word ∷ number ∷ words)
   at-number word number words None is test = absurd cc
   at-number word number words (Some l) is test =
@@ -43,13 +43,13 @@ module _ (p k : ℕ) (old own : List MixedModel) (long : length own ≡ length o
       ∙ ap (λ j. edit_rule p word (model_at old j) words) there
       ∙ ap (λ o. edit_rule p word (model_at old (unwrap_or o 0)) words) (sym is)
 
-  behind-same : (words : List (List ℕ)) → is_model k (model_in (length old) words) ≡ true → behind_rule p own words ≡ behind_rule p old words
+  behind-same : (words : List (List ℕ)) → is_number k (model_in (length old) words) ≡ true → behind_rule p own words ≡ behind_rule p old words
   behind-same [] test = refl
   behind-same (word ∷ []) test = refl
   behind-same (word ∷ number ∷ words) test = at-number word number words (model_named (length old) number) refl test
 
   -- a line that names model k is refused by that model alone
-  pub rule-same : (line : List ℕ) → is_model k (model_in (length old) (words_of line)) ≡ true → desk_rule p own line ≡ desk_rule p old line
+  pub rule-same : (line : List ℕ) → is_number k (model_in (length old) (words_of line)) ≡ true → desk_rule p own line ≡ desk_rule p old line
   rule-same line test =
       ap (λ n. option_or (line_front_rule n line) (behind_rule p own (words_of line))) long
       ∙ ap (λ (rule : Option Why). option_or (line_front_rule (length old) line) rule) (behind-same (words_of line) test)

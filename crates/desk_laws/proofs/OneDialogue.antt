@@ -34,11 +34,12 @@ module _ (p : ℕ) (prime : IsPrime p) (old a b : List MixedModel) (line : List 
       let edit : IsEditOf p one.word one.words (model_at old one.model) two.changed =
       subst (λ word. IsEditOf p word one.words (model_at old one.model) two.changed) name.word_is
       (subst (λ words. IsEditOf p two.word words (model_at old one.model) two.changed) name.words_are
-      (subst (λ k. IsEditOf p two.word two.words (model_at old k) two.changed) name.model two.edit)) in
+      (subst (λ k. IsEditOf p two.word two.words (model_at old k) two.changed) name.model two.edited.edit)) in
       let same : two.changed ≡ one.changed =
-      edit-one p (model_at old one.model) one.changed two.changed one.is_model two.is_model one.word one.words one.edit edit in (
-        rank-one p (mixed_matrix_of one.changed) rank other one.rank_is
-            (subst (λ m. IsStructuralRank p (mixed_matrix_of m) other) same two.rank_is),
+      edit-one p (model_at old one.model) one.changed two.changed one.edited.is_model two.edited.is_model one.word one.words one.edited.edit
+      edit in (
+        rank-one p (mixed_matrix_of one.changed) rank other one.edited.rank_is
+            (subst (λ m. IsStructuralRank p (mixed_matrix_of m) other) same two.edited.rank_is),
         replaced-one old a b one.model one.changed one.replaced
             (subst (λ k. IsReplaced old b k one.changed) name.model (subst (λ m. IsReplaced old b two.model m) same two.replaced)),
       )
@@ -66,7 +67,7 @@ module _ (p : ℕ) (prime : IsPrime p) (old a b : List MixedModel) (line : List 
   asked-changed new rank other parts asked changed =
       let name : IsOneName asked.model changed.model (codes "ask") changed.word [] changed.words =
       name-one (length old) line asked.model changed.model (codes "ask") changed.word [] changed.words asked.names changed.names in
-      subst (λ words. IsEditOf p changed.word words (model_at old changed.model) changed.changed) name.words_are changed.edit
+      subst (λ words. IsEditOf p changed.word words (model_at old changed.model) changed.changed) name.words_are changed.edited.edit
 
   reply-one : (reply other : Reply) → IsReply p old line a reply → IsReply p old line b other → IsSameReply reply other × (b ≡ a)
   reply-one Nothing Nothing (clean, none, kept) (clear, empty, held) = (tt, held ∙ sym kept)

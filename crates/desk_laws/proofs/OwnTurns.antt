@@ -6,9 +6,8 @@ use Rattle.std.proofs.lemmas.List.{length-replicate}
 use Rattle.line_lexer.specs.Tokens.{words_of}
 use Rattle.mixed_model.specs.Models.{MixedModel, empty_model}
 use Rattle.model_edits.specs.Commands.{model_named}
-use Rattle.model_edits.specs.Edits.{IsEditOf}
-use Rattle.edit_desk.specs.Desks.{IsToldOfModel, IsChangedBy, IsReply, empty_models, model_at}
-use Rattle.edit_desk.specs.Dialogues.{IsDialogue, Turn, is_model, model_in, turns_of}
+use Rattle.edit_desk.specs.Desks.{IsChangedBy, IsEditedTo, IsReply, IsToldOfModel, empty_models, model_at}
+use Rattle.edit_desk.specs.Dialogues.{IsDialogue, Turn, is_number, model_in, turns_of}
 use Rattle.edit_desk.specs.declared.reply.Reply.{Reply}
 use Rattle.edit_desk.specs.declared.reply.Reply.TheVariants.{Changed, Nothing, Parts, Refused}
 use Rattle.desk_laws.specs.Laws.{OwnCommandsAreADialogue}
@@ -21,12 +20,12 @@ as-many p old new line (Changed rank) changed = changed.replaced.count
 as-many p old new line (Parts rank parts) (asked, kept) = ap length kept
 
 -- the other models are left
-left : (p k : ℕ) (old new : List MixedModel) (line : List ℕ) (reply : Reply) → is_model k (model_in (length old) (words_of line)) ≡ false →
+left : (p k : ℕ) (old new : List MixedModel) (line : List ℕ) (reply : Reply) → is_number k (model_in (length old) (words_of line)) ≡ false →
     IsReply p old line new reply → model_at new k ≡ model_at old k
 left p k old new line Nothing test (clean, none, kept) = ap (λ models. model_at models k) kept
 left p k old new line (Refused why) test (rule, kept) = ap (λ models. model_at models k) kept
 left p k old new line (Changed rank) test changed = changed.replaced.others k
-    (eqb-false k changed.model (sym (ap (is_model k) (naming (length old) line changed.model changed.word changed.words changed.names)) ∙ test))
+    (eqb-false k changed.model (sym (ap (is_number k) (naming (length old) line changed.model changed.word changed.words changed.names)) ∙ test))
 left p k old new line (Parts rank parts) test (asked, kept) = ap (λ models. model_at models k) kept
 
 -- what a turn of model k leaves elsewhere
@@ -37,9 +36,9 @@ record OwnTurn (p k : ℕ) (own : List MixedModel) (line : List ℕ) (new : List
   same : model_at next k ≡ model_at new k
 
 module _ (p k : ℕ) (old own : List MixedModel) (within : k < length own) (long : length own ≡ length old)
-    (same : model_at own k ≡ model_at old k) (line : List ℕ) (test : is_model k (model_in (length old) (words_of line)) ≡ true) where
+    (same : model_at own k ≡ model_at old k) (line : List ℕ) (test : is_number k (model_in (length old) (words_of line)) ≡ true) where
   names-own : (model : ℕ) → model_in (length old) (words_of line) ≡ Some model → k ≡ model
-  names-own model named = eqb-true k model (sym (ap (is_model k) named) ∙ test)
+  names-own model named = eqb-true k model (sym (ap (is_number k) named) ∙ test)
 
   changed-own : (new : List MixedModel) (rank : ℕ) → IsChangedBy p old line new rank → OwnTurn p k own line new (Changed rank)
   changed-own new rank c =
@@ -59,14 +58,12 @@ module _ (p k : ℕ) (old own : List MixedModel) (within : k < length own) (long
             words_are = c.names.words_are;
           };
           changed = c.changed;
-          edit = subst (λ m. IsEditOf p c.word c.words m c.changed) here c.edit;
-          is_model = c.is_model;
+          edited = subst (λ m. IsEditedTo p c.word c.words m c.changed rank) here c.edited;
           replaced = record {
             count = length-set own k c.changed;
             here = put;
             others = λ i other. get_or-set_other own k i c.changed empty_model other;
           };
-          rank_is = c.rank_is;
         };
         long = length-set own k c.changed;
         same = put ∙ sym (ap (model_at new) there ∙ c.replaced.here);
@@ -74,7 +71,7 @@ module _ (p k : ℕ) (old own : List MixedModel) (within : k < length own) (long
 
   own-turn : (new : List MixedModel) (reply : Reply) → IsReply p old line new reply → OwnTurn p k own line new reply
   own-turn new Nothing (clean, none, kept) =
-      let no : false ≡ true = sym (ap (λ words. is_model k (model_in (length old) words)) none) ∙ test in absurd cc
+      let no : false ≡ true = sym (ap (λ words. is_number k (model_in (length old) words)) none) ∙ test in absurd cc
   own-turn new (Refused why) (rule, kept) = record {
     next = own;
     is_reply = (rule-same p k old own long same line test ∙ rule, refl);
@@ -119,20 +116,20 @@ module _ (p count k : ℕ) (few : k < count) where
         × (model_at end k ≡ model_at last k)
     led at = let then = onward at.next many (at.long ∙ also) at.same in (then.0, (at.next, at.is_reply, then.1), then.2)
 
-    onto : (test : Bool) → is_model k (model_in count (words_of turn.line)) ≡ test →
+    onto : (test : Bool) → is_number k (model_in count (words_of turn.line)) ≡ test →
         (end : List MixedModel) × IsDialogue p own (cond test (turn ∷ turns_of count k turns) (turns_of count k turns)) end
         × (model_at end k ≡ model_at last k)
     onto true is = led (own-turn p k first own (subst (λ n. k < n) (sym also) few) (also ∙ sym long) same turn.line
-        (subst (λ n. is_model k (model_in n (words_of turn.line)) ≡ true) (sym long) is) next turn.reply reply)
+        (subst (λ n. is_number k (model_in n (words_of turn.line)) ≡ true) (sym long) is) next turn.reply reply)
     onto false is = onward own many also
-        (same ∙ sym (left p k first next turn.line turn.reply (subst (λ n. is_model k (model_in n (words_of turn.line)) ≡ false) (sym long) is) reply))
+        (same ∙ sym (left p k first next turn.line turn.reply (subst (λ n. is_number k (model_in n (words_of turn.line)) ≡ false) (sym long) is) reply))
 
   pub own-turns : (turns : List Turn) (first own last : List MixedModel) → length first ≡ count → length own ≡ count →
       model_at own k ≡ model_at first k → IsDialogue p first turns last → Leads turns own last
   own-turns [] first own last long also same done = (own, refl, same ∙ ap (λ models. model_at models k) (sym done))
   own-turns (turn ∷ turns) first own last long also same (next, reply, rest) =
       onto turn turns first own next last long also same reply (λ models many more there. own-turns turns next models last many more there rest)
-      (is_model k (model_in count (words_of turn.line))) refl
+      (is_number k (model_in count (words_of turn.line))) refl
 
 pub own-commands : OwnCommandsAreADialogue
 own-commands p count k turns models few dialogue =

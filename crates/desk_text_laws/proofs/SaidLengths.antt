@@ -40,7 +40,7 @@ module _ (p n most : ℕ) (narrow : most ≡ columns_said n) where
     changed-short : (rank : ℕ) (own : List ℕ) → IsChangedBy p models line next rank → own ≡ number_line (codes "changed") rank →
         length own ≤ parts_room most
     changed-short rank own changed is =
-        let few = rank-limited p changed.changed rank changed.is_model changed.rank_is in
+        let few = rank-limited p changed.changed rank changed.edited.is_model changed.edited.rank_is in
         omega (arith, ap (λ text. length text) is, number-line-short (codes "changed") rank (omega arith) few)
 
     asked-short : (rank : ℕ) (parts : Told) (own : List ℕ) → IsAsked p models line rank parts → next ≡ models →

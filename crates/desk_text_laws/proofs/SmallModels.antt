@@ -118,12 +118,12 @@ module _ (p n left : ℕ) (old : List MixedModel) (line : List ℕ) (small : Are
     where
       now : IsSmall p n left changed.changed
       now =
-          let grows = edit-grows p (model_at old changed.model) changed.changed changed.word changed.words changed.edit in
+          let grows = edit-grows p (model_at old changed.model) changed.changed changed.word changed.words changed.edited.edit in
           let before = small changed.model in
           let many : length changed.words + 2 ≤ length line =
           omega (arith, words-few line, ap (λ words. length words) changed.names.words_are) in
           record {
-            is_model = changed.is_model;
+            is_model = changed.edited.is_model;
             equations = omega (arith, grows.equations, before.equations, many);
             unknowns = omega (arith, grows.unknowns, before.unknowns, many);
           }

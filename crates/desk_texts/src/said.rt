@@ -162,8 +162,8 @@ fn put_asked<F: Field, T: Tableau<F>, K: Sink>(
     let Ok(Some(order)) = read_order(DESK_LIMIT, line) else {
         unreachable!()
     };
-    let layered = desk.layered(order.model);
+    let layered = desk.layered(order.model + 1);
     // a layered matrix has at most 8,192 columns, and parts have no more blocks
     layered.q.is_matrix();
-    put_parts(out, desk.model(order.model), layered, rank, parts);
+    put_parts(out, desk.model(order.model + 1), layered, rank, parts);
 }

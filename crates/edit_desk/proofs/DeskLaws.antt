@@ -18,14 +18,14 @@ use Rattle.residue_theory.specs.Sets.{both}
 use Rattle.residue_theory.specs.Sums.{size_on}
 use Rattle.model_edits.specs.Commands.{edit_rule, line_front_rule, model_named}
 use Rattle.edit_desk.specs.Desks.{IsChangedBy, IsEditedTo, IsReplaced, NamesModel, behind_rule, desk_rule, model_at}
-use Rattle.edit_desk.specs.Desks.{HasTicked, IsReply, TellsOfModel, empty_models}
+use Rattle.edit_desk.specs.Desks.{HasTicked, IsReply, StepsWithin, TellsOfModel, empty_models}
 use Rattle.model_edits.proofs.OrderLaws.{named-below}
 use Rattle.model_edits.specs.Orders.{IsSaidOrder, edit_word, task_words, words_behind}
 use Rattle.model_edits.specs.declared.order.Edit.{Edit}
 use Rattle.model_edits.specs.declared.order.Order.{Order}
 use Rattle.model_edits.specs.declared.order.Task.{Task}
 use Rattle.model_edits.specs.declared.order.Task.TheVariants.{Ask, Change}
-use Rattle.edit_desk.specs.Answers.{HasChangedAt, StepsWithin, models_of}
+use Rattle.edit_desk.specs.Answers.{HasChangedAt, models_of}
 use Rattle.edit_desk.specs.declared.reply.Reply.{Reply}
 use Rattle.edit_desk.specs.declared.reply.Reply.TheVariants.{Changed, Nothing, Parts as Told, Refused}
 use Rattle.edit_desk.specs.Held.{HeldModel}
@@ -63,14 +63,12 @@ module _ (p : ℕ) (old : List MixedModel) (line : List ℕ) (k : ℕ) (word : L
     words = words;
     names = names;
     changed = model;
-    edit = edited.edit;
-    is_model = edited.is_model;
+    edited = edited;
     replaced = subst (λ (n : List MixedModel). IsReplaced old n k model) (sym is) (record {
       count = length-set old k model;
       here = get_or-set_same old k model empty_model kl;
       others = λ i ne. get_or-set_other old k i model empty_model ne;
     });
-    rank_is = edited.rank_is;
   }
 
 -- a line that is refused as far as its number
@@ -165,7 +163,7 @@ module _ (p : ℕ) (old new : List MixedModel) (line : List ℕ) (k : ℕ) (word
   pub changed-ticked : (no_search : Type 0) (steps now : ℕ) → StepsWithin old k new steps now →
       HasTicked old line new no_search steps now reply
   changed-ticked no_search steps now within = subst (HasTicked old line new no_search steps now) (sym changed.reply_is)
-      (λ j other others before after named on_before on_after.
+      (λ j other others named before after on_before on_after.
       let same = named-once (length old) j k line other word others words named names in
       within before after (subst (λ i. AreLayersOf (model_at old i) before) same on_before)
       (subst (λ i. AreLayersOf (model_at new i) after) same on_after))

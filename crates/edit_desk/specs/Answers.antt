@@ -1,7 +1,5 @@
 -- What the models of a desk are after one of them was edited.
-use Rattle.std.specs.Prelude.{ℕ, ◌≡◌, ◌≤◌, ◌+◌, ◌*◌, List, map, max, slice_set}
-use Rattle.mixed_layering.specs.Layers.{AreLayersOf}
-use Rattle.mixed_model.specs.Layers.{Layers, layered_matrix_of}
+use Rattle.std.specs.Prelude.{ℕ, ◌≡◌, List, map, slice_set}
 use Rattle.mixed_model.specs.Models.{MixedModel}
 use Rattle.edit_desk.specs.Desks.{IsEditedTo, model_at}
 use Rattle.edit_desk.specs.Held.{HeldModel}
@@ -20,9 +18,3 @@ pub record HasChangedAt (p : ℕ) (word : List ℕ) (words : List (List ℕ)) (o
   pub reply_is : reply ≡ Changed rank
   pub edited : IsEditedTo p word words (model_at old k) model rank
   pub new_is : new ≡ slice_set old k model
-
--- at most fourteen steps for each column of the layered matrix of model k, before or now
-abbrev pub StepsWithin : List MixedModel → ℕ → List MixedModel → ℕ → ℕ → Type 0
-StepsWithin old k new steps now =
-    (before after : Layers) → AreLayersOf (model_at old k) before → AreLayersOf (model_at new k) after →
-    now ≤ steps + 14 * max (layered_matrix_of before).columns (layered_matrix_of after).columns

@@ -66,10 +66,8 @@ pub record IsChangedBy (p : ℕ) (old : List MixedModel) (line : List ℕ) (new 
   pub words : List (List ℕ)
   pub names : NamesModel (length old) line model word words
   pub changed : MixedModel
-  pub edit : IsEditOf p word words (model_at old model) changed
-  pub is_model : IsModel p changed
+  pub edited : IsEditedTo p word words (model_at old model) changed rank
   pub replaced : IsReplaced old new model changed
-  pub rank_is : IsStructuralRank p (mixed_matrix_of changed) rank
 
 -- the rank of a model and the canonical parts of its layered matrix
 pub record IsToldOfModel (p : ℕ) (model : MixedModel) (rank : ℕ) (parts : Parts) : Type 0 where
@@ -92,21 +90,24 @@ pub record IsAsked (p : ℕ) (old : List MixedModel) (line : List ℕ) (rank : �
   pub names : NamesModel (length old) line model (codes "ask") []
   pub told : IsToldOfModel p (model_at old model) rank parts
 
--- the reply to a line where the first models are there, and the models after it
+-- the reply to a line where the models are these before it, and the models after it
 abbrev pub IsReply : ℕ → List MixedModel → List ℕ → List MixedModel → Reply → Type 0
 IsReply p old line new Nothing = (is_clean line ≡ true) × (words_of line ≡ []) × (new ≡ old)
 IsReply p old line new (Refused why) = (desk_rule p old line ≡ Some why) × (new ≡ old)
 IsReply p old line new (Changed rank) = IsChangedBy p old line new rank
 IsReply p old line new (Told rank parts) = IsAsked p old line rank parts × (new ≡ old)
 
--- What a reply costs: an edit takes at most fourteen steps for each column of the model's layered matrix, before it or
--- after it, and anything else takes neither searches nor steps.
+-- at most fourteen steps for each column of the layered matrix of model k, before or now, whichever has more
+abbrev pub StepsWithin : List MixedModel → ℕ → List MixedModel → ℕ → ℕ → Type 0
+StepsWithin old k new steps now =
+    (before after : Layers) → AreLayersOf (model_at old k) before → AreLayersOf (model_at new k) after →
+    now ≤ steps + 14 * max (layered_matrix_of before).columns (layered_matrix_of after).columns
+
+-- What a reply costs: an edit takes at most so many steps, and anything else takes neither searches nor steps.
 abbrev pub HasTicked : List MixedModel → List ℕ → List MixedModel → Type 0 → ℕ → ℕ → Reply → Type 0
 HasTicked old line new no_search steps now (Changed rank) =
-    (k : ℕ) (word : List ℕ) (words : List (List ℕ)) (before after : Layers) →
-    NamesModel (length old) line k word words →
-    AreLayersOf (model_at old k) before → AreLayersOf (model_at new k) after →
-    now ≤ steps + 14 * max (layered_matrix_of before).columns (layered_matrix_of after).columns
+    (k : ℕ) (word : List ℕ) (words : List (List ℕ)) → NamesModel (length old) line k word words →
+    StepsWithin old k new steps now
 HasTicked old line new no_search steps now Nothing = no_search × (now ≡ steps)
 HasTicked old line new no_search steps now (Refused why) = no_search × (now ≡ steps)
 HasTicked old line new no_search steps now (Told rank parts) = no_search × (now ≡ steps)

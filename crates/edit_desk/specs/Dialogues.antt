@@ -24,13 +24,14 @@ model_in count [] = None
 model_in count (word ∷ []) = None
 model_in count (word ∷ number ∷ words) = model_named count number
 
-abbrev pub is_model : ℕ → Option ℕ → Bool
-is_model k None = false
-is_model k (Some other) = nat_eq k other
+-- whether this is the number k
+abbrev pub is_number : ℕ → Option ℕ → Bool
+is_number k None = false
+is_number k (Some other) = nat_eq k other
 
 -- the turns whose lines name model k
 abbrev pub turns_of : ℕ → ℕ → List Turn → List Turn
-turns_of count k turns = filter (λ turn. is_model k (model_in count (words_of turn.line))) turns
+turns_of count k turns = filter (λ turn. is_number k (model_in count (words_of turn.line))) turns
 
 -- two replies say the same
 abbrev pub IsSameReply : Reply → Reply → Type 0

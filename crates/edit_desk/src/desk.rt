@@ -1,12 +1,13 @@
 //! Several models that are edited and asked by lines.
 
-ghost use Rattle.std.specs.Prelude.{◌≡◌, ◌≤◌, ◌<◌, ◌+◌, Some, length, IfErr, IfOk, OnErr, OnOk};
+ghost use Rattle.std.specs.Prelude.{◌≡◌, ◌≤◌, ◌<◌, ◌+◌, ◌-◌, Some, length, IfErr, IfOk, OnErr, OnOk};
 ghost use Rattle.mixed_layering.specs.Layers.{AreLayersOf};
 ghost use Rattle.refusals.specs.Faults.{OnBroken};
 ghost use Rattle.model_edits.specs.Commands.{edit_rule};
 ghost use Rattle.model_edits.specs.Orders.{edit_word, words_behind};
-ghost use Rattle.edit_desk.specs.Answers.{HasChangedAt, StepsWithin, models_of};
-ghost use Rattle.edit_desk.specs.Desks.{HasTicked, IsReply, TellsOfModel, desk_limit, desk_rule, empty_models, model_at};
+ghost use Rattle.edit_desk.specs.Answers.{HasChangedAt, models_of};
+ghost use Rattle.edit_desk.specs.Desks.{HasTicked, IsReply, StepsWithin, TellsOfModel, desk_limit, desk_rule, empty_models};
+ghost use Rattle.edit_desk.specs.Desks.{model_at};
 
 use crate::edits::{follow_edit, tell};
 use crate::held::Held;
@@ -60,27 +61,30 @@ impl<F: Field, T: Tableau<F>> Desk<F, T> {
         Ok(Desk { held })
     }
 
-    /// Model `k`, from 0.
+    /// The model of number `k`, from 1 on.
     pub fn model(&self, k: usize) -> &Mixed<F>
-        requires { k < length self.now }
-        ensures { result.now ≡ model_at self.now k }
+        requires some { 1 ≤ k }
+        requires within { k ≤ length self.now }
+        ensures { result.now ≡ model_at self.now (k - 1) }
     {
-        self.held[k].model()
+        self.held[k - 1].model()
     }
 
-    /// The layered matrix of model `k`, from 0.
+    /// The layered matrix of the model of number `k`, from 1 on.
     pub fn layered(&self, k: usize) -> &Layered<F>
-        requires { k < length self.now }
-        ensures { AreLayersOf (model_at self.now k) result.now }
+        requires some { 1 ≤ k }
+        requires within { k ≤ length self.now }
+        ensures { AreLayersOf (model_at self.now (k - 1)) result.now }
     {
-        let held = &self.held[k];
+        let held = &self.held[k - 1];
         held.is_held();
         held.layered()
     }
 
     /// Does what a line says, and answers it: it edits one model, tells of one, or changes nothing. `model_edits::read_order` has
     /// the commands, and with `make_edit` their refusals. An edit takes at most seven searches, and fourteen steps for each
-    /// column of the model's layered matrix; anything else takes none. Where memory runs out all models are as they were.
+    /// column of the model's layered matrix, before it or after it, whichever has more; anything else takes none. Where memory
+    /// runs out all models are as they were.
     pub fn command<L: Ledger, M: Ledger>(
         &mut self,
         line: &[u8],

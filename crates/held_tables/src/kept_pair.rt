@@ -1,6 +1,6 @@
 //! That an engine goes on from its pair where an equation comes and where one goes, and does not begin anew.
 
-ghost use Rattle.std.specs.Prelude.{◌≡◌, ◌≢◌, ◌<◌, IfOk, length};
+ghost use Rattle.std.specs.Prelude.{◌≡◌, ◌≢◌, ◌<◌, IfOk};
 ghost use Rattle.mixed_edit_laws.specs.Changes.{IsAdded, IsRemoved};
 ghost use Rattle.mixed_model.specs.Models.{mixed_matrix_of};
 
@@ -10,7 +10,7 @@ use exchange_graph::Steps;
 use independent_matching::Change;
 use mixed_model::{Mixed, is_label};
 use model_edits::set_item;
-use residue_field::{Field, Res};
+use residue_field::Res;
 use row_transform::Tableau;
 use sparse_tableau::SparseTableau;
 use std::alloc::Global;

@@ -12,7 +12,7 @@ use Rattle.mixed_model.specs.Names.{has_name, see}
 use Rattle.matrix_reader.specs.Items.{unknown_of}
 use Rattle.matrix_reader.specs.Rules.{each_rule, name_rule, new_equation_rule, room_rule, term_rule}
 
--- none, where this holds
+-- this reason, unless that holds
 abbrev pub unless_kept : Bool → Why → Option Why
 unless_kept holds why = if holds then None else Some why
 
@@ -46,7 +46,7 @@ line_front_rule count line = if is_clean line then front_rule count (words_of li
 abbrev pub there_rule : List (List ℕ) → List ℕ → Option Why
 there_rule names name = option_or (name_rule name) (unless_kept (has_name names name) Undeclared)
 
--- an item, of which these stand earlier in the line
+-- an item, where these stand earlier in the line
 abbrev pub added_item_rule : ℕ → MixedModel → List (List ℕ) → List ℕ → Option Why
 added_item_rule p model earlier item =
     option_or (term_rule p item) (if has_name (map unknown_of earlier) (unknown_of item) then Some Twice

@@ -30,7 +30,7 @@ pub record MarksItems (marks : List Bool) (unknowns items : List (List ℕ)) : T
       slice_index_or marks j false ≡ has_name (map unknown_of items) (name_at unknowns j)
   pub others : (j : ℕ) → length unknowns ≤ j → slice_index_or marks j false ≡ false
 
--- why an unknown is not marked: it is, or it can't be added
+-- why an unknown is not marked: it is marked already, or it can't be added
 abbrev pub IsUnmarked : Result ℕ AddError → List Bool → Why → Type 0
 IsUnmarked (Ok j) marks why = (why ≡ Twice) × (slice_index_or marks j false ≡ true)
 IsUnmarked (Err error) marks why = fault_of error ≡ Broken why
