@@ -27,12 +27,9 @@ block_matrix S L w = layered_value (transformed S L) w
 abbrev pub row_part : LayeredMatrix → Parts → ℕ → ℕ
 row_part L G i = cond (ltb i L.q_rows) (G.q_row i) (G.t_row (i - L.q_rows))
 
--- the rows and the columns of block k
+-- the rows of block k
 abbrev pub rows_of_block : LayeredMatrix → Parts → ℕ → ℕ → Bool
 rows_of_block L G k = in_part (row_part L G) (k + 1)
-
-abbrev pub columns_of_block : Parts → ℕ → ℕ → Bool
-columns_of_block G k = in_part G.column (k + 1)
 
 -- r is the rank of the diagonal part of block k with these numbers
 abbrev pub IsBlockRank : ℕ → (ℕ → ℕ → ℕ) → LayeredMatrix → Parts → (ℕ → ℕ → ℕ) → ℕ → ℕ → Type 0
