@@ -16,7 +16,7 @@ use Rattle.report_cli.specs.Answer.{IsAnswer, IsAnswerOf, IsOutputText}
 use Rattle.answer_texts.specs.LayerTexts.{layer_text}
 use Rattle.report_cli.specs.Outputs.{IsOutputFor, output_text}
 use Rattle.report_cli.specs.RightFor.{IsRightForInput}
-use Rattle.report_cli.specs.Rooms.{request_room}
+use Rattle.answer_laws.specs.Rooms.{request_room}
 use Rattle.answer_texts.specs.WholeLayers.{AreWholeLayers}
 use Rattle.input_kinds.specs.Kinds.{GivesModel}
 use Rattle.residue_field.specs.Modulus.{modulus_of}
@@ -32,12 +32,12 @@ use Rattle.command_line.specs.declared.command.Task.TheVariants.{Analyse, Layer}
 use Rattle.report_cli.specs.declared.output.Output.{Output}
 use Rattle.report_cli.specs.declared.output.Output.TheVariants.{Accepted, Certificate as Certified}
 use Rattle.report_cli.specs.declared.output.Output.TheVariants.{Layers as Layering, Made, Plan as Planning}
-use Rattle.report_cli.specs.declared.output.Output.TheVariants.{Report as Reporting}
+use Rattle.report_cli.specs.declared.output.Output.TheVariants.{Replies as Replying, Report as Reporting}
 use Rattle.run_ends.specs.declared.status.Status.{Status}
 use Rattle.run_ends.specs.declared.status.Status.TheVariants.{Done}
 use Rattle.report_cli.proofs.RunWords.{of_command}
 use Rattle.input_kinds.proofs.ByKind.{gives-one}
-use Rattle.report_cli.proofs.TextRooms.{output_fits}
+use Rattle.answer_laws.proofs.TextRooms.{output_fits}
 use Rattle.answer_laws.proofs.OneMakeText.{fitting_make}
 use Rattle.answer_laws.specs.Agreement.{AreAgreed}
 use Rattle.answer_laws.proofs.OneLayerText.{one-layers}
@@ -83,6 +83,7 @@ certified kind field input text (Layering model layers) (other, named, is, gives
 certified kind field input text (Reporting model told) (other, named, is, gives, reports) text_is = absurd cc
 certified kind field input text (Planning model layers plan) (other, named, is, right) text_is = absurd cc
 certified kind field input text Accepted (is, right) text_is = absurd cc
+certified kind field input text (Replying replies) (is, said) text_is = absurd cc
 certified kind field input text (Made size split ccf) right text_is = absurd right
 
 pub analysed : (words : List (List ℕ)) (kind : Kind) (field : Option FieldName) (input text : List ℕ) →
@@ -114,6 +115,7 @@ layering kind field input text (Layering model layers) (other, named, is, gives,
 layering kind field input text (Reporting model told) (other, named, is, gives, reports) text_is = absurd cc
 layering kind field input text (Planning model layers plan) (other, named, is, right) text_is = absurd cc
 layering kind field input text Accepted (is, right) text_is = absurd cc
+layering kind field input text (Replying replies) (is, said) text_is = absurd cc
 layering kind field input text (Made size split ccf) right text_is = absurd right
 
 pub layered : (words : List (List ℕ)) (kind : Kind) (field : Option FieldName) (input text : List ℕ) →

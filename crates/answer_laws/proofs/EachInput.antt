@@ -21,10 +21,11 @@ use Rattle.made_models.specs.MadeModels.{IsSize}
 use Rattle.answer_texts.specs.MadeTexts.{made_text}
 use Rattle.command_line.specs.Words.{AsksFor, AsksToMake, format_of, over}
 use Rattle.command_line.specs.declared.command.Command.{Command}
-use Rattle.command_line.specs.declared.command.Command.TheVariants.{Check, OfModel}
+use Rattle.command_line.specs.declared.command.Command.TheVariants.{Check, Edit, OfModel}
 use Rattle.command_line.specs.declared.command.Request.TheVariants.{Make, OfInput}
 use Rattle.command_line.specs.declared.command.Task.{Task}
 use Rattle.command_line.specs.declared.command.Task.TheVariants.{Analyse, Layer, Plan, Report}
+use Rattle.desk_existence_laws.proofs.TextAnswers.{each-answer}
 use Rattle.existence_laws.specs.Forms.{HasRightForm}
 use Rattle.existence_laws.specs.Layerings.{HasLayers}
 use Rattle.existence_laws.proofs.Layering.{has-layers}
@@ -198,10 +199,16 @@ module _ (words : List (List ℕ)) (input : List ℕ) where
         answer = (Check, asks, (short, none, refl));
       }
 
+  of-lines : AsksFor words Edit → length input ≤ input_limit → HasAnswer words input
+  of-lines asks short =
+      let said = each-answer (modulus_of Small) (prime-of Small) (odd-of Small) input in
+      by-text Edit asks short (outputs.Replies said.0) (refl, said.1) (inl refl)
+
   short-input : (command : Command) → AsksFor words command → length input ≤ limit_of (format_of command) →
       HasAnswer words input
   short-input (OfModel task kind field) asks short = of-model task kind field asks short
   short-input Check asks short = of-certificate asks short
+  short-input Edit asks short = of-lines asks short
 
   of-command : (command : Command) → AsksFor words command → HasAnswer words input
   of-command command asks = elim (lt_cases (limit_of (format_of command)) (length input)) [

@@ -45,13 +45,13 @@ use Rattle.report_cli.specs.RightFor.{IsRightForInput}
 use Rattle.report_cli.specs.declared.output.Output.{Output}
 use Rattle.report_cli.specs.declared.output.Output.TheVariants.{Accepted, Certificate as Certified}
 use Rattle.report_cli.specs.declared.output.Output.TheVariants.{Layers as Layering, Made, Plan as Planning}
-use Rattle.report_cli.specs.declared.output.Output.TheVariants.{Report as Reporting}
+use Rattle.report_cli.specs.declared.output.Output.TheVariants.{Replies as Replying, Report as Reporting}
 use Rattle.run_ends.specs.declared.status.Status.{Status}
 use Rattle.input_kinds.proofs.NamesByKind.{no-names}
 use Rattle.report_cli.proofs.FieldFacts.{low-of, prime-of, some-of}
 use Rattle.report_cli.proofs.ReportFacts.{rank-many, surplus-few, undetermined-few}
 use Rattle.report_cli.proofs.RunWords.{of_command}
-use Rattle.report_cli.proofs.TextRooms.{members-few}
+use Rattle.answer_laws.proofs.TextRooms.{members-few}
 use Rattle.answer_laws.specs.EmptyRooms.{empty_room}
 use Rattle.answer_laws.specs.NoAnswers.{empty_text}
 use Rattle.answer_laws.proofs.Answers.{IsRightOutput, is-written, text_of}
@@ -163,6 +163,8 @@ fits-empty command (Planning model layers plan) (kind, field, is, right) =
     subst (λ x. length (plan_text (λ value. value) model layers plan) ≤ empty_room x) (sym is)
     (plans-few (command_modulus command) kind model layers plan right)
 fits-empty command Accepted (is, accepted) = absurd (unaccepted accepted)
+fits-empty command (Replying replies) (is, said) =
+    subst (λ x. length replies ≤ empty_room x) (sym is) (omega (arith, ap length said))
 fits-empty command (Made size split ccf) right = absurd right
 
 pub needs-little : (words : List (List ℕ)) (command : Command) (status : Status) (text : List ℕ) → AsksFor words command → HasText status →

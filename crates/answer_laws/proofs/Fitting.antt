@@ -3,13 +3,17 @@ use Rattle.std.proofs.Common.{◌≤◌, ℕ, List, length, inl, inr, subst, ari
 use Rattle.run_ends.specs.Answers.{EachTextFits}
 use Rattle.run_ends.specs.Ways.{HasText}
 use Rattle.report_cli.specs.Answer.{IsAnswer}
-use Rattle.report_cli.specs.Rooms.{HasTextRoom, request_room}
+use Rattle.answer_laws.specs.Rooms.{request_room}
 use Rattle.run_ends.specs.declared.status.Status.{Status}
 use Rattle.run_ends.specs.declared.status.Status.TheVariants.{Done, NotRegular}
 use Rattle.command_line.specs.Words.{Asks}
 use Rattle.command_line.specs.declared.command.Request.{Request}
 use Rattle.command_line.specs.declared.command.Request.TheVariants.{Make, OfInput}
 use Rattle.answer_laws.proofs.Answers.{fitting}
+
+-- there is room for each text that may be written for it, by what the words ask for
+abbrev pub HasTextRoom : (ℕ → Type 0) → List (List ℕ) → ℕ → Type 0
+HasTextRoom takes words n = (request : Request) → Asks words request → takes (request_room request n)
 
 -- what a text answers was asked for
 asked-at : (words : List (List ℕ)) (input : List ℕ) (status : Status) (text : List ℕ) → HasText status → IsAnswer words input status text →

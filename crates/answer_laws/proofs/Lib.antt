@@ -1,9 +1,11 @@
+pub mod TextRooms
 pub mod Answers
 pub mod EmptyInput
 pub mod InMemory
 pub mod OneEquation
 pub mod OneLayerText
 pub mod OneMakeText
+pub mod OneReplies
 pub mod OneReport
 pub mod OneStatus
 pub mod EachInput

@@ -24,7 +24,7 @@ use Rattle.report_cli.specs.Answer.{IsAnswer, IsCommandAnswer, IsMakeAnswer}
 use Rattle.report_cli.specs.MadeFor.{IsMakeText}
 use Rattle.run_ends.specs.declared.status.Status.{Status}
 use Rattle.run_ends.specs.declared.status.Status.TheVariants.{Done, NotRegular}
-use Rattle.report_cli.proofs.TextRooms.{made-fits}
+use Rattle.answer_laws.proofs.TextRooms.{made-fits}
 
 -- the last one of some lists, and its length
 last-at : (f : CcfBlock → List ℕ) (last : List ℕ) (blocks : List CcfBlock) → get_or (map f blocks ++ last ∷ []) (length blocks) [] ≡ last

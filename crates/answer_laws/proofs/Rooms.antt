@@ -3,14 +3,14 @@ use Rattle.std.proofs.Common.{◌≡◌, ℕ, ◌≤◌, List, [], ◌∷◌, co
 use Rattle.cert_text.specs.declared.kind.Kind.TheVariants.{Matrix}
 use Rattle.run_ends.specs.Answers.{EachTextFits}
 use Rattle.report_cli.specs.Answer.{IsAnswer}
-use Rattle.report_cli.specs.Rooms.{HasTextRoom, request_room, text_room}
+use Rattle.answer_laws.specs.Rooms.{request_room, text_room}
 use Rattle.command_line.specs.Words.{AsksFor}
 use Rattle.command_line.specs.declared.command.Command.TheVariants.{OfModel}
 use Rattle.command_line.specs.declared.command.Task.TheVariants.{Analyse}
 use Rattle.command_line.specs.declared.command.Request.TheVariants.{OfInput}
 use Rattle.command_line.proofs.Asking.{request-one}
 use Rattle.command_line.proofs.AtExamples.{analyse}
-use Rattle.answer_laws.proofs.Fitting.{room-fits}
+use Rattle.answer_laws.proofs.Fitting.{HasTextRoom, room-fits}
 
 -- 9 bytes of an equation list make at most 9 rows of each kind and 18 columns
 matrix_room : (words : List (List ℕ)) → words ≡ codes "mixed" ∷ codes "analyse" ∷ codes "matrix" ∷ [] → HasTextRoom (λ size. size ≤ 6432) words 9

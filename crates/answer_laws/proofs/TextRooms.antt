@@ -21,7 +21,7 @@ use Rattle.report_cli.specs.RightFor.{IsRightForInput}
 use Rattle.report_cli.specs.Formats.{limit_of}
 use Rattle.report_cli.specs.MadeFor.{IsMadeFor}
 use Rattle.report_cli.specs.Outputs.{IsMadeOutput, IsOutputFor, output_text}
-use Rattle.report_cli.specs.Rooms.{columns_within, places_within, task_room, text_room}
+use Rattle.answer_laws.specs.Rooms.{columns_within, places_within, task_room, text_room}
 use Rattle.answer_texts.specs.WholeLayers.{AreWholeLayers}
 use Rattle.command_line.specs.Words.{format_of}
 use Rattle.command_line.specs.declared.command.Task.TheVariants as Task
@@ -39,12 +39,13 @@ use Rattle.answer_texts.proofs.MadeLengths.{right-made-text-short}
 use Rattle.answer_texts.proofs.PlanFacts.{columns-few, steps-few, steps-in, steps-short, sums-few, symbols-few}
 use Rattle.answer_texts.proofs.PlanLengths.{plan-text-short}
 use Rattle.answer_texts.proofs.ReportLengths.{report-text-short}
+use Rattle.desk_text_laws.proofs.SaidLengths.{texts-short}
 use Rattle.report_cli.specs.PlanFor.{IsPlanFor}
 use Rattle.report_cli.proofs.ReportFacts.{rank-many, surplus-few, undetermined-few}
 use Rattle.command_line.specs.declared.command.Command.{Command}
 use Rattle.report_cli.specs.declared.output.Output.{Output}
 use Rattle.report_cli.specs.declared.output.Output.TheVariants.{Accepted, Certificate as Certified}
-use Rattle.report_cli.specs.declared.output.Output.TheVariants.{Layers as Layering, Made, Plan as Planning}
+use Rattle.report_cli.specs.declared.output.Output.TheVariants.{Layers as Layering, Made, Plan as Planning, Replies as Replying}
 use Rattle.report_cli.specs.declared.output.Output.TheVariants.{Report as Reporting}
 use Rattle.input_kinds.proofs.ByKind.{is-model}
 use Rattle.input_kinds.proofs.NamesByKind.{few-names}
@@ -168,6 +169,8 @@ module _ {T : Type 0} (number : T → ℕ) (p most : ℕ) (some : 0 < most) (bel
       (plans-fit kind input model layers plan right)
   output_fits prime command input Accepted (is, accepted) short =
       subst (λ f. length (output_text number Accepted) ≤ text_room most f (length input)) (sym is) (lit≤ tt)
+  output_fits prime command input (Replying text) (is, said) short =
+      subst (λ f. length text ≤ text_room most f (length input)) (sym is) (texts-short p input text said)
   output_fits prime command input (Made size split ccf) right short = absurd right
 
 -- what is told of a made model fits in its room
@@ -187,3 +190,4 @@ made_fits number p n (Layering model layers) is = absurd is
 made_fits number p n (Reporting model told) is = absurd is
 made_fits number p n (Planning model layers plan) is = absurd is
 made_fits number p n Accepted is = absurd is
+made_fits number p n (Replying text) is = absurd is

@@ -5,4 +5,5 @@ pub mod InMemory
 pub mod NoAnswers
 pub mod OneAnswer
 pub mod Accepting
+pub mod Editing
 pub mod EmptyRooms

@@ -3,6 +3,7 @@
 
 ghost use Rattle.answer_laws.specs.Accepting.{AnalysedIsAccepted, AnalysedIsShort};
 ghost use Rattle.answer_laws.specs.Agreement.{AnswersOfAnalyseAgree, AnswersOfLayerAreOne, AnswersOfMakeAreOne, WordsAskForOneThing};
+ghost use Rattle.answer_laws.specs.Editing.{AnswersOfEditAreOne, EditIsDone};
 ghost use Rattle.answer_laws.specs.EmptyRooms.{TheEmptyInputNeedsLittle};
 ghost use Rattle.answer_laws.specs.OneAnswer.{AnswersHaveOneStatus, AnswersOfReportAreOne, EachInputIsAnswered};
 ghost use Rattle.answer_laws.specs.OneLayerText.{ModelsHaveOneLayerText};
@@ -44,6 +45,16 @@ pub fn answers_of_make_are_one()
     ensures { AnswersOfMakeAreOne }
 {}
 
+/// Any two texts that answer the same lines of commands are the same.
+pub fn answers_of_edit_are_one()
+    ensures { AnswersOfEditAreOne }
+{}
+
+/// Lines of commands of at most 8,388,608 bytes are answered by `Done` and the replies to them, whatever they are.
+pub fn edit_is_done()
+    ensures { EditIsDone }
+{}
+
 /// Words ask for one thing at most: a command on an input, or a made model.
 pub fn words_ask_for_one_thing()
     ensures { WordsAskForOneThing }
@@ -65,7 +76,7 @@ pub fn what_is_analysed_is_short()
 {}
 
 /// A text that answers the empty input has at most 115 bytes where it is a certificate, 14 for the layered matrix, 72 for
-/// the report and none for the plan, over either field; `check` writes nothing of it.
+/// the report and none for the plan, over either field; `check` and `edit` write nothing of it.
 pub fn the_empty_input_needs_little()
     ensures { TheEmptyInputNeedsLittle }
 {}

@@ -10,7 +10,7 @@ use Rattle.command_line.specs.Words.{Asks, AsksFor, AsksToMake, IsSizeWord, Name
 use Rattle.residue_field.specs.declared.field_name.FieldName.{FieldName}
 use Rattle.residue_field.specs.declared.field_name.FieldName.TheVariants.{Large, Small}
 use Rattle.command_line.specs.declared.command.Command.{Command}
-use Rattle.command_line.specs.declared.command.Command.TheVariants.{Check, OfModel}
+use Rattle.command_line.specs.declared.command.Command.TheVariants.{Check, Edit, OfModel}
 use Rattle.command_line.specs.declared.command.Request.{Request}
 use Rattle.command_line.specs.declared.command.Request.TheVariants.{Make, OfInput}
 use Rattle.command_line.specs.declared.command.Task.{Task}
@@ -84,10 +84,15 @@ check-no-task : {A : Type 0} (task : Task) → task_text task ≡ codes "check" 
 check-no-task task same =
     no-task (codes "check") 99 refl (λ e. omega (arith, e)) (λ e. omega (arith, e)) (λ e. omega (arith, e)) (λ e. omega (arith, e)) task same
 
+edit-no-task : {A : Type 0} (task : Task) → task_text task ≡ codes "edit" → A
+edit-no-task task same =
+    no-task (codes "edit") 101 refl (λ e. omega (arith, e)) (λ e. omega (arith, e)) (λ e. omega (arith, e)) (λ e. omega (arith, e)) task same
+
 pub make-no-command : {A : Type 0} (command : Command) → name_of command ≡ codes "make" → A
 make-no-command (OfModel task kind field) same =
     no-task (codes "make") 109 refl (λ e. omega (arith, e)) (λ e. omega (arith, e)) (λ e. omega (arith, e)) (λ e. omega (arith, e)) task same
 make-no-command Check same = other-letter (codes "check") (codes "make") 99 109 refl refl (λ e. omega (arith, e)) same
+make-no-command Edit same = other-letter (codes "edit") (codes "make") 101 109 refl refl (λ e. omega (arith, e)) same
 
 command-one : (a b : Command) → name_of a ≡ name_of b → word_of (format_of a) ≡ word_of (format_of b) →
     field_word (field_of a) ≡ field_word (field_of b) → a ≡ b
@@ -98,6 +103,11 @@ command-one (OfModel task kind field) (OfModel other one named) name word over =
 command-one (OfModel task kind field) Check name word over = check-no-task task name
 command-one Check (OfModel task kind field) name word over = check-no-task task (sym name)
 command-one Check Check name word over = refl
+command-one (OfModel task kind field) Edit name word over = edit-no-task task name
+command-one Edit (OfModel task kind field) name word over = edit-no-task task (sym name)
+command-one Check Edit name word over = other-letter (codes "check") (codes "edit") 99 101 refl refl (λ e. omega (arith, e)) name
+command-one Edit Check name word over = other-letter (codes "edit") (codes "check") 101 99 refl refl (λ e. omega (arith, e)) name
+command-one Edit Edit name word over = refl
 
 size-one : (word : Option (List ℕ)) (m n : ℕ) → IsSizeWord word m → IsSizeWord word n → m ≡ n
 size-one None m n one two = absurd one

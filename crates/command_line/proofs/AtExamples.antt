@@ -7,7 +7,7 @@ use Rattle.clap.proofs.OnLiterals.{clap_on_literals}
 use Rattle.cert_text.specs.declared.kind.Kind.TheVariants.{Flowsheet, Matrix, Netlist}
 use Rattle.command_line.specs.CommandLine.{command_line}
 use Rattle.command_line.specs.Words.{AsksFor, AsksForNothing, AsksToMake, field_of, field_word}
-use Rattle.command_line.specs.declared.command.Command.TheVariants.{Check, OfModel}
+use Rattle.command_line.specs.declared.command.Command.TheVariants.{Check, Edit, OfModel}
 use Rattle.residue_field.specs.declared.field_name.FieldName.{FieldName}
 use Rattle.residue_field.specs.declared.field_name.FieldName.TheVariants.{Large, Small}
 use Rattle.command_line.specs.declared.command.Request.TheVariants.{Make, OfInput}
@@ -36,6 +36,10 @@ plan = (refl, (refl, refl, refl))
 pub check : AsksFor (codes "mixed" ∷ codes "check" ∷ []) Check
 unfolding clap_on_literals
 check = (refl, (refl, refl, refl))
+
+pub edit : AsksFor (codes "mixed" ∷ codes "edit" ∷ []) Edit
+unfolding clap_on_literals
+edit = (refl, (refl, refl, refl))
 
 pub make : AsksToMake (codes "mixed" ∷ codes "make" ∷ codes "2" ∷ []) 2 None
 unfolding clap_on_literals
@@ -87,6 +91,10 @@ pub check_of_kind : AsksForNothing (codes "mixed" ∷ codes "check" ∷ codes "m
 unfolding clap_on_literals
 check_of_kind = untaken (codes "mixed" ∷ codes "check" ∷ codes "matrix" ∷ []) _ _ refl
 
+pub edit_of_kind : AsksForNothing (codes "mixed" ∷ codes "edit" ∷ codes "matrix" ∷ [])
+unfolding clap_on_literals
+edit_of_kind = untaken (codes "mixed" ∷ codes "edit" ∷ codes "matrix" ∷ []) _ _ refl
+
 -- another word at KIND
 unknown : (word : List ℕ) → Some (codes "picture") ≡ Some word → get_or word 0 0 ≡ 112
 unknown word there = let same : codes "picture" ≡ word = cc in ap (λ t. get_or t 0 0) (sym same)
@@ -97,6 +105,7 @@ unknown_kind (OfInput (OfModel task Matrix field)) (taken, names) = let other : 
 unknown_kind (OfInput (OfModel task Netlist field)) (taken, names) = let other : 110 ≡ 112 = unknown _ names.1 in absurd (omega (arith, other))
 unknown_kind (OfInput (OfModel task Flowsheet field)) (taken, names) = let other : 102 ≡ 112 = unknown _ names.1 in absurd (omega (arith, other))
 unknown_kind (OfInput Check) (taken, names) = absurd cc
+unknown_kind (OfInput Edit) (taken, names) = absurd cc
 unknown_kind (Make n field) (taken, names) = absurd cc
 
 -- a word that begins otherwise is that of no field

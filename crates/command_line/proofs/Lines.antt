@@ -4,14 +4,16 @@ use Rattle.clap.specs.Simple.{App, with_subcommand}
 use Rattle.command_line.specs.CommandLine.{bare_line, command_line, with_kind, with_size, without_kind}
 
 -- one after the other they make the line
-pub whole_line : (bare analyse layer report plan check whole : App) →
+pub whole_line : (bare analyse layer report plan check make whole : App) →
     bare ≡ bare_line → analyse ≡ with_subcommand bare (with_kind (codes "analyse")) → layer ≡ with_subcommand analyse (with_kind (codes "layer")) →
     report ≡ with_subcommand layer (with_kind (codes "report")) → plan ≡ with_subcommand report (with_kind (codes "plan")) →
-    check ≡ with_subcommand plan (without_kind (codes "check")) → whole ≡ with_subcommand check (with_size (codes "make")) → whole ≡ command_line
-whole_line bare analyse layer report plan check whole b a l r p c w =
-    w ∙ ap (λ app. with_subcommand app (with_size (codes "make")))
+    check ≡ with_subcommand plan (without_kind (codes "check")) → make ≡ with_subcommand check (with_size (codes "make")) →
+    whole ≡ with_subcommand make (without_kind (codes "edit")) → whole ≡ command_line
+whole_line bare analyse layer report plan check make whole b a l r p c m w =
+    w ∙ ap (λ app. with_subcommand app (without_kind (codes "edit")))
+    (m ∙ ap (λ app. with_subcommand app (with_size (codes "make")))
     (c ∙ ap (λ app. with_subcommand app (without_kind (codes "check")))
     (p ∙ ap (λ app. with_subcommand app (with_kind (codes "plan")))
     (r ∙ ap (λ app. with_subcommand app (with_kind (codes "report")))
     (l ∙ ap (λ app. with_subcommand app (with_kind (codes "layer")))
-    (a ∙ ap (λ app. with_subcommand app (with_kind (codes "analyse"))) b)))))
+    (a ∙ ap (λ app. with_subcommand app (with_kind (codes "analyse"))) b))))))

@@ -1,4 +1,5 @@
--- The command line `mixed SUBCOMMAND KIND [FIELD]`, `mixed check` or `mixed make N [FIELD]`, as clap reads it.
+-- The command line `mixed SUBCOMMAND KIND [FIELD]`, `mixed check`, `mixed edit` or `mixed make N [FIELD]`, as clap
+-- reads it.
 use Rattle.std.specs.Prelude.{[], ◌∷◌, true, false, codes, Some}
 use Rattle.clap.specs.Simple.{App, Shape, new_rule, new_shape}
 use Rattle.clap.specs.Walk.{Rule, Text}
@@ -47,5 +48,5 @@ abbrev pub command_line : App
 command_line = record {
   top = record bare_line.top { is_leaf = false };
   subs = with_kind (codes "analyse") ∷ with_kind (codes "layer") ∷ with_kind (codes "report") ∷ with_kind (codes "plan")
-      ∷ without_kind (codes "check") ∷ with_size (codes "make") ∷ [];
+      ∷ without_kind (codes "check") ∷ with_size (codes "make") ∷ without_kind (codes "edit") ∷ [];
 }

@@ -10,9 +10,9 @@ use Rattle.cert_text.specs.Texts.{kind_text}
 use Rattle.made_models.specs.MadeModels.{IsSize}
 use Rattle.command_line.specs.CommandLine.{command_line}
 use Rattle.command_line.specs.declared.command.Command.{Command}
-use Rattle.command_line.specs.declared.command.Command.TheVariants.{Check, OfModel}
+use Rattle.command_line.specs.declared.command.Command.TheVariants.{Check, Edit, OfModel}
 use Rattle.command_line.specs.declared.command.Format.{Format}
-use Rattle.command_line.specs.declared.command.Format.TheVariants.{Certificate, Model}
+use Rattle.command_line.specs.declared.command.Format.TheVariants.{Certificate, Lines, Model}
 use Rattle.command_line.specs.declared.command.Task.{Task}
 use Rattle.command_line.specs.declared.command.Task.TheVariants.{Analyse, Layer, Plan, Report}
 use Rattle.residue_field.specs.declared.field_name.FieldName.{FieldName}
@@ -33,16 +33,19 @@ task_text Plan = codes "plan"
 abbrev pub name_of : Command → List ℕ
 name_of (OfModel task kind field) = task_text task
 name_of Check = codes "check"
+name_of Edit = codes "edit"
 
--- the word at KIND: a certificate tells its own
+-- the word at KIND: a certificate tells its own, and lines of commands have none
 abbrev pub word_of : Format → Option (List ℕ)
 word_of (Model kind) = Some (kind_text kind)
 word_of Certificate = None
+word_of Lines = None
 
 -- what a command's input is to be
 abbrev pub format_of : Command → Format
 format_of (OfModel task kind field) = Model kind
 format_of Check = Certificate
+format_of Edit = Lines
 
 -- the name of a field
 abbrev pub field_text : FieldName → List ℕ
@@ -53,10 +56,11 @@ field_text Large = codes "2147483647"
 abbrev pub field_word : Option FieldName → Option (List ℕ)
 field_word field = option_map field_text field
 
--- the field that a command names: a certificate tells its own
+-- the field that a command names: a certificate tells its own, and models are edited over the smaller one
 abbrev pub field_of : Command → Option FieldName
 field_of (OfModel task kind field) = field
 field_of Check = None
+field_of Edit = None
 
 -- the field that is meant: the smaller one where none is named
 abbrev pub over : Option FieldName → FieldName

@@ -1,6 +1,6 @@
 //! What the words of the command line ask for.
 
-ghost use Rattle.std.specs.Prelude.{◌≡◌, ◌≢◌, List, ℕ, Option, map, MatchOption, MatchResult, OnOk, Some, None};
+ghost use Rattle.std.specs.Prelude.{◌≡◌, ◌≢◌, ℕ, Option, map, MatchOption, MatchResult, OnOk, Some, None};
 ghost use Rattle.std.specs.String.{string_bytes};
 ghost use Rattle.cert_text.specs.Texts.{kind_text};
 ghost use Rattle.clap.specs.Words.{kind_of as error_kind, subcommand_rows_of};
@@ -34,6 +34,8 @@ pub enum Command {
     OfModel(Task, Kind, Option<FieldName>),
     /// To tell whether a certificate is right for the input that it repeats.
     Check,
+    /// To edit models by commands, a line each, and to reply to each line.
+    Edit,
 }
 
 /// What the words ask for.
@@ -52,6 +54,8 @@ pub enum Format {
     Model(Kind),
     /// The text of a certificate, of at most 2,147,483,648 bytes.
     Certificate,
+    /// Any text of at most 8,388,608 bytes: each of its lines is replied to.
+    Lines,
 }
 
 /// Why the words ask for nothing.
@@ -126,13 +130,13 @@ impl Request {
 }
 
 impl Command {
-    /// The field that the command is over. A certificate tells its own.
+    /// The field that the command is over. A certificate tells its own, and models are edited over the smaller one.
     pub fn field(self) -> FieldName
         ensures { result ≡ over (field_of self) }
     {
         match self {
             Command::OfModel(_, _, named) => over(named),
-            Command::Check => FieldName::Small,
+            Command::Check | Command::Edit => FieldName::Small,
         }
     }
 
@@ -158,6 +162,7 @@ impl Command {
     {
         match (name, field) {
             ("check", None) => Some(Command::Check),
+            ("edit", None) => Some(Command::Edit),
             _ => None,
         }
     }

@@ -45,11 +45,17 @@ pub fn command_line<'a>(alloc: Global) -> Result<Command<'a>, AllocError>
         "check",
         "Tells whether a certificate, which it reads from standard input, is right for the input that it repeats",
     )?;
-    and_sized(
+    let make = and_sized(
         alloc,
         check,
         "make",
         "Makes a model of so many equations, reads nothing, and writes its rank and the sizes of its parts",
+    )?;
+    and_alone(
+        alloc,
+        make,
+        "edit",
+        "Edits models and tells of them, by commands that it reads from standard input, a line each",
     )
 }
 

@@ -3,7 +3,7 @@
 ghost use Rattle.std.specs.Prelude.{[], ◌∷◌, None, Some, codes};
 ghost use Rattle.cert_text.specs.declared.kind.Kind.TheVariants.{Flowsheet, Matrix, Netlist};
 ghost use Rattle.command_line.specs.Words.{AsksFor, AsksForNothing, AsksToMake};
-ghost use Rattle.command_line.specs.declared.command.Command.TheVariants.{Check, OfModel};
+ghost use Rattle.command_line.specs.declared.command.Command.TheVariants.{Check, Edit, OfModel};
 ghost use Rattle.residue_field.specs.declared.field_name.FieldName.TheVariants.{Large, Small};
 ghost use Rattle.command_line.specs.declared.command.Task.TheVariants.{Analyse, Layer, Plan, Report};
 
@@ -14,6 +14,7 @@ pub fn words_at_examples()
     ensures report { AsksFor (codes "mixed" ∷ codes "report" ∷ codes "flowsheet" ∷ []) (OfModel Report Flowsheet None) }
     ensures plan { AsksFor (codes "mixed" ∷ codes "plan" ∷ codes "matrix" ∷ []) (OfModel Plan Matrix None) }
     ensures check { AsksFor (codes "mixed" ∷ codes "check" ∷ []) Check }
+    ensures edit { AsksFor (codes "mixed" ∷ codes "edit" ∷ []) Edit }
     ensures make { AsksToMake (codes "mixed" ∷ codes "make" ∷ codes "2" ∷ []) 2 None }
     ensures make_most { AsksToMake (codes "mixed" ∷ codes "make" ∷ codes "400" ∷ []) 400 None }
     ensures make_zeros { AsksToMake (codes "mixed" ∷ codes "make" ∷ codes "007" ∷ []) 7 None }
@@ -29,6 +30,7 @@ pub fn words_at_examples()
     ensures make_word { AsksForNothing (codes "mixed" ∷ codes "make" ∷ codes "x" ∷ []) }
     ensures make_alone { AsksForNothing (codes "mixed" ∷ codes "make" ∷ []) }
     ensures check_of_kind { AsksForNothing (codes "mixed" ∷ codes "check" ∷ codes "matrix" ∷ []) }
+    ensures edit_of_kind { AsksForNothing (codes "mixed" ∷ codes "edit" ∷ codes "matrix" ∷ []) }
     ensures no_word { AsksForNothing (codes "mixed" ∷ []) }
     ensures no_kind { AsksForNothing (codes "mixed" ∷ codes "analyse" ∷ []) }
     ensures unknown_kind { AsksForNothing (codes "mixed" ∷ codes "analyse" ∷ codes "picture" ∷ []) }

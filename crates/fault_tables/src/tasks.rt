@@ -19,7 +19,7 @@ pub struct Task<'a> {
 }
 
 /// Each command that reads an input.
-pub const READING: [Task; 5] = [
+pub const READING: [Task; 6] = [
     // reads of 5, 5, 5, 5, 2 and 0 bytes
     Task {
         words: &["mixed", "analyse", "matrix"],
@@ -59,6 +59,14 @@ pub const READING: [Task; 5] = [
         step: 50,
         reads: 5,
         text: b"accepted\n",
+    },
+    // reads of 12, 12, 10 and 0 bytes
+    Task {
+        words: &["mixed", "edit"],
+        input: b"add 1 a x=? y=?\nadd 1 b x=?\nask 1\n",
+        step: 12,
+        reads: 4,
+        text: b"changed 1\nchanged 2\nrank 2\nfirst\nblock 1: y |\nblock 2: x | 1\nlast\nend\n",
     },
 ];
 

@@ -6,4 +6,3 @@ pub mod Runs
 pub mod RunWords
 pub mod Making
 pub mod Certified
-pub mod TextRooms

@@ -20,7 +20,7 @@ use Rattle.residue_field.specs.Modulus.{modulus_of}
 use Rattle.made_models.specs.MadeModels.{IsSize}
 use Rattle.command_line.specs.declared.command.Request.TheVariants.{Make}
 use Rattle.report_cli.specs.declared.output.Output.{Output}
-use Rattle.report_cli.specs.declared.output.Output.TheVariants.{Accepted, Certificate, Layers, Made, Plan, Report}
+use Rattle.report_cli.specs.declared.output.Output.TheVariants.{Accepted, Certificate, Layers, Made, Plan, Replies, Report}
 use Rattle.run_ends.specs.declared.status.Status.{Status}
 use Rattle.run_ends.specs.declared.status.Status.TheVariants.{BadCertificate, Done, Memory, NotRegular, ReadFault}
 use Rattle.run_ends.specs.declared.status.Status.TheVariants.{Refused, Rejected, TooLong, Usage, WriteFault}
@@ -35,6 +35,7 @@ made-writable p n (Layers model layers) is = absurd is
 made-writable p n (Report model told) is = absurd is
 made-writable p n (Plan model layers plan) is = absurd is
 made-writable p n Accepted is = absurd is
+made-writable p n (Replies text) is = absurd is
 
 -- the text of what is told of a made model tells of it
 pub told-so : {T : Type 0} (number : T → ℕ) (p n : ℕ) (output : Output T) → IsMadeOutput p n output → IsMakeText p n (output_text number output)
@@ -49,6 +50,7 @@ told-so number p n (Layers model layers) is = absurd is
 told-so number p n (Report model told) is = absurd is
 told-so number p n (Plan model layers plan) is = absurd is
 told-so number p n Accepted is = absurd is
+told-so number p n (Replies text) is = absurd is
 
 -- a run that writes it is done
 made-end : {T : Type 0} (p n : ℕ) (output : Output T) → IsMadeOutput p n output → end_of output ≡ Done
@@ -58,6 +60,7 @@ made-end p n (Layers model layers) is = absurd is
 made-end p n (Report model told) is = absurd is
 made-end p n (Plan model layers plan) is = absurd is
 made-end p n Accepted is = absurd is
+made-end p n (Replies text) is = absurd is
 
 -- what it makes of the sink
 module _ {T K : Type 0} (G : Ghosts K) (number : T → ℕ) (p n : ℕ) (output : Output T) (is : IsMadeOutput p n output) (out out' : K)

@@ -13,7 +13,7 @@ use Rattle.command_line.specs.declared.command.Command.TheVariants.{OfModel}
 use Rattle.residue_field.specs.declared.field_name.FieldName.{FieldName}
 use Rattle.command_line.specs.declared.command.Task.TheVariants as Task
 use Rattle.report_cli.specs.declared.output.Output.{Output}
-use Rattle.report_cli.specs.declared.output.Output.TheVariants.{Accepted, Certificate, Layers, Made, Plan, Report}
+use Rattle.report_cli.specs.declared.output.Output.TheVariants.{Accepted, Certificate, Layers, Made, Plan, Replies, Report}
 use Rattle.run_ends.specs.declared.status.Status.TheVariants.{Done, NotRegular}
 use Rattle.run_ends.specs.Ways.{HasText}
 use Rattle.report_cli.specs.Formats.{KeepsFormat}
@@ -35,6 +35,7 @@ writable number p command input (Report model told) over_field (kind, field, is,
 writable number p command input (Plan model layers plan) over_field (kind, field, is, right) =
     (right.are, steps-in number p model (is-model p kind input model right.gives) layers right.are right.whole right.ccf right.form right.right plan right.is)
 writable number p command input Accepted over_field (is, accepted) = tt
+writable number p command input (Replies text) over_field (is, said) = tt
 writable number p command input (Made size split ccf) over_field right = tt
 
 -- an input that has an output keeps each rule
@@ -49,6 +50,7 @@ keeps-rules number p command input (Report model told) (kind, field, is, gives, 
 keeps-rules number p command input (Plan model layers plan) (kind, field, is, right) =
     subst (λ c. KeepsFormat p (format_of c) input) (sym is) (model, right.gives)
 keeps-rules number p command input Accepted (is, accepted) = subst (λ c. KeepsFormat p (format_of c) input) (sym is) accepted
+keeps-rules number p command input (Replies text) (is, said) = subst (λ c. KeepsFormat p (format_of c) input) (sym is) tt
 keeps-rules number p command input (Made size split ccf) right = absurd right
 
 -- how an output ends: only a report on what is not regular ends otherwise
@@ -62,6 +64,7 @@ has-text (Report model told) = go (leb told.equations told.rank && leb told.unkn
     go false = inr refl
 has-text (Plan model layers plan) = inl refl
 has-text Accepted = inl refl
+has-text (Replies text) = inl refl
 has-text (Made size split ccf) = inl refl
 
 -- what a report is of: else it ends well
@@ -85,6 +88,7 @@ is-report number p command input (Report model told) (kind, field, is, gives, re
 is-report number p command input (Plan model layers plan) (kind, field, is, right) =
     inl (refl, λ other named are. let both = sym is ∙ are in absurd cc)
 is-report number p command input Accepted (is, accepted) = inl (refl, λ other named are. let both = sym is ∙ are in absurd cc)
+is-report number p command input (Replies text) (is, said) = inl (refl, λ other named are. let both = sym is ∙ are in absurd cc)
 is-report number p command input (Made size split ccf) right = absurd right
 
 -- two reports on one model end alike

@@ -1,6 +1,5 @@
 -- The answers of a run, by its words.
-use Rattle.std.proofs.Common.{◌≡◌, ◌≤◌, ◌⊎◌, ℕ, length, List, [], Option, Some, None, refl, sym, subst, append-nil, arith, inl, inr}
-use Rattle.port_io.specs.Bytes.{Appended, Took, TookAtMost}
+use Rattle.std.proofs.Common.{◌≡◌, ◌≤◌, ◌⊎◌, ℕ, length, List, [], Option, Some, refl, sym, subst, inl, inr}
 use Rattle.run_ends.specs.Answers.{Answered, CutShort, OnlyAnswer}
 use Rattle.run_ends.specs.Ways.{HasText, TakesBy, TellsAnswer}
 use Rattle.report_cli.specs.Answer.{IsAnswer, IsAnswerOf, IsCommandAnswer, IsComplete, IsMakeAnswer}

@@ -1,15 +1,12 @@
 -- A command has one answer to a whole input.
-use Rattle.std.proofs.Common.{◌≡◌, ℕ, ◌+◌, ◌≤◌, ◌<◌, List, ◌++◌, length, ◌⊎◌, Option, Some, None, refl, sym, ◌∙◌, ap, subst, arith, inl, inr, append-nil}
-use Rattle.std.proofs.lemmas.List.{length-append}
-use Rattle.port_io.specs.Bytes.{Took, Ended}
+use Rattle.std.proofs.Common.{◌≡◌, ℕ, ◌≤◌, ◌<◌, List, length, ◌⊎◌, sym, ◌∙◌, ap, subst, arith, inl, inr}
 use Rattle.run_ends.specs.declared.status.Status.{Status}
 use Rattle.run_ends.specs.declared.status.Status.TheVariants.{BadCertificate, Done, Memory, NotRegular, ReadFault}
 use Rattle.run_ends.specs.declared.status.Status.TheVariants.{Refused, Rejected, TooLong, Usage, WriteFault}
 use Rattle.report_cli.specs.Fields.{command_modulus}
 use Rattle.report_cli.specs.Formats.{IsFault, KeepsFormat, limit_of}
 use Rattle.command_line.specs.Words.{format_of}
-use Rattle.run_ends.specs.Answers.{Answered}
-use Rattle.run_ends.specs.Ways.{HasText, ReadsAll, TellsAnswer}
+use Rattle.run_ends.specs.Ways.{HasText}
 use Rattle.report_cli.specs.Answer.{IsAnswerOf}
 use Rattle.command_line.specs.declared.command.Command.{Command}
 use Rattle.report_cli.specs.Outputs.{IsOutputFor, end_of}

@@ -4,7 +4,6 @@ pub mod MadeFor
 pub mod Notes
 pub mod RightFor
 pub mod PlanFor
-pub mod Rooms
 pub mod Outputs
 pub mod Statuses
 pub mod Answer

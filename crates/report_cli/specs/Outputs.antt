@@ -19,15 +19,16 @@ use Rattle.report_cli.specs.MadeFor.{IsMadeFor}
 use Rattle.report_cli.specs.PlanFor.{IsPlanFor}
 use Rattle.report_cli.specs.RightFor.{IsRightForInput}
 use Rattle.answer_texts.specs.WholeLayers.{AreWholeLayers}
+use Rattle.desk_texts.specs.Said.{IsSaidOf}
 use Rattle.command_line.specs.declared.command.Command.{Command}
-use Rattle.command_line.specs.declared.command.Command.TheVariants.{Check, OfModel}
+use Rattle.command_line.specs.declared.command.Command.TheVariants.{Check, Edit, OfModel}
 use Rattle.residue_field.specs.declared.field_name.FieldName.{FieldName}
 use Rattle.command_line.specs.declared.command.Task.TheVariants as Task
 use Rattle.command_line.specs.declared.command.Task.TheVariants.{Analyse, Layer}
 use Rattle.run_ends.specs.declared.status.Status.{Status}
 use Rattle.run_ends.specs.declared.status.Status.TheVariants.{Done, NotRegular}
 use Rattle.report_cli.specs.declared.output.Output.{Output}
-use Rattle.report_cli.specs.declared.output.Output.TheVariants.{Accepted, Certificate, Layers, Made, Plan, Report}
+use Rattle.report_cli.specs.declared.output.Output.TheVariants.{Accepted, Certificate, Layers, Made, Plan, Replies, Report}
 
 -- the text of an output, of which each value is seen by its number
 abbrev pub output_text : {T : Type 0} → (T → ℕ) → Output T → List ℕ
@@ -36,6 +37,7 @@ output_text number (Layers model layers) = layer_text model layers
 output_text number (Report model told) = report_text model told
 output_text number (Plan model layers plan) = plan_text number model layers plan
 output_text number Accepted = codes "accepted\n"
+output_text number (Replies text) = text
 output_text number (Made size split ccf) = made_text size split ccf
 
 -- how a run ends that reports so many equations and unknowns, and this rank
@@ -49,11 +51,13 @@ end_of (Layers model layers) = Done
 end_of (Report model told) = end_of_rank told.equations told.unknowns told.rank
 end_of (Plan model layers plan) = Done
 end_of Accepted = Done
+end_of (Replies text) = Done
 end_of (Made size split ccf) = Done
 
 -- over the residues modulo p: `analyse` gives a certificate that is right for the input, of version 1 where no field is
 -- named; `layer` the model that the input gives, with its whole layers; `report` the model, with the report on it;
--- `plan` the model, with its layers and a plan; `check` the word that the certificate in the input is accepted
+-- `plan` the model, with its layers and a plan; `check` the word that the certificate in the input is accepted; `edit`
+-- the replies to its lines
 abbrev pub IsOutputFor : {T : Type 0} → (T → ℕ) → ℕ → Command → List ℕ → Output T → Type 0
 IsOutputFor number p command input (Certificate certificate) =
     (kind : Kind) × (field : Option FieldName) × (command ≡ OfModel Analyse kind field)
@@ -68,6 +72,7 @@ IsOutputFor number p command input (Plan model layers plan) =
     (kind : Kind) × (field : Option FieldName) × (command ≡ OfModel Task.Plan kind field)
     × IsPlanFor number p kind input model layers plan
 IsOutputFor number p command input Accepted = (command ≡ Check) × IsAccepted input
+IsOutputFor number p command input (Replies text) = (command ≡ Edit) × IsSaidOf p input text
 IsOutputFor number p command input (Made size split ccf) = ⊥
 
 -- and `make` tells of a made model, whatever the input is
@@ -84,4 +89,5 @@ IsWritable p (Report model told) = IsReportOf p (mixed_matrix_of model) told
 IsWritable p (Plan model layers plan) =
     AreLayersOf model layers × All (IsStepIn (length model.equations) layers.q.width) plan.steps
 IsWritable p Accepted = Unit {0}
+IsWritable p (Replies text) = Unit {0}
 IsWritable p (Made size split ccf) = Unit {0}

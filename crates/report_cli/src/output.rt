@@ -1,6 +1,6 @@
 //! What a command writes of an input.
 
-ghost use Rattle.std.specs.Prelude.{◌≡◌, ◌<◌, ◌≤◌, ℕ, List, Option, codes, length, IfErr, IfOk};
+ghost use Rattle.std.specs.Prelude.{◌≡◌, ◌<◌, ◌≤◌, ℕ, List, Option, length, IfErr, IfOk};
 ghost use Rattle.cert_text.specs.declared.kind.Kind.{Kind};
 ghost use Rattle.mixed_layering.specs.Layers.{AreLayersOf};
 ghost use Rattle.answer_texts.specs.LayerTexts.{layer_text};
@@ -29,6 +29,7 @@ use cert_reader::CERTIFICATE_LIMIT;
 use cert_text::{Ccf, Certificate, Items, Kind, Version};
 use cert_verdict::judge;
 use command_line::{Command, Format, Task};
+use desk_texts::say;
 use input_kinds::{read_input, read_model};
 use limits::INPUT_LIMIT;
 use made_models::made_model;
@@ -40,6 +41,7 @@ use refusals::ReadModel;
 use residue_field::{Field, FieldName};
 use run_ends::{Status, read_text};
 use solve_plan::{Plan, Report, plan, report};
+use sparse_tableau::SparseTableau;
 use std::alloc::Global;
 use text_writer::TextWriter;
 
@@ -56,6 +58,8 @@ pub enum Output<F: Field> {
     Plan(Mixed<F>, Layered<F>, Plan<F>),
     /// That the certificate in the input is right for the input that it repeats.
     Accepted,
+    /// The text of the replies to the lines of the input.
+    Replies(Items<u8>),
     /// The size of a made model, how many of its equations are split, and its canonical form.
     Made(usize, usize, Ccf<F>),
 }
@@ -78,6 +82,7 @@ impl<F: Field> Output<F> {
                 alloc, task, kind, named, source,
             ),
             Command::Check => Output::verdict(alloc, source),
+            Command::Edit => Output::replies(alloc, source),
         }
     }
 
@@ -126,6 +131,19 @@ impl<F: Field> Output<F> {
         let text = read_text(alloc, source, CERTIFICATE_LIMIT as u64)?;
         judge(alloc, text)?;
         Ok(Output::Accepted)
+    }
+
+    // The replies to the lines of the input.
+    fn replies<S: Source>(alloc: Global, source: &mut S) -> Result<Output<F>, Status>
+        ensures right { IfOk result (λ output. ReadsWhole input_limit (S.left source.old) (S.left source.new)
+            (λ input. IsOutputFor F.number F.modulus Command.Edit input output)) }
+        ensures unread { IfErr result (λ status.
+            GivesNothing F.modulus Format.Lines status (S.left source.old) (S.left source.new)) }
+        ensures source { TellsOfSource S.Source input_limit source.old source.new result }
+    {
+        let text = read_text(alloc, source, INPUT_LIMIT as u64)?;
+        let said = say::<F, SparseTableau<F>>(alloc, &text)?;
+        Ok(Output::Replies(Items::from_vec(said)))
     }
 
     // The layered matrix of a model.
@@ -217,7 +235,8 @@ impl<F: Field> Output<F> {
             Output::Layers(model, layered) => write_layers(out, model, layered),
             Output::Report(model, told) => write_report(out, model, told),
             Output::Plan(model, layered, plan) => write_plan(out, model, layered, plan),
-            Output::Accepted => write_accepted(out),
+            Output::Accepted => write_bytes(out, b"accepted\n"),
+            Output::Replies(text) => write_bytes(out, text.as_slice()),
             Output::Made(size, split, ccf) => write_made(out, *size, *split, ccf),
         }
     }
@@ -321,11 +340,11 @@ fn write_made<F: Field, K: Sink>(
     writer.finish()
 }
 
-// Appends the word that a certificate is accepted.
-fn write_accepted<K: Sink>(out: &mut K) -> Result<(), WriteFault>
-    ensures { IsWritten K.Sink out.old out.new (codes "accepted\n") result }
+// Appends these bytes to the sink.
+fn write_bytes<K: Sink>(out: &mut K, bytes: &[u8]) -> Result<(), WriteFault>
+    ensures { IsWritten K.Sink out.old out.new bytes.now result }
 {
     let mut writer = TextWriter::new(out);
-    writer.piece(b"accepted\n");
+    writer.piece(bytes);
     writer.finish()
 }

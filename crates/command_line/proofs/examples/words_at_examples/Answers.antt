@@ -1,7 +1,7 @@
-use Rattle.command_line.proofs.AtExamples.{analyse, layer, report, plan, check, make, make_most, make_zeros}
+use Rattle.command_line.proofs.AtExamples.{analyse, layer, report, plan, check, edit, make, make_most, make_zeros}
 use Rattle.command_line.proofs.AtExamples.{make_plus, make_none, make_more, make_word, make_alone, check_of_kind}
 use Rattle.command_line.proofs.AtExamples.{layer_large, report_small, make_large, unknown_field, field_of_zeros}
-use Rattle.command_line.proofs.AtExamples.{make_unknown_field, check_of_field}
+use Rattle.command_line.proofs.AtExamples.{make_unknown_field, check_of_field, edit_of_kind}
 use Rattle.command_line.proofs.AtExamples.{no_word, no_kind, unknown_kind, too_many, help, help_flag, part}
 use Rattle.command_line.proofs.examples.words_at_examples.Goals as goal
 
@@ -12,6 +12,7 @@ returns c = record {
   report = report;
   plan = plan;
   check = check;
+  edit = edit;
   make = make;
   make_most = make_most;
   make_zeros = make_zeros;
@@ -24,6 +25,7 @@ returns c = record {
   make_word = make_word;
   make_alone = make_alone;
   check_of_kind = check_of_kind;
+  edit_of_kind = edit_of_kind;
   no_word = no_word;
   no_kind = no_kind;
   unknown_kind = unknown_kind;

@@ -14,7 +14,7 @@ use Rattle.report_cli.specs.Formats.{IsFault, limit_of}
 use Rattle.report_cli.specs.MadeFor.{IsMakeText}
 use Rattle.run_ends.specs.declared.status.Status.TheVariants.{Done}
 use Rattle.port_io.proofs.Faults.{rose}
-use Rattle.report_cli.proofs.Making.{make-answered, make-cut, make-only}
+use Rattle.report_cli.proofs.Making.{asked-size, make-answered, make-cut, make-only}
 use Rattle.report_cli.proofs.RunWords.{complete_for, cut-for, of_each_asked, only_for, unasked-only, unasked_answered, untaken, written-for}
 use Rattle.report_cli.proofs.Runs.{one-answer-status, told_where_kept}
 use Rattle.run_ends.proofs.Wholes.{only, told}
@@ -133,6 +133,12 @@ pub returns-in-Ok-Make-clause-taken : goal.returns-in-Ok-Make-clause-taken
 returns-in-Ok-Make-clause-taken g c = λ command asks.
     let asked = subst (Asks (map string_bytes c.args.words.now)) c.in-Ok-Make.field-0-is c.in-Ok-Make.ensures in
     not-both (map string_bytes c.args.words.now) command c.in-Ok-Make.size c.in-Ok-Make.named asks asked
+
+-- the size that the words name is one
+pub make-status-requires : goal.make-status-requires
+make-status-requires g c =
+    asked-size (map string_bytes c.args.words.now) c.in-Ok-Make.size c.in-Ok-Make.named
+    (subst (Asks (map string_bytes c.args.words.now)) c.in-Ok-Make.field-0-is c.in-Ok-Make.ensures)
 
 pub returns-in-Ok-Make-clause-calm_out : goal.returns-in-Ok-Make-clause-calm_out
 returns-in-Ok-Make-clause-calm_out g c = λ input is fit.

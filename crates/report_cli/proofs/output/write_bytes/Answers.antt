@@ -1,6 +1,6 @@
 use Rattle.std.proofs.Common.{rules}
 use Rattle.text_writer.proofs.Putting.{text_written}
-use Rattle.report_cli.proofs.output.write_accepted.Goals as goal
+use Rattle.report_cli.proofs.output.write_bytes.Goals as goal
 
 pub returns : goal.returns
 returns g c =
