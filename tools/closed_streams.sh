@@ -13,8 +13,13 @@ trap 'rm -rf "$work"' EXIT
 runs=0 otherwise=0
 
 # 4,096 names of 58 bytes and more: what each command but `check` and `make` writes of them is more than a pipe holds.
-awk 'BEGIN { for (u = 1; u <= 4096; u++) print "unknown a_name_so_long_that_the_texts_are_more_than_a_pipe_holds." u }' \
-    > "$work/list"
+names() {
+    awk -v before="$1" -v behind="$2" 'BEGIN {
+        for (u = 1; u <= 4096; u++) printf "%sa_name_so_long_that_the_texts_are_more_than_a_pipe_holds.%d%s", before, u, behind
+    }'
+}
+names 'unknown ' '\n' > "$work/list"
+(printf 'add 1 e'; names ' ' '=?'; printf '\nask 1\n') > "$work/lines"
 "$program" analyse matrix < "$work/list" > "$work/certificate"
 : > "$work/notes"
 
@@ -42,7 +47,9 @@ failing_outputs() {
 
 # A reader that goes away after ten bytes.
 leaving_reader() {
-    "$program" "$@" < "$work/list" 2> "$work/notes" | head -c 10 > "$work/out"
+    local input=$1
+    shift
+    "$program" "$@" < "$input" 2> "$work/notes" | head -c 10 > "$work/out"
     expect "$* behind a reader of ten bytes" "${PIPESTATUS[0]}" 5 "mixed: write fault"
 }
 
@@ -56,11 +63,14 @@ failing_inputs() {
 
 for command in analyse layer report plan; do
     failing_outputs "$work/list" "$command" matrix
-    leaving_reader "$command" matrix
+    leaving_reader "$work/list" "$command" matrix
     for kind in matrix netlist flowsheet; do failing_inputs "$command" "$kind"; done
 done
 failing_outputs "$work/certificate" check
 failing_inputs check
+failing_outputs "$work/lines" edit
+leaving_reader "$work/lines" edit
+failing_inputs edit
 failing_outputs /dev/null make 2
 
 # `make` reads nothing, so that it needs no input.

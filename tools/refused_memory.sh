@@ -128,6 +128,8 @@ input=$work/list
 for command in analyse report plan; do refuse_each_call "$command" matrix; done
 "$program" analyse matrix < "$input" > "$work/certificate"
 input=$work/certificate refuse_each_call check
+printf 'add 1 a x=1 y=?\nadd 1 b y=1+?\nset 1 a z=2\nask 1\ndrop 1 b\n' > "$work/lines"
+input=$work/lines refuse_each_call edit
 input=/dev/null refuse_each_call make 2
 examples=$(dirname "$0")/../examples
 input=$examples/batteries_in_parallel.cir refuse_each_call analyse netlist
