@@ -1,5 +1,6 @@
-use Rattle.std.proofs.Common.{ap, arith}
-use Rattle.edit_desk.specs.Desks.{desk_limit}
+use Rattle.std.proofs.Common.{◌≡◌, ◌+◌, ◌-◌, ap, arith, subst}
+use Rattle.edit_desk.specs.Desks.{desk_limit, model_at}
+use Rattle.mixed_layering.specs.Layers.{AreLayersOf}
 use Rattle.mixed_model.specs.Layers.{Layers}
 use Rattle.model_edits.specs.Orders.{IsSaidOrder}
 use Rattle.desk_texts.proofs.PartsLaws.{told-in}
@@ -11,6 +12,9 @@ put_parts-requires-clause-parts g c =
     let is : IsSaidOrder desk_limit c.args.line.now c.in-Ok-Some.order =
     of-some _ (IsSaidOrder desk_limit c.args.line.now) c.in-Ok-Some.field-0 c.in-Ok-Some.order c.in-Ok-Some.field-0-is
     c.in-Ok-Some.ensures.1 in
+    let k = c.in-Ok-Some.order.model in
+    let back : k + 1 - 1 ≡ k = omega arith in
+    let layers = subst (λ i. AreLayersOf (model_at c.args.desk.now i) c.layered-layered.result.now) back c.layered-layered.ensures in
     told-in g.F.Field.modulus c.args.desk.now c.args.line.now c.args.rank c.args.parts.now c.in-Ok-Some.order
-    c.layered-layered.result.now c.requires.count c.requires.asked is c.layered-layered.ensures
+    c.layered-layered.result.now c.requires.count c.requires.asked is layers
     (omega (arith, c.is_matrix.ensures.narrow, ap (λ (l : Layers). l.q.width) c.layered.view_is))
