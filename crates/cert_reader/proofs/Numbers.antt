@@ -1,18 +1,21 @@
 -- A number at the front of bytes.
 use Rattle.std.proofs.Common.{◌≡◌, ℕ, zero, suc, ◌+◌, ◌-◌, ◌*◌, ◌^◌, ◌<◌, ◌≤◌, Bool, true, false, cond, List, [], ◌∷◌}
-use Rattle.std.proofs.Common.{◌++◌, length, take, drop, get_or, Result, Ok, Err, refl, sym, ap, subst, ◌∙◌, arith}
+use Rattle.std.proofs.Common.{◌++◌, length, take, drop, get_or, inl, inr, Result, Ok, Err, refl, sym, ap, subst, ◌∙◌, arith}
 use Rattle.std.proofs.Common.{rules, eqb, le-leb}
 use Rattle.std.specs.Prelude.{◌&&◌, decimal, nat_le}
 use Rattle.std.specs.Char.{is_ascii_digit, digit_value}
 use Rattle.std.specs.List.{list_all, position_or_len}
 use Rattle.std.specs.Str.Parse.{digits_value}
 use Rattle.std.proofs.lemmas.Bool.Decides.{nat_tests}
+use Rattle.std.proofs.lemmas.List.{take-append-drop, length-take-le}
+use Rattle.std.proofs.lemmas.List.Folds.{list_all_more}
 use Rattle.std.proofs.lemmas.Fmt.{digits_decimal, digits_value-decimal, decimal-digits_value, length-decimal-le, first_decimal, decimal_nonempty, decimal_digit}
-use Rattle.std.proofs.lemmas.Str.Parse.{IsNumeralModel, numerals_by_value, digits_value_short, digits_value-take-le, digit_at}
+use Rattle.std.proofs.lemmas.Str.Parse.{IsNumeralModel, numerals_by_value, digits_value_short, digit_at}
 use Rattle.std.proofs.lemmas.Int.Digits.{digits_value_more}
 use Rattle.std.proofs.lemmas.Str.{digit_value_digit}
+use Rattle.residue_theory.proofs.SetLaws.{lt_cases}
 use Rattle.cert_reader.proofs.Texts.{and_both, drop-again}
-use Rattle.cert_reader.specs.Fronts.{is_no_digit, front_digits, is_plain, number_at}
+use Rattle.cert_reader.specs.Fronts.{AreFrontDigits, is_no_digit, front_digits, is_plain, number_at}
 
 pub digits : IsNumeralModel (λ text. list_all is_ascii_digit text ≡ true) (digits_value 10)
 digits = numerals_by_value (λ text. list_all is_ascii_digit text ≡ true) (search rules)
@@ -122,14 +125,84 @@ number_again limit line n rest narrow within ends =
     let small : nat_le n limit ≡ true = le-leb n limit within in
     rw (front, value, plain, small, drop-again (decimal n) rest) refl
 
+-- ---- digits that are looked through one by one
 -- the number so far is below a power of ten
-pub value_small : (ds : List ℕ) (i : ℕ) → list_all is_ascii_digit ds ≡ true → length ds ≤ 10 → digits_value 10 (take i ds) < 10 ^ 10
-value_small ds i all short = omega (arith, digits_value-take-le 10 ds i (omega arith), digits_value_short digits ds 10 all short)
+pub value_small : (bytes : List ℕ) (count : ℕ) → list_all is_ascii_digit (take count bytes) ≡ true → count ≤ 10 → count ≤ length bytes →
+    digits_value 10 (take count bytes) < 10 ^ 10
+value_small bytes count all few within =
+    digits_value_short digits (take count bytes) 10 all (omega (arith, length-take-le count bytes within))
 
-pub value_next : (ds : List ℕ) (i : ℕ) → list_all is_ascii_digit ds ≡ true → i < length ds →
-    digits_value 10 (take (i + 1) ds) ≡ digits_value 10 (take i ds) * 10 + (get_or ds i 0 - 48)
-value_next ds i all within =
-    let range = digit_at ds i (digits.to ds all) within in
-    digits_value_more 10 ds i within ∙ ap (λ d. digits_value 10 (take i ds) * 10 + d)
-    (let e : digit_value (get_or ds i 0) ≡ get_or ds i 0 - 48 =
-    omega (arith, digit_value_digit (get_or ds i 0) range) in e)
+pub digits_next : (bytes : List ℕ) (count : ℕ) → count < length bytes → list_all is_ascii_digit (take count bytes) ≡ true →
+    is_ascii_digit (get_or bytes count 0) ≡ true → list_all is_ascii_digit (take (count + 1) bytes) ≡ true
+digits_next bytes count less all here = rw (list_all_more is_ascii_digit bytes count 0 less, all, here) refl
+
+pub value_next : (bytes : List ℕ) (count : ℕ) → count < length bytes → is_ascii_digit (get_or bytes count 0) ≡ true →
+    digits_value 10 (take (count + 1) bytes) ≡ digits_value 10 (take count bytes) * 10 + (get_or bytes count 0 - 48)
+value_next bytes count within here =
+    let byte : ℕ = get_or bytes count 0 in
+    let range = digit_at (byte ∷ []) 0 (digits.to (byte ∷ []) (rw here refl)) (omega arith) in
+    digits_value_more 10 bytes count within ∙ ap (λ d. digits_value 10 (take count bytes) * 10 + d)
+    (let e : digit_value byte ≡ byte - 48 = omega (arith, digit_value_digit byte range) in e)
+
+ends-at : (bytes : List ℕ) (count : ℕ) → (count < length bytes → is_ascii_digit (get_or bytes count 0) ≡ false) → EndsNumber (drop count bytes)
+ends-at [] zero ended = tt
+ends-at [] (suc count) ended = tt
+ends-at (byte ∷ bytes) zero ended = ended (omega arith)
+ends-at (byte ∷ bytes) (suc count) ended = ends-at bytes count (λ less. ended (omega (arith, less)))
+
+front-taken : (bytes : List ℕ) (count : ℕ) → list_all is_ascii_digit (take count bytes) ≡ true → EndsNumber (drop count bytes) →
+    front_digits bytes ≡ take count bytes
+front-taken bytes count all ends =
+    ap front_digits (sym (take-append-drop count bytes)) ∙ front-again (take count bytes) (drop count bytes) all ends
+
+front-longer : (bytes : List ℕ) (count : ℕ) → list_all is_ascii_digit (take count bytes) ≡ true → count ≤ length bytes →
+    count ≤ length (front_digits bytes)
+front-longer bytes zero all within = omega arith
+front-longer [] (suc count) all within = absurd (omega arith)
+front-longer (byte ∷ bytes) (suc count) all within =
+    let both = and_both (is_ascii_digit byte) (list_all is_ascii_digit (take count bytes)) all in
+    subst (λ ds. suc count ≤ length ds) (sym (front_digits-cons byte bytes both.0)) (omega (arith, front-longer bytes count both.1 (omega (arith, within))))
+
+plain-short : (ds : List ℕ) → is_plain ds ≡ true → length ds ≤ 10
+plain-short [] plain = omega arith
+plain-short (d ∷ ds) plain = grind (arith, nat_tests)
+
+not-plain : (ds : List ℕ) → 10 < length ds → is_plain ds ≡ false
+not-plain [] long = refl
+not-plain (d ∷ ds) long = rw (let e : nat_le (length (d ∷ ds)) 10 ≡ false = grind (arith, nat_tests) in e) refl
+
+-- what is looked through is what the digits in front say
+module _ (bytes : List ℕ) (count value : ℕ) (are : AreFrontDigits bytes count value) where
+  long : length (take count bytes) ≡ count
+  long = length-take-le count bytes are.within
+
+  front : count < 11 → front_digits bytes ≡ take count bytes
+  front less = front-taken bytes count are.digits (ends-at bytes count (are.ended less))
+
+  same : is_plain (take count bytes) ≡ is_plain (front_digits bytes)
+  same = elim (lt_cases count 11) [
+    | inl less ↦ ap is_plain (sym (front less))
+    | inr more ↦ not-plain (take count bytes) (omega (arith, long)) ∙ sym (not-plain (front_digits bytes)
+        (omega (arith, front-longer bytes count are.digits are.within)))
+  ]
+
+  module _ (limit line : ℕ) where
+    pub number_unplain : is_plain (take count bytes) ≡ false → number_at limit line bytes ≡ Err line
+    unfolding number_at
+    number_unplain plain = rw (let e : is_plain (front_digits bytes) ≡ false = sym same ∙ plain in e) refl
+
+    front_is : is_plain (take count bytes) ≡ true → front_digits bytes ≡ take count bytes
+    front_is plain = front (omega (arith, long, plain-short (take count bytes) plain))
+
+    pub number_over : is_plain (take count bytes) ≡ true → limit < value → number_at limit line bytes ≡ Err line
+    unfolding number_at
+    number_over plain over =
+        let large : nat_le (digits_value 10 (take count bytes)) limit ≡ false = grind (arith, nat_tests, are.value_is, over) in
+        rw (front_is plain, plain, large) refl
+
+    pub number_within : is_plain (take count bytes) ≡ true → value ≤ limit → number_at limit line bytes ≡ Ok (value, drop count bytes)
+    unfolding number_at
+    number_within plain within =
+        let small : nat_le (digits_value 10 (take count bytes)) limit ≡ true =
+        le-leb (digits_value 10 (take count bytes)) limit (omega (arith, within, are.value_is)) in
+        rw (front_is plain, plain, small, long) (ap (λ (v : ℕ). Ok (v, drop count bytes)) (sym are.value_is))

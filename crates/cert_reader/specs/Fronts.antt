@@ -1,8 +1,9 @@
 -- Reading from the front of bytes, in the line with this number: a value and the bytes after it, or the number of the
 -- line that is refused.
-use Rattle.std.specs.Prelude.{◌≡◌, ℕ, List, [], ◌∷◌, length, drop, Bool, true, false, not, ◌&&◌, ◌||◌, Result, Ok, Err, nat_eq, nat_le, if◌then◌else◌}
+use Rattle.std.specs.Prelude.{◌≡◌, ◌<◌, ◌≤◌, ℕ, List, [], ◌∷◌, length, take, drop, slice_index_or, nat_eq, nat_le}
+use Rattle.std.specs.Prelude.{Bool, true, false, not, ◌&&◌, ◌||◌, Result, Ok, Err, if◌then◌else◌}
 use Rattle.std.specs.Char.{is_ascii_digit}
-use Rattle.std.specs.List.{before_first}
+use Rattle.std.specs.List.{before_first, list_all}
 use Rattle.std.specs.Str.Parse.{digits_value}
 use Rattle.cert_reader.specs.declared.fault.ReadCert.{ReadCert}
 use Rattle.cert_reader.specs.declared.fault.ReadCert.TheVariants as errors
@@ -37,6 +38,14 @@ is_no_digit byte = not (is_ascii_digit byte)
 -- the digits in front
 abbrev pub front_digits : List ℕ → List ℕ
 front_digits bytes = before_first is_no_digit bytes
+
+-- so many bytes in front, but at most eleven, are all digits that stand there, and have this value
+pub record AreFrontDigits (bytes : List ℕ) (count value : ℕ) : Type 0 where
+  pub within : count ≤ length bytes
+  pub few : count ≤ 11
+  pub digits : list_all is_ascii_digit (take count bytes) ≡ true
+  pub value_is : value ≡ digits_value 10 (take count bytes)
+  pub ended : count < 11 → count < length bytes → is_ascii_digit (slice_index_or bytes count 0) ≡ false
 
 -- at least one digit and at most ten, and a zero in front only alone
 abbrev pub is_plain : List ℕ → Bool

@@ -1,10 +1,7 @@
 //! Texts and numbers at the front of bytes.
 
-ghost use Rattle.std.specs.Prelude.{◌≡◌, ◌<◌, ◌≤◌, ◌^◌, ℕ, true, false, length, position, take, drop, IfOk, MatchOption};
-ghost use Rattle.std.specs.Str.Parse.{digits_value};
-ghost use Rattle.std.specs.List.{list_all};
-ghost use Rattle.std.specs.Char.{is_ascii_digit};
-ghost use Rattle.cert_reader.specs.Fronts.{GivesReading, begins_with, text_at, number_at, is_no_digit, is_plain, front_digits};
+ghost use Rattle.std.specs.Prelude.{◌≡◌, ◌<◌, ◌≤◌, ℕ, true, false, length, drop, IfOk, MatchOption};
+ghost use Rattle.cert_reader.specs.Fronts.{AreFrontDigits, GivesReading, begins_with, text_at, number_at, is_plain};
 
 use crate::fault::ReadCert;
 
@@ -34,23 +31,6 @@ pub fn text_at<'a>(line: u32, text: &[u8], bytes: &'a [u8]) -> Result<&'a [u8], 
     }
 }
 
-// The digits in front, and what follows them.
-fn split_digits(bytes: &[u8]) -> (&[u8], &[u8])
-    ensures digits { result.0.now ≡ front_digits bytes.now }
-    ensures rest { result.1.now ≡ drop (length (front_digits bytes.now)) bytes.now }
-{
-    match first_no_digit(bytes) {
-        Some(end) => bytes.split_at(end),
-        None => bytes.split_at(bytes.len()),
-    }
-}
-
-fn first_no_digit(bytes: &[u8]) -> Option<usize>
-    ensures { result ≡ position is_no_digit bytes.now }
-{
-    bytes.iter().position(|byte| !byte.is_ascii_digit())
-}
-
 // Whether there is a digit, there are at most ten, and a zero stands in front only alone.
 fn is_plain(digits: &[u8]) -> bool
     ensures { result ≡ is_plain digits.now }
@@ -61,29 +41,39 @@ fn is_plain(digits: &[u8]) -> bool
     }
 }
 
-fn value_of(digits: &[u8]) -> usize
-    requires digits { list_all is_ascii_digit digits.now ≡ true }
-    requires short { length digits.now ≤ 10 }
-    ensures { result ≡ digits_value 10 digits.now }
+// How many of the bytes are looked through for digits. Eleven digits are too many.
+fn looked_through(bytes: &[u8]) -> usize
+    ensures within { result ≤ length bytes.now }
+    ensures few { result ≤ 11 }
+    ensures all { result < 11 → result ≡ length bytes.now }
 {
+    if bytes.len() < 11 { bytes.len() } else { 11 }
+}
+
+// How many digits stand in front, but at most eleven, and their value, in one pass.
+fn front_value(bytes: &[u8]) -> (usize, usize)
+    ensures { AreFrontDigits bytes.now result.0 result.1 }
+{
+    let most = looked_through(bytes);
+    let mut count = 0;
     let mut value: usize = 0;
-    for byte in digits {
-        value = value * 10 + (*byte - b'0') as usize;
+    while count < most && bytes[count].is_ascii_digit() {
+        value = value * 10 + (bytes[count] - b'0') as usize;
+        count += 1;
     }
-    value
+    (count, value)
 }
 
 /// The number in front, up to this limit, and what follows it.
-#[tactic(auto, unfolding(crate::specs::Fronts::number_at))]
 pub fn number_at(line: u32, limit: usize, bytes: &[u8]) -> Result<(usize, &[u8]), ReadCert>
     ensures within { IfOk result (λ x. x.0 ≤ limit) }
     ensures number { GivesReading (λ x. (x.0, x.1.now)) result (number_at limit line bytes.now) }
 {
-    let (digits, rest) = split_digits(bytes);
+    let (count, value) = front_value(bytes);
+    let (digits, rest) = bytes.split_at(count);
     if !is_plain(digits) {
         return Err(ReadCert::Refused { line });
     }
-    let value = value_of(digits);
     if value > limit {
         return Err(ReadCert::Refused { line });
     }
