@@ -3,7 +3,8 @@
 # by `add` lines; then places of it are set and cleared, and an equation is dropped and added again, in turn, so many times in all,
 # and the model is asked every hundredth time. Instructions are counted by valgrind's callgrind, which repeats; seconds are those of
 # the clock, which do not. Usage: bench/desk.sh [FAMILY [SIZE [EDITS]]], mixed, 1000 and 10000 where they are left out; the families are
-# those of lists.sh but `dense`, whose lines are too long. program.sh says what is to be built first.
+# those of lists.sh but `dense`, whose lines are too long. COUNT=no leaves the instructions out, which take fifty times as long. program.sh
+# says what is to be built first.
 set -eu
 . "$(dirname "$0")/program.sh"
 family=${1:-mixed} size=${2:-1000} edits=${3:-10000}
@@ -43,9 +44,10 @@ row() {
     local what=$1 times=$2 input=$3 taken counted
     shift 3
     taken=$(seconds "$input" "$@")
-    counted=$(instructions "$input" "$@")
+    counted=
+    if [ "${COUNT:-yes}" = yes ]; then counted=$(instructions "$input" "$@"); fi
     awk -v what="$what" -v n="$counted" -v s="$taken" -v times="$times" \
-        'BEGIN { printf "| %s | %.1f | %.2f |\n", what, n * times / 1e6, s * times }'
+        'BEGIN { printf "| %s | %s | %.2f |\n", what, n == "" ? "" : sprintf("%.1f", n * times / 1e6), s * times }'
 }
 
 echo "| $family, $size equations | instructions, million | seconds |"
