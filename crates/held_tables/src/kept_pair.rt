@@ -10,7 +10,7 @@ use exchange_graph::Steps;
 use independent_matching::Change;
 use mixed_model::{Mixed, is_label};
 use model_edits::set_item;
-use residue_field::Res;
+use residue_field::{Field, Res};
 use row_transform::Tableau;
 use sparse_tableau::SparseTableau;
 use std::alloc::Global;
