@@ -1,0 +1,3 @@
+pub mod CostLists
+pub mod Cheapest
+pub mod Levels

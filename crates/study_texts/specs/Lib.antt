@@ -1,0 +1,3 @@
+pub mod SolutionTexts
+pub mod ConflictTexts
+pub mod Rooms
