@@ -28,7 +28,8 @@ fn told(
 ) -> Result<(), CheckError>
     requires { repair.now.kept ≡ kept ∷ [] }
 {
-    assert!(rt; model.equations() == 2 && kept < 2);
+    assert!(rt; model.equations() == 2);
+    assert!(rt; kept < 2);
     check_repair(alloc, model, &[3, 2], repair)
 }
 
