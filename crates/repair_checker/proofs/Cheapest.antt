@@ -1,5 +1,5 @@
 -- A repair that keeps the rules shows that no repair costs less, whoever made it.
-use Rattle.std.proofs.Common.{◌≡◌, ℕ, zero, suc, ◌+◌, ◌%◌, ◌<◌, Bool, true, false, ◌&&◌, cond, eqb, leb, inl, inr, List, [], ◌∷◌, length, get_or}
+use Rattle.std.proofs.Common.{◌≡◌, ℕ, suc, ◌%◌, ◌<◌, Bool, true, ◌&&◌, cond, eqb, inl, inr, List, [], ◌∷◌, length, get_or}
 use Rattle.std.proofs.Common.{refl, ap, sym, subst, ◌∙◌, arith}
 use Rattle.residue_theory.proofs.SetLaws.{differ, either_cases, eqb_true}
 use Rattle.residue_theory.specs.Residues.{IsPrime}
@@ -12,14 +12,13 @@ use Rattle.mixed_pair_laws.proofs.SameEntries.{same-model}
 use Rattle.mixed_model.specs.Models.{MixedModel, mixed_matrix_of}
 use Rattle.cert_text.specs.Contents.{Contents}
 use Rattle.cert_text.specs.Ranges.{AreRising}
-use Rattle.cert_checker.specs.Answers.{IsRightFor}
 use Rattle.certificate_laws.proofs.RisingLists.{members-counted}
 use Rattle.equation_matroid_laws.proofs.Repairs.{levels-cheapest}
 use Rattle.equation_matroid_laws.specs.EquationRanks.{AreIndependent, IsRankOf}
 use Rattle.equation_matroid_laws.specs.GreedyChoices.{IsCheapestRepair, costing, outside}
 use Rattle.restricted_models.proofs.Ranks.{ranks-to}
 use Rattle.restricted_models.specs.Restrictions.{restricted}
-use Rattle.repair_checker.specs.Costs.{AreCosts, all_costing, costing_of}
+use Rattle.repair_checker.specs.Costs.{all_costing, costing_of}
 use Rattle.repair_checker.specs.Rules.{KeepsRepairRules, ShowsLevel, ShowsRank, level_costs}
 use Rattle.repair_checker.specs.declared.repair.Level.{Level}
 use Rattle.repair_checker.specs.declared.repair.Repair.{Repair}
@@ -44,7 +43,8 @@ level-at (level ∷ levels) cost h = elim (either_cases (eqb level.cost cost) (h
 ]
 
 module _ {F : Type 0} (p : ℕ) (prime : IsPrime p) (big : 2 < p) (model : MixedModel) (costs : List ℕ) (repair : Repair F)
-    (count : length costs ≡ length model.equations) (kept : AreRising (length model.equations) repair.kept) (keeps : KeepsRepairRules p model costs repair) where
+    (count : length costs ≡ length model.equations) (kept : AreRising (length model.equations) repair.kept)
+    (keeps : KeepsRepairRules p model costs repair) where
   abbrev M : MixedMatrix
   M = mixed_matrix_of model
 
@@ -79,7 +79,8 @@ module _ {F : Type 0} (p : ℕ) (prime : IsPrime p) (big : 2 < p) (model : Mixed
 
           counted : IsRankOf p M (costing cost level.cost) (size_on (both (has repair.kept) (costing cost level.cost)) (length model.equations))
           counted = same-set p M (has (all_costing costs level.cost)) (costing cost level.cost)
-              (λ i il. all-has costs level.cost i (omega (arith, il, count))) (size_on (both (has repair.kept) (costing cost level.cost)) (length model.equations))
+              (λ i il. all-has costs level.cost i (omega (arith, il, count)))
+              (size_on (both (has repair.kept) (costing cost level.cost)) (length model.equations))
               (subst (IsRankOf p M (has (all_costing costs level.cost)))
               (costing-counted costs level.cost repair.kept (subst (λ n. AreRising n repair.kept) (sym count) kept)
               ∙ ap (size_on (both (has repair.kept) (costing cost level.cost))) count) of_all)

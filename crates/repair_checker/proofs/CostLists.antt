@@ -1,21 +1,19 @@
 -- Lists of the equations that cost so much: their members, and how one goes on.
-use Rattle.std.proofs.Common.{◌≡◌, ◌≢◌, ℕ, zero, suc, ◌+◌, ◌*◌, ◌<◌, ◌≤◌, Bool, true, false, cond, ◌&&◌, ◌||◌, ◌⊎◌, ◌↔◌, inl, inr, eqb, leb, not}
-use Rattle.std.proofs.Common.{List, [], ◌∷◌, ◌++◌, length, map, get_or, take, filter, refl, ap, ap₂, sym, subst, ◌∙◌, arith, map-id, append-nil, add-one, zero-add, IsTrue, All, Result, Ok, Err, is_ok, is_err}
+use Rattle.std.proofs.Common.{◌≡◌, ◌≢◌, ℕ, ◌+◌, ◌<◌, ◌≤◌, Bool, true, false, cond, ◌&&◌, ◌||◌, ◌⊎◌, inl, inr, eqb, leb, not}
+use Rattle.std.proofs.Common.{List, [], ◌∷◌, ◌++◌, length, get_or, filter, refl, ap, ap₂, sym, subst, ◌∙◌, arith, map-id, append-nil, add-one, zero-add, Result, Ok, Err, is_ok, is_err}
 use Rattle.std.proofs.lemmas.Bool.Decides.{nat_tests}
-use Rattle.std.proofs.lemmas.List.{length-map}
 use Rattle.std.proofs.lemmas.List.Elements.{All-filter, filter-append}
 use Rattle.std.proofs.lemmas.List.FromFn.{get_or-range_with_len, length-range_with_len, map-range_with_len_more}
 use Rattle.std.proofs.lemmas.List.Kept.{IsStrictlyIncreasing-filter}
 use Rattle.std.specs.List.{range_with_len}
-use Rattle.std.specs.List.Sorted.{IsStrictlyIncreasing}
-use Rattle.residue_theory.specs.Sets.{both, everything, has}
+use Rattle.residue_theory.specs.Sets.{both, has}
 use Rattle.residue_theory.specs.Sums.{size_on, sum_on}
-use Rattle.residue_theory.proofs.SetLaws.{both_true, both-first, both-second, differ, either_cases, either-first, either-second, eqb_true, eqb_from}
+use Rattle.residue_theory.proofs.SetLaws.{eqb_from}
 use Rattle.residue_theory.proofs.SumLaws.{nat_cases, sum_on-same}
 use Rattle.sparse_t.proofs.ListLaws.{has-at}
 use Rattle.cert_text.specs.Ranges.{AreRising}
-use Rattle.certificate_laws.proofs.RisingLists.{members-counted, same-tests}
-use Rattle.repair_checker.specs.Costs.{AreCosts, all_costing, costing_of}
+use Rattle.certificate_laws.proofs.RisingLists.{members-counted}
+use Rattle.repair_checker.specs.Costs.{all_costing, costing_of}
 
 -- ---- what a filter keeps
 keeps-one : (P : ℕ → Bool) (x : ℕ) (xs : List ℕ) (b : Bool) → P x ≡ b → (j : ℕ) → has (cond b (x ∷ xs) xs) j ≡ ((b && eqb x j) || has xs j)
@@ -90,7 +88,8 @@ module _ (costs : List ℕ) (least : ℕ) where
 
   pub grows : (k : ℕ) (items now : List ℕ) → items ≡ costing_of costs least (range_with_len 0 k) → least ≤ get_or costs k 0 →
       now ≡ items ++ k ∷ [] → now ≡ costing_of costs least (range_with_len 0 (k + 1))
-  grows k items now is enough pushed = let told : leb least (get_or costs k 0) ≡ true = leb-true least (get_or costs k 0) enough in pushed ∙ ap (λ xs. xs ++ k ∷ []) is
+  grows k items now is enough pushed = let told : leb least (get_or costs k 0) ≡ true = leb-true least (get_or costs k 0) enough in
+      pushed ∙ ap (λ xs. xs ++ k ∷ []) is
       ∙ ap (λ b. costing_of costs least (range_with_len 0 k) ++ cond b (k ∷ []) []) (sym told) ∙ sym (costing-more k)
 
   pub stays : (k : ℕ) (items : List ℕ) → items ≡ costing_of costs least (range_with_len 0 k) → get_or costs k 0 < least →

@@ -49,7 +49,8 @@ ReachesLevels {F} p model costs repair = (k : ℕ) (d : Level F) → k < length 
 abbrev pub HasCost : {F : Type 0} → List ℕ → Repair F → Type 0
 HasCost costs repair = repair.cost ≡ cost_of_others costs repair.kept
 
-pub record KeepsRepairRules {F : Type 0} (p : ℕ) (model : MixedModel) (costs : List ℕ) (repair : Repair F) : Type 0 where
+pub record KeepsRepairRules {F : Type 0} (p : ℕ) (model : MixedModel) (costs : List ℕ) (repair : Repair F)
+    : Type 0 where
   pub levels : HasLevels costs repair
   pub independent : KeepsIndependent p model repair
   pub reaches : ReachesLevels p model costs repair

@@ -1,6 +1,6 @@
 //! A repair is tried by its rules, whoever made it.
 
-ghost use Rattle.std.specs.Prelude.{◌≡◌, ◌≤◌, ◌↔◌, IfErr, IfOk, IsTrue, length, slice_index};
+ghost use Rattle.std.specs.Prelude.{◌≤◌, ◌↔◌, IfErr, IfOk, IsTrue, length, slice_index};
 ghost use Rattle.residue_theory.specs.Sets.{has};
 ghost use Rattle.mixed_model.specs.Models.{mixed_matrix_of};
 ghost use Rattle.cert_text.specs.Ranges.{AreRising};

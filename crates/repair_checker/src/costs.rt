@@ -1,10 +1,9 @@
 //! Costs of equations, and the levels of a repair.
 
-ghost use Rattle.std.specs.Prelude.{◌≡◌, ◌+◌, ◌<◌, ◌≤◌, ◌↔◌, ℕ, IfOk, IsTrue, length, map, nat_eq, slice_index};
+ghost use Rattle.std.specs.Prelude.{◌≡◌, ◌+◌, ◌<◌, ◌≤◌, ◌↔◌, ℕ, IfOk, IsTrue, length, nat_eq, slice_index};
 ghost use Rattle.std.specs.List.{All, list_all, list_any};
 ghost use Rattle.std.specs.List.Sorted.{IsStrictlyIncreasing};
 ghost use Rattle.residue_theory.specs.Sets.{has};
-ghost use Rattle.cert_text.specs.Ranges.{AreRising};
 ghost use Rattle.repair_checker.specs.Costs.{AreCosts, AreLevels, all_costing, costing_of};
 ghost use Rattle.repair_checker.specs.Rules.{cost_of_others, level_costs};
 

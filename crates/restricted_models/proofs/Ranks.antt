@@ -1,6 +1,6 @@
 -- The rows of a model that has some equations alone are rows of the whole one: both have the same kernel at the same values.
-use Rattle.std.proofs.Common.{◌≡◌, ℕ, zero, suc, ◌+◌, ◌*◌, ◌%◌, ◌<◌, ◌≤◌, Bool, true, false, cond, ◌&&◌, List, [], ◌∷◌, length, map, get_or, eqb}
-use Rattle.std.proofs.Common.{refl, ap, ap₂, sym, subst, ◌∙◌, arith, AllPairs, unwrap_or}
+use Rattle.std.proofs.Common.{◌≡◌, ℕ, zero, suc, ◌+◌, ◌*◌, ◌%◌, ◌<◌, Bool, true, false, cond, ◌&&◌, List, [], ◌∷◌, length, map, get_or, eqb}
+use Rattle.std.proofs.Common.{refl, ap, ap₂, sym, ◌∙◌, arith, AllPairs, unwrap_or}
 use Rattle.std.proofs.lemmas.Bool.Decides.{nat_tests}
 use Rattle.std.proofs.lemmas.List.{get_or_default, length-map}
 use Rattle.std.proofs.lemmas.List.Folds.{Any-from_list_any, list_any_at}

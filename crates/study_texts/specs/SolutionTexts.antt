@@ -1,4 +1,4 @@
--- The texts that tell how a model is solved, by their lines. Unknowns and columns are counted from 0 here, blocks from 1.
+-- The texts that tell how a model is solved, by their lines. Unknowns and columns are counted from 0, blocks from 1.
 use Rattle.std.specs.Prelude.{ℕ, ◌+◌, List, [], ◌∷◌, ◌++◌, codes, length}
 use Rattle.text_writer.specs.Numbers.{spaced}
 use Rattle.mixed_model.specs.Layers.{Layers}

@@ -1,6 +1,6 @@
 //! Conflict sets, put into a writer.
 
-ghost use Rattle.std.specs.Prelude.{◌≡◌, ◌<◌, ℕ, length};
+ghost use Rattle.std.specs.Prelude.{◌<◌, length};
 ghost use Rattle.std.specs.List.{All};
 ghost use Rattle.mixed_model.specs.Names.{name_at};
 ghost use Rattle.study_texts.specs.ConflictTexts.{conflict_count_line, conflict_line, name_item, name_items};

@@ -1,6 +1,6 @@
 //! How a model is solved, put into a writer.
 
-ghost use Rattle.std.specs.Prelude.{◌≡◌, ◌<◌, ◌≤◌, ℕ, codes, length};
+ghost use Rattle.std.specs.Prelude.{◌<◌, ◌≤◌, codes, length};
 ghost use Rattle.std.specs.List.{All};
 ghost use Rattle.mixed_layering.specs.Layers.{AreLayersOf};
 ghost use Rattle.mixed_model.specs.Names.{name_at};

@@ -1,4 +1,4 @@
-use Rattle.std.proofs.Common.{◌+◌, ◌≤◌, refl, arith}
+use Rattle.std.proofs.Common.{refl, arith}
 use Rattle.residue_theory.proofs.SetLaws.{differ}
 use Rattle.repair_checker.proofs.Levels.{falls-more, falls-not}
 use Rattle.repair_checker.proofs.costs.are_falling.Goals as goal

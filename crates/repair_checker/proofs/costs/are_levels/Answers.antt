@@ -1,4 +1,4 @@
-use Rattle.std.proofs.Common.{◌≡◌, ◌∙◌, refl, sym}
+use Rattle.std.proofs.Common.{◌∙◌, refl, sym}
 use Rattle.residue_theory.proofs.SetLaws.{differ}
 use Rattle.repair_checker.proofs.Levels.{refuted, tested}
 use Rattle.repair_checker.proofs.costs.are_levels.Goals as goal

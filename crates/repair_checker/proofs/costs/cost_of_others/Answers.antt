@@ -1,4 +1,4 @@
-use Rattle.std.proofs.Common.{◌≡◌, ◌+◌, ◌≤◌, ◌*◌, ℕ, true, false, not, cond, slice_index, add-zero, sym, ◌∙◌, arith}
+use Rattle.std.proofs.Common.{◌≡◌, true, false, not, slice_index, add-zero, sym, ◌∙◌, arith}
 use Rattle.residue_theory.specs.Sets.{has}
 use Rattle.sparse_t.proofs.ListLaws.{has-searched}
 use Rattle.equation_matroid_laws.specs.GreedyChoices.{outside}

@@ -1,4 +1,4 @@
-use Rattle.std.proofs.Common.{◌≡◌, ◌+◌, ap, ◌∙◌}
+use Rattle.std.proofs.Common.{◌+◌, ap, ◌∙◌}
 use Rattle.repair_checker.proofs.CostLists.{grows, stays}
 use Rattle.repair_checker.proofs.costs.equations_costing.Goals as goal
 use Rattle.repair_checker.proofs.costs.equations_costing.Goals.{else-least-cost, then-least-cost+in_ok-push}

@@ -1,4 +1,4 @@
-use Rattle.std.proofs.Common.{◌≡◌, ◌+◌, ◌-◌, ◌<◌, length, subst, sym, ◌∙◌, arith}
+use Rattle.std.proofs.Common.{◌≡◌, ◌+◌, ◌-◌, length, subst, sym, arith}
 use Rattle.restricted_models.proofs.Lists.{IsRestricting, begun, kept, removed}
 use Rattle.restricted_models.proofs.restriction.restrict.Goals as goal
 

@@ -1,0 +1,4 @@
+pub mod FlowsheetPlaces
+pub mod LinesWithin
+pub mod ReadingSteps
+pub mod ProblemLaws

@@ -1,0 +1,15 @@
+pub mod FirstLines
+pub mod Parting
+pub mod Looking
+pub mod Keyed
+pub mod Telling
+pub mod Declared
+pub mod CostTexts
+pub mod ValueSteps
+pub mod HeadTexts
+pub mod SameNames
+pub mod SymbolNumbers
+pub mod ProblemsOnce
+pub mod AttachSteps
+pub mod LineSteps
+pub mod HeadSteps

@@ -1,0 +1,10 @@
+pub mod Heads
+pub mod Cuts
+pub mod HeadNumbers
+pub mod HeadRules
+pub mod HeadReading
+pub mod HeadsRead
+pub mod Problems
+pub mod Misfits
+pub mod ValuesSoFar
+pub mod LinesBefore
