@@ -1,0 +1,12 @@
+pub mod Entries
+pub mod Splits
+pub mod RisingLists
+pub mod RowPlaces
+pub mod PartTables
+pub mod SolvedParts
+pub mod LocalParts
+pub mod SymbolNumbers
+pub mod FormParts
+pub mod SolvedForms
+pub mod SystemFacts
+pub mod RegularAnswers

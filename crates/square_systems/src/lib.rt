@@ -1,0 +1,7 @@
+//! Square systems of linear equations over a field, solved by the pivots of a tableau.
+#![tactic(auto)]
+
+mod solving;
+
+pub use out_of_memory::NoMemory;
+pub use solving::solve_square;
