@@ -1,0 +1,10 @@
+pub mod ArcLaws
+pub mod Choosing
+pub mod Circuits
+pub mod Growing
+pub mod Joins
+pub mod OverLaws
+pub mod PlaceLaws
+pub mod PriceLaws
+pub mod Refused
+pub mod TellLaws

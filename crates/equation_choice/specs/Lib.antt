@@ -1,0 +1,7 @@
+pub mod Lists
+pub mod Pairs
+pub mod Choosers
+pub mod Choices
+pub mod Prices
+pub mod Told
+pub mod ConflictLists

@@ -1,0 +1,13 @@
+pub mod OwnTableaus
+pub mod RowPlaces
+pub mod BlankRows
+pub mod ReachedRows
+pub mod Joining
+pub mod WalksBack
+pub mod RowStages
+pub mod LoopStates
+pub mod Told
+pub mod ColumnWalks
+pub mod ExampleFacts
+pub mod Dependent
+pub mod Stays
