@@ -26,19 +26,19 @@ fn each_of_three_clashes_with_one(rt: HostRuntime) -> Result<(), Fail> {
         set_of(&rt, rt.alloc(), &model, 0)?
             .expect(&rt, "a")
             .as_slice(),
-        &[0, 1]
+        [0, 1].as_slice(),
     );
     assert_eq!(rt;
         set_of(&rt, rt.alloc(), &model, 1)?
             .expect(&rt, "b")
             .as_slice(),
-        &[0, 1]
+        [0, 1].as_slice(),
     );
     assert_eq!(rt;
         set_of(&rt, rt.alloc(), &model, 2)?
             .expect(&rt, "c")
             .as_slice(),
-        &[0, 2]
+        [0, 2].as_slice(),
     );
     Ok(())
 }
@@ -51,7 +51,7 @@ fn an_empty_equation_is_its_conflict_set(rt: HostRuntime) -> Result<(), Fail> {
         set_of(&rt, rt.alloc(), &model, 0)?
             .expect(&rt, "a")
             .as_slice(),
-        &[0]
+        [0].as_slice(),
     );
     Ok(())
 }

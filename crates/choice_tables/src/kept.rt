@@ -24,15 +24,15 @@ fn the_dearest_equation_is_kept(rt: HostRuntime) -> Result<(), Fail> {
     let model = three_of_one(&rt, rt.alloc())?;
     assert_eq!(rt;
         kept_of(&rt, rt.alloc(), &model, &[3, 2, 1])?.as_slice(),
-        &[0]
+        [0].as_slice(),
     );
     assert_eq!(rt;
         kept_of(&rt, rt.alloc(), &model, &[1, 2, 3])?.as_slice(),
-        &[2]
+        [2].as_slice(),
     );
     assert_eq!(rt;
         kept_of(&rt, rt.alloc(), &model, &[1, 1, 1])?.as_slice(),
-        &[0]
+        [0].as_slice(),
     );
     Ok(())
 }
@@ -43,7 +43,7 @@ fn independent_equations_are_kept(rt: HostRuntime) -> Result<(), Fail> {
     let model = split_pair(&rt, rt.alloc())?;
     assert_eq!(rt;
         kept_of(&rt, rt.alloc(), &model, &[1, 5])?.as_slice(),
-        &[0, 1]
+        [0, 1].as_slice(),
     );
     Ok(())
 }
