@@ -1,5 +1,6 @@
 -- Rows of entries: the number at a column, and sums.
-use Rattle.std.proofs.Common.{◌≡◌, ℕ, zero, suc, ◌+◌, ◌*◌, ◌%◌, ◌<◌, ◌≤◌, ◌≢◌, cond, eqb, List, [], ◌∷◌, length, drop, get_or, slice_index, slice_index_or, refl, ap, sym, subst, ◌∙◌, arith}
+use Rattle.std.proofs.Common.{◌≡◌, ℕ, zero, suc, ◌+◌, ◌*◌, ◌%◌, ◌<◌, ◌≤◌, ◌≢◌, cond, eqb, List, [], ◌∷◌}
+use Rattle.std.proofs.Common.{length, drop, get_or, slice_index, slice_index_or, refl, ap, sym, subst, ◌∙◌, arith}
 use Rattle.std.proofs.lemmas.List.{drop_more, get_or-map, length-map}
 use Rattle.std.proofs.Math.Nat.{mod-add-mod}
 use Rattle.residue_theory.proofs.SetLaws.{eqb_from, eqb_true, not_true}

@@ -26,7 +26,8 @@ use Rattle.cert_text.specs.Readings.{column_lists, entry_at, matrix_of, parts_of
 use Rattle.cert_text.specs.Right.{IsRightCcf}
 use Rattle.cert_text.specs.declared.part.CcfBlock.{CcfBlock}
 use Rattle.cert_text.specs.declared.part.CcfPart.{CcfPart}
-use Rattle.certificate_laws.proofs.PlacedLists.{columns-long, columns-rise, held-place, place-counted, place-held, q_rows-long, q_rows-rise, t_rows-long, t_rows-rise}
+use Rattle.certificate_laws.proofs.PlacedLists.{columns-long, columns-rise, held-place, place-counted, place-held}
+use Rattle.certificate_laws.proofs.PlacedLists.{q_rows-long, q_rows-rise, t_rows-long, t_rows-rise}
 use Rattle.part_arcs.proofs.FormLaws.{has-some, some-has}
 use Rattle.solve_plan.proofs.EntryPlaces.{entry-nonzero}
 use Rattle.solve_plan.proofs.PlanSizes.{part-even, tri}

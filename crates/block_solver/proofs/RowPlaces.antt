@@ -1,7 +1,8 @@
 -- A row of entries put into a table at some columns, entry by entry.
 use Rattle.std.proofs.Common.{◌≡◌, ℕ, zero, suc, ◌+◌, ◌-◌, ◌%◌, ◌<◌, ◌≤◌, ◌≢◌, ◌⊎◌, List, [], ◌∷◌, ◌++◌, length, map, drop}
 use Rattle.std.proofs.Common.{slice_index, slice_index_or, slice_set, inl, inr, refl, ap, sym, subst, ◌∙◌, arith}
-use Rattle.std.proofs.lemmas.List.{drop_more, get_or_append_left, get_or-map, get_or_push, get_or-set_other, get_or-set_same, length-append, length-map, length-set}
+use Rattle.std.proofs.lemmas.List.{drop_more, get_or_append_left, get_or-map, get_or_push, get_or-set_other}
+use Rattle.std.proofs.lemmas.List.{get_or-set_same, length-append, length-map, length-set}
 use Rattle.std.proofs.Common.{Result, Ok, Err}
 use Rattle.std.proofs.lemmas.List.Sorted.{searched}
 use Rattle.std.specs.List.Sorted.{IsBinarySearchResult, IsStrictlyIncreasing}

@@ -26,7 +26,7 @@ pub struct Case {
 }
 
 /// The equations a and b, each the sum of x and y.
-pub fn cancelling_pair(rt: &impl Abort, alloc: Global) -> Result<Mixed<Res>, Fail> {
+pub(crate) fn cancelling_pair(rt: &impl Abort, alloc: Global) -> Result<Mixed<Res>, Fail> {
     let mut model = Mixed::new(alloc)?;
     add_names(&mut model)?;
     for equation in 0..2 {
