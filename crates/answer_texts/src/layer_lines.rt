@@ -100,8 +100,8 @@ pub fn put_column_name<F: Field, K: Sink>(
     }
 }
 
-// Puts the name of an unknown.
-pub(crate) fn put_unknown_name<F: Field, K: Sink>(
+/// Puts the name of an unknown.
+pub fn put_unknown_name<F: Field, K: Sink>(
     out: &mut TextWriter<'_, K>,
     model: &Mixed<F>,
     unknown: usize,
@@ -112,8 +112,8 @@ pub(crate) fn put_unknown_name<F: Field, K: Sink>(
     out.text(model.unknown_name(unknown));
 }
 
-// Puts the name of an equation.
-pub(crate) fn put_equation_name<F: Field, K: Sink>(
+/// Puts the name of an equation.
+pub fn put_equation_name<F: Field, K: Sink>(
     out: &mut TextWriter<'_, K>,
     model: &Mixed<F>,
     equation: usize,

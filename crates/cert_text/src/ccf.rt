@@ -182,8 +182,8 @@ impl<F: Field> Ccf<F> {
         &self.last
     }
 
-    /// Puts the lines from the shape on.
-    pub(crate) fn put<K: Sink>(&self, out: &mut TextWriter<'_, K>)
+    /// Puts the lines of a certificate from the shape on. It takes no memory.
+    pub fn put<K: Sink>(&self, out: &mut TextWriter<'_, K>)
         ensures { Puts K.Sink out.old out.new (contents_text self.now) }
     {
         put_shape(out, self.shape);

@@ -2,10 +2,10 @@
 
 ghost use Rattle.std.specs.Prelude.{◌<◌, length};
 ghost use Rattle.std.specs.List.{All};
-ghost use Rattle.mixed_model.specs.Names.{name_at};
 ghost use Rattle.study_texts.specs.ConflictTexts.{conflict_count_line, conflict_line, name_item, name_items};
 ghost use Rattle.text_writer.specs.Texts.{Puts};
 
+use answer_texts::put_equation_name;
 use mixed_model::Mixed;
 use port_io::Sink;
 use residue_field::Field;
@@ -55,16 +55,4 @@ fn put_name<F: Field, K: Sink>(out: &mut TextWriter<'_, K>, model: &Mixed<F>, eq
 {
     out.piece(b" ");
     put_equation_name(out, model, equation);
-}
-
-// Puts the name of an equation.
-fn put_equation_name<F: Field, K: Sink>(
-    out: &mut TextWriter<'_, K>,
-    model: &Mixed<F>,
-    equation: usize,
-)
-    requires { equation < length model.now.equations }
-    ensures { Puts K.Sink out.old out.new (name_at model.now.equations equation) }
-{
-    out.text(model.equation_name(equation));
 }

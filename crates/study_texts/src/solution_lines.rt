@@ -9,7 +9,7 @@ ghost use Rattle.answer_texts.specs.ReportTexts.{count_line};
 ghost use Rattle.study_texts.specs.SolutionTexts.{open_text, singular_text, solution_text, value_line, value_lines};
 ghost use Rattle.text_writer.specs.Texts.{Puts};
 
-use answer_texts::put_column_name;
+use answer_texts::{put_column_name, put_unknown_name};
 use mixed_model::{Layered, Mixed};
 use port_io::Sink;
 use residue_field::Field;
@@ -48,18 +48,6 @@ fn put_value<F: Field, K: Sink>(
     put_unknown_name(out, model, unknown);
     out.number(b' ', u64::from(value.value()));
     out.piece(b"\n");
-}
-
-// Puts the name of an unknown.
-fn put_unknown_name<F: Field, K: Sink>(
-    out: &mut TextWriter<'_, K>,
-    model: &Mixed<F>,
-    unknown: usize,
-)
-    requires { unknown < length model.now.unknowns }
-    ensures { Puts K.Sink out.old out.new (name_at model.now.unknowns unknown) }
-{
-    out.text(model.unknown_name(unknown));
 }
 
 /// Puts the text of a singular block: its number, counted from 1, and its columns.
