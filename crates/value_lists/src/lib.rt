@@ -8,4 +8,4 @@ mod symbols;
 mod values;
 
 pub use out_of_memory::NoMemory;
-pub use values::nonzero_values;
+pub use values::{nonzero_values, rank_and_values};

@@ -25,6 +25,14 @@ pub fn rank_of<F: Field>(alloc: Global, model: Mixed<F>) -> Result<usize, NoMemo
     Ok(held.rank())
 }
 
+/// The structural rank of a model, which stays.
+pub fn structural_rank<F: Field>(alloc: Global, model: &Mixed<F>) -> Result<usize, NoMemory>
+    ensures { IfOk result (IsStructuralRank F.modulus (mixed_matrix_of model.now)) }
+{
+    let rank = rank_of(alloc, model.copy()?)?;
+    Ok(rank)
+}
+
 /// Puts a model with another equation `i` in the place of the one that is held, and tells whether it has this rank.
 pub fn has_rank<F: Field, T: Tableau<F>>(
     held: &mut Held<F, T>,

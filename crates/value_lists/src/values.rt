@@ -8,7 +8,7 @@ ghost use Rattle.value_lists.specs.Listing.{IsListOfOnes};
 
 use crate::fixing::with_ones;
 use crate::listing::{list_equation, list_ones};
-use crate::ranks::rank_of;
+use crate::ranks::{rank_of, structural_rank};
 use crate::symbols::symbol_columns;
 use edit_desk::Held;
 use mixed_model::Mixed;
@@ -25,7 +25,34 @@ pub fn nonzero_values<F: Field>(alloc: Global, model: &Mixed<F>) -> Result<Vec<F
     ensures { IfOk result (λ values.
         IsFirstReachingList F.modulus (mixed_matrix_of model.now) (map F.number values.items)) }
 {
-    let rank = rank_of(alloc, model.copy()?)?;
+    let rank = structural_rank(alloc, model)?;
+    reaching_values(alloc, model, rank)
+}
+
+/// The structural rank of a model, and the same list of values.
+pub fn rank_and_values<F: Field>(
+    alloc: Global,
+    model: &Mixed<F>,
+) -> Result<(usize, Vec<F>), NoMemory>
+    ensures rank { IfOk result (λ both. IsStructuralRank F.modulus (mixed_matrix_of model.now) both.0) }
+    ensures values { IfOk result (λ both.
+        IsFirstReachingList F.modulus (mixed_matrix_of model.now) (map F.number both.1.items)) }
+{
+    let rank = structural_rank(alloc, model)?;
+    let values = reaching_values(alloc, model, rank)?;
+    Ok((rank, values))
+}
+
+// The list of a model of this rank: all ones where they reach it.
+fn reaching_values<F: Field>(
+    alloc: Global,
+    model: &Mixed<F>,
+    rank: usize,
+) -> Result<Vec<F>, NoMemory>
+    requires { IsStructuralRank F.modulus (mixed_matrix_of model.now) rank }
+    ensures { IfOk result (λ values.
+        IsFirstReachingList F.modulus (mixed_matrix_of model.now) (map F.number values.items)) }
+{
     let rank_of_ones = rank_of(alloc, with_ones(alloc, model)?)?;
     if rank_of_ones == rank {
         let ones = all_ones(alloc, model)?;
