@@ -39,6 +39,13 @@ module _ (p : ℕ) (kind : Kind) (form : Form) (text : List ℕ) where
       by (inl head) = next head (answered p prime odd kind (model_text text))
       by (inr (refused, is)) = inr (refused, inl is)
 
+  pub had-unrefused : (refused : Refused) → HasProblemText p kind form text → IsProblemRefused p kind form text refused → ⊥
+  had-unrefused refused (head, has) (inl is) = head-unrefused p form text refused head is
+  had-unrefused refused (head, (model, gives, has)) (inr (also, inl (own, is, counted))) = given-unrefused p kind (model_text text) own model gives is
+  had-unrefused refused (head, (model, gives, has)) (inr (also, inr (other, given, misfit))) =
+      let same = gives-one p kind (model_text text) other model given gives in
+      problem-unrefused (numbers_of_head p form text) model form refused has (subst (λ model. IsMisfitOf p form text model refused) same misfit)
+
   module _ {F : Type 0} (number : F → ℕ) where
     pub model-once : (a b : MixedModel) (problem other : Problem F) → GivesProblem number p kind form text a problem →
         GivesProblem number p kind form text b other → a ≡ b
@@ -53,14 +60,8 @@ module _ (p : ℕ) (kind : Kind) (form : Form) (text : List ℕ) where
 
     pub text-unrefused : (model : MixedModel) (problem : Problem F) (refused : Refused) → GivesProblem number p kind form text model problem →
         IsProblemRefused p kind form text refused → ⊥
-    text-unrefused model problem refused gives (inl is) = head-unrefused p form text refused gives.head is
-    text-unrefused model problem refused gives (inr (head, inl (own, is, counted))) =
-        given-unrefused p kind (model_text text) own model gives.model_is is
-    text-unrefused model problem refused gives (inr (head, inr (other, also, misfit))) =
-        let same = gives-one p kind (model_text text) other model also gives.model_is in
-        problem-unrefused (numbers_of_head p form text) model form refused
-        (problem-had (numbers_of_head p form text) model number form problem gives.problem_is)
-        (subst (λ model. IsMisfitOf p form text model refused) same misfit)
+    text-unrefused model problem refused gives is =
+        had-unrefused refused (gives.head, (model, gives.model_is, problem-had (numbers_of_head p form text) model number form problem gives.problem_is)) is
 
   behind-once : (refused other : Refused) → IsRefusedBehind p kind text refused ⊎ IsRefusedAtModel p kind form text refused →
       IsRefusedBehind p kind text other ⊎ IsRefusedAtModel p kind form text other → refused ≡ other

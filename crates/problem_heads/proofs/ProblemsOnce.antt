@@ -1,5 +1,5 @@
 -- A head says one problem of a model, or does not fit it for one reason.
-use Rattle.std.proofs.Common.{◌≡◌, ℕ, zero, suc, ◌+◌, ◌<◌, ◌≤◌, Bool, true, false, List, [], ◌∷◌, ◌++◌, length, map, Option, Some, None}
+use Rattle.std.proofs.Common.{◌≡◌, ℕ, zero, suc, ◌+◌, ◌<◌, ◌≤◌, List, [], ◌∷◌, ◌++◌, length, map, Option, Some, None}
 use Rattle.std.proofs.Common.{refl, sym, ap, subst, ◌∙◌, arith, inl, inr, ◌⊎◌}
 use Rattle.std.proofs.lemmas.Option.{get_or_from_slice_get}
 use Rattle.residue_theory.proofs.SetLaws.{lt_cases}
@@ -7,54 +7,44 @@ use Rattle.refusals.specs.declared.Place.TheVariants.{Document, Line}
 use Rattle.refusals.specs.declared.Refused.{Refused}
 use Rattle.refusals.specs.declared.Why.TheVariants.{Missing, TooMany, Undeclared}
 use Rattle.mixed_matrices.specs.Models.{MixedMatrix}
-use Rattle.mixed_model.specs.Models.{MixedModel, mixed_matrix_of, symbol_of}
-use Rattle.value_list_laws.specs.ListedValues.{symbols_before, values_of}
+use Rattle.mixed_model.specs.Models.{MixedModel, mixed_matrix_of}
+use Rattle.value_list_laws.specs.ListedValues.{symbol_count, symbols_before, values_of}
+use Rattle.symbol_places.proofs.PlaceNumbers.{HasNumber, numbered}
 use Rattle.problem_heads.specs.HeadNumbers.{HeadNumber, number_for}
 use Rattle.problem_heads.specs.Misfits.{IsMisfitBy, LacksValue}
 use Rattle.problem_heads.specs.Problems.{AreGivenValues, HasProblem, IsProblemBy, IsRepairProblem, IsSolveProblem}
 use Rattle.problem_heads.specs.Problems.{different, first_undeclared, level_limit, place_names, problem_numbers, sides_of}
-use Rattle.problem_heads.specs.ValuesSoFar.{AreValuesBefore}
 use Rattle.problem_heads.specs.declared.form.Form.{Form}
 use Rattle.problem_heads.specs.declared.form.Form.TheVariants as forms
 use Rattle.problem_heads.specs.declared.problem.Problem.{Problem}
 use Rattle.problem_heads.specs.declared.problem.Problem.TheVariants.{Repair, Solve}
 use Rattle.problem_heads.proofs.SymbolNumbers.{lists-same}
-use Rattle.problem_heads.proofs.ValueSteps.{values-all, values-next, values-row, values-skip, values-start}
+use Rattle.problem_heads.proofs.ValueSteps.{AreFirstValues, values-all, values-next, values-start}
 
 module _ (numbers : List (HeadNumber ℕ)) (model : MixedModel) where
   abbrev M : MixedMatrix
   M = mixed_matrix_of model
 
-  -- the values of a row, or a symbol of it that has none
-  row-built : (i : ℕ) → i < length model.equations → (n : ℕ) → n ≤ length model.unknowns → (values : List ℕ) →
-      AreValuesBefore numbers model i 0 values → ((more : List ℕ) × AreValuesBefore numbers model i n more) ⊎ LacksValue numbers model
-  row-built i row zero low values are = inl (values, are)
-  row-built i row (suc n) low values are = by (row-built i row n (omega (arith, low)) values are) (symbol_of model i n) refl
-      (number_for numbers (place_names model i n)) refl
+  -- the values of the first symbols, or one of them that has none
+  values-built : (h : ℕ) → h ≤ symbol_count M → ((values : List ℕ) × AreFirstValues numbers model h values) ⊎ LacksValue numbers model
+  values-built zero low = inl ([], values-start numbers model)
+  values-built (suc h) low = by (values-built h (omega (arith, low))) (numbered M h (omega (arith, low)))
     where
-      by : ((more : List ℕ) × AreValuesBefore numbers model i n more) ⊎ LacksValue numbers model →
-          (b : Bool) → symbol_of model i n ≡ b → (o : Option ℕ) → number_for numbers (place_names model i n) ≡ o →
-          ((more : List ℕ) × AreValuesBefore numbers model i (suc n) more) ⊎ LacksValue numbers model
-      by (inr lacks) b e o f = inr lacks
-      by (inl (more, so_far)) false e o f = inl (more, values-skip numbers model i n more e so_far)
-      by (inl (more, so_far)) true e (Some value) f = inl (more ++ value ∷ [], values-next numbers model i n more value e f so_far)
-      by (inl (more, so_far)) true e None f = inr (i, n, (row, omega (arith, low), e), f)
+      next : (values : List ℕ) → AreFirstValues numbers model h values → (N : HasNumber M h) → (o : Option ℕ) →
+          number_for numbers (place_names model N.i N.j) ≡ o → ((more : List ℕ) × AreFirstValues numbers model (suc h) more) ⊎ LacksValue numbers model
+      next values are N (Some value) f =
+          let e : h + 1 ≡ suc h = omega arith in
+          inl (
+            values ++ value ∷ [],
+            subst (λ n. AreFirstValues numbers model n (values ++ value ∷ [])) e
+                (values-next numbers model h N.i N.j values value N.at N.is f are),
+          )
+      next values are N None f = inr (N.i, N.j, N.at, f)
 
-  rows-built : (n : ℕ) → n ≤ length model.equations → ((values : List ℕ) × AreValuesBefore numbers model n 0 values) ⊎ LacksValue numbers model
-  rows-built zero low = inl ([], values-start numbers model)
-  rows-built (suc n) low = by (rows-built n (omega (arith, low)))
-    where
-      next : ((values : List ℕ) × AreValuesBefore numbers model n (length model.unknowns) values) ⊎ LacksValue numbers model →
-          ((values : List ℕ) × AreValuesBefore numbers model (suc n) 0 values) ⊎ LacksValue numbers model
-      next (inl (values, are)) =
-          let e : n + 1 ≡ suc n = omega arith in
-          inl (values, subst (λ m. AreValuesBefore numbers model m 0 values) e (values-row numbers model n (length model.unknowns) values refl are))
-      next (inr lacks) = inr lacks
-
-      by : ((values : List ℕ) × AreValuesBefore numbers model n 0 values) ⊎ LacksValue numbers model →
-          ((values : List ℕ) × AreValuesBefore numbers model (suc n) 0 values) ⊎ LacksValue numbers model
-      by (inl (values, are)) = next (row-built n (omega (arith, low)) (length model.unknowns) (omega arith) values are)
-      by (inr lacks) = inr lacks
+      by : ((values : List ℕ) × AreFirstValues numbers model h values) ⊎ LacksValue numbers model → HasNumber M h →
+          ((values : List ℕ) × AreFirstValues numbers model (suc h) values) ⊎ LacksValue numbers model
+      by (inl (values, are)) N = next values are N (number_for numbers (place_names model N.i N.j)) refl
+      by (inr lacks) N = inr lacks
 
   solved : (values : List ℕ) → AreGivenValues numbers model values → first_undeclared model numbers ≡ None →
       IsSolveProblem numbers model values (sides_of numbers 0 model.equations)
@@ -68,14 +58,14 @@ module _ (numbers : List (HeadNumber ℕ)) (model : MixedModel) where
 
   -- a head has a problem, or does not fit
   pub problem-answered : (form : Form) → HasProblem form numbers model ⊎ ((refused : Refused) × IsMisfitBy form numbers model refused)
-  problem-answered forms.Solve = by (first_undeclared model numbers) refl (rows-built (length model.equations) (omega arith))
+  problem-answered forms.Solve = by (first_undeclared model numbers) refl (values-built (symbol_count M) (omega arith))
     where
       by : (o : Option (HeadNumber ℕ)) → first_undeclared model numbers ≡ o →
-          ((values : List ℕ) × AreValuesBefore numbers model (length model.equations) 0 values) ⊎ LacksValue numbers model →
+          ((values : List ℕ) × AreFirstValues numbers model (symbol_count M) values) ⊎ LacksValue numbers model →
           HasProblem forms.Solve numbers model ⊎ ((refused : Refused) × IsMisfitBy forms.Solve numbers model refused)
       by (Some given) e built = inr (record { place = Line given.line; why = Undeclared }, inl (given, e, refl))
       by None e (inl (values, are)) =
-          inl (values, sides_of numbers 0 model.equations, solved values (values-all numbers model (length model.equations) values refl are) e)
+          inl (values, sides_of numbers 0 model.equations, solved values (values-all numbers model (symbol_count M) values refl are) e)
       by None e (inr lacks) = inr (record { place = Document; why = Missing }, inr (e, (refl, lacks)))
   problem-answered forms.Repair = by (first_undeclared model numbers) refl (lt_cases level_limit (length (different costs)))
     where
@@ -123,7 +113,7 @@ module _ (numbers : List (HeadNumber ℕ)) (model : MixedModel) where
   misfit-once form refused other (inr (declared, whole)) misfit = whole-once form refused other declared (inr (declared, whole)) misfit
   misfit-once form refused other misfit (inr (declared, whole)) = whole-once form refused other declared misfit (inr (declared, whole))
 
-  solve-once : (values right others rights : List ℕ) → IsSolveProblem numbers model values right → IsSolveProblem numbers model others rights →
+  pub solve-once : (values right others rights : List ℕ) → IsSolveProblem numbers model values right → IsSolveProblem numbers model others rights →
       (values ≡ others) × (right ≡ rights)
   solve-once values right others rights is also = (
     lists-same M values others is.count also.count (λ i j at.

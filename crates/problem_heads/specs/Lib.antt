@@ -6,5 +6,4 @@ pub mod HeadReading
 pub mod HeadsRead
 pub mod Problems
 pub mod Misfits
-pub mod ValuesSoFar
 pub mod LinesBefore

@@ -1,16 +1,16 @@
 //! The values of a model's symbols.
 
-ghost use Rattle.std.specs.Prelude.{◌≡◌, ◌<◌, ◌+◌, Some, None, length, IfErr, IfOk, OnOk};
+ghost use Rattle.std.specs.Prelude.{◌≡◌, ◌<◌, Some, None, length, IfErr, IfOk};
 ghost use Rattle.problem_heads.specs.HeadNumbers.{number_for};
 ghost use Rattle.problem_heads.specs.Misfits.{IsMissing, LacksValue};
 ghost use Rattle.problem_heads.specs.Problems.{AreGivenValues, place_names};
-ghost use Rattle.problem_heads.specs.ValuesSoFar.{AreValuesBefore};
 
 use crate::lines::HeadLines;
 use mixed_model::Mixed;
 use refusals::{Place, ReadModel, Refused, Why};
 use residue_field::Field;
 use std::alloc::Global;
+use symbol_places::symbol_places;
 
 /// The values that a head gives for the symbols of a model, by rising equation and then unknown. A symbol that has none
 /// is `Missing`.
@@ -22,32 +22,13 @@ pub(crate) fn values_of<F: Field>(
     ensures values { IfOk result (λ values. AreGivenValues lines.now.numbers model.now values.items) }
     ensures missing { IfErr result (IsMissing (LacksValue lines.now.numbers model.now)) }
 {
+    let places = symbol_places(alloc, model)?;
     let mut values = Vec::new(alloc);
-    for i in 0..model.equations() {
-        push_row(&mut values, lines, model, i)?;
+    for place in &places {
+        let value = value_at(lines, model, place.equation, place.unknown)?;
+        values.push(value)?;
     }
     Ok(values)
-}
-
-// Puts the values of the symbols of equation `i` last.
-fn push_row<F: Field>(
-    values: &mut Vec<F>,
-    lines: &HeadLines<F>,
-    model: &Mixed<F>,
-    i: usize,
-) -> Result<(), ReadModel>
-    requires { i < length model.now.equations }
-    ensures values { OnOk result (AreValuesBefore lines.now.numbers model.now i 0 values.old.items
-        → AreValuesBefore lines.now.numbers model.now (i + 1) 0 values.new.items) }
-    ensures missing { IfErr result (IsMissing (LacksValue lines.now.numbers model.now)) }
-{
-    for j in 0..model.unknowns() {
-        if model.symbol(i, j) {
-            let value = value_at(lines, model, i, j)?;
-            values.push(value)?;
-        }
-    }
-    Ok(())
 }
 
 // The value of the symbol of equation `i` at unknown `j`.

@@ -1,6 +1,8 @@
-//! Repairs that are checked: a table of tests.
+//! Repairs that are checked, and cheapest ones: tables of tests.
 #![tactic(auto)]
 
+#[cfg(test)]
+mod cheapest;
 #[cfg(test)]
 mod checked;
 #[cfg(test)]

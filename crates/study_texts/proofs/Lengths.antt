@@ -13,9 +13,16 @@ use Rattle.answer_texts.specs.LayerTexts.{column_name}
 use Rattle.answer_texts.specs.PlanTexts.{column_item, column_items, named_columns_line}
 use Rattle.answer_texts.specs.ReportTexts.{count_line}
 use Rattle.answer_texts.proofs.LayerLengths.{column-name-short, name-short}
-use Rattle.study_texts.specs.ConflictTexts.{conflict_count_line, conflict_line, conflict_lines, conflicts_text, name_item, name_items}
-use Rattle.study_texts.specs.Rooms.{conflict_room, solution_room}
-use Rattle.study_texts.specs.SolutionTexts.{open_text, singular_text, solution_text, value_line, value_lines}
+use Rattle.symbol_places.specs.declared.places.SymbolPlace.{SymbolPlace}
+use Rattle.study_answers.specs.declared.conflicts.Conflict.{Conflict}
+use Rattle.study_answers.specs.declared.solving.Solving.{Solving}
+use Rattle.study_answers.specs.declared.solving.Solving.TheVariants.{Open, Singular, Solution}
+use Rattle.study_answers.specs.declared.values.ValueAt.{ValueAt}
+use Rattle.study_answers.specs.declared.values.Values.{Values}
+use Rattle.study_texts.specs.ConflictTexts.{conflict_line, conflict_lines, conflicts_text, name_item, name_items}
+use Rattle.study_texts.specs.Rooms.{conflict_room, solution_room, values_room}
+use Rattle.study_texts.specs.SolutionTexts.{open_text, singular_text, solution_text, solving_text, value_line, value_lines}
+use Rattle.study_texts.specs.ValueTexts.{symbol_line, symbol_lines, values_text}
 
 -- ---- conflict sets
 items-short : (names : List (List ℕ)) → IsNameList names → (equations : List ℕ) → length (name_items names equations) ≤ 97 * length equations
@@ -28,37 +35,37 @@ items-short names are (equation ∷ equations) = omega (
   length-append (name_item names equation) (name_items names equations),
 )
 
-line-short : (model : MixedModel) → IsNameList model.equations → (k equation : ℕ) (set : List ℕ) → length set ≤ k →
-    length (conflict_line model equation set) ≤ 107 + 97 * k
-line-short model are k equation set few =
-    let one : List ℕ = codes "conflict " ++ name_at model.equations equation in
+line-short : (names : List (List ℕ)) → IsNameList names → (k : ℕ) (conflict : Conflict) → length conflict.set ≤ k →
+    length (conflict_line names conflict) ≤ 107 + 97 * k
+line-short names are k conflict few =
+    let one : List ℕ = codes "conflict " ++ name_at names conflict.equation in
     let two : List ℕ = one ++ codes ":" in
-    let three : List ℕ = two ++ name_items model.equations set in
+    let three : List ℕ = two ++ name_items names conflict.set in
     omega (
       arith,
       few,
-      name-short model.equations are equation,
-      items-short model.equations are set,
-      length-append (codes "conflict ") (name_at model.equations equation),
+      name-short names are conflict.equation,
+      items-short names are conflict.set,
+      length-append (codes "conflict ") (name_at names conflict.equation),
       length-append one (codes ":"),
-      length-append two (name_items model.equations set),
+      length-append two (name_items names conflict.set),
       length-append three (codes "\n"),
     )
 
-lines-short : (model : MixedModel) → IsNameList model.equations → (k : ℕ) (conflicts : List (ℕ × List ℕ)) →
-    All (λ conflict. length conflict.1 ≤ k) conflicts → length (conflict_lines model conflicts) ≤ length conflicts * (107 + 97 * k)
-lines-short model are k [] few = omega arith
-lines-short model are k (conflict ∷ conflicts) few =
-    let here : length conflict.1 ≤ k = All-head (λ (c : ℕ × List ℕ). length c.1 ≤ k) conflict conflicts few in
-    let rest = lines-short model are k conflicts (All-tail (λ (c : ℕ × List ℕ). length c.1 ≤ k) conflict conflicts few) in
+lines-short : (names : List (List ℕ)) → IsNameList names → (k : ℕ) (conflicts : List Conflict) →
+    All (λ conflict. length conflict.set ≤ k) conflicts → length (conflict_lines names conflicts) ≤ length conflicts * (107 + 97 * k)
+lines-short names are k [] few = omega arith
+lines-short names are k (conflict ∷ conflicts) few =
+    let here : length conflict.set ≤ k = All-head (λ (c : Conflict). length c.set ≤ k) conflict conflicts few in
+    let rest = lines-short names are k conflicts (All-tail (λ (c : Conflict). length c.set ≤ k) conflict conflicts few) in
     rw (suc-mul (length conflicts) (107 + 97 * k)) (omega (
       arith,
-      line-short model are k conflict.0 conflict.1 here,
+      line-short names are k conflict here,
       rest,
-      length-append (conflict_line model conflict.0 conflict.1) (conflict_lines model conflicts),
+      length-append (conflict_line names conflict) (conflict_lines names conflicts),
     ))
 
-count-short : (count : ℕ) → count < 10000 → length (conflict_count_line count) ≤ 15
+count-short : (count : ℕ) → count < 10000 → length (count_line (codes "conflicts") count) ≤ 15
 count-short count few = omega (
   arith,
   marked-short 32 count few,
@@ -67,15 +74,63 @@ count-short count few = omega (
 )
 
 -- at most k sets, each of at most k equations
-pub conflicts-text-short : (p : ℕ) (model : MixedModel) → IsModel p model → (k : ℕ) → k < 10000 → (conflicts : List (ℕ × List ℕ)) →
-    length conflicts ≤ k → All (λ conflict. length conflict.1 ≤ k) conflicts → length (conflicts_text model conflicts) ≤ conflict_room k
+pub conflicts-text-short : (p : ℕ) (model : MixedModel) → IsModel p model → (k : ℕ) → k < 10000 → (conflicts : List Conflict) →
+    length conflicts ≤ k → All (λ conflict. length conflict.set ≤ k) conflicts → length (conflicts_text model conflicts) ≤ conflict_room k
 conflicts-text-short p model is k small conflicts few sets = omega (
   arith,
   count-short (length conflicts) (omega (arith, few, small)),
-  lines-short model is.equations k conflicts sets,
+  lines-short model.equations is.equations k conflicts sets,
   at_most (length conflicts) k 107 97 few,
-  length-append (conflict_count_line (length conflicts)) (conflict_lines model conflicts),
+  length-append (count_line (codes "conflicts") (length conflicts)) (conflict_lines model.equations conflicts),
 )
+
+-- ---- values of symbols
+symbol-line-short : (p digits : ℕ) → 0 < digits → (model : MixedModel) → IsModel p model → (place : SymbolPlace) (number : ℕ) →
+    number < 10 ^ digits → length (symbol_line model place number) ≤ 201 + digits
+symbol-line-short p digits some model is place number small =
+    let one : List ℕ = codes "value " ++ name_at model.equations place.equation in
+    let two : List ℕ = one ++ codes " " in
+    let three : List ℕ = two ++ name_at model.unknowns place.unknown in
+    let four : List ℕ = three ++ spaced number in
+    omega (
+      arith,
+      name-short model.equations is.equations place.equation,
+      name-short model.unknowns is.unknowns place.unknown,
+      decimal-short digits number some small,
+      length-append (codes "value ") (name_at model.equations place.equation),
+      length-append one (codes " "),
+      length-append two (name_at model.unknowns place.unknown),
+      length-append three (spaced number),
+      length-append four (codes "\n"),
+    )
+
+module _ {T : Type 0} (number : T → ℕ) (p digits : ℕ) (some : 0 < digits) (model : MixedModel) (is : IsModel p model) where
+  symbols-short : (values : List (ValueAt T)) → All (λ at. number at.value < 10 ^ digits) values →
+      length (symbol_lines number model values) ≤ length values * (201 + digits)
+  symbols-short [] small = omega arith
+  symbols-short (at ∷ values) small =
+      let here : number at.value < 10 ^ digits = All-head (λ (a : ValueAt T). number a.value < 10 ^ digits) at values small in
+      let rest = symbols-short values (All-tail (λ (a : ValueAt T). number a.value < 10 ^ digits) at values small) in
+      rw (suc-mul (length values) (201 + digits)) (omega (
+        arith,
+        symbol-line-short p digits some model is at.place (number at.value) here,
+        rest,
+        length-append (symbol_line model at.place (number at.value)) (symbol_lines number model values),
+      ))
+
+  -- the rank has four digits, and there are at most k k symbols
+  pub values-text-short : (k : ℕ) (told : Values T) → told.rank < 10000 → length told.values ≤ k * k →
+      All (λ at. number at.value < 10 ^ digits) told.values → length (values_text number model told) ≤ values_room digits k
+  values-text-short k told low few small = omega (
+    arith,
+    marked-short 32 told.rank low,
+    symbols-short told.values small,
+    mul-le-mul_right (201 + digits) few,
+    mul_comm (k * k) (201 + digits),
+    length-append (codes "rank") (spaced told.rank),
+    length-append (codes "rank" ++ spaced told.rank) (codes "\n"),
+    length-append (count_line (codes "rank") told.rank) (symbol_lines number model told.values),
+  )
 
 -- ---- how a model is solved
 value-line-short : (digits : ℕ) → 0 < digits → (names : List (List ℕ)) → IsNameList names → (j number : ℕ) → number < 10 ^ digits →
@@ -107,7 +162,7 @@ module _ {T : Type 0} (number : T → ℕ) (digits : ℕ) (some : 0 < digits) (n
       ))
 
 module _ {T : Type 0} (number : T → ℕ) (p digits : ℕ) (some : 0 < digits) (model : MixedModel) (is : IsModel p model) (layers : Layers) (k n : ℕ) where
-  pub solution-text-short : (values : List T) → length values ≤ k → All (λ value. number value < 10 ^ digits) values →
+  solution-text-short : (values : List T) → length values ≤ k → All (λ value. number value < 10 ^ digits) values →
       length (solution_text number model values) ≤ solution_room digits k n
   solution-text-short values few small = omega (
     arith,
@@ -127,7 +182,7 @@ module _ {T : Type 0} (number : T → ℕ) (p digits : ℕ) (some : 0 < digits) 
   columns-short (column ∷ columns) =
       omega (arith, column-short column, columns-short columns, length-append (column_item model layers column) (column_items model layers columns))
 
-  pub singular-text-short : (block : ℕ) (columns : List ℕ) → block < 10000 → length columns ≤ n →
+  singular-text-short : (block : ℕ) (columns : List ℕ) → block < 10000 → length columns ≤ n →
       length (singular_text model layers block columns) ≤ solution_room digits k n
   singular-text-short block columns low few =
       let one : List ℕ = count_line (codes "singular block") block in
@@ -144,7 +199,7 @@ module _ {T : Type 0} (number : T → ℕ) (p digits : ℕ) (some : 0 < digits) 
         length-append one (named_columns_line (codes "for") model layers columns),
       )
 
-  pub open-text-short : (rank : ℕ) → rank < 10000 → length (open_text model rank) ≤ solution_room digits k n
+  open-text-short : (rank : ℕ) → rank < 10000 → length (open_text model rank) ≤ solution_room digits k n
   open-text-short rank low =
       let one : List ℕ = codes "equations" ++ spaced (length model.equations) in
       let two : List ℕ = one ++ codes " unknowns" in
@@ -163,3 +218,14 @@ module _ {T : Type 0} (number : T → ℕ) (p digits : ℕ) (some : 0 < digits) 
         length-append four (spaced rank),
         length-append five (codes "\n"),
       )
+
+  -- the rank, or the block, has four digits; at most n columns are named; at most k numbers are told, each with so many
+  abbrev pub IsShort : Solving T → Type 0
+  IsShort (Open rank) = rank < 10000
+  IsShort (Singular block columns) = (block < 10000) × (length columns ≤ n)
+  IsShort (Solution values) = (length values ≤ k) × All (λ value. number value < 10 ^ digits) values
+
+  pub solving-text-short : (solving : Solving T) → IsShort solving → length (solving_text number model layers solving) ≤ solution_room digits k n
+  solving-text-short (Open rank) low = open-text-short rank low
+  solving-text-short (Singular block columns) (low, few) = singular-text-short block columns low few
+  solving-text-short (Solution values) (few, small) = solution-text-short values few small

@@ -1,8 +1,10 @@
 -- The text of conflict sets, by its lines. Equations are counted from 0.
-use Rattle.std.specs.Prelude.{ℕ, List, [], ◌∷◌, ◌++◌, codes, length}
+use Rattle.std.specs.Prelude.{ℕ, ◌<◌, List, [], ◌∷◌, ◌++◌, codes, length}
+use Rattle.std.specs.List.{All}
 use Rattle.mixed_model.specs.Models.{MixedModel}
 use Rattle.mixed_model.specs.Names.{name_at}
 use Rattle.answer_texts.specs.ReportTexts.{count_line}
+use Rattle.study_answers.specs.declared.conflicts.Conflict.{Conflict}
 
 -- the name of an equation, behind a space
 abbrev pub name_item : List (List ℕ) → ℕ → List ℕ
@@ -14,20 +16,20 @@ name_items names [] = []
 name_items names (equation ∷ equations) = name_item names equation ++ name_items names equations
 
 -- the line of an equation and its conflict set
-abbrev pub conflict_line : MixedModel → ℕ → List ℕ → List ℕ
-conflict_line model equation set = codes "conflict " ++ name_at model.equations equation ++ codes ":"
-    ++ name_items model.equations set ++ codes "\n"
-
--- how many conflict sets there are
-abbrev pub conflict_count_line : ℕ → List ℕ
-conflict_count_line count = count_line (codes "conflicts") count
+abbrev pub conflict_line : List (List ℕ) → Conflict → List ℕ
+conflict_line names conflict = codes "conflict " ++ name_at names conflict.equation ++ codes ":"
+    ++ name_items names conflict.set ++ codes "\n"
 
 -- the lines of some equations, each with its conflict set
-abbrev pub conflict_lines : MixedModel → List (ℕ × List ℕ) → List ℕ
-conflict_lines model [] = []
-conflict_lines model (conflict ∷ conflicts) =
-    conflict_line model conflict.0 conflict.1 ++ conflict_lines model conflicts
+abbrev pub conflict_lines : List (List ℕ) → List Conflict → List ℕ
+conflict_lines names [] = []
+conflict_lines names (conflict ∷ conflicts) = conflict_line names conflict ++ conflict_lines names conflicts
 
--- the text of some conflict sets
-abbrev pub conflicts_text : MixedModel → List (ℕ × List ℕ) → List ℕ
-conflicts_text model conflicts = conflict_count_line (length conflicts) ++ conflict_lines model conflicts
+-- how many conflict sets there are, and these
+abbrev pub conflicts_text : MixedModel → List Conflict → List ℕ
+conflicts_text model conflicts =
+    count_line (codes "conflicts") (length conflicts) ++ conflict_lines model.equations conflicts
+
+-- the equation, and those of its set, are among n
+abbrev pub IsConflictIn : ℕ → Conflict → Type 0
+IsConflictIn n conflict = (conflict.equation < n) × All (λ member. member < n) conflict.set

@@ -1,3 +1,4 @@
 pub mod SolutionTexts
 pub mod ConflictTexts
+pub mod ValueTexts
 pub mod Rooms

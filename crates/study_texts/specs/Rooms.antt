@@ -10,3 +10,8 @@ solution_room digits k n = 48 + (106 + digits) * k + 98 * n
 -- room for the conflict sets of a model of at most k equations: a line for each, of at most k + 1 names
 abbrev pub conflict_room : ℕ → ℕ
 conflict_room k = 17 + 107 * k + 97 * (k * k)
+
+-- room for the rank of a model of at most k equations and k unknowns, and a value for each symbol, over a field whose
+-- modulus has at most so many digits: a line for each place, of two names of at most 96 bytes and a number
+abbrev pub values_room : ℕ → ℕ → ℕ
+values_room digits k = 10 + (201 + digits) * (k * k)

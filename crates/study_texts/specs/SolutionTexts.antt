@@ -1,11 +1,14 @@
 -- The texts that tell how a model is solved, by their lines. Unknowns and columns are counted from 0, blocks from 1.
-use Rattle.std.specs.Prelude.{ℕ, ◌+◌, List, [], ◌∷◌, ◌++◌, codes, length}
+use Rattle.std.specs.Prelude.{ℕ, ◌+◌, ◌<◌, ◌≤◌, List, [], ◌∷◌, ◌++◌, codes, length}
+use Rattle.std.specs.List.{All}
 use Rattle.text_writer.specs.Numbers.{spaced}
 use Rattle.mixed_model.specs.Layers.{Layers}
 use Rattle.mixed_model.specs.Models.{MixedModel}
 use Rattle.mixed_model.specs.Names.{name_at}
 use Rattle.answer_texts.specs.PlanTexts.{named_columns_line}
 use Rattle.answer_texts.specs.ReportTexts.{count_line}
+use Rattle.study_answers.specs.declared.solving.Solving.{Solving}
+use Rattle.study_answers.specs.declared.solving.Solving.TheVariants.{Open, Singular, Solution}
 
 -- the line of an unknown and its number
 abbrev pub value_line : List ℕ → ℕ → List ℕ
@@ -30,3 +33,15 @@ singular_text model layers block columns =
 abbrev pub open_text : MixedModel → ℕ → List ℕ
 open_text model rank = codes "equations" ++ spaced (length model.equations) ++ codes " unknowns"
     ++ spaced (length model.unknowns) ++ codes " rank" ++ spaced rank ++ codes "\n"
+
+-- how a model is solved
+abbrev pub solving_text : {T : Type 0} → (T → ℕ) → MixedModel → Layers → Solving T → List ℕ
+solving_text number model layers (Open rank) = open_text model rank
+solving_text number model layers (Singular block columns) = singular_text model layers block columns
+solving_text number model layers (Solution values) = solution_text number model values
+
+-- the columns are there, or no more numbers than unknowns are told
+abbrev pub IsSolvingIn : {T : Type 0} → MixedModel → Layers → Solving T → Type 0
+IsSolvingIn model layers (Open rank) = Unit {0}
+IsSolvingIn model layers (Singular block columns) = All (λ column. column < layers.q.width) columns
+IsSolvingIn model layers (Solution values) = length values ≤ length model.unknowns

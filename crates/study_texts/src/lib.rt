@@ -3,6 +3,8 @@
 
 mod conflict_lines;
 mod solution_lines;
+mod value_lines;
 
-pub use conflict_lines::{put_conflict, put_conflict_count};
-pub use solution_lines::{put_open, put_singular, put_solution};
+pub use conflict_lines::put_conflicts;
+pub use solution_lines::put_solving;
+pub use value_lines::put_values;

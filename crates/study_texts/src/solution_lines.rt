@@ -6,17 +6,42 @@ ghost use Rattle.mixed_layering.specs.Layers.{AreLayersOf};
 ghost use Rattle.mixed_model.specs.Names.{name_at};
 ghost use Rattle.answer_texts.specs.PlanTexts.{column_item, column_items, named_columns_line};
 ghost use Rattle.answer_texts.specs.ReportTexts.{count_line};
-ghost use Rattle.study_texts.specs.SolutionTexts.{open_text, singular_text, solution_text, value_line, value_lines};
+ghost use Rattle.study_texts.specs.SolutionTexts.{IsSolvingIn, open_text, singular_text, solution_text, solving_text, value_line, value_lines};
 ghost use Rattle.text_writer.specs.Texts.{Puts};
 
 use answer_texts::{put_column_name, put_unknown_name};
 use mixed_model::{Layered, Mixed};
 use port_io::Sink;
 use residue_field::Field;
+use study_answers::Solving;
 use text_writer::TextWriter;
 
-/// Puts the text of a solution: the number of each unknown.
-pub fn put_solution<F: Field, K: Sink>(out: &mut TextWriter<'_, K>, model: &Mixed<F>, values: &[F])
+/// Puts how a model is solved: that it is not regular, a block that is singular, or the number of each unknown.
+pub fn put_solving<F: Field, K: Sink>(
+    out: &mut TextWriter<'_, K>,
+    model: &Mixed<F>,
+    layered: &Layered<F>,
+    solving: &Solving<F>,
+)
+    requires layers { AreLayersOf model.now layered.now }
+    requires solving { IsSolvingIn model.now layered.now solving.now }
+    ensures { Puts K.Sink out.old out.new (solving_text F.number model.now layered.now solving.now) }
+{
+    match solving {
+        Solving::Open(rank) => put_open(out, model, *rank),
+        Solving::Singular(block, columns) => put_singular(
+            out,
+            model,
+            layered,
+            *block,
+            columns.as_slice(),
+        ),
+        Solving::Solution(values) => put_solution(out, model, values.as_slice()),
+    }
+}
+
+// Puts the text of a solution: the number of each unknown.
+fn put_solution<F: Field, K: Sink>(out: &mut TextWriter<'_, K>, model: &Mixed<F>, values: &[F])
     requires { length values.now ≤ length model.now.unknowns }
     ensures { Puts K.Sink out.old out.new (solution_text F.number model.now values.now) }
 {
@@ -50,8 +75,8 @@ fn put_value<F: Field, K: Sink>(
     out.piece(b"\n");
 }
 
-/// Puts the text of a singular block: its number, counted from 1, and its columns.
-pub fn put_singular<F: Field, K: Sink>(
+// Puts the text of a singular block: its number, counted from 1, and its columns.
+fn put_singular<F: Field, K: Sink>(
     out: &mut TextWriter<'_, K>,
     model: &Mixed<F>,
     layered: &Layered<F>,
@@ -123,9 +148,9 @@ fn put_column<F: Field, K: Sink>(
     put_column_name(out, model, origin);
 }
 
-/// Puts the text of a model that is not regular, whatever its values are: its numbers of equations and of unknowns, and its
-/// structural rank.
-pub fn put_open<F: Field, K: Sink>(out: &mut TextWriter<'_, K>, model: &Mixed<F>, rank: usize)
+// Puts the text of a model that is not regular, whatever its values are: its numbers of equations and of unknowns, and
+// its structural rank.
+fn put_open<F: Field, K: Sink>(out: &mut TextWriter<'_, K>, model: &Mixed<F>, rank: usize)
     ensures { Puts K.Sink out.old out.new (open_text model.now rank) }
 {
     out.piece(b"equations");

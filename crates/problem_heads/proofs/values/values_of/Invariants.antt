@@ -1,5 +1,5 @@
-use Rattle.problem_heads.specs.ValuesSoFar.{AreValuesBefore}
+use Rattle.problem_heads.proofs.ValueSteps.{AreFirstValues}
 use Rattle.problem_heads.proofs.values.values_of.Given as goal
 
-abbrev pub invariant-loop-i : goal.invariant-loop-i
-invariant-loop-i g l = AreValuesBefore l.lines.numbers l.model l.i 0 l.values.items
+abbrev pub invariant-loop-place : goal.invariant-loop-place
+invariant-loop-place g l = AreFirstValues l.lines.numbers l.model l.place-index l.values.items

@@ -1,0 +1,5 @@
+pub mod Falling
+pub mod Few
+pub mod GrowingLevels
+pub mod ProblemCosts
+pub mod ShownRanks

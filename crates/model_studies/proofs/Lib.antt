@@ -1,0 +1,3 @@
+pub mod RightForms
+pub mod Listed
+pub mod Placed

@@ -1,0 +1,3 @@
+pub mod HasValues
+pub mod Solved
+pub mod HasConflicts

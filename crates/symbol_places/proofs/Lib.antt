@@ -1,0 +1,3 @@
+pub mod PlaceSteps
+pub mod RowSteps
+pub mod PlaceNumbers
