@@ -1,5 +1,0 @@
-pub mod Ranges
-pub mod Ends
-pub mod Solved
-pub mod Refusing
-pub mod Lengths
