@@ -1,7 +1,6 @@
 -- Two solvings of one problem end alike.
 use Rattle.std.proofs.Common.{◌≡◌, ◌⊎◌, ℕ, ◌<◌, ◌≤◌, List, inl, inr, refl, arith}
 use Rattle.mixed_matrices.specs.Models.{MixedMatrix}
-use Rattle.mixed_matrices.specs.StructuralRanks.{IsStructuralRank}
 use Rattle.mixed_model.specs.Layers.{Layers}
 use Rattle.mixed_model.specs.Models.{MixedModel}
 use Rattle.block_solver.specs.Solving.{HasFullRank}

@@ -33,13 +33,14 @@ IsOpen p M rank = IsStructuralRank p M rank × ((rank < M.rows) ⊎ (rank < M.co
 
 -- over the residues modulo p: solving the model with these values, by rising equation and then unknown, and these right
 -- sides tells this; each number of a solution is seen as its number, which is below p
-abbrev pub IsSolvingBy : {T : Type 0} → (T → ℕ) → ℕ → MixedModel → Layers → (values right : List ℕ) → Solving T → Type 0
+abbrev pub IsSolvingBy : {T : Type 0} → (T → ℕ) → ℕ → MixedModel → Layers → (values right : List ℕ) → Solving T →
+    Type 0
 IsSolvingBy number p model layers values right (Open rank) = IsOpen p (mixed_matrix_of model) rank
 IsSolvingBy number p model layers values right (Singular k columns) =
     IsSingularAt p model layers (values_of (mixed_matrix_of model) values) k columns
 IsSolvingBy number p model layers values right (Solution x) =
-    IsModelSolution p (mixed_matrix_of model) (values_of (mixed_matrix_of model) values) (slice_index right) (map number x)
-    × All (λ residue. residue < p) (map number x)
+    IsModelSolution p (mixed_matrix_of model) (values_of (mixed_matrix_of model) values) (slice_index right)
+    (map number x) × All (λ residue. residue < p) (map number x)
 
 -- whether it is a solution
 abbrev pub is_solution : {T : Type 0} → Solving T → Bool

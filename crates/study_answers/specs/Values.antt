@@ -11,8 +11,8 @@ use Rattle.study_answers.specs.declared.values.Values.{Values}
 abbrev pub numbers_at : {T : Type 0} → (T → ℕ) → List (ValueAt T) → List ℕ
 numbers_at number values = map (λ at. number at.value) values
 
--- the rank is R(M), each symbol of M has a value, by rising equation and then unknown, and the values are the first list
--- of ones and twos that reaches the rank
+-- the rank is R(M), each symbol of M has a value, by rising equation and then unknown, and the values are the first
+-- list of ones and twos that reaches the rank
 pub record AreValuesOf {T : Type 0} (number : T → ℕ) (p : ℕ) (M : MixedMatrix) (told : Values T) : Type 0 where
   pub rank : IsStructuralRank p M told.rank
   pub places : AreSymbolPlaces M (map (λ at. at.place) told.values)

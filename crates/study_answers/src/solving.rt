@@ -6,10 +6,11 @@ use residue_field::Field;
 /// How a model with a value for each symbol and a right side for each equation is solved.
 #[derive(Drop)]
 pub enum Solving<F: Field> {
-    /// It is regular with no values: this is its structural rank.
+    /// No values make it regular: this is its structural rank, below the number of equations or of unknowns.
     Open(usize),
-    /// It is singular with these: a block is, none after it is, and these are its number, counted from 1, and its columns.
+    /// These values make it singular: the number, counted from 1, of the last block of a right form that is singular, and its
+    /// columns.
     Singular(usize, Items<usize>),
-    /// It is regular with these: the number of each unknown.
+    /// These values make it regular: the number of each unknown.
     Solution(Items<F>),
 }
