@@ -1,0 +1,151 @@
+//! Studies of models, as runs over memory: values that reach the rank, solving, conflict sets.
+
+use crate::tests::{Case, asked, calm, expect_case};
+use std::test::Fail;
+
+// The words that ask for a study of an equation list.
+const VALUES: &[&str] = &["mixed", "values", "matrix"];
+
+const SOLVE: &[&str] = &["mixed", "solve", "matrix"];
+
+const CONFLICT: &[&str] = &["mixed", "conflict", "matrix"];
+
+// And of a circuit.
+const CIRCUIT_VALUES: &[&str] = &["mixed", "values", "netlist"];
+
+const CIRCUIT_SOLVE: &[&str] = &["mixed", "solve", "netlist"];
+
+const CIRCUIT_CONFLICT: &[&str] = &["mixed", "conflict", "netlist"];
+
+// A case that is answered by this whole text, with this status.
+fn told<'a>(words: &'a [&'a str], input: &'a [u8], status: u8, text: &'a [u8]) -> Case<'a> {
+    asked(words, calm(input, status, text, text, b""))
+}
+
+// A case that is refused.
+fn refused<'a>(words: &'a [&'a str], input: &'a [u8], note: &'a [u8]) -> Case<'a> {
+    asked(words, calm(input, 3, b"", b"", note))
+}
+
+#[test]
+fn values_that_reach_the_rank(rt: HostRuntime) -> Result<(), Fail> {
+    let cases = [
+        told(
+            VALUES,
+            b"eq a x=? y=?\neq b x=? y=?\n",
+            0,
+            b"rank 2\nvalue a x 1\nvalue a y 1\nvalue b x 1\nvalue b y 2\n",
+        ),
+        told(VALUES, b"eq a x=-1+?\n", 0, b"rank 1\nvalue a x 2\n"),
+        told(VALUES, b"eq a x=1 y=1\neq b x=1 y=1\n", 0, b"rank 1\n"),
+        told(VALUES, b"", 0, b"rank 0\n"),
+        told(
+            CIRCUIT_VALUES,
+            b"V1 a 0 5\nR1 a 0\n",
+            0,
+            b"rank 5\nvalue law.R1 v.R1 1\nvalue law.R1 i.R1 1\n",
+        ),
+        refused(VALUES, b"eq a x\n", b"mixed: line 1: bad shape\n"),
+    ];
+    for case in cases {
+        expect_case(&rt, rt.alloc(), &case)?;
+    }
+    Ok(())
+}
+
+#[test]
+fn solutions_by_blocks(rt: HostRuntime) -> Result<(), Fail> {
+    let triangle =
+        b"value a x 2\nvalue a y 3\nvalue b x 5\nright a 7\nright b 10\nmodel\neq a x=? y=?\neq b x=?\n";
+    let cases = [
+        told(SOLVE, triangle, 0, b"solution\nunknown x 2\nunknown y 1\n"),
+        told(
+            SOLVE,
+            b"value a x 2\nvalue a y 3\nvalue b x 0\nmodel\neq a x=? y=?\neq b x=?\n",
+            1,
+            b"singular block 2\nfor x\n",
+        ),
+        told(
+            SOLVE,
+            b"value b y 2\nright a 3\nright b 4\nmodel\neq a x=1 y=1\neq b x=1 y=?\n",
+            0,
+            b"solution\nunknown x 2\nunknown y 1\n",
+        ),
+        told(
+            SOLVE,
+            b"value b y 1\nright a 3\nright b 4\nmodel\neq a x=1 y=1\neq b x=1 y=?\n",
+            1,
+            b"singular block 2\nfor y *b\n",
+        ),
+        told(
+            SOLVE,
+            b"model\neq a x=1 y=1\neq b x=1 y=1\n",
+            1,
+            b"equations 2 unknowns 2 rank 1\n",
+        ),
+        told(
+            CIRCUIT_SOLVE,
+            b"value law.R1 v.R1 1\nvalue law.R1 i.R1 -3\nright law.V1 6\nmodel\nV1 a 0\nR1 a 0\n",
+            0,
+            b"solution\nunknown u.a 6\nunknown v.V1 6\nunknown i.V1 65519\nunknown v.R1 6\nunknown i.R1 2\n",
+        ),
+    ];
+    for case in cases {
+        expect_case(&rt, rt.alloc(), &case)?;
+    }
+    Ok(())
+}
+
+#[test]
+fn problems_that_are_refused(rt: HostRuntime) -> Result<(), Fail> {
+    let cases = [
+        refused(
+            SOLVE,
+            b"model\neq a x=? y=?\neq b x=?\n",
+            b"mixed: document: missing key\n",
+        ),
+        refused(SOLVE, b"model\neq\n", b"mixed: line 2: bad shape\n"),
+        refused(SOLVE, b"eq a x=1\n", b"mixed: line 1: bad word\n"),
+        refused(SOLVE, b"", b"mixed: document: bad shape\n"),
+        refused(
+            SOLVE,
+            b"value a y 1\nmodel\neq a x=?\n",
+            b"mixed: line 1: undeclared\n",
+        ),
+    ];
+    for case in cases {
+        expect_case(&rt, rt.alloc(), &case)?;
+    }
+    Ok(())
+}
+
+#[test]
+fn conflict_sets(rt: HostRuntime) -> Result<(), Fail> {
+    let cases = [
+        told(
+            CONFLICT,
+            b"eq a x=1\neq b x=2\neq c x=3\n",
+            0,
+            b"conflicts 3\nconflict a: a b\nconflict b: a b\nconflict c: a c\n",
+        ),
+        told(CONFLICT, b"eq a\n", 0, b"conflicts 1\nconflict a: a\n"),
+        told(CONFLICT, b"eq a x=? y=?\neq b x=?\n", 0, b"conflicts 0\n"),
+        told(
+            CONFLICT,
+            b"eq a x=1 y=1\neq b x=1 y=1\n",
+            0,
+            b"conflicts 2\nconflict a: a b\nconflict b: a b\n",
+        ),
+        told(
+            CIRCUIT_CONFLICT,
+            b"V1 a 0\nV2 a 0\n",
+            0,
+            b"conflicts 4\nconflict kvl.V1: kvl.V1 law.V1 kvl.V2 law.V2\nconflict law.V1: kvl.V1 law.V1 kvl.V2 law.V2\nconflict kvl.V2: kvl.V1 law.V1 kvl.V2 law.V2\nconflict law.V2: kvl.V1 law.V1 kvl.V2 law.V2\n",
+        ),
+        refused(CONFLICT, b"eq a x\n", b"mixed: line 1: bad shape\n"),
+    ];
+    for case in cases {
+        expect_case(&rt, rt.alloc(), &case)?;
+    }
+    Ok(())
+}

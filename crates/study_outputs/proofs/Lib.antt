@@ -1,0 +1,5 @@
+pub mod Ranges
+pub mod Ends
+pub mod Solved
+pub mod Refusing
+pub mod Lengths

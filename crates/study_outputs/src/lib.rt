@@ -1,0 +1,7 @@
+//! What a study of a model reads and writes: values that reach the rank, how a problem is solved, which equations clash.
+#![tactic(auto)]
+
+mod studied;
+mod writing;
+
+pub use studied::Studied;
