@@ -224,7 +224,7 @@ fn task_named(word: &str) -> Option<Task>
 
 // The study of this name.
 fn study_named(word: &str) -> Option<Study>
-    ensures { MatchOption result ((study : Study) → word.now ≢ study_text study) (λ study. word.now ≡ study_text study) }
+    ensures { MatchOption result ((any : Study) → word.now ≢ study_text any) (λ study. word.now ≡ study_text study) }
 {
     match word {
         "values" => Some(Study::Values),

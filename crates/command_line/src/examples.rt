@@ -18,7 +18,8 @@ pub fn words_at_examples()
     ensures edit { AsksFor (codes "mixed" ∷ codes "edit" ∷ []) Edit }
     ensures values { AsksFor (codes "mixed" ∷ codes "values" ∷ codes "matrix" ∷ []) (OfStudy Values Matrix) }
     ensures solve { AsksFor (codes "mixed" ∷ codes "solve" ∷ codes "netlist" ∷ []) (OfStudy Solve Netlist) }
-    ensures conflict { AsksFor (codes "mixed" ∷ codes "conflict" ∷ codes "flowsheet" ∷ []) (OfStudy Conflict Flowsheet) }
+    ensures conflict { AsksFor (codes "mixed" ∷ codes "conflict" ∷ codes "flowsheet" ∷ [])
+        (OfStudy Conflict Flowsheet) }
     ensures make { AsksToMake (codes "mixed" ∷ codes "make" ∷ codes "2" ∷ []) 2 None }
     ensures make_most { AsksToMake (codes "mixed" ∷ codes "make" ∷ codes "400" ∷ []) 400 None }
     ensures make_zeros { AsksToMake (codes "mixed" ∷ codes "make" ∷ codes "007" ∷ []) 7 None }

@@ -53,7 +53,7 @@ pub record IsSolvedFor {T : Type 0} (number : T → ℕ) (p : ℕ) (kind : Kind)
   pub solves : IsSolvingBy number p model layers values right solving
 
 -- `values` gives the model that the input gives, with the first values that reach its rank; `solve` what solving the
--- problem in the input tells; `conflict` the model that the input gives, with the conflict sets of its surplus equations
+-- problem in the input tells; `conflict` the model that the input gives, with conflict sets of its surplus equations
 abbrev pub IsStudiedFor : {T : Type 0} → (T → ℕ) → ℕ → Study → Kind → List ℕ → Studied T → Type 0
 IsStudiedFor number p study kind input (Values model told) =
     (study ≡ studies.Values) × GivesModel p kind input model × AreValuesOf number p (mixed_matrix_of model) told

@@ -10,6 +10,7 @@ by_layers-requires g c =
 
 pub returns-clause-right : goal.returns-clause-right
 returns-clause-right g c =
-    let gives = subst (λ (text : List ℕ). GivesProblem g.F.Field.number g.F.Field.modulus c.args.kind forms.Solve text c.in_ok-model.model c.in_ok-model.problem)
-    c.deref.ensures.value c.in_ok-model.ensures.problem in
+    let Gives = λ (text : List ℕ). GivesProblem g.F.Field.number g.F.Field.modulus c.args.kind forms.Solve text
+    c.in_ok-model.model c.in_ok-model.problem in
+    let gives = subst Gives c.deref.ensures.value c.in_ok-model.ensures.problem in
     c.in_ok-by_layers.ensures c.args.kind c.args.text.items gives
