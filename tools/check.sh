@@ -11,6 +11,7 @@ checks=(
     "example_inputs.py --check"
     "picture_inputs.py --check"
     "refusal_rows.py --check"
+    "page_links.py"
     "page_outputs.py"
 )
 failed=0

@@ -1,5 +1,5 @@
 -- What a study writes of an input fits in the room that its length gives.
-use Rattle.std.proofs.Common.{ℕ, ◌^◌, ◌<◌, ◌≤◌, List, length, length-append, ap, subst, sym, arith}
+use Rattle.std.proofs.Common.{ℕ, ◌+◌, ◌^◌, ◌<◌, ◌≤◌, List, length, length-append, ap, subst, sym, arith}
 use Rattle.residue_theory.specs.Residues.{IsPrime}
 use Rattle.cert_text.specs.declared.kind.Kind.{Kind}
 use Rattle.cert_text.specs.declared.kind.Kind.TheVariants.{Flowsheet, Matrix, Netlist}
@@ -22,9 +22,13 @@ use Rattle.problem_heads.proofs.Parting.{text-whole}
 use Rattle.study_texts.specs.ConflictTexts.{conflicts_text}
 use Rattle.study_texts.specs.SolutionTexts.{solving_text}
 use Rattle.study_texts.specs.ValueTexts.{values_text}
-use Rattle.study_outputs.specs.StudyOutputs.{IsSolvedFor, IsStudiedFor, studied_text}
+use Rattle.study_outputs.specs.StudyOutputs.{IsRepairedFor, IsSolvedFor, IsStudiedFor, studied_text}
 use Rattle.study_outputs.specs.declared.studied.Studied.{Studied}
-use Rattle.study_outputs.specs.declared.studied.Studied.TheVariants.{Conflicts, Solved, Values}
+use Rattle.study_outputs.specs.declared.studied.Studied.TheVariants.{Conflicts, Repaired, Solved, Values}
+use Rattle.cheapest_repairs.proofs.ProblemCosts.{problem-costs}
+use Rattle.repair_checker.specs.declared.repair.Repair.{Repair}
+use Rattle.repair_texts.specs.RepairTexts.{repair_text}
+use Rattle.study_outputs.proofs.RepairLengths.{repair-fits}
 use Rattle.study_outputs.proofs.Lengths.{conflicts-fit, solving-fits, values-fit}
 use Rattle.answer_laws.specs.Rooms.{columns_within, places_within, study_room}
 use Rattle.answer_laws.proofs.Narrow.{narrow}
@@ -54,6 +58,9 @@ few-places kind n = omega arith
 
 columns-more : (kind : Kind) (m n : ℕ) → m ≤ n → columns_within kind m ≤ columns_within kind n
 columns-more kind m n low = let more = names-more kind m n low in omega (arith, more)
+
+places-both : (kind : Kind) (n e u : ℕ) → e ≤ places_within kind n → u ≤ places_within kind n → e + u ≤ columns_within kind n
+places-both kind n e u equations unknowns = omega (arith, equations, unknowns)
 
 columns-low : (kind : Kind) (n : ℕ) → columns_within kind n ≤ 8192
 columns-low kind n = omega arith
@@ -88,6 +95,15 @@ module _ {T : Type 0} (number : T → ℕ) (p most : ℕ) (prime : IsPrime p) (s
       (few-places kind (length input)) at.equations at.unknowns number most some below layers wide (columns-low kind (length input))
       solved.values solved.right solving solved.solves
 
+  repair-within : (model : MixedModel) (costs : List ℕ) (repair : Repair T) → IsRepairedFor p kind input model costs repair →
+      length (repair_text model costs repair) ≤ study_room most studies.Repair kind (length input)
+  repair-within model costs repair repaired =
+      let text = model_text input in
+      let at = placed p kind text (length input) (behind-short input) model repaired.gives in
+      repair-fits p model (places_within kind (length input)) (columns_within kind (length input)) at.equations
+      (places-both kind (length input) (length model.equations) (length model.unknowns) at.equations at.unknowns) most some below
+      (is-model p kind text model repaired.gives) costs (problem-costs p input model costs repaired.problem) repair repaired.shown
+
   pub studied-fits : (study : Study) (studied : Studied T) → IsStudiedFor number p study kind input studied →
       length (studied_text number studied) ≤ study_room most study kind (length input)
   studied-fits study (Values model told) (is, gives, are) =
@@ -95,5 +111,7 @@ module _ {T : Type 0} (number : T → ℕ) (p most : ℕ) (prime : IsPrime p) (s
   studied-fits study (Solved model layers solving) (is, solved) =
       subst (λ s. length (solving_text number model layers solving) ≤ study_room most s kind (length input)) (sym is)
       (solving-within model layers solving solved)
+  studied-fits study (Repaired model costs repair) (is, repaired) =
+      subst (λ s. length (repair_text model costs repair) ≤ study_room most s kind (length input)) (sym is) (repair-within model costs repair repaired)
   studied-fits study (Conflicts model conflicts) (is, gives, are) =
       subst (λ s. length (conflicts_text model conflicts) ≤ study_room most s kind (length input)) (sym is) (conflicts-within model conflicts gives are)

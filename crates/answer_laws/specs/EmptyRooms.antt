@@ -3,7 +3,7 @@ use Rattle.std.specs.Prelude.{ℕ, ◌≤◌, List, [], length}
 use Rattle.command_line.specs.Words.{AsksFor}
 use Rattle.command_line.specs.declared.command.Command.{Command}
 use Rattle.command_line.specs.declared.command.Command.TheVariants.{Check, Edit, OfModel, OfStudy}
-use Rattle.command_line.specs.declared.command.Study.TheVariants.{Conflict, Solve, Values}
+use Rattle.command_line.specs.declared.command.Study.TheVariants.{Conflict, Repair, Solve, Values}
 use Rattle.command_line.specs.declared.command.Task.TheVariants.{Analyse, Layer, Plan, Report}
 use Rattle.run_ends.specs.Ways.{HasText}
 use Rattle.report_cli.specs.Answer.{IsAnswer}
@@ -19,6 +19,7 @@ empty_room (OfModel Report kind field) = 72
 empty_room (OfModel Plan kind field) = 0
 empty_room (OfStudy Values kind) = 10
 empty_room (OfStudy Solve kind) = 0
+empty_room (OfStudy Repair kind) = 0
 empty_room (OfStudy Conflict kind) = 17
 empty_room Check = 0
 empty_room Edit = 0

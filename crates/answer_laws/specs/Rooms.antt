@@ -13,7 +13,8 @@ use Rattle.report_cli.specs.Fields.{digits, certificate_version}
 use Rattle.command_line.specs.declared.command.Command.{Command}
 use Rattle.command_line.specs.declared.command.Command.TheVariants.{Check, Edit, OfModel, OfStudy}
 use Rattle.command_line.specs.declared.command.Study.{Study}
-use Rattle.command_line.specs.declared.command.Study.TheVariants.{Conflict, Solve, Values}
+use Rattle.command_line.specs.declared.command.Study.TheVariants.{Conflict, Repair, Solve, Values}
+use Rattle.repair_texts.specs.Rooms.{repair_room}
 use Rattle.study_texts.specs.Rooms.{conflict_room, solution_room, values_room}
 use Rattle.command_line.specs.declared.command.Request.{Request}
 use Rattle.command_line.specs.declared.command.Request.TheVariants.{Make, OfInput}
@@ -44,6 +45,7 @@ task_room most version Plan kind n = plan_room most (places_within kind n) (colu
 abbrev pub study_room : ℕ → Study → Kind → ℕ → ℕ
 study_room most Values kind n = values_room most (places_within kind n)
 study_room most Solve kind n = solution_room most (places_within kind n) (columns_within kind n)
+study_room most Repair kind n = repair_room most (places_within kind n) (columns_within kind n)
 study_room most Conflict kind n = conflict_room (places_within kind n)
 
 -- room for each text that may be written for an input of n bytes by this command, over such a field

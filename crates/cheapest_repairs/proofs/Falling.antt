@@ -32,12 +32,11 @@ turned-falls once rising k kl =
     let less = rising (length once - 1 - (k + 1)) (omega (arith, kl, long)) in
     omega (arith, later, first, less, ap (λ i. get_or once i 0) low)
 
--- costs that are sorted, each left once, and turned round are levels
-pub turned-levels : (costs sorted once levels : List ℕ) → IsPermutation costs sorted → IsSorted nat_cmp sorted → once ≡ dedup eqb sorted →
-    levels ≡ reverse once → AreLevels costs levels
-turned-levels costs sorted once levels moved rises once_is levels_is = record {
-  falling = subst (λ xs. (k : ℕ) → k + 1 < length xs → get_or xs (k + 1) 0 < get_or xs k 0) (sym levels_is)
-      (turned-falls once (subst IsStrictlyIncreasing (sym once_is) (IsStrictlyIncreasing-dedup sorted rises)));
+-- a rising list of the costs, turned round, is the levels
+pub rising-levels : (costs once levels : List ℕ) → IsStrictlyIncreasing once → ((x : ℕ) → Contains costs x → Contains once x) →
+    ((x : ℕ) → Contains once x → Contains costs x) → levels ≡ reverse once → AreLevels costs levels
+rising-levels costs once levels rising there back levels_is = record {
+  falling = subst (λ xs. (k : ℕ) → k + 1 < length xs → get_or xs (k + 1) 0 < get_or xs k 0) (sym levels_is) (turned-falls once rising);
   each = λ e el. has-of levels (get_or costs e 0) (to (get_or costs e 0) (is-in costs e el));
   some = λ k kl. has-of costs (get_or levels k 0) (from (get_or levels k 0) (is-in levels k kl));
 }
@@ -46,9 +45,20 @@ turned-levels costs sorted once levels moved rises once_is levels_is = record {
     turned = subst (IsPermutation once) (sym levels_is) (IsPermutation-reverse once)
 
     to : (x : ℕ) → Contains costs x → Contains levels x
-    to x here = Contains-permutation once levels x turned (subst (λ xs. Contains xs x) (sym once_is)
-        (Contains-dedup_nat sorted x (Contains-permutation costs sorted x moved here)))
+    to x here = Contains-permutation once levels x turned (there x here)
 
     from : (x : ℕ) → Contains levels x → Contains costs x
-    from x here = Contains-permutation sorted costs x (IsPermutation-sym costs sorted moved) (Contains-from_dedup eqb sorted x
-        (subst (λ xs. Contains xs x) once_is (Contains-permutation levels once x (IsPermutation-sym once levels turned) here)))
+    from x here = back x (Contains-permutation levels once x (IsPermutation-sym once levels turned) here)
+
+-- costs that are sorted, each left once, and turned round are levels
+pub turned-levels : (costs sorted once levels : List ℕ) → IsPermutation costs sorted → IsSorted nat_cmp sorted → once ≡ dedup eqb sorted →
+    levels ≡ reverse once → AreLevels costs levels
+turned-levels costs sorted once levels moved rises once_is levels_is = rising-levels costs once levels
+    (subst IsStrictlyIncreasing (sym once_is) (IsStrictlyIncreasing-dedup sorted rises)) there back levels_is
+  where
+    there : (x : ℕ) → Contains costs x → Contains once x
+    there x here = subst (λ xs. Contains xs x) (sym once_is) (Contains-dedup_nat sorted x (Contains-permutation costs sorted x moved here))
+
+    back : (x : ℕ) → Contains once x → Contains costs x
+    back x here = Contains-permutation sorted costs x (IsPermutation-sym costs sorted moved)
+        (Contains-from_dedup eqb sorted x (subst (λ xs. Contains xs x) once_is here))

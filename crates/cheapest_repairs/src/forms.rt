@@ -1,8 +1,9 @@
 //! Canonical forms of some equations of a model.
 
 ghost use Rattle.std.specs.Prelude.{length, IfOk};
+ghost use Rattle.std.specs.List.{All};
 ghost use Rattle.mixed_model.specs.Models.{mixed_matrix_of};
-ghost use Rattle.cert_text.specs.Ranges.{AreRising};
+ghost use Rattle.cert_text.specs.Ranges.{AreRising, IsCcf};
 ghost use Rattle.cert_checker.specs.Answers.{IsRightFor};
 ghost use Rattle.restricted_models.specs.Restrictions.{restricted};
 
@@ -11,6 +12,7 @@ use cert_text::Ccf;
 use mixed_layering::layer;
 use mixed_model::Mixed;
 use out_of_memory::NoMemory;
+use repair_checker::Level;
 use residue_field::Field;
 use restricted_models::restrict;
 use std::alloc::Global;
@@ -38,4 +40,13 @@ fn form_of_all<F: Field>(alloc: Global, model: &Mixed<F>) -> Result<Ccf<F>, NoMe
     let layered = layer(alloc, model)?;
     let form = build(alloc, &layered)?;
     Ok(form)
+}
+
+/// Tells a proof what the forms of levels keep, whoever made them.
+pub fn are_in_form<F: Field>(levels: &[Level<F>])
+    ensures { All (λ level. IsCcf F.modulus level.ccf) levels.now }
+{
+    for level in levels {
+        level.ccf.is_in_form();
+    }
 }

@@ -4,12 +4,13 @@ ghost use Rattle.std.specs.Prelude.{◌≡◌, ◌≤◌, length, slice_index, I
 ghost use Rattle.residue_theory.specs.Sets.{everything, has};
 ghost use Rattle.mixed_model.specs.Models.{mixed_matrix_of};
 ghost use Rattle.cert_text.specs.Ranges.{AreRising};
-ghost use Rattle.equation_matroid_laws.specs.GreedyChoices.{IsCheapestRepair, IsGreedyChoice, by_cost, outside};
+ghost use Rattle.equation_matroid_laws.specs.GreedyChoices.{IsGreedyChoice, by_cost};
 ghost use Rattle.repair_checker.specs.Costs.{AreCosts};
 ghost use Rattle.repair_checker.specs.Rules.{KeepsRepairRules};
+ghost use Rattle.cheapest_repairs.specs.ShownRepairs.{IsShownRepair};
 
 use crate::costs::cost_of_others;
-use crate::forms::form_of;
+use crate::forms::{are_in_form, form_of};
 use crate::levels::levels_of;
 use cert_text::Items;
 use equation_choice::kept_by_cost;
@@ -28,16 +29,13 @@ pub fn cheapest_repair<F: Field>(
     costs: &[u64],
 ) -> Result<Repair<F>, NoMemory>
     requires { AreCosts (length model.now.equations) costs.now }
-    ensures kept { IfOk result (λ repair. IsGreedyChoice F.modulus (mixed_matrix_of model.now)
-        (by_cost (slice_index costs.now)) everything (has repair.kept)) }
-    ensures rising { IfOk result (λ repair. AreRising (length model.now.equations) repair.kept) }
-    ensures repair { IfOk result (λ repair. IsCheapestRepair F.modulus (mixed_matrix_of model.now)
-        (slice_index costs.now) (outside (has repair.kept))) }
-    ensures rules { IfOk result (λ repair. KeepsRepairRules F.modulus model.now costs.now repair) }
+    ensures { IfOk result (IsShownRepair F.modulus model.now costs.now) }
 {
     model.is_model();
     let kept = kept_by_cost(alloc, model, costs)?;
     let repair = repair_keeping(alloc, model, costs, kept)?;
+    repair.kept_ccf.is_in_form();
+    are_in_form(repair.levels.as_slice());
     Ok(repair)
 }
 

@@ -13,7 +13,7 @@ use Rattle.residue_field.specs.declared.field_name.FieldName.TheVariants.{Large,
 use Rattle.command_line.specs.declared.command.Command.{Command}
 use Rattle.command_line.specs.declared.command.Command.TheVariants.{Check, Edit, OfModel, OfStudy}
 use Rattle.command_line.specs.declared.command.Study.{Study}
-use Rattle.command_line.specs.declared.command.Study.TheVariants.{Conflict, Solve, Values}
+use Rattle.command_line.specs.declared.command.Study.TheVariants.{Conflict, Repair, Solve, Values}
 use Rattle.command_line.specs.declared.command.Request.{Request}
 use Rattle.command_line.specs.declared.command.Request.TheVariants.{Make, OfInput}
 use Rattle.command_line.specs.declared.command.Task.{Task}
@@ -32,6 +32,7 @@ task-number Plan = 222
 study-number : Study → ℕ
 study-number Values = 235
 study-number Solve = 233
+study-number Repair = 211
 study-number Conflict = 201
 
 name-number : Command → ℕ
@@ -48,6 +49,7 @@ numbered-by-name (OfModel Report kind field) = refl
 numbered-by-name (OfModel Plan kind field) = refl
 numbered-by-name (OfStudy Values kind) = refl
 numbered-by-name (OfStudy Solve kind) = refl
+numbered-by-name (OfStudy Repair kind) = refl
 numbered-by-name (OfStudy Conflict kind) = refl
 numbered-by-name Check = refl
 numbered-by-name Edit = refl
@@ -66,7 +68,8 @@ named-by : ℕ → Named
 named-by number =
     if nat_eq number 205 then inl Analyse else (if nat_eq number 209 then inl Layer else (if nat_eq number 225 then inl Report
     else (if nat_eq number 222 then inl Plan else (if nat_eq number 235 then inr (inl Values) else (if nat_eq number 233 then inr (inl Solve)
-    else (if nat_eq number 201 then inr (inl Conflict) else (if nat_eq number 198 then inr (inr true) else inr (inr false))))))))
+    else (if nat_eq number 211 then inr (inl Repair) else (if nat_eq number 201 then inr (inl Conflict)
+    else (if nat_eq number 198 then inr (inr true) else inr (inr false)))))))))
 
 named-again : (command : Command) → named-by (name-number command) ≡ named command
 unfolding name-number task-number study-number named-by named
@@ -76,6 +79,7 @@ named-again (OfModel Report kind field) = refl
 named-again (OfModel Plan kind field) = refl
 named-again (OfStudy Values kind) = refl
 named-again (OfStudy Solve kind) = refl
+named-again (OfStudy Repair kind) = refl
 named-again (OfStudy Conflict kind) = refl
 named-again Check = refl
 named-again Edit = refl
@@ -93,6 +97,7 @@ not-make (OfModel Report kind field) is = omega (arith, is)
 not-make (OfModel Plan kind field) is = omega (arith, is)
 not-make (OfStudy Values kind) is = omega (arith, is)
 not-make (OfStudy Solve kind) is = omega (arith, is)
+not-make (OfStudy Repair kind) is = omega (arith, is)
 not-make (OfStudy Conflict kind) is = omega (arith, is)
 not-make Check is = omega (arith, is)
 not-make Edit is = omega (arith, is)

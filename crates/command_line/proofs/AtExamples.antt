@@ -9,7 +9,7 @@ use Rattle.command_line.specs.CommandLine.{command_line}
 use Rattle.command_line.specs.Words.{AsksFor, AsksForNothing, AsksToMake, field_of, field_word, study_text}
 use Rattle.command_line.specs.declared.command.Study.{Study}
 use Rattle.command_line.specs.declared.command.Command.TheVariants.{Check, Edit, OfModel, OfStudy}
-use Rattle.command_line.specs.declared.command.Study.TheVariants.{Conflict, Solve, Values}
+use Rattle.command_line.specs.declared.command.Study.TheVariants.{Conflict, Repair, Solve, Values}
 use Rattle.residue_field.specs.declared.field_name.FieldName.{FieldName}
 use Rattle.residue_field.specs.declared.field_name.FieldName.TheVariants.{Large, Small}
 use Rattle.command_line.specs.declared.command.Request.TheVariants.{Make, OfInput}
@@ -50,6 +50,10 @@ values = (refl, (refl, refl, refl))
 pub solve : AsksFor (codes "mixed" ∷ codes "solve" ∷ codes "netlist" ∷ []) (OfStudy Solve Netlist)
 unfolding clap_on_literals
 solve = (refl, (refl, refl, refl))
+
+pub repair : AsksFor (codes "mixed" ∷ codes "repair" ∷ codes "matrix" ∷ []) (OfStudy Repair Matrix)
+unfolding clap_on_literals
+repair = (refl, (refl, refl, refl))
 
 pub conflict : AsksFor (codes "mixed" ∷ codes "conflict" ∷ codes "flowsheet" ∷ []) (OfStudy Conflict Flowsheet)
 unfolding clap_on_literals
@@ -113,6 +117,7 @@ edit_of_kind = untaken (codes "mixed" ∷ codes "edit" ∷ codes "matrix" ∷ []
 no-study-analyses : {A : Type 0} (study : Study) → codes "analyse" ≡ study_text study → A
 no-study-analyses Values same = let is : 97 ≡ 118 = ap (λ t. get_or t 0 0) same in absurd (omega (arith, is))
 no-study-analyses Solve same = let is : 97 ≡ 115 = ap (λ t. get_or t 0 0) same in absurd (omega (arith, is))
+no-study-analyses Repair same = let is : 97 ≡ 114 = ap (λ t. get_or t 0 0) same in absurd (omega (arith, is))
 no-study-analyses Conflict same = let is : 97 ≡ 99 = ap (λ t. get_or t 0 0) same in absurd (omega (arith, is))
 
 -- another word at KIND

@@ -20,9 +20,10 @@ whole_line bare analyse layer report plan check make edit whole b a l r p c m e 
     (a ∙ ap (λ app. with_subcommand app (with_kind (codes "analyse"))) b)))))))
 
 -- and those that study a model
-pub studies_line : (start values solve whole : App) → values ≡ with_subcommand start (with_kind_alone (codes "values")) →
-    solve ≡ with_subcommand values (with_kind_alone (codes "solve")) → whole ≡ with_subcommand solve (with_kind_alone (codes "conflict")) →
-    whole ≡ with_studies start
-studies_line start values solve whole v s w =
+pub studies_line : (start values solve repair whole : App) → values ≡ with_subcommand start (with_kind_alone (codes "values")) →
+    solve ≡ with_subcommand values (with_kind_alone (codes "solve")) → repair ≡ with_subcommand solve (with_kind_alone (codes "repair")) →
+    whole ≡ with_subcommand repair (with_kind_alone (codes "conflict")) → whole ≡ with_studies start
+studies_line start values solve repair whole v s r w =
     w ∙ ap (λ app. with_subcommand app (with_kind_alone (codes "conflict")))
-    (s ∙ ap (λ app. with_subcommand app (with_kind_alone (codes "solve"))) v)
+    (r ∙ ap (λ app. with_subcommand app (with_kind_alone (codes "repair")))
+    (s ∙ ap (λ app. with_subcommand app (with_kind_alone (codes "solve"))) v))

@@ -49,8 +49,9 @@ bare_line = record {
 
 -- a command with the subcommands that study a model
 abbrev pub with_studies : App → App
-with_studies app = with_subcommand (with_subcommand (with_subcommand app
-    (with_kind_alone (codes "values"))) (with_kind_alone (codes "solve"))) (with_kind_alone (codes "conflict"))
+with_studies app = with_subcommand (with_subcommand (with_subcommand (with_subcommand app
+    (with_kind_alone (codes "values"))) (with_kind_alone (codes "solve"))) (with_kind_alone (codes "repair")))
+    (with_kind_alone (codes "conflict"))
 
 -- the command `mixed`
 abbrev pub command_line : App
@@ -58,5 +59,6 @@ command_line = record {
   top = record bare_line.top { is_leaf = false };
   subs = with_kind (codes "analyse") ∷ with_kind (codes "layer") ∷ with_kind (codes "report") ∷ with_kind (codes "plan")
       ∷ without_kind (codes "check") ∷ with_size (codes "make") ∷ without_kind (codes "edit")
-      ∷ with_kind_alone (codes "values") ∷ with_kind_alone (codes "solve") ∷ with_kind_alone (codes "conflict") ∷ [];
+      ∷ with_kind_alone (codes "values") ∷ with_kind_alone (codes "solve") ∷ with_kind_alone (codes "repair")
+      ∷ with_kind_alone (codes "conflict") ∷ [];
 }

@@ -14,7 +14,7 @@ use Rattle.command_line.specs.declared.command.Command.TheVariants.{Check, Edit,
 use Rattle.command_line.specs.declared.command.Format.{Format}
 use Rattle.command_line.specs.declared.command.Format.TheVariants.{Certificate, Lines, Model, Studied}
 use Rattle.command_line.specs.declared.command.Study.{Study}
-use Rattle.command_line.specs.declared.command.Study.TheVariants.{Conflict, Solve, Values}
+use Rattle.command_line.specs.declared.command.Study.TheVariants.{Conflict, Repair, Solve, Values}
 use Rattle.command_line.specs.declared.command.Task.{Task}
 use Rattle.command_line.specs.declared.command.Task.TheVariants.{Analyse, Layer, Plan, Report}
 use Rattle.residue_field.specs.declared.field_name.FieldName.{FieldName}
@@ -35,6 +35,7 @@ task_text Plan = codes "plan"
 abbrev pub study_text : Study → List ℕ
 study_text Values = codes "values"
 study_text Solve = codes "solve"
+study_text Repair = codes "repair"
 study_text Conflict = codes "conflict"
 
 -- the name of a command

@@ -34,6 +34,8 @@ pub enum Study {
     Values,
     /// How it is solved with values for its symbols and right sides, which stand before it.
     Solve,
+    /// A cheapest repair, by costs of its equations, which stand before it.
+    Repair,
     /// Its surplus equations, each with those with which it clashes.
     Conflict,
 }
@@ -66,7 +68,7 @@ pub enum Format {
     /// A text of this kind, of at most 8,388,608 bytes, that gives a model.
     Model(Kind),
     /// What this study is of, a text of at most 8,388,608 bytes: it gives a model of this kind, and for `Solve` values and
-    /// right sides stand before it.
+    /// right sides stand before it, for `Repair` costs.
     Studied(Study, Kind),
     /// The text of a certificate, of at most 2,147,483,648 bytes.
     Certificate,
@@ -229,6 +231,7 @@ fn study_named(word: &str) -> Option<Study>
     match word {
         "values" => Some(Study::Values),
         "solve" => Some(Study::Solve),
+        "repair" => Some(Study::Repair),
         "conflict" => Some(Study::Conflict),
         _ => None,
     }

@@ -76,9 +76,15 @@ fn with_studies<'a>(alloc: Global, command: Command<'a>) -> Result<Command<'a>, 
         "solve",
         "Writes the unknowns that solve a model, by values and right sides in lines that stand before it",
     )?;
-    and_study(
+    let repair = and_study(
         alloc,
         solve,
+        "repair",
+        "Writes which equations to drop so that no two clash and the dropped ones cost least, by costs in lines that stand before the model",
+    )?;
+    and_study(
+        alloc,
+        repair,
         "conflict",
         "Writes for each equation that is too many with which others it clashes",
     )

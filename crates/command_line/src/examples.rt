@@ -4,7 +4,7 @@ ghost use Rattle.std.specs.Prelude.{[], ◌∷◌, None, Some, codes};
 ghost use Rattle.cert_text.specs.declared.kind.Kind.TheVariants.{Flowsheet, Matrix, Netlist};
 ghost use Rattle.command_line.specs.Words.{AsksFor, AsksForNothing, AsksToMake};
 ghost use Rattle.command_line.specs.declared.command.Command.TheVariants.{Check, Edit, OfModel, OfStudy};
-ghost use Rattle.command_line.specs.declared.command.Study.TheVariants.{Conflict, Solve, Values};
+ghost use Rattle.command_line.specs.declared.command.Study.TheVariants.{Conflict, Repair, Solve, Values};
 ghost use Rattle.residue_field.specs.declared.field_name.FieldName.TheVariants.{Large, Small};
 ghost use Rattle.command_line.specs.declared.command.Task.TheVariants.{Analyse, Layer, Plan, Report};
 
@@ -18,6 +18,7 @@ pub fn words_at_examples()
     ensures edit { AsksFor (codes "mixed" ∷ codes "edit" ∷ []) Edit }
     ensures values { AsksFor (codes "mixed" ∷ codes "values" ∷ codes "matrix" ∷ []) (OfStudy Values Matrix) }
     ensures solve { AsksFor (codes "mixed" ∷ codes "solve" ∷ codes "netlist" ∷ []) (OfStudy Solve Netlist) }
+    ensures repair { AsksFor (codes "mixed" ∷ codes "repair" ∷ codes "matrix" ∷ []) (OfStudy Repair Matrix) }
     ensures conflict { AsksFor (codes "mixed" ∷ codes "conflict" ∷ codes "flowsheet" ∷ [])
         (OfStudy Conflict Flowsheet) }
     ensures make { AsksToMake (codes "mixed" ∷ codes "make" ∷ codes "2" ∷ []) 2 None }

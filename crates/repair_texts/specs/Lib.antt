@@ -1,1 +1,2 @@
 pub mod RepairTexts
+pub mod Rooms

@@ -1,4 +1,4 @@
-//! Studies of models, as runs over memory: values that reach the rank, solving, conflict sets.
+//! Studies of models, as runs over memory: values that reach the rank, solving, repairs, conflict sets.
 
 use crate::tests::{Case, asked, calm, expect_case};
 use std::test::Fail;
@@ -8,12 +8,16 @@ const VALUES: &[&str] = &["mixed", "values", "matrix"];
 
 const SOLVE: &[&str] = &["mixed", "solve", "matrix"];
 
+const REPAIR: &[&str] = &["mixed", "repair", "matrix"];
+
 const CONFLICT: &[&str] = &["mixed", "conflict", "matrix"];
 
 // And of a circuit.
 const CIRCUIT_VALUES: &[&str] = &["mixed", "values", "netlist"];
 
 const CIRCUIT_SOLVE: &[&str] = &["mixed", "solve", "netlist"];
+
+const CIRCUIT_REPAIR: &[&str] = &["mixed", "repair", "netlist"];
 
 const CIRCUIT_CONFLICT: &[&str] = &["mixed", "conflict", "netlist"];
 
@@ -143,6 +147,153 @@ fn conflict_sets(rt: HostRuntime) -> Result<(), Fail> {
             b"conflicts 4\nconflict kvl.V1: kvl.V1 law.V1 kvl.V2 law.V2\nconflict law.V1: kvl.V1 law.V1 kvl.V2 law.V2\nconflict kvl.V2: kvl.V1 law.V1 kvl.V2 law.V2\nconflict law.V2: kvl.V1 law.V1 kvl.V2 law.V2\n",
         ),
         refused(CONFLICT, b"eq a x\n", b"mixed: line 1: bad shape\n"),
+    ];
+    for case in cases {
+        expect_case(&rt, rt.alloc(), &case)?;
+    }
+    Ok(())
+}
+
+// A case that is answered by a text with this beginning, this piece and this end.
+fn mended<'a>(
+    words: &'a [&'a str],
+    input: &'a [u8],
+    begins: &'a [u8],
+    holds: &'a [u8],
+    ends: &'a [u8],
+) -> Case<'a> {
+    Case {
+        holds,
+        ..asked(words, calm(input, 0, begins, ends, b""))
+    }
+}
+
+#[test]
+fn cheapest_repairs(rt: HostRuntime) -> Result<(), Fail> {
+    let pair = b"cost a 3\ncost b 2\nmodel\neq a x=1 y=1\neq b x=1 y=1\n";
+    let begins = b"repair 2\ndrop b 2\nlevel 3 rank 1\nshape 1 2 1 0 2\nrank 1\nbase ";
+    let loop_of_sources = b"cost law.V2 5\nmodel\nV1 a 0\nV2 a 0\n";
+    let cases = [
+        mended(
+            REPAIR,
+            pair,
+            begins,
+            b"\nend\nlevel 2 rank 1\nshape 2 2 2 0 2\nrank 1\nbase ",
+            b"\nend\n",
+        ),
+        mended(
+            REPAIR,
+            pair,
+            begins,
+            b"\nend\nkept 1\nshape 1 2 1 0 2\nrank 1\nbase ",
+            b"\nend\n",
+        ),
+        mended(
+            CIRCUIT_REPAIR,
+            loop_of_sources,
+            b"repair 1\ndrop kvl.V2 1\nlevel 5 rank 1\nshape 1 5 1 0 5\n",
+            b"\nend\nlevel 1 rank 4\nshape 5 5 5 0 5\nrank 4\n",
+            b"\nend\n",
+        ),
+        mended(
+            CIRCUIT_REPAIR,
+            loop_of_sources,
+            b"repair 1\ndrop kvl.V2 1\nlevel 5 rank 1\n",
+            b"\nend\nkept 4\nshape 4 5 4 0 5\nrank 4\n",
+            b"\nend\n",
+        ),
+        // the equation that costs less is dropped, not the last one
+        mended(
+            REPAIR,
+            b"cost a 0\nmodel\neq a x=1\neq b x=2\n",
+            b"repair 0\ndrop a 0\nlevel 1 rank 1\n",
+            b"\nend\nlevel 0 rank 1\n",
+            b"\nend\n",
+        ),
+    ];
+    for case in cases {
+        expect_case(&rt, rt.alloc(), &case)?;
+    }
+    Ok(())
+}
+
+#[test]
+fn models_that_need_no_repair(rt: HostRuntime) -> Result<(), Fail> {
+    let cases = [
+        told(
+            REPAIR,
+            b"model\neq a x=? y=?\neq b x=?\n",
+            1,
+            b"repair 0\nlevel 1 rank 2\nshape 2 2 0 2 2\nrank 2\nbase\nmatch 1=2 2=1\nT 1: 1 2\nT 2: 1\nfirst |\nblock 1: 2 | t1 |\nblock 2: 1 | t2 | 1\nlast |\nend\nkept 2\nshape 2 2 0 2 2\nrank 2\nbase\nmatch 1=2 2=1\nT 1: 1 2\nT 2: 1\nfirst |\nblock 1: 2 | t1 |\nblock 2: 1 | t2 | 1\nlast |\nend\n",
+        ),
+        told(
+            REPAIR,
+            b"model\n",
+            1,
+            b"repair 0\nkept 0\nshape 0 0 0 0 0\nrank 0\nbase\nmatch\nfirst |\nlast |\nend\n",
+        ),
+    ];
+    for case in cases {
+        expect_case(&rt, rt.alloc(), &case)?;
+    }
+    Ok(())
+}
+
+#[test]
+fn costs_that_are_refused(rt: HostRuntime) -> Result<(), Fail> {
+    let cases = [
+        refused(
+            REPAIR,
+            b"cost a 3\ncost a 3\nmodel\neq a x=1\n",
+            b"mixed: line 2: twice\n",
+        ),
+        refused(
+            REPAIR,
+            b"cost b 3\nmodel\neq a x=1\n",
+            b"mixed: line 1: undeclared\n",
+        ),
+        refused(
+            REPAIR,
+            b"cost a 1000000000\nmodel\neq a x=1\n",
+            b"mixed: line 1: bad number\n",
+        ),
+        refused(
+            REPAIR,
+            b"value a x 1\nmodel\neq a x=?\n",
+            b"mixed: line 1: bad word\n",
+        ),
+        refused(REPAIR, b"model\neq\n", b"mixed: line 2: bad shape\n"),
+        refused(REPAIR, b"", b"mixed: document: bad shape\n"),
+    ];
+    for case in cases {
+        expect_case(&rt, rt.alloc(), &case)?;
+    }
+    Ok(())
+}
+
+// Of 17 equations with a cost each, at most 16 costs may differ.
+#[test]
+fn at_most_sixteen_costs_differ(rt: HostRuntime) -> Result<(), Fail> {
+    let first =
+        b"cost a 1\ncost b 2\ncost c 3\ncost d 4\ncost e 5\ncost f 6\ncost g 7\ncost h 8\ncost i 9\ncost j 10\ncost k 11\ncost l 12\ncost m 13\ncost n 14\ncost o 15\ncost p 16\n";
+    let model =
+        b"model\neq a\neq b\neq c\neq d\neq e\neq f\neq g\neq h\neq i\neq j\neq k\neq l\neq m\neq n\neq o\neq p\neq q\n";
+    let mut sixteen = Vec::new(rt.alloc());
+    sixteen.extend_from_slice(first)?;
+    sixteen.extend_from_slice(model)?;
+    let mut seventeen = Vec::new(rt.alloc());
+    seventeen.extend_from_slice(first)?;
+    seventeen.extend_from_slice(b"cost q 17\n")?;
+    seventeen.extend_from_slice(model)?;
+    let cases = [
+        mended(
+            REPAIR,
+            &sixteen,
+            b"repair 137\ndrop a 1\n",
+            b"\ndrop q 1\nlevel 16 rank 0\n",
+            b"\nend\n",
+        ),
+        refused(REPAIR, &seventeen, b"mixed: document: too many\n"),
     ];
     for case in cases {
         expect_case(&rt, rt.alloc(), &case)?;

@@ -5,3 +5,4 @@ pub mod ListedPlaces
 pub mod Valued
 pub mod ConflictListed
 pub mod Clashing
+pub mod Repaired

@@ -1,3 +1,4 @@
 pub mod HasValues
 pub mod Solved
 pub mod HasConflicts
+pub mod HasRepairs

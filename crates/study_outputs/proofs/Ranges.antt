@@ -1,5 +1,5 @@
 -- What a study tells names what is there.
-use Rattle.std.proofs.Common.{ℕ, ◌-◌, ◌<◌, List, [], length, map, get_or, slice_index_or, sym, subst, arith}
+use Rattle.std.proofs.Common.{◌≡◌, ℕ, ◌-◌, ◌<◌, List, [], length, map, get_or, slice_index_or, ap, sym, subst, ◌∙◌, arith}
 use Rattle.std.specs.List.{All}
 use Rattle.std.specs.List.Sorted.{IsStrictlyIncreasing}
 use Rattle.std.proofs.lemmas.List.{get_or-map, get_or_default, length-map}
@@ -25,7 +25,7 @@ use Rattle.study_texts.specs.SolutionTexts.{IsSolvingIn}
 use Rattle.study_texts.specs.ValueTexts.{IsPlaceIn}
 use Rattle.study_outputs.specs.StudyOutputs.{IsStudiedFor, IsStudiedIn}
 use Rattle.study_outputs.specs.declared.studied.Studied.{Studied}
-use Rattle.study_outputs.specs.declared.studied.Studied.TheVariants.{Conflicts, Solved, Values}
+use Rattle.study_outputs.specs.declared.studied.Studied.TheVariants.{Conflicts, Repaired, Solved, Values}
 
 places-in : {T : Type 0} (number : T → ℕ) (p : ℕ) (model : MixedModel) (told : Told T) → AreValuesOf number p (mixed_matrix_of model) told →
     All (λ at. IsPlaceIn model at.place) told.values
@@ -75,4 +75,7 @@ pub studied-in : {T : Type 0} (number : T → ℕ) (p : ℕ) (study : Study) (ki
 studied-in number p study kind input (Values model told) (is, gives, are) = places-in number p model told are
 studied-in number p study kind input (Solved model layers solving) (is, solved) =
     (solved.are, solving-in number p model layers solved.values solved.right solving solved.solves)
+studied-in number p study kind input (Repaired model costs repair) (is, repaired) =
+    let long : length costs ≡ length model.equations = ap length repaired.problem.costs_are ∙ length-map model.equations _ in
+    (omega (arith, long), repaired.shown.kept.rising.rising)
 studied-in number p study kind input (Conflicts model conflicts) (is, gives, are) = conflicts-in p model conflicts are

@@ -1,7 +1,8 @@
--- Problems of values and right sides, and how they are solved.
+-- Problems of values and right sides, and how they are solved, and problems of costs.
 use Rattle.std.specs.Prelude.{ℕ, ◌≡◌, length, map}
 use Rattle.mixed_model.specs.Layers.{Layers}
 use Rattle.mixed_model.specs.Models.{MixedModel, mixed_matrix_of}
+use Rattle.repair_checker.specs.Costs.{AreCosts}
 use Rattle.value_list_laws.specs.ListedValues.{symbol_count}
 use Rattle.problem_heads.specs.declared.problem.Problem.{Problem}
 use Rattle.problem_heads.specs.declared.problem.Problem.TheVariants.{Repair, Solve}
@@ -19,3 +20,8 @@ abbrev pub IsSolvingOfProblem : {T : Type 0} → (T → ℕ) → ℕ → MixedMo
 IsSolvingOfProblem number p model layers (Solve values right) solving =
     IsSolvingBy number p model layers (map number values.items) (map number right.items) solving
 IsSolvingOfProblem number p model layers (Repair costs) solving = ⊥
+
+-- there are costs for its equations, as a cheapest repair takes them
+abbrev pub IsPriced : {T : Type 0} → MixedModel → Problem T → Type 0
+IsPriced model (Solve values right) = ⊥
+IsPriced model (Repair costs) = AreCosts (length model.equations) costs.items

@@ -1,4 +1,5 @@
-//! What a study of a model reads and writes: values that reach the rank, how a problem is solved, which equations clash.
+//! What a study of a model reads and writes: values that reach the rank, how a problem is solved, a cheapest repair, which
+//! equations clash.
 #![tactic(auto)]
 
 mod studied;

@@ -1,6 +1,6 @@
 //! What a study writes of an input.
 
-ghost use Rattle.std.specs.Prelude.{◌≡◌, ◌≤◌, ℕ, List, length, IfErr, IfOk};
+ghost use Rattle.std.specs.Prelude.{◌≡◌, ◌≤◌, ℕ, cond, List, length, IfErr, IfOk};
 ghost use Rattle.answer_texts.specs.WholeLayers.{AreWholeLayers};
 ghost use Rattle.cert_text.specs.declared.kind.Kind.{Kind};
 ghost use Rattle.command_line.specs.declared.command.Study.TheVariants as studies;
@@ -9,12 +9,16 @@ ghost use Rattle.input_problems.specs.ProblemTexts.{GivesProblem, IsWhyNoProblem
 ghost use Rattle.limits.specs.Limits.{input_limit};
 ghost use Rattle.mixed_layering.specs.Layers.{AreLayersOf};
 ghost use Rattle.problem_heads.specs.declared.form.Form.TheVariants as forms;
+ghost use Rattle.repair_checker.specs.Costs.{AreCosts};
+ghost use Rattle.run_ends.specs.declared.status.Status.TheVariants as statuses;
 ghost use Rattle.run_ends.specs.Reading.{IsUnread, ReadsWhole, TellsOfSource};
-ghost use Rattle.study_outputs.specs.Problems.{IsSolvable, IsSolvingOfProblem};
+ghost use Rattle.problem_heads.specs.declared.problem.Problem.TheVariants as problems;
+ghost use Rattle.study_outputs.specs.Problems.{IsPriced, IsSolvable, IsSolvingOfProblem};
 ghost use Rattle.study_outputs.specs.StudyInputs.{IsStudyFault};
-ghost use Rattle.study_outputs.specs.StudyOutputs.{IsStudiedFor, end_of_studied};
+ghost use Rattle.study_outputs.specs.StudyOutputs.{IsStudiedFor, drops_some, end_of_studied};
 
 use cert_text::{Items, Kind};
+use cheapest_repairs::cheapest_repair;
 use command_line::Study;
 use input_kinds::read_input;
 use input_problems::read_problem;
@@ -26,6 +30,7 @@ use out_of_memory::NoMemory;
 use port_io::Source;
 use problem_heads::{Form, Problem};
 use refusals::ReadModel;
+use repair_checker::Repair;
 use residue_field::Field;
 use run_ends::{Status, read_text};
 use std::alloc::Global;
@@ -38,6 +43,8 @@ pub enum Studied<F: Field> {
     Values(Mixed<F>, Values<F>),
     /// The model of the problem in the input, the layered matrix of the model, and how the problem is solved.
     Solved(Mixed<F>, Layered<F>, Solving<F>),
+    /// The model of the problem in the input, what its equations cost, and a cheapest repair of it.
+    Repaired(Mixed<F>, Items<u64>, Repair<F>),
     /// The model that the input gives, and its surplus equations with their conflict sets.
     Conflicts(Mixed<F>, Items<Conflict>),
 }
@@ -64,6 +71,10 @@ impl<F: Field> Studied<F> {
             Study::Solve => {
                 let text = read_text(alloc, source, INPUT_LIMIT as u64)?;
                 Ok(Studied::solved(alloc, kind, text)?)
+            }
+            Study::Repair => {
+                let text = read_text(alloc, source, INPUT_LIMIT as u64)?;
+                Ok(Studied::repaired(alloc, kind, text)?)
             }
             Study::Conflict => {
                 let model = read_input(alloc, kind, source)?;
@@ -104,8 +115,46 @@ impl<F: Field> Studied<F> {
     {
         let layered = layer(alloc, &model)?;
         is_whole(&layered);
-        let solving = by_problem(alloc, &model, &layered, problem)?;
+        let solving = solving_of(alloc, &model, &layered, problem)?;
         Ok(Studied::Solved(model, layered, solving))
+    }
+
+    // A cheapest repair by the costs in a text of at most 8,388,608 bytes, or why the text is refused.
+    fn repaired(alloc: Global, kind: Kind, text: Vec<u8>) -> Result<Studied<F>, ReadModel>
+        requires { length text.items ≤ input_limit }
+        ensures right { IfOk result (IsStudiedFor F.number F.modulus studies.Repair kind text.items) }
+        ensures refused { IfErr result (IsWhyNoProblemOf F.modulus kind forms.Repair text.items) }
+    {
+        let (model, problem) = read_problem::<F>(alloc, kind, Form::Repair, &text)?;
+        Ok(Studied::by_problem(alloc, model, problem)?)
+    }
+
+    // A cheapest repair of a model by the costs of a problem.
+    fn by_problem(
+        alloc: Global,
+        model: Mixed<F>,
+        problem: Problem<F>,
+    ) -> Result<Studied<F>, NoMemory>
+        requires { IsPriced model problem }
+        ensures { IfOk result (λ studied. (kind : Kind) (text : List ℕ) →
+            GivesProblem F.number F.modulus kind forms.Repair text model problem →
+            IsStudiedFor F.number F.modulus studies.Repair kind text studied) }
+    {
+        match problem {
+            Problem::Repair { costs } => Studied::by_costs(alloc, model, costs),
+            Problem::Solve { .. } => unreachable!(),
+        }
+    }
+
+    // A cheapest repair of a model by the costs of its equations.
+    fn by_costs(alloc: Global, model: Mixed<F>, costs: Vec<u64>) -> Result<Studied<F>, NoMemory>
+        requires { AreCosts (length model.equations) costs.items }
+        ensures { IfOk result (λ studied. (kind : Kind) (text : List ℕ) →
+            GivesProblem F.number F.modulus kind forms.Repair text model (problems.Repair costs) →
+            IsStudiedFor F.number F.modulus studies.Repair kind text studied) }
+    {
+        let repair = cheapest_repair(alloc, &model, &costs)?;
+        Ok(Studied::Repaired(model, Items::from_vec(costs), repair))
     }
 
     // The conflict sets of a model.
@@ -125,12 +174,24 @@ impl<F: Field> Studied<F> {
             Studied::Values(_, _) | Studied::Conflicts(_, _) => Status::Done,
             Studied::Solved(_, _, Solving::Solution(_)) => Status::Done,
             Studied::Solved(_, _, _) => Status::NotRegular,
+            Studied::Repaired(model, _, repair) => status_of_repair(model, repair),
         }
     }
 }
 
+// How a run ends that writes a repair: what drops nothing is told apart.
+fn status_of_repair<F: Field>(model: &Mixed<F>, repair: &Repair<F>) -> Status
+    ensures { result ≡ cond (drops_some model.now repair.now) statuses.Done statuses.NotRegular }
+{
+    if repair.kept.as_slice().len() < model.equations() {
+        Status::Done
+    } else {
+        Status::NotRegular
+    }
+}
+
 // How a problem with values and right sides is solved.
-fn by_problem<F: Field>(
+fn solving_of<F: Field>(
     alloc: Global,
     model: &Mixed<F>,
     layered: &Layered<F>,

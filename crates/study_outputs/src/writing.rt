@@ -1,8 +1,10 @@
 //! The text of what a study tells, put out.
 
-ghost use Rattle.std.specs.Prelude.{length};
+ghost use Rattle.std.specs.Prelude.{◌≤◌, length};
 ghost use Rattle.std.specs.List.{All};
+ghost use Rattle.std.specs.List.Sorted.{IsStrictlyIncreasing};
 ghost use Rattle.mixed_layering.specs.Layers.{AreLayersOf};
+ghost use Rattle.repair_texts.specs.RepairTexts.{repair_text};
 ghost use Rattle.study_texts.specs.ConflictTexts.{IsConflictIn, conflicts_text};
 ghost use Rattle.study_texts.specs.SolutionTexts.{IsSolvingIn, solving_text};
 ghost use Rattle.study_texts.specs.ValueTexts.{IsPlaceIn, values_text};
@@ -12,6 +14,8 @@ ghost use Rattle.text_writer.specs.Giving.{IsWritten};
 use crate::studied::Studied;
 use mixed_model::{Layered, Mixed};
 use port_io::{Sink, WriteFault};
+use repair_checker::Repair;
+use repair_texts::put_repair;
 use residue_field::Field;
 use study_answers::{Conflict, Solving, Values};
 use study_texts::{put_conflicts, put_solving, put_values};
@@ -27,6 +31,12 @@ impl<F: Field> Studied<F> {
         match self {
             Studied::Values(model, told) => write_values(out, model, told),
             Studied::Solved(model, layered, solving) => write_solving(out, model, layered, solving),
+            Studied::Repaired(model, costs, repair) => write_repair(
+                out,
+                model,
+                costs.as_slice(),
+                repair,
+            ),
             Studied::Conflicts(model, conflicts) => write_conflicts(
                 out,
                 model,
@@ -63,6 +73,22 @@ fn write_solving<F: Field, K: Sink>(
 {
     let mut writer = TextWriter::new(out);
     put_solving(&mut writer, model, layered, solving);
+    writer.finish()
+}
+
+// Appends a repair of a model whose equations have these costs to the sink.
+fn write_repair<F: Field, K: Sink>(
+    out: &mut K,
+    model: &Mixed<F>,
+    costs: &[u64],
+    repair: &Repair<F>,
+) -> Result<(), WriteFault>
+    requires costs { length costs.now ≤ length model.now.equations }
+    requires kept { IsStrictlyIncreasing repair.now.kept }
+    ensures { IsWritten K.Sink out.old out.new (repair_text model.now costs.now repair.now) result }
+{
+    let mut writer = TextWriter::new(out);
+    put_repair(&mut writer, model, costs, repair);
     writer.finish()
 }
 

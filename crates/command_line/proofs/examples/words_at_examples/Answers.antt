@@ -1,4 +1,4 @@
-use Rattle.command_line.proofs.AtExamples.{analyse, layer, report, plan, check, edit, values, solve, conflict, make, make_most, make_zeros}
+use Rattle.command_line.proofs.AtExamples.{analyse, layer, report, plan, check, edit, values, solve, repair, conflict, make, make_most, make_zeros}
 use Rattle.command_line.proofs.AtExamples.{make_plus, make_none, make_more, make_word, make_alone, check_of_kind}
 use Rattle.command_line.proofs.AtExamples.{layer_large, report_small, make_large, unknown_field, field_of_zeros}
 use Rattle.command_line.proofs.AtExamples.{make_unknown_field, check_of_field, edit_of_kind, study_of_field, study_alone}
@@ -15,6 +15,7 @@ returns c = record {
   edit = edit;
   values = values;
   solve = solve;
+  repair = repair;
   conflict = conflict;
   make = make;
   make_most = make_most;
