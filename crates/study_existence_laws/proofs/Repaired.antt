@@ -1,18 +1,18 @@
 -- Each model whose equations have costs has a cheapest repair.
-use Rattle.std.proofs.Common.{◌≡◌, ℕ, ◌+◌, ◌<◌, ◌≤◌, Bool, true, List, [], ◌∷◌, length, map, get_or, reverse, refl, ap, sym, subst, ◌∙◌, arith, eqb, ltb}
+use Rattle.std.proofs.Common.{◌≡◌, ℕ, ◌<◌, ◌≤◌, Bool, true, List, [], ◌∷◌, length, map, get_or, reverse, refl, ap, sym, subst, ◌∙◌, arith, eqb, ltb}
 use Rattle.std.proofs.lemmas.Bool.Decides.{nat_tests}
-use Rattle.std.proofs.lemmas.List.{get_or-map, get_or_default, length-map}
+use Rattle.std.proofs.lemmas.List.{get_or_default, length-map}
 use Rattle.std.proofs.lemmas.List.Folds.{list_any_at}
 use Rattle.std.specs.List.{All, Contains}
 use Rattle.std.proofs.lemmas.List.Elements.{All-map}
-use Rattle.std.specs.List.Sorted.{IsStrictlyIncreasing}
 use Rattle.residue_theory.specs.Residues.{IsPrime}
-use Rattle.residue_theory.specs.Sets.{IsWithin, everything, has, with_one}
+use Rattle.residue_theory.specs.Sets.{everything, has, with_one}
 use Rattle.mixed_matrices.specs.LayeredMatrices.{LayeredMatrix}
 use Rattle.mixed_matrices.specs.Layerings.{IsLayeredMatrixOf, Origins}
 use Rattle.mixed_matrices.specs.Models.{MixedMatrix}
 use Rattle.mixed_layering_laws.proofs.LayeringExists.{layered_matrix_exists}
 use Rattle.mixed_model.specs.Models.{IsModel, MixedModel, mixed_matrix_of}
+use Rattle.mixed_model.specs.Names.{name_at}
 use Rattle.cert_text.specs.Contents.{Contents}
 use Rattle.cert_text.specs.Ranges.{AreRising, IsCcf}
 use Rattle.cert_checker.specs.Answers.{IsRightFor}
@@ -23,7 +23,7 @@ use Rattle.existence_laws.specs.Forms.{HasRightForm}
 use Rattle.existence_laws.proofs.Lists.{members-are, members-has, members_of}
 use Rattle.existence_laws.proofs.RightForms.{right-form}
 use Rattle.equation_matroid_laws.specs.EquationRanks.{IsRankOf}
-use Rattle.equation_matroid_laws.specs.GreedyChoices.{IsCheapestRepair, IsGreedyChoice, by_cost, earlier, outside}
+use Rattle.equation_matroid_laws.specs.GreedyChoices.{IsGreedyChoice, by_cost, earlier}
 use Rattle.equation_matroid_laws.proofs.Repairs.{choice_exists, kept-independent, level-reached, levels-cheapest}
 use Rattle.restricted_models.specs.Restrictions.{restricted}
 use Rattle.repair_checker.specs.Costs.{AreCosts, AreLevels, all_costing}
@@ -81,7 +81,7 @@ module _ (p : ℕ) (prime : IsPrime p) (big : 2 < p) (model : MixedModel) (is : 
       part = mixed_matrix_of (restricted model list)
 
       go : (L : LayeredMatrix) × (O : Origins) × IsLayeredMatrixOf (mixed_matrix_of (restricted model list)) L O → HasForm p model list
-      go (L, O, layers) = told (right-form p prime big (mixed_matrix_of (restricted model list)) (omega (arith, few, length-map list _))
+      go (L, O, layers) = told (right-form p prime big (mixed_matrix_of (restricted model list)) (omega (arith, few, length-map list (name_at model.equations)))
           is.unknowns.few L O layers)
         where
           told : HasRightForm p (mixed_matrix_of (restricted model list)) L O → HasForm p model list
