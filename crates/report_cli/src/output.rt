@@ -43,7 +43,7 @@ use run_ends::{Status, read_text};
 use solve_plan::{Plan, Report, plan, report};
 use sparse_tableau::SparseTableau;
 use std::alloc::Global;
-use study_outputs::Studied;
+use study_outputs::StudyOutput;
 use text_writer::TextWriter;
 
 /// What a command writes of an input.
@@ -58,7 +58,7 @@ pub enum Output<F: Field> {
     /// The model that the input gives, the layered matrix of the model, and a plan to solve it.
     Plan(Mixed<F>, Layered<F>, Plan<F>),
     /// What a study tells of the input.
-    Studied(Studied<F>),
+    Studied(StudyOutput<F>),
     /// That the certificate in the input is right for the input that it repeats.
     Accepted,
     /// The text of the replies to the lines of the input.
@@ -137,7 +137,7 @@ impl<F: Field> Output<F> {
             GivesNothing F.modulus (Format.Studied study kind) status (S.left source.old) (S.left source.new)) }
         ensures source { TellsOfSource S.Source input_limit source.old source.new result }
     {
-        let studied = Studied::read(alloc, study, kind, source)?;
+        let studied = StudyOutput::read(alloc, study, kind, source)?;
         Ok(Output::Studied(studied))
     }
 

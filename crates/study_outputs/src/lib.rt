@@ -2,7 +2,9 @@
 //! equations clash.
 #![tactic(auto)]
 
+mod held;
 mod studied;
 mod writing;
 
+pub use held::StudyOutput;
 pub use studied::Studied;
