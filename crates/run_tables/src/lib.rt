@@ -13,6 +13,4 @@ mod plans;
 #[cfg(test)]
 mod reports;
 #[cfg(test)]
-mod studies;
-#[cfg(test)]
 mod tests;

@@ -1,3 +1,0 @@
-pub mod StudyInputs
-pub mod StudyOutputs
-pub mod Problems
