@@ -31,7 +31,7 @@ use Rattle.command_line.specs.declared.command.Task.{Task}
 use Rattle.command_line.specs.declared.command.Task.TheVariants.{Analyse, Layer}
 use Rattle.report_cli.specs.declared.output.Output.{Output}
 use Rattle.report_cli.specs.declared.output.Output.TheVariants.{Accepted, Certificate as Certified}
-use Rattle.report_cli.specs.declared.output.Output.TheVariants.{Layers as Layering, Made, Plan as Planning}
+use Rattle.report_cli.specs.declared.output.Output.TheVariants.{Layers as Layering, Made, Plan as Planning, Studied}
 use Rattle.report_cli.specs.declared.output.Output.TheVariants.{Replies as Replying, Report as Reporting}
 use Rattle.run_ends.specs.declared.status.Status.{Status}
 use Rattle.run_ends.specs.declared.status.Status.TheVariants.{Done}
@@ -82,6 +82,7 @@ certified kind field input text (Certified certificate) (other, named, is, right
 certified kind field input text (Layering model layers) (other, named, is, gives, are, whole) text_is = absurd cc
 certified kind field input text (Reporting model told) (other, named, is, gives, reports) text_is = absurd cc
 certified kind field input text (Planning model layers plan) (other, named, is, right) text_is = absurd cc
+certified kind field input text (Studied studied) (study, one, is, right) text_is = absurd cc
 certified kind field input text Accepted (is, right) text_is = absurd cc
 certified kind field input text (Replying replies) (is, said) text_is = absurd cc
 certified kind field input text (Made size split ccf) right text_is = absurd right
@@ -114,6 +115,7 @@ layering kind field input text (Layering model layers) (other, named, is, gives,
 }
 layering kind field input text (Reporting model told) (other, named, is, gives, reports) text_is = absurd cc
 layering kind field input text (Planning model layers plan) (other, named, is, right) text_is = absurd cc
+layering kind field input text (Studied studied) (study, one, is, right) text_is = absurd cc
 layering kind field input text Accepted (is, right) text_is = absurd cc
 layering kind field input text (Replying replies) (is, said) text_is = absurd cc
 layering kind field input text (Made size split ccf) right text_is = absurd right

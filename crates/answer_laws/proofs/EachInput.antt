@@ -21,7 +21,10 @@ use Rattle.made_models.specs.MadeModels.{IsSize}
 use Rattle.answer_texts.specs.MadeTexts.{made_text}
 use Rattle.command_line.specs.Words.{AsksFor, AsksToMake, format_of, over}
 use Rattle.command_line.specs.declared.command.Command.{Command}
-use Rattle.command_line.specs.declared.command.Command.TheVariants.{Check, Edit, OfModel}
+use Rattle.command_line.specs.declared.command.Command.TheVariants.{Check, Edit, OfModel, OfStudy}
+use Rattle.command_line.specs.declared.command.Study.{Study}
+use Rattle.answer_laws.proofs.EachStudy.{studied}
+use Rattle.study_outputs.proofs.Ends.{studied-text}
 use Rattle.command_line.specs.declared.command.Request.TheVariants.{Make, OfInput}
 use Rattle.command_line.specs.declared.command.Task.{Task}
 use Rattle.command_line.specs.declared.command.Task.TheVariants.{Analyse, Layer, Plan, Report}
@@ -182,6 +185,16 @@ module _ (words : List (List ℕ)) (input : List ℕ) where
         }
       ]
 
+  of-study : (study : Study) (kind : Kind) → AsksFor words (OfStudy study kind) → length input ≤ input_limit → HasAnswer words input
+  of-study study kind asks short = elim (studied (modulus_of Small) (prime-of Small) (odd-of Small) kind input study) [
+    | inl told ↦ by-text (OfStudy study kind) asks short (outputs.Studied told.0) (study, kind, refl, told.1) (studied-text told.0)
+    | inr refused ↦ record {
+      status = Refused refused.0;
+      text = [];
+      answer = (OfStudy study kind, asks, (short, refused.1, refl));
+    }
+  ]
+
   of-certificate : AsksFor words Check → length input ≤ certificate_limit → HasAnswer words input
   of-certificate asks short = go (text-verdict input short)
     where
@@ -207,6 +220,7 @@ module _ (words : List (List ℕ)) (input : List ℕ) where
   short-input : (command : Command) → AsksFor words command → length input ≤ limit_of (format_of command) →
       HasAnswer words input
   short-input (OfModel task kind field) asks short = of-model task kind field asks short
+  short-input (OfStudy study kind) asks short = of-study study kind asks short
   short-input Check asks short = of-certificate asks short
   short-input Edit asks short = of-lines asks short
 

@@ -22,7 +22,7 @@ use Rattle.command_line.specs.declared.command.Command.TheVariants.{OfModel}
 use Rattle.command_line.specs.declared.command.Task.TheVariants.{Analyse}
 use Rattle.run_ends.specs.declared.status.Status.TheVariants.{Done}
 use Rattle.input_kinds.proofs.NamesByKind.{no-names}
-use Rattle.answer_laws.proofs.TextRooms.{members-few}
+use Rattle.answer_laws.proofs.Narrow.{members-few}
 use Rattle.answer_laws.specs.NoAnswers.{empty_text}
 use Rattle.answer_laws.proofs.Answers.{analysed}
 

@@ -44,14 +44,16 @@ use Rattle.report_cli.specs.PlanFor.{IsPlanFor}
 use Rattle.report_cli.specs.RightFor.{IsRightForInput}
 use Rattle.report_cli.specs.declared.output.Output.{Output}
 use Rattle.report_cli.specs.declared.output.Output.TheVariants.{Accepted, Certificate as Certified}
-use Rattle.report_cli.specs.declared.output.Output.TheVariants.{Layers as Layering, Made, Plan as Planning}
+use Rattle.report_cli.specs.declared.output.Output.TheVariants.{Layers as Layering, Made, Plan as Planning, Studied}
 use Rattle.report_cli.specs.declared.output.Output.TheVariants.{Replies as Replying, Report as Reporting}
 use Rattle.run_ends.specs.declared.status.Status.{Status}
 use Rattle.input_kinds.proofs.NamesByKind.{no-names}
 use Rattle.report_cli.proofs.FieldFacts.{low-of, prime-of, some-of}
 use Rattle.report_cli.proofs.ReportFacts.{rank-many, surplus-few, undetermined-few}
 use Rattle.report_cli.proofs.RunWords.{of_command}
-use Rattle.answer_laws.proofs.TextRooms.{members-few}
+use Rattle.answer_laws.proofs.Narrow.{members-few}
+use Rattle.answer_laws.proofs.EmptyStudies.{studies-few}
+use Rattle.study_outputs.specs.StudyOutputs.{IsStudiedFor, studied_text}
 use Rattle.answer_laws.specs.EmptyRooms.{empty_room}
 use Rattle.answer_laws.specs.NoAnswers.{empty_text}
 use Rattle.answer_laws.proofs.Answers.{IsRightOutput, is-written, text_of}
@@ -162,6 +164,9 @@ fits-empty command (Reporting model told) (kind, field, is, gives, reports) =
 fits-empty command (Planning model layers plan) (kind, field, is, right) =
     subst (λ x. length (plan_text (λ value. value) model layers plan) ≤ empty_room x) (sym is)
     (plans-few (command_modulus command) kind model layers plan right)
+fits-empty command (Studied studied) (study, kind, is, right) =
+    subst (λ x. length (studied_text (λ value. value) studied) ≤ empty_room x) (sym is)
+    (studies-few study kind studied (subst (λ x. IsStudiedFor (λ value. value) (command_modulus x) study kind [] studied) is right))
 fits-empty command Accepted (is, accepted) = absurd (unaccepted accepted)
 fits-empty command (Replying replies) (is, said) =
     subst (λ x. length replies ≤ empty_room x) (sym is) (omega (arith, ap length said))

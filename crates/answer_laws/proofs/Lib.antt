@@ -1,3 +1,5 @@
+pub mod Narrow
+pub mod StudyRooms
 pub mod TextRooms
 pub mod Answers
 pub mod EmptyInput
@@ -8,8 +10,10 @@ pub mod OneMakeText
 pub mod OneReplies
 pub mod OneReport
 pub mod OneStatus
+pub mod EachStudy
 pub mod EachInput
 pub mod Rooms
 pub mod Fitting
 pub mod Accepting
+pub mod EmptyStudies
 pub mod EmptyRooms

@@ -11,7 +11,7 @@ use Rattle.report_cli.specs.Answer.{IsAnswerOf}
 use Rattle.report_cli.specs.Outputs.{end_of}
 use Rattle.report_cli.specs.declared.output.Output.{Output}
 use Rattle.report_cli.specs.declared.output.Output.TheVariants.{Accepted, Certificate as Certified}
-use Rattle.report_cli.specs.declared.output.Output.TheVariants.{Layers as Layering, Made, Plan as Planning}
+use Rattle.report_cli.specs.declared.output.Output.TheVariants.{Layers as Layering, Made, Plan as Planning, Studied}
 use Rattle.report_cli.specs.declared.output.Output.TheVariants.{Replies as Replying, Report as Reporting}
 use Rattle.report_cli.proofs.FieldFacts.{prime-of}
 use Rattle.report_cli.proofs.RunWords.{of_command}
@@ -30,6 +30,7 @@ replied input (Certified certificate) (kind, field, is, right) = absurd cc
 replied input (Layering model layers) (kind, field, is, gives, are, whole) = absurd cc
 replied input (Reporting model told) (kind, field, is, gives, reports) = absurd cc
 replied input (Planning model layers plan) (kind, field, is, right) = absurd cc
+replied input (Studied studied) (study, one, is, right) = absurd cc
 replied input Accepted (is, accepted) = absurd cc
 replied input (Replying replies) (is, said) = (refl, said)
 replied input (Made size split ccf) right = absurd right

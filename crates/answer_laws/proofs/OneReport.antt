@@ -25,7 +25,7 @@ use Rattle.report_cli.specs.Answer.{IsAnswerOf}
 use Rattle.report_cli.specs.Outputs.{IsOutputFor, output_text}
 use Rattle.report_cli.specs.declared.output.Output.{Output}
 use Rattle.report_cli.specs.declared.output.Output.TheVariants.{Accepted, Certificate as Certified}
-use Rattle.report_cli.specs.declared.output.Output.TheVariants.{Layers as Layering, Made, Plan as Planning}
+use Rattle.report_cli.specs.declared.output.Output.TheVariants.{Layers as Layering, Made, Plan as Planning, Studied}
 use Rattle.report_cli.specs.declared.output.Output.TheVariants.{Replies as Replying, Report as Reporting}
 use Rattle.run_ends.specs.declared.status.Status.{Status}
 use Rattle.run_ends.specs.declared.status.Status.TheVariants.{BadCertificate, Done, Memory, NotRegular, ReadFault}
@@ -86,6 +86,7 @@ reported kind field input text (Reporting model told) (other, named, is, gives, 
       text_is = text_is;
     }
 reported kind field input text (Planning model layers plan) (other, named, is, right) text_is = absurd cc
+reported kind field input text (Studied studied) (study, one, is, right) text_is = absurd cc
 reported kind field input text Accepted (is, right) text_is = absurd cc
 reported kind field input text (Replying replies) (is, said) text_is = absurd cc
 reported kind field input text (Made size split ccf) right text_is = absurd right

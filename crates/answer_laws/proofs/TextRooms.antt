@@ -1,10 +1,5 @@
 -- Each text that may be written for an input fits in the room that its length gives.
-use Rattle.std.proofs.Common.{◌≡◌, ℕ, zero, suc, ◌+◌, ◌^◌, ◌<◌, ◌≤◌, Bool, List, length, refl, ap, subst, sym, arith, lit≤}
-use Rattle.residue_theory.specs.Sets.{everything}
-use Rattle.residue_theory.proofs.CountLaws.{size-everything}
-use Rattle.residue_theory.proofs.SumLaws.{size_on-within}
-use Rattle.mixed_matrices.specs.LayeredMatrices.{LayeredMatrix}
-use Rattle.mixed_matrices.specs.Layerings.{AreMembers, Origins, IsLayeredMatrixOf}
+use Rattle.std.proofs.Common.{◌≡◌, ℕ, zero, suc, ◌^◌, ◌<◌, ◌≤◌, List, length, ap, subst, sym, arith, lit≤}
 use Rattle.mixed_model.specs.Models.{MixedModel, IsModel, mixed_matrix_of}
 use Rattle.mixed_model.specs.Layers.{Layers, layered_matrix_of}
 use Rattle.mixed_layering.specs.Layers.{AreLayersOf, origins_of}
@@ -22,6 +17,9 @@ use Rattle.report_cli.specs.Formats.{limit_of}
 use Rattle.report_cli.specs.MadeFor.{IsMadeFor}
 use Rattle.report_cli.specs.Outputs.{IsMadeOutput, IsOutputFor, output_text}
 use Rattle.answer_laws.specs.Rooms.{columns_within, places_within, task_room, text_room}
+use Rattle.answer_laws.proofs.Narrow.{members-few, narrow}
+use Rattle.answer_laws.proofs.StudyRooms.{studied-fits}
+use Rattle.study_outputs.specs.StudyOutputs.{studied_text}
 use Rattle.answer_texts.specs.WholeLayers.{AreWholeLayers}
 use Rattle.command_line.specs.Words.{format_of}
 use Rattle.command_line.specs.declared.command.Task.TheVariants as Task
@@ -45,38 +43,11 @@ use Rattle.report_cli.proofs.ReportFacts.{rank-many, surplus-few, undetermined-f
 use Rattle.command_line.specs.declared.command.Command.{Command}
 use Rattle.report_cli.specs.declared.output.Output.{Output}
 use Rattle.report_cli.specs.declared.output.Output.TheVariants.{Accepted, Certificate as Certified}
-use Rattle.report_cli.specs.declared.output.Output.TheVariants.{Layers as Layering, Made, Plan as Planning, Replies as Replying}
+use Rattle.report_cli.specs.declared.output.Output.TheVariants.{Layers as Layering, Made, Plan as Planning, Replies as Replying, Studied}
 use Rattle.report_cli.specs.declared.output.Output.TheVariants.{Report as Reporting}
 use Rattle.input_kinds.proofs.ByKind.{is-model}
 use Rattle.input_kinds.proofs.NamesByKind.{few-names}
 use Rattle.answer_texts.proofs.LayerLengths.{layer-text-short}
-
--- members of a set below n are at most n
-pub members-few : (A : ℕ → Bool) (n : ℕ) (at : ℕ → ℕ) (m : ℕ) → AreMembers A n at m → m ≤ n
-members-few A n at m are = omega (arith, are.count, size-everything n, size_on-within everything A n (λ j jl h. refl))
-
--- the layered matrix of a model that a text gives has no more rows and columns than the text has room for
-pub record IsNarrow (kind : Kind) (n : ℕ) (L : LayeredMatrix) : Type 0 where
-  pub q_rows : L.q_rows ≤ places_within kind n
-  pub t_rows : L.t_rows ≤ places_within kind n
-  pub columns : L.columns ≤ columns_within kind n
-
-narrow : (p : ℕ) (kind : Kind) (text : List ℕ) (model : MixedModel) (L : LayeredMatrix) (O : Origins) → GivesModel p kind text model →
-    IsLayeredMatrixOf (mixed_matrix_of model) L O → IsNarrow kind (length text) L
-narrow p kind text model L O gives are =
-    let few = few-names p kind text model gives in
-    let is : IsModel p model = is-model p kind text model gives in
-    let e : length model.equations ≤ 4096 = (is.equations).few in
-    let u : length model.unknowns ≤ 4096 = (is.unknowns).few in
-    let q : L.q_rows ≤ length model.equations = members-few _ _ _ _ are.q_rows in
-    let t : L.t_rows ≤ length model.equations = members-few _ _ _ _ are.t_rows in
-    let s : O.split ≤ length model.equations = members-few _ _ _ _ are.auxiliary in
-    let n : L.columns ≡ length model.unknowns + O.split = are.columns in
-    record {
-      q_rows = omega (arith, few.0, e, q);
-      t_rows = omega (arith, few.0, e, t);
-      columns = omega (arith, few.0, few.1, e, u, s, n);
-    }
 
 few_columns : (kind : Kind) (n : ℕ) → columns_within kind n ≤ 8192
 few_columns kind n = omega arith
@@ -167,6 +138,9 @@ module _ {T : Type 0} (number : T → ℕ) (p most : ℕ) (some : 0 < most) (bel
   output_fits prime command input (Planning model layers plan) (kind, field, is, right) short =
       subst (λ f. length (plan_text number model layers plan) ≤ text_room most f (length input)) (sym is)
       (plans-fit kind input model layers plan right)
+  output_fits prime command input (Studied studied) (study, kind, is, right) short =
+      subst (λ f. length (studied_text number studied) ≤ text_room most f (length input)) (sym is)
+      (studied-fits number p most prime some below kind input study studied right)
   output_fits prime command input Accepted (is, accepted) short =
       subst (λ f. length (output_text number Accepted) ≤ text_room most f (length input)) (sym is) (lit≤ tt)
   output_fits prime command input (Replying text) (is, said) short =
@@ -189,5 +163,6 @@ made_fits number p n (Certified c) is = absurd is
 made_fits number p n (Layering model layers) is = absurd is
 made_fits number p n (Reporting model told) is = absurd is
 made_fits number p n (Planning model layers plan) is = absurd is
+made_fits number p n (Studied studied) is = absurd is
 made_fits number p n Accepted is = absurd is
 made_fits number p n (Replying text) is = absurd is

@@ -11,7 +11,11 @@ use Rattle.command_line.specs.Words.{Asks, field_of, over}
 use Rattle.cert_text.specs.declared.version.Version.{Version}
 use Rattle.report_cli.specs.Fields.{digits, certificate_version}
 use Rattle.command_line.specs.declared.command.Command.{Command}
-use Rattle.command_line.specs.declared.command.Command.TheVariants.{Check, Edit, OfModel}
+use Rattle.command_line.specs.declared.command.Command.TheVariants.{Check, Edit, OfModel, OfStudy}
+use Rattle.command_line.specs.declared.command.Study.{Study}
+use Rattle.command_line.specs.declared.command.Study.TheVariants.{Conflict, Repair, Solve, Values}
+use Rattle.repair_texts.specs.Rooms.{repair_room}
+use Rattle.study_texts.specs.Rooms.{conflict_room, solution_room, values_room}
 use Rattle.command_line.specs.declared.command.Request.{Request}
 use Rattle.command_line.specs.declared.command.Request.TheVariants.{Make, OfInput}
 use Rattle.command_line.specs.declared.command.Task.{Task}
@@ -37,9 +41,17 @@ task_room most version Layer kind n = layer_room most (columns_within kind n)
 task_room most version Report kind n = report_room (places_within kind n)
 task_room most version Plan kind n = plan_room most (places_within kind n) (columns_within kind n)
 
+-- room for what a study writes of an input of this kind and of n bytes
+abbrev pub study_room : ℕ → Study → Kind → ℕ → ℕ
+study_room most Values kind n = values_room most (places_within kind n)
+study_room most Solve kind n = solution_room most (places_within kind n) (columns_within kind n)
+study_room most Repair kind n = repair_room most (places_within kind n) (columns_within kind n)
+study_room most Conflict kind n = conflict_room (places_within kind n)
+
 -- room for each text that may be written for an input of n bytes by this command, over such a field
 abbrev pub text_room : ℕ → Command → ℕ → ℕ
 text_room most (OfModel task kind field) n = task_room most (certificate_version field) task kind n
+text_room most (OfStudy study kind) n = study_room most study kind n
 text_room most Check n = 9
 text_room most Edit n = said_room n
 

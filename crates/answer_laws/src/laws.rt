@@ -76,7 +76,8 @@ pub fn what_is_analysed_is_short()
 {}
 
 /// A text that answers the empty input has at most 115 bytes where it is a certificate, 14 for the layered matrix, 72 for
-/// the report and none for the plan, over either field; `check` and `edit` write nothing of it.
+/// the report and none for the plan, over either field, 10 for its values and 17 for its conflict sets; `check`, `solve` and
+/// `edit` write nothing of it.
 pub fn the_empty_input_needs_little()
     ensures { TheEmptyInputNeedsLittle }
 {}

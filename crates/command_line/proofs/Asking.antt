@@ -1,48 +1,112 @@
 -- Words ask for one thing, or for none.
-use Rattle.std.proofs.Common.{◌≡◌, ℕ, List, Option, Some, None, codes, get_or, nat_eq, if◌then◌else◌, refl, ap, sym, ◌∙◌, arith}
+use Rattle.std.proofs.Common.{◌≡◌, ◌⊎◌, ℕ, ◌+◌, Bool, true, false, List, Option, Some, None, codes, get_or, nat_eq, if◌then◌else◌}
+use Rattle.std.proofs.Common.{inl, inr, refl, ap, sym, ◌∙◌, arith}
 use Rattle.clap.specs.Simple.{subcommand_of}
 use Rattle.clap.specs.Walk.{Row, Text}
 use Rattle.command_line.specs.CommandLine.{command_line}
 use Rattle.cert_text.specs.Texts.{kind_text}
 use Rattle.cert_text.specs.declared.kind.Kind.{Kind}
 use Rattle.cert_text.specs.declared.kind.Kind.TheVariants.{Flowsheet, Matrix, Netlist}
-use Rattle.command_line.specs.Words.{Asks, AsksFor, AsksToMake, IsSizeWord, Names, field_of, field_word, format_of, name_of, task_text, word_of}
+use Rattle.command_line.specs.Words.{Asks, AsksFor, AsksToMake, IsSizeWord, Names, field_of, field_word, format_of, name_of, word_of}
 use Rattle.residue_field.specs.declared.field_name.FieldName.{FieldName}
 use Rattle.residue_field.specs.declared.field_name.FieldName.TheVariants.{Large, Small}
 use Rattle.command_line.specs.declared.command.Command.{Command}
-use Rattle.command_line.specs.declared.command.Command.TheVariants.{Check, Edit, OfModel}
+use Rattle.command_line.specs.declared.command.Command.TheVariants.{Check, Edit, OfModel, OfStudy}
+use Rattle.command_line.specs.declared.command.Study.{Study}
+use Rattle.command_line.specs.declared.command.Study.TheVariants.{Conflict, Repair, Solve, Values}
 use Rattle.command_line.specs.declared.command.Request.{Request}
 use Rattle.command_line.specs.declared.command.Request.TheVariants.{Make, OfInput}
 use Rattle.command_line.specs.declared.command.Task.{Task}
 use Rattle.command_line.specs.declared.command.Task.TheVariants.{Analyse, Layer, Plan, Report}
 
--- tasks have names of their own, told by their first letters
+-- commands have names of their own: the first and the fourth letter tell them
+abbrev letters : List ℕ → ℕ
+letters name = get_or name 0 0 + get_or name 3 0
+
 task-number : Task → ℕ
-task-number Analyse = 97
-task-number Layer = 108
-task-number Report = 114
-task-number Plan = 112
+task-number Analyse = 205
+task-number Layer = 209
+task-number Report = 225
+task-number Plan = 222
 
-numbered-by-name : (task : Task) → get_or (task_text task) 0 0 ≡ task-number task
-unfolding task-number
-numbered-by-name Analyse = refl
-numbered-by-name Layer = refl
-numbered-by-name Report = refl
-numbered-by-name Plan = refl
+study-number : Study → ℕ
+study-number Values = 235
+study-number Solve = 233
+study-number Repair = 211
+study-number Conflict = 201
 
-task-of : ℕ → Task
-task-of number = if nat_eq number 97 then Analyse else (if nat_eq number 108 then Layer else (if nat_eq number 114 then Report else Plan))
+name-number : Command → ℕ
+name-number (OfModel task kind field) = task-number task
+name-number (OfStudy study kind) = study-number study
+name-number Check = 198
+name-number Edit = 217
 
-task-again : (task : Task) → task-of (task-number task) ≡ task
-unfolding task-number task-of
-task-again Analyse = refl
-task-again Layer = refl
-task-again Report = refl
-task-again Plan = refl
+numbered-by-name : (command : Command) → letters (name_of command) ≡ name-number command
+unfolding name-number task-number study-number
+numbered-by-name (OfModel Analyse kind field) = refl
+numbered-by-name (OfModel Layer kind field) = refl
+numbered-by-name (OfModel Report kind field) = refl
+numbered-by-name (OfModel Plan kind field) = refl
+numbered-by-name (OfStudy Values kind) = refl
+numbered-by-name (OfStudy Solve kind) = refl
+numbered-by-name (OfStudy Repair kind) = refl
+numbered-by-name (OfStudy Conflict kind) = refl
+numbered-by-name Check = refl
+numbered-by-name Edit = refl
 
-task-one : (a b : Task) → task_text a ≡ task_text b → a ≡ b
-task-one a b same =
-    sym (task-again a) ∙ ap task-of (sym (numbered-by-name a) ∙ ap (λ t. get_or t 0 0) same ∙ numbered-by-name b) ∙ task-again b
+-- the name is that of a task, of a study, of `check`, or of `edit`
+abbrev Named : Type 0
+Named = Task ⊎ (Study ⊎ Bool)
+
+named : Command → Named
+named (OfModel task kind field) = inl task
+named (OfStudy study kind) = inr (inl study)
+named Check = inr (inr true)
+named Edit = inr (inr false)
+
+named-by : ℕ → Named
+named-by number =
+    if nat_eq number 205 then inl Analyse else (if nat_eq number 209 then inl Layer else (if nat_eq number 225 then inl Report
+    else (if nat_eq number 222 then inl Plan else (if nat_eq number 235 then inr (inl Values) else (if nat_eq number 233 then inr (inl Solve)
+    else (if nat_eq number 211 then inr (inl Repair) else (if nat_eq number 201 then inr (inl Conflict)
+    else (if nat_eq number 198 then inr (inr true) else inr (inr false)))))))))
+
+named-again : (command : Command) → named-by (name-number command) ≡ named command
+unfolding name-number task-number study-number named-by named
+named-again (OfModel Analyse kind field) = refl
+named-again (OfModel Layer kind field) = refl
+named-again (OfModel Report kind field) = refl
+named-again (OfModel Plan kind field) = refl
+named-again (OfStudy Values kind) = refl
+named-again (OfStudy Solve kind) = refl
+named-again (OfStudy Repair kind) = refl
+named-again (OfStudy Conflict kind) = refl
+named-again Check = refl
+named-again Edit = refl
+
+named-one : (a b : Command) → name_of a ≡ name_of b → named a ≡ named b
+named-one a b same =
+    sym (named-again a) ∙ ap named-by (sym (numbered-by-name a) ∙ ap letters same ∙ numbered-by-name b) ∙ named-again b
+
+-- no command makes a model
+not-make : (command : Command) → name-number command ≡ 210 → ⊥
+unfolding name-number task-number study-number
+not-make (OfModel Analyse kind field) is = omega (arith, is)
+not-make (OfModel Layer kind field) is = omega (arith, is)
+not-make (OfModel Report kind field) is = omega (arith, is)
+not-make (OfModel Plan kind field) is = omega (arith, is)
+not-make (OfStudy Values kind) is = omega (arith, is)
+not-make (OfStudy Solve kind) is = omega (arith, is)
+not-make (OfStudy Repair kind) is = omega (arith, is)
+not-make (OfStudy Conflict kind) is = omega (arith, is)
+not-make Check is = omega (arith, is)
+not-make Edit is = omega (arith, is)
+
+make-letters : letters (codes "make") ≡ 210
+make-letters = refl
+
+pub make-no-command : {A : Type 0} (command : Command) → name_of command ≡ codes "make" → A
+make-no-command command same = absurd (not-make command (sym (numbered-by-name command) ∙ ap letters same ∙ make-letters))
 
 -- kinds have words of their own
 kind-one : (a b : Kind) → kind_text a ≡ kind_text b → a ≡ b
@@ -68,46 +132,37 @@ field-one (Some Large) None same = absurd cc
 field-one (Some Large) (Some Small) same = absurd cc
 field-one (Some Large) (Some Large) same = refl
 
--- texts with other first letters are not the same
-other-letter : {A : Type 0} (text word : List ℕ) (a b : ℕ) → get_or text 0 0 ≡ a → get_or word 0 0 ≡ b → (a ≡ b → ⊥) → text ≡ word → A
-other-letter text word a b first second other same = absurd (other (sym first ∙ ap (λ t. get_or t 0 0) same ∙ second))
+by-kind : (kind one : Kind) → Some (kind_text kind) ≡ Some (kind_text one) → kind ≡ one
+by-kind kind one same = let words : kind_text kind ≡ kind_text one = cc in kind-one kind one words
 
--- no task has a name that begins otherwise
-no-task : {A : Type 0} (word : List ℕ) (letter : ℕ) → get_or word 0 0 ≡ letter → (97 ≡ letter → ⊥) → (108 ≡ letter → ⊥) → (114 ≡ letter → ⊥) →
-    (112 ≡ letter → ⊥) → (task : Task) → task_text task ≡ word → A
-no-task word letter first a l r p Analyse same = other-letter (codes "analyse") word 97 letter refl first a same
-no-task word letter first a l r p Layer same = other-letter (codes "layer") word 108 letter refl first l same
-no-task word letter first a l r p Report same = other-letter (codes "report") word 114 letter refl first r same
-no-task word letter first a l r p Plan same = other-letter (codes "plan") word 112 letter refl first p same
-
-check-no-task : {A : Type 0} (task : Task) → task_text task ≡ codes "check" → A
-check-no-task task same =
-    no-task (codes "check") 99 refl (λ e. omega (arith, e)) (λ e. omega (arith, e)) (λ e. omega (arith, e)) (λ e. omega (arith, e)) task same
-
-edit-no-task : {A : Type 0} (task : Task) → task_text task ≡ codes "edit" → A
-edit-no-task task same =
-    no-task (codes "edit") 101 refl (λ e. omega (arith, e)) (λ e. omega (arith, e)) (λ e. omega (arith, e)) (λ e. omega (arith, e)) task same
-
-pub make-no-command : {A : Type 0} (command : Command) → name_of command ≡ codes "make" → A
-make-no-command (OfModel task kind field) same =
-    no-task (codes "make") 109 refl (λ e. omega (arith, e)) (λ e. omega (arith, e)) (λ e. omega (arith, e)) (λ e. omega (arith, e)) task same
-make-no-command Check same = other-letter (codes "check") (codes "make") 99 109 refl refl (λ e. omega (arith, e)) same
-make-no-command Edit same = other-letter (codes "edit") (codes "make") 101 109 refl refl (λ e. omega (arith, e)) same
+-- commands of the same name, with the same words, are the same
+same-command : (a b : Command) → named a ≡ named b → word_of (format_of a) ≡ word_of (format_of b) →
+    field_word (field_of a) ≡ field_word (field_of b) → a ≡ b
+unfolding named
+same-command (OfModel task kind field) (OfModel other one named) name word over =
+    let tasks : task ≡ other = cc in
+    ap (λ t. OfModel t kind field) tasks ∙ ap (λ k. OfModel other k field) (by-kind kind one word) ∙ ap (OfModel other one) (field-one field named over)
+same-command (OfModel task kind field) (OfStudy study one) name word over = absurd cc
+same-command (OfModel task kind field) Check name word over = absurd cc
+same-command (OfModel task kind field) Edit name word over = absurd cc
+same-command (OfStudy study kind) (OfModel other one named) name word over = absurd cc
+same-command (OfStudy study kind) (OfStudy other one) name word over =
+    let studies : study ≡ other = cc in
+    ap (λ s. OfStudy s kind) studies ∙ ap (OfStudy other) (by-kind kind one word)
+same-command (OfStudy study kind) Check name word over = absurd cc
+same-command (OfStudy study kind) Edit name word over = absurd cc
+same-command Check (OfModel task kind field) name word over = absurd cc
+same-command Check (OfStudy study kind) name word over = absurd cc
+same-command Check Check name word over = refl
+same-command Check Edit name word over = absurd cc
+same-command Edit (OfModel task kind field) name word over = absurd cc
+same-command Edit (OfStudy study kind) name word over = absurd cc
+same-command Edit Check name word over = absurd cc
+same-command Edit Edit name word over = refl
 
 command-one : (a b : Command) → name_of a ≡ name_of b → word_of (format_of a) ≡ word_of (format_of b) →
     field_word (field_of a) ≡ field_word (field_of b) → a ≡ b
-command-one (OfModel task kind field) (OfModel other one named) name word over =
-    let words : kind_text kind ≡ kind_text one = cc in
-    ap (λ t. OfModel t kind field) (task-one task other name) ∙ ap (λ k. OfModel other k field) (kind-one kind one words)
-    ∙ ap (OfModel other one) (field-one field named over)
-command-one (OfModel task kind field) Check name word over = check-no-task task name
-command-one Check (OfModel task kind field) name word over = check-no-task task (sym name)
-command-one Check Check name word over = refl
-command-one (OfModel task kind field) Edit name word over = edit-no-task task name
-command-one Edit (OfModel task kind field) name word over = edit-no-task task (sym name)
-command-one Check Edit name word over = other-letter (codes "check") (codes "edit") 99 101 refl refl (λ e. omega (arith, e)) name
-command-one Edit Check name word over = other-letter (codes "edit") (codes "check") 101 99 refl refl (λ e. omega (arith, e)) name
-command-one Edit Edit name word over = refl
+command-one a b name word over = same-command a b (named-one a b name) word over
 
 size-one : (word : Option (List ℕ)) (m n : ℕ) → IsSizeWord word m → IsSizeWord word n → m ≡ n
 size-one None m n one two = absurd one

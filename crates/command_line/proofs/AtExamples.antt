@@ -6,8 +6,10 @@ use Rattle.clap.specs.declared.error.kind.ErrorKind.{ErrorKind}
 use Rattle.clap.proofs.OnLiterals.{clap_on_literals}
 use Rattle.cert_text.specs.declared.kind.Kind.TheVariants.{Flowsheet, Matrix, Netlist}
 use Rattle.command_line.specs.CommandLine.{command_line}
-use Rattle.command_line.specs.Words.{AsksFor, AsksForNothing, AsksToMake, field_of, field_word}
-use Rattle.command_line.specs.declared.command.Command.TheVariants.{Check, Edit, OfModel}
+use Rattle.command_line.specs.Words.{AsksFor, AsksForNothing, AsksToMake, field_of, field_word, study_text}
+use Rattle.command_line.specs.declared.command.Study.{Study}
+use Rattle.command_line.specs.declared.command.Command.TheVariants.{Check, Edit, OfModel, OfStudy}
+use Rattle.command_line.specs.declared.command.Study.TheVariants.{Conflict, Repair, Solve, Values}
 use Rattle.residue_field.specs.declared.field_name.FieldName.{FieldName}
 use Rattle.residue_field.specs.declared.field_name.FieldName.TheVariants.{Large, Small}
 use Rattle.command_line.specs.declared.command.Request.TheVariants.{Make, OfInput}
@@ -40,6 +42,22 @@ check = (refl, (refl, refl, refl))
 pub edit : AsksFor (codes "mixed" ∷ codes "edit" ∷ []) Edit
 unfolding clap_on_literals
 edit = (refl, (refl, refl, refl))
+
+pub values : AsksFor (codes "mixed" ∷ codes "values" ∷ codes "matrix" ∷ []) (OfStudy Values Matrix)
+unfolding clap_on_literals
+values = (refl, (refl, refl, refl))
+
+pub solve : AsksFor (codes "mixed" ∷ codes "solve" ∷ codes "netlist" ∷ []) (OfStudy Solve Netlist)
+unfolding clap_on_literals
+solve = (refl, (refl, refl, refl))
+
+pub repair : AsksFor (codes "mixed" ∷ codes "repair" ∷ codes "matrix" ∷ []) (OfStudy Repair Matrix)
+unfolding clap_on_literals
+repair = (refl, (refl, refl, refl))
+
+pub conflict : AsksFor (codes "mixed" ∷ codes "conflict" ∷ codes "flowsheet" ∷ []) (OfStudy Conflict Flowsheet)
+unfolding clap_on_literals
+conflict = (refl, (refl, refl, refl))
 
 pub make : AsksToMake (codes "mixed" ∷ codes "make" ∷ codes "2" ∷ []) 2 None
 unfolding clap_on_literals
@@ -95,6 +113,13 @@ pub edit_of_kind : AsksForNothing (codes "mixed" ∷ codes "edit" ∷ codes "mat
 unfolding clap_on_literals
 edit_of_kind = untaken (codes "mixed" ∷ codes "edit" ∷ codes "matrix" ∷ []) _ _ refl
 
+-- no study has this name
+no-study-analyses : {A : Type 0} (study : Study) → codes "analyse" ≡ study_text study → A
+no-study-analyses Values same = let is : 97 ≡ 118 = ap (λ t. get_or t 0 0) same in absurd (omega (arith, is))
+no-study-analyses Solve same = let is : 97 ≡ 115 = ap (λ t. get_or t 0 0) same in absurd (omega (arith, is))
+no-study-analyses Repair same = let is : 97 ≡ 114 = ap (λ t. get_or t 0 0) same in absurd (omega (arith, is))
+no-study-analyses Conflict same = let is : 97 ≡ 99 = ap (λ t. get_or t 0 0) same in absurd (omega (arith, is))
+
 -- another word at KIND
 unknown : (word : List ℕ) → Some (codes "picture") ≡ Some word → get_or word 0 0 ≡ 112
 unknown word there = let same : codes "picture" ≡ word = cc in ap (λ t. get_or t 0 0) (sym same)
@@ -104,6 +129,7 @@ unfolding clap_on_literals
 unknown_kind (OfInput (OfModel task Matrix field)) (taken, names) = let other : 109 ≡ 112 = unknown _ names.1 in absurd (omega (arith, other))
 unknown_kind (OfInput (OfModel task Netlist field)) (taken, names) = let other : 110 ≡ 112 = unknown _ names.1 in absurd (omega (arith, other))
 unknown_kind (OfInput (OfModel task Flowsheet field)) (taken, names) = let other : 102 ≡ 112 = unknown _ names.1 in absurd (omega (arith, other))
+unknown_kind (OfInput (OfStudy study kind)) (taken, names) = no-study-analyses study names.0
 unknown_kind (OfInput Check) (taken, names) = absurd cc
 unknown_kind (OfInput Edit) (taken, names) = absurd cc
 unknown_kind (Make n field) (taken, names) = absurd cc
@@ -127,7 +153,7 @@ pub field_of_zeros : AsksForNothing (codes "mixed" ∷ codes "plan" ∷ codes "m
 unfolding clap_on_literals
 field_of_zeros (OfInput command) (taken, names) =
     no_field (codes "065521") 48 refl (λ e. omega (arith, e)) (λ e. omega (arith, e)) (field_of command) names.2
-field_of_zeros (Make n field) (taken, names) = absurd cc
+field_of_zeros (Make n field) (taken, names) = let letters : 112 ≡ 109 = ap (λ t. get_or t 0 0) names.0 in absurd (omega (arith, letters))
 
 pub make_unknown_field : AsksForNothing (codes "mixed" ∷ codes "make" ∷ codes "2" ∷ codes "7" ∷ [])
 unfolding clap_on_literals
@@ -147,6 +173,14 @@ no_word = untaken (codes "mixed" ∷ []) _ _ refl
 pub no_kind : AsksForNothing (codes "mixed" ∷ codes "analyse" ∷ [])
 unfolding clap_on_literals
 no_kind = untaken (codes "mixed" ∷ codes "analyse" ∷ []) _ _ refl
+
+pub study_of_field : AsksForNothing (codes "mixed" ∷ codes "values" ∷ codes "matrix" ∷ codes "65521" ∷ [])
+unfolding clap_on_literals
+study_of_field = untaken (codes "mixed" ∷ codes "values" ∷ codes "matrix" ∷ codes "65521" ∷ []) _ _ refl
+
+pub study_alone : AsksForNothing (codes "mixed" ∷ codes "solve" ∷ [])
+unfolding clap_on_literals
+study_alone = untaken (codes "mixed" ∷ codes "solve" ∷ []) _ _ refl
 
 pub too_many : AsksForNothing (codes "mixed" ∷ codes "analyse" ∷ codes "matrix" ∷ codes "65521" ∷ codes "more" ∷ [])
 unfolding clap_on_literals

@@ -10,9 +10,11 @@ use Rattle.cert_text.specs.Texts.{kind_text}
 use Rattle.made_models.specs.MadeModels.{IsSize}
 use Rattle.command_line.specs.CommandLine.{command_line}
 use Rattle.command_line.specs.declared.command.Command.{Command}
-use Rattle.command_line.specs.declared.command.Command.TheVariants.{Check, Edit, OfModel}
+use Rattle.command_line.specs.declared.command.Command.TheVariants.{Check, Edit, OfModel, OfStudy}
 use Rattle.command_line.specs.declared.command.Format.{Format}
-use Rattle.command_line.specs.declared.command.Format.TheVariants.{Certificate, Lines, Model}
+use Rattle.command_line.specs.declared.command.Format.TheVariants.{Certificate, Lines, Model, Studied}
+use Rattle.command_line.specs.declared.command.Study.{Study}
+use Rattle.command_line.specs.declared.command.Study.TheVariants.{Conflict, Repair, Solve, Values}
 use Rattle.command_line.specs.declared.command.Task.{Task}
 use Rattle.command_line.specs.declared.command.Task.TheVariants.{Analyse, Layer, Plan, Report}
 use Rattle.residue_field.specs.declared.field_name.FieldName.{FieldName}
@@ -29,21 +31,31 @@ task_text Layer = codes "layer"
 task_text Report = codes "report"
 task_text Plan = codes "plan"
 
+-- the name of a study
+abbrev pub study_text : Study → List ℕ
+study_text Values = codes "values"
+study_text Solve = codes "solve"
+study_text Repair = codes "repair"
+study_text Conflict = codes "conflict"
+
 -- the name of a command
 abbrev pub name_of : Command → List ℕ
 name_of (OfModel task kind field) = task_text task
+name_of (OfStudy study kind) = study_text study
 name_of Check = codes "check"
 name_of Edit = codes "edit"
 
 -- the word at KIND: a certificate tells its own, and lines of commands have none
 abbrev pub word_of : Format → Option (List ℕ)
 word_of (Model kind) = Some (kind_text kind)
+word_of (Studied study kind) = Some (kind_text kind)
 word_of Certificate = None
 word_of Lines = None
 
 -- what a command's input is to be
 abbrev pub format_of : Command → Format
 format_of (OfModel task kind field) = Model kind
+format_of (OfStudy study kind) = Studied study kind
 format_of Check = Certificate
 format_of Edit = Lines
 
@@ -56,9 +68,10 @@ field_text Large = codes "2147483647"
 abbrev pub field_word : Option FieldName → Option (List ℕ)
 field_word field = option_map field_text field
 
--- the field that a command names: a certificate tells its own, and models are edited over the smaller one
+-- the field that a command names: a certificate tells its own, and models are edited and studied over the smaller one
 abbrev pub field_of : Command → Option FieldName
 field_of (OfModel task kind field) = field
+field_of (OfStudy study kind) = None
 field_of Check = None
 field_of Edit = None
 

@@ -4,7 +4,7 @@ ghost use Rattle.std.specs.Prelude.{◌≡◌, ◌≢◌, ℕ, Option, map, Matc
 ghost use Rattle.std.specs.String.{string_bytes};
 ghost use Rattle.cert_text.specs.Texts.{kind_text};
 ghost use Rattle.clap.specs.Words.{kind_of as error_kind, subcommand_rows_of};
-ghost use Rattle.command_line.specs.Words.{AreNamesOf, AreSizeWords, Asks, IsWhy, Names, NamesNone, field_of, field_text, over, task_text, text_at};
+ghost use Rattle.command_line.specs.Words.{AreNamesOf, AreSizeWords, Asks, IsWhy, Names, NamesNone, field_of, field_text, over, study_text, task_text, text_at};
 
 use crate::command_line::command_line;
 use cert_text::Kind;
@@ -27,11 +27,26 @@ pub enum Task {
     Plan,
 }
 
+/// What to tell of a model besides its form, over the smaller field.
+#[derive(Clone, Copy, Debug, PartialEq, Eq)]
+pub enum Study {
+    /// Its rank, and values for its symbols that reach it.
+    Values,
+    /// How it is solved with values for its symbols and right sides, which stand before it.
+    Solve,
+    /// A cheapest repair, by costs of its equations, which stand before it.
+    Repair,
+    /// Its surplus equations, each with those with which it clashes.
+    Conflict,
+}
+
 /// What to do with an input.
 #[derive(Clone, Copy, Debug, PartialEq, Eq)]
 pub enum Command {
     /// To write something of the model that an input of this kind gives over the field that is named.
     OfModel(Task, Kind, Option<FieldName>),
+    /// To study the model of an input of this kind.
+    OfStudy(Study, Kind),
     /// To tell whether a certificate is right for the input that it repeats.
     Check,
     /// To edit models by commands, a line each, and to reply to each line.
@@ -52,6 +67,9 @@ pub enum Request {
 pub enum Format {
     /// A text of this kind, of at most 8,388,608 bytes, that gives a model.
     Model(Kind),
+    /// What this study is of, a text of at most 8,388,608 bytes: it gives a model of this kind, and for `Solve` values and
+    /// right sides stand before it, for `Repair` costs.
+    Studied(Study, Kind),
     /// The text of a certificate, of at most 2,147,483,648 bytes.
     Certificate,
     /// Any text of at most 8,388,608 bytes: each of its lines is replied to.
@@ -136,7 +154,7 @@ impl Command {
     {
         match self {
             Command::OfModel(_, _, named) => over(named),
-            Command::Check | Command::Edit => FieldName::Small,
+            Command::OfStudy(_, _) | Command::Check | Command::Edit => FieldName::Small,
         }
     }
 
@@ -146,11 +164,26 @@ impl Command {
             ((command : Command) → AreNamesOf name.now (Some kind.now) (text_at field.entry) command → ⊥)
             (AreNamesOf name.now (Some kind.now) (text_at field.entry)) }
     {
-        let task = task_named(name)?;
         let kind = kind_named(kind)?;
         match field {
-            Some(field) => Some(Command::OfModel(task, kind, Some(field_named(field)?))),
-            None => Some(Command::OfModel(task, kind, None)),
+            Some(field) => Some(Command::OfModel(
+                task_named(name)?,
+                kind,
+                Some(field_named(field)?),
+            )),
+            None => Command::without_field(name, kind),
+        }
+    }
+
+    // The command of this name, on this kind, where no field is named.
+    fn without_field(name: &str, kind: Kind) -> Option<Command>
+        ensures { MatchOption result
+            ((command : Command) → AreNamesOf name.now (Some (kind_text kind)) None command → ⊥)
+            (AreNamesOf name.now (Some (kind_text kind)) None) }
+    {
+        match study_named(name) {
+            Some(study) => Some(Command::OfStudy(study, kind)),
+            None => Some(Command::OfModel(task_named(name)?, kind, None)),
         }
     }
 
@@ -187,6 +220,19 @@ fn task_named(word: &str) -> Option<Task>
         "layer" => Some(Task::Layer),
         "report" => Some(Task::Report),
         "plan" => Some(Task::Plan),
+        _ => None,
+    }
+}
+
+// The study of this name.
+fn study_named(word: &str) -> Option<Study>
+    ensures { MatchOption result ((any : Study) → word.now ≢ study_text any) (λ study. word.now ≡ study_text study) }
+{
+    match word {
+        "values" => Some(Study::Values),
+        "solve" => Some(Study::Solve),
+        "repair" => Some(Study::Repair),
+        "conflict" => Some(Study::Conflict),
         _ => None,
     }
 }

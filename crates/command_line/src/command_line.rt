@@ -3,7 +3,7 @@
 ghost use Rattle.std.specs.Prelude.{◌≡◌, IfOk, false};
 ghost use Rattle.clap.specs.Words.{app_of, rule_of, shape_of, with_subcommand};
 ghost use Rattle.clap.specs.declared.builder.command.Command.TheViews.{out-Command as fields_of};
-ghost use Rattle.command_line.specs.CommandLine.{bare_line, command_line, field_argument, with_kind, with_size, without_kind};
+ghost use Rattle.command_line.specs.CommandLine.{bare_line, command_line, field_argument, kind_argument, with_kind, with_kind_alone, with_size, with_studies, without_kind};
 
 use clap::builder::ValueParser;
 use clap::{Arg, Command};
@@ -51,11 +51,42 @@ pub fn command_line<'a>(alloc: Global) -> Result<Command<'a>, AllocError>
         "make",
         "Makes a model of so many equations, reads nothing, and writes its rank and the sizes of its parts",
     )?;
-    and_alone(
+    let edit = and_alone(
         alloc,
         make,
         "edit",
         "Edits models and tells of them, by commands that it reads from standard input, a line each",
+    )?;
+    with_studies(alloc, edit)
+}
+
+// The command with the subcommands that study a model.
+fn with_studies<'a>(alloc: Global, command: Command<'a>) -> Result<Command<'a>, AllocError>
+    ensures { IfOk result (λ line. app_of line ≡ with_studies (app_of command.entry)) }
+{
+    let values = and_study(
+        alloc,
+        command,
+        "values",
+        "Writes the rank, and for each free parameter a value, 1 or 2, with which the rank is reached",
+    )?;
+    let solve = and_study(
+        alloc,
+        values,
+        "solve",
+        "Writes the unknowns that solve a model, by values and right sides in lines that stand before it",
+    )?;
+    let repair = and_study(
+        alloc,
+        solve,
+        "repair",
+        "Writes which equations to drop so that no two clash and the dropped ones cost least, by costs in lines that stand before the model",
+    )?;
+    and_study(
+        alloc,
+        repair,
+        "conflict",
+        "Writes for each equation that is too many with which others it clashes",
     )
 }
 
@@ -81,6 +112,18 @@ fn and_task<'a>(
     ensures { IfOk result (λ line. app_of line ≡ with_subcommand (app_of command.entry) (with_kind name.now)) }
 {
     command.subcommand(with_kind(alloc, name, about)?)
+}
+
+// The command with one more subcommand, which takes the kind of the input alone.
+fn and_study<'a>(
+    alloc: Global,
+    command: Command<'a>,
+    name: &'a str,
+    about: &'a str,
+) -> Result<Command<'a>, AllocError>
+    ensures { IfOk result (λ line. app_of line ≡ with_subcommand (app_of command.entry) (with_kind_alone name.now)) }
+{
+    command.subcommand(with_kind_alone(alloc, name, about)?)
 }
 
 // The command with one more subcommand, which takes no argument.
@@ -117,18 +160,37 @@ fn field<'a>(alloc: Global) -> Arg<'a>
     )
 }
 
+// The kind of the input.
+fn kind<'a>(alloc: Global) -> Arg<'a>
+    ensures local { result.global ≡ false }
+    ensures rule { rule_of result ≡ kind_argument }
+{
+    Arg::new(alloc, "KIND").required(true).help(
+        "What the input is: `matrix`, a list of equations, `netlist`, a circuit, or `flowsheet`, a plant",
+    )
+}
+
 // A subcommand that takes the kind of the input, and the field.
 fn with_kind<'a>(alloc: Global, name: &'a str, about: &'a str) -> Result<Command<'a>, AllocError>
     ensures local { IfOk result (λ command. (fields_of command).has_globals ≡ false) }
     ensures shape { IfOk result (λ command. shape_of command ≡ with_kind name.now) }
 {
-    let kind = Arg::new(alloc, "KIND").required(true).help(
-        "What the input is: `matrix`, a list of equations, `netlist`, a circuit, or `flowsheet`, a plant",
-    );
     Command::new(alloc, name)
         .about(about)
-        .arg(kind)?
+        .arg(kind(alloc))?
         .arg(field(alloc))
+}
+
+// A subcommand that takes the kind of the input alone.
+fn with_kind_alone<'a>(
+    alloc: Global,
+    name: &'a str,
+    about: &'a str,
+) -> Result<Command<'a>, AllocError>
+    ensures local { IfOk result (λ command. (fields_of command).has_globals ≡ false) }
+    ensures shape { IfOk result (λ command. shape_of command ≡ with_kind_alone name.now) }
+{
+    Command::new(alloc, name).about(about).arg(kind(alloc))
 }
 
 // A subcommand that takes the size of a made model, and the field.

@@ -3,7 +3,8 @@
 ghost use Rattle.std.specs.Prelude.{[], ◌∷◌, None, Some, codes};
 ghost use Rattle.cert_text.specs.declared.kind.Kind.TheVariants.{Flowsheet, Matrix, Netlist};
 ghost use Rattle.command_line.specs.Words.{AsksFor, AsksForNothing, AsksToMake};
-ghost use Rattle.command_line.specs.declared.command.Command.TheVariants.{Check, Edit, OfModel};
+ghost use Rattle.command_line.specs.declared.command.Command.TheVariants.{Check, Edit, OfModel, OfStudy};
+ghost use Rattle.command_line.specs.declared.command.Study.TheVariants.{Conflict, Repair, Solve, Values};
 ghost use Rattle.residue_field.specs.declared.field_name.FieldName.TheVariants.{Large, Small};
 ghost use Rattle.command_line.specs.declared.command.Task.TheVariants.{Analyse, Layer, Plan, Report};
 
@@ -15,6 +16,11 @@ pub fn words_at_examples()
     ensures plan { AsksFor (codes "mixed" ∷ codes "plan" ∷ codes "matrix" ∷ []) (OfModel Plan Matrix None) }
     ensures check { AsksFor (codes "mixed" ∷ codes "check" ∷ []) Check }
     ensures edit { AsksFor (codes "mixed" ∷ codes "edit" ∷ []) Edit }
+    ensures values { AsksFor (codes "mixed" ∷ codes "values" ∷ codes "matrix" ∷ []) (OfStudy Values Matrix) }
+    ensures solve { AsksFor (codes "mixed" ∷ codes "solve" ∷ codes "netlist" ∷ []) (OfStudy Solve Netlist) }
+    ensures repair { AsksFor (codes "mixed" ∷ codes "repair" ∷ codes "matrix" ∷ []) (OfStudy Repair Matrix) }
+    ensures conflict { AsksFor (codes "mixed" ∷ codes "conflict" ∷ codes "flowsheet" ∷ [])
+        (OfStudy Conflict Flowsheet) }
     ensures make { AsksToMake (codes "mixed" ∷ codes "make" ∷ codes "2" ∷ []) 2 None }
     ensures make_most { AsksToMake (codes "mixed" ∷ codes "make" ∷ codes "400" ∷ []) 400 None }
     ensures make_zeros { AsksToMake (codes "mixed" ∷ codes "make" ∷ codes "007" ∷ []) 7 None }
@@ -38,6 +44,9 @@ pub fn words_at_examples()
     ensures field_of_zeros { AsksForNothing (codes "mixed" ∷ codes "plan" ∷ codes "matrix" ∷ codes "065521" ∷ []) }
     ensures make_unknown_field { AsksForNothing (codes "mixed" ∷ codes "make" ∷ codes "2" ∷ codes "7" ∷ []) }
     ensures check_of_field { AsksForNothing (codes "mixed" ∷ codes "check" ∷ codes "65521" ∷ []) }
+    ensures study_of_field { AsksForNothing
+        (codes "mixed" ∷ codes "values" ∷ codes "matrix" ∷ codes "65521" ∷ []) }
+    ensures study_alone { AsksForNothing (codes "mixed" ∷ codes "solve" ∷ []) }
     ensures too_many { AsksForNothing
         (codes "mixed" ∷ codes "analyse" ∷ codes "matrix" ∷ codes "65521" ∷ codes "more" ∷ []) }
     ensures help { AsksForNothing (codes "mixed" ∷ codes "help" ∷ []) }

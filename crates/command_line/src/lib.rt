@@ -5,5 +5,5 @@ mod command;
 mod command_line;
 mod examples;
 
-pub use command::{Command, Format, Request, Task, WordsError, over};
+pub use command::{Command, Format, Request, Study, Task, WordsError, over};
 pub use examples::words_at_examples;

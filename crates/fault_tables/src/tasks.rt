@@ -19,7 +19,7 @@ pub struct Task<'a> {
 }
 
 /// Each command that reads an input.
-pub const READING: [Task; 6] = [
+pub const READING: [Task; 9] = [
     // reads of 5, 5, 5, 5, 2 and 0 bytes
     Task {
         words: &["mixed", "analyse", "matrix"],
@@ -67,6 +67,30 @@ pub const READING: [Task; 6] = [
         step: 12,
         reads: 4,
         text: b"changed 1\nchanged 2\nrank 2\nfirst\nblock 1: y |\nblock 2: x | 1\nlast\nend\n",
+    },
+    // reads of 8, 8, 6 and 0 bytes
+    Task {
+        words: &["mixed", "values", "matrix"],
+        input: TRIANGLE,
+        step: 8,
+        reads: 4,
+        text: b"rank 2\nvalue a x 1\nvalue a y 1\nvalue b x 1\n",
+    },
+    // reads of 40, 40, 5 and 0 bytes
+    Task {
+        words: &["mixed", "solve", "matrix"],
+        input: b"value a x 2\nvalue a y 3\nvalue b x 5\nright a 7\nright b 10\nmodel\neq a x=? y=?\neq b x=?\n",
+        step: 40,
+        reads: 4,
+        text: b"solution\nunknown x 2\nunknown y 1\n",
+    },
+    // reads of 9, 9, 9 and 0 bytes
+    Task {
+        words: &["mixed", "conflict", "matrix"],
+        input: b"eq a x=1\neq b x=2\neq c x=3\n",
+        step: 9,
+        reads: 4,
+        text: b"conflicts 3\nconflict a: a b\nconflict b: a b\nconflict c: a c\n",
     },
 ];
 

@@ -20,7 +20,7 @@ use Rattle.residue_field.specs.Modulus.{modulus_of}
 use Rattle.made_models.specs.MadeModels.{IsSize}
 use Rattle.command_line.specs.declared.command.Request.TheVariants.{Make}
 use Rattle.report_cli.specs.declared.output.Output.{Output}
-use Rattle.report_cli.specs.declared.output.Output.TheVariants.{Accepted, Certificate, Layers, Made, Plan, Replies, Report}
+use Rattle.report_cli.specs.declared.output.Output.TheVariants.{Accepted, Certificate, Layers, Made, Plan, Replies, Report, Studied}
 use Rattle.run_ends.specs.declared.status.Status.{Status}
 use Rattle.run_ends.specs.declared.status.Status.TheVariants.{BadCertificate, Done, Memory, NotRegular, ReadFault}
 use Rattle.run_ends.specs.declared.status.Status.TheVariants.{Refused, Rejected, TooLong, Usage, WriteFault}
@@ -34,6 +34,7 @@ made-writable p n (Certificate certificate) is = absurd is
 made-writable p n (Layers model layers) is = absurd is
 made-writable p n (Report model told) is = absurd is
 made-writable p n (Plan model layers plan) is = absurd is
+made-writable p n (Studied studied) is = absurd is
 made-writable p n Accepted is = absurd is
 made-writable p n (Replies text) is = absurd is
 
@@ -49,6 +50,7 @@ told-so number p n (Certificate certificate) is = absurd is
 told-so number p n (Layers model layers) is = absurd is
 told-so number p n (Report model told) is = absurd is
 told-so number p n (Plan model layers plan) is = absurd is
+told-so number p n (Studied studied) is = absurd is
 told-so number p n Accepted is = absurd is
 told-so number p n (Replies text) is = absurd is
 
@@ -59,6 +61,7 @@ made-end p n (Certificate certificate) is = absurd is
 made-end p n (Layers model layers) is = absurd is
 made-end p n (Report model told) is = absurd is
 made-end p n (Plan model layers plan) is = absurd is
+made-end p n (Studied studied) is = absurd is
 made-end p n Accepted is = absurd is
 made-end p n (Replies text) is = absurd is
 

@@ -21,14 +21,16 @@ use Rattle.report_cli.specs.RightFor.{IsRightForInput}
 use Rattle.answer_texts.specs.WholeLayers.{AreWholeLayers}
 use Rattle.desk_texts.specs.Said.{IsSaidOf}
 use Rattle.command_line.specs.declared.command.Command.{Command}
-use Rattle.command_line.specs.declared.command.Command.TheVariants.{Check, Edit, OfModel}
+use Rattle.command_line.specs.declared.command.Command.TheVariants.{Check, Edit, OfModel, OfStudy}
+use Rattle.command_line.specs.declared.command.Study.{Study}
+use Rattle.study_outputs.specs.StudyOutputs.{IsStudiedFor, IsStudiedIn, end_of_studied, studied_text}
 use Rattle.residue_field.specs.declared.field_name.FieldName.{FieldName}
 use Rattle.command_line.specs.declared.command.Task.TheVariants as Task
 use Rattle.command_line.specs.declared.command.Task.TheVariants.{Analyse, Layer}
 use Rattle.run_ends.specs.declared.status.Status.{Status}
 use Rattle.run_ends.specs.declared.status.Status.TheVariants.{Done, NotRegular}
 use Rattle.report_cli.specs.declared.output.Output.{Output}
-use Rattle.report_cli.specs.declared.output.Output.TheVariants.{Accepted, Certificate, Layers, Made, Plan, Replies, Report}
+use Rattle.report_cli.specs.declared.output.Output.TheVariants.{Accepted, Certificate, Layers, Made, Plan, Replies, Report, Studied}
 
 -- the text of an output, of which each value is seen by its number
 abbrev pub output_text : {T : Type 0} → (T → ℕ) → Output T → List ℕ
@@ -36,6 +38,7 @@ output_text number (Certificate certificate) = certificate_text certificate
 output_text number (Layers model layers) = layer_text model layers
 output_text number (Report model told) = report_text model told
 output_text number (Plan model layers plan) = plan_text number model layers plan
+output_text number (Studied studied) = studied_text number studied
 output_text number Accepted = codes "accepted\n"
 output_text number (Replies text) = text
 output_text number (Made size split ccf) = made_text size split ccf
@@ -50,14 +53,15 @@ end_of (Certificate certificate) = Done
 end_of (Layers model layers) = Done
 end_of (Report model told) = end_of_rank told.equations told.unknowns told.rank
 end_of (Plan model layers plan) = Done
+end_of (Studied studied) = end_of_studied studied
 end_of Accepted = Done
 end_of (Replies text) = Done
 end_of (Made size split ccf) = Done
 
 -- over the residues modulo p: `analyse` gives a certificate that is right for the input, of version 1 where no field is
 -- named; `layer` the model that the input gives, with its whole layers; `report` the model, with the report on it;
--- `plan` the model, with its layers and a plan; `check` the word that the certificate in the input is accepted; `edit`
--- the replies to its lines
+-- `plan` the model, with its layers and a plan; a study what it tells of the input; `check` the word that the
+-- certificate in the input is accepted; `edit` the replies to its lines
 abbrev pub IsOutputFor : {T : Type 0} → (T → ℕ) → ℕ → Command → List ℕ → Output T → Type 0
 IsOutputFor number p command input (Certificate certificate) =
     (kind : Kind) × (field : Option FieldName) × (command ≡ OfModel Analyse kind field)
@@ -71,6 +75,8 @@ IsOutputFor number p command input (Report model told) =
 IsOutputFor number p command input (Plan model layers plan) =
     (kind : Kind) × (field : Option FieldName) × (command ≡ OfModel Task.Plan kind field)
     × IsPlanFor number p kind input model layers plan
+IsOutputFor number p command input (Studied studied) =
+    (study : Study) × (kind : Kind) × (command ≡ OfStudy study kind) × IsStudiedFor number p study kind input studied
 IsOutputFor number p command input Accepted = (command ≡ Check) × IsAccepted input
 IsOutputFor number p command input (Replies text) = (command ≡ Edit) × IsSaidOf p input text
 IsOutputFor number p command input (Made size split ccf) = ⊥
@@ -80,14 +86,15 @@ abbrev pub IsMadeOutput : {T : Type 0} → ℕ → ℕ → Output T → Type 0
 IsMadeOutput p n (Made size split ccf) = (size ≡ n) × IsMadeFor p n split ccf
 IsMadeOutput p n output = ⊥
 
--- the certificate is one that may be read, the layers are those of the model, the report is one on the model, and the
--- steps of the plan name its columns and equations
+-- the certificate is one that may be read, the layers are those of the model, the report is one on the model, the steps
+-- of the plan name its columns and equations, and what a study names is there
 abbrev pub IsWritable : {T : Type 0} → ℕ → Output T → Type 0
 IsWritable p (Certificate certificate) = IsCertificate certificate
 IsWritable p (Layers model layers) = AreLayersOf model layers
 IsWritable p (Report model told) = IsReportOf p (mixed_matrix_of model) told
 IsWritable p (Plan model layers plan) =
     AreLayersOf model layers × All (IsStepIn (length model.equations) layers.q.width) plan.steps
+IsWritable p (Studied studied) = IsStudiedIn studied
 IsWritable p Accepted = Unit {0}
 IsWritable p (Replies text) = Unit {0}
 IsWritable p (Made size split ccf) = Unit {0}

@@ -28,7 +28,7 @@ use ccf_builder::build;
 use cert_reader::CERTIFICATE_LIMIT;
 use cert_text::{Ccf, Certificate, Items, Kind, Version};
 use cert_verdict::judge;
-use command_line::{Command, Format, Task};
+use command_line::{Command, Format, Study, Task};
 use desk_texts::say;
 use input_kinds::{read_input, read_model};
 use limits::INPUT_LIMIT;
@@ -43,6 +43,7 @@ use run_ends::{Status, read_text};
 use solve_plan::{Plan, Report, plan, report};
 use sparse_tableau::SparseTableau;
 use std::alloc::Global;
+use study_outputs::StudyOutput;
 use text_writer::TextWriter;
 
 /// What a command writes of an input.
@@ -56,6 +57,8 @@ pub enum Output<F: Field> {
     Report(Mixed<F>, Report),
     /// The model that the input gives, the layered matrix of the model, and a plan to solve it.
     Plan(Mixed<F>, Layered<F>, Plan<F>),
+    /// What a study tells of the input.
+    Studied(StudyOutput<F>),
     /// That the certificate in the input is right for the input that it repeats.
     Accepted,
     /// The text of the replies to the lines of the input.
@@ -81,6 +84,7 @@ impl<F: Field> Output<F> {
             Command::OfModel(task, kind, named) => Output::of_model(
                 alloc, task, kind, named, source,
             ),
+            Command::OfStudy(study, kind) => Output::of_study(alloc, study, kind, source),
             Command::Check => Output::verdict(alloc, source),
             Command::Edit => Output::replies(alloc, source),
         }
@@ -118,6 +122,23 @@ impl<F: Field> Output<F> {
                 Ok(Output::certificate(alloc, kind, named, text)?)
             }
         }
+    }
+
+    // What this study tells of an input of this kind.
+    fn of_study<S: Source>(
+        alloc: Global,
+        study: Study,
+        kind: Kind,
+        source: &mut S,
+    ) -> Result<Output<F>, Status>
+        ensures right { IfOk result (λ output. ReadsWhole input_limit (S.left source.old) (S.left source.new)
+            (λ input. IsOutputFor F.number F.modulus (Command.OfStudy study kind) input output)) }
+        ensures unread { IfErr result (λ status.
+            GivesNothing F.modulus (Format.Studied study kind) status (S.left source.old) (S.left source.new)) }
+        ensures source { TellsOfSource S.Source input_limit source.old source.new result }
+    {
+        let studied = StudyOutput::read(alloc, study, kind, source)?;
+        Ok(Output::Studied(studied))
     }
 
     // That the certificate in the input is accepted.
@@ -235,6 +256,7 @@ impl<F: Field> Output<F> {
             Output::Layers(model, layered) => write_layers(out, model, layered),
             Output::Report(model, told) => write_report(out, model, told),
             Output::Plan(model, layered, plan) => write_plan(out, model, layered, plan),
+            Output::Studied(studied) => studied.write(out),
             Output::Accepted => write_bytes(out, b"accepted\n"),
             Output::Replies(text) => write_bytes(out, text.as_slice()),
             Output::Made(size, split, ccf) => write_made(out, *size, *split, ccf),
@@ -247,6 +269,7 @@ impl<F: Field> Output<F> {
     {
         match self {
             Output::Report(_, told) => status_of(told),
+            Output::Studied(studied) => studied.status(),
             _ => Status::Done,
         }
     }

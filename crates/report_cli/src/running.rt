@@ -140,7 +140,7 @@ fn work_over<F: Field, S: Source, K: Sink>(
         source.old source.new out.old out.new result }
 {
     match Output::<F>::read(alloc, command, source) {
-        Ok(output) => deliver(out, &output),
+        Ok(output) => deliver_whole(out, output),
         Err(status) => status,
     }
 }
@@ -163,9 +163,17 @@ fn make_over<F: Field, K: Sink>(alloc: Global, size: usize, out: &mut K) -> Stat
     ensures { HasMadeOver K.Sink F.modulus size out.old out.new result }
 {
     match Output::<F>::made(alloc, size) {
-        Ok(output) => deliver(out, &output),
+        Ok(output) => deliver_whole(out, output),
         Err(_) => Status::Memory,
     }
+}
+
+// Writes the whole text of an output, which ends here, and flushes it.
+fn deliver_whole<F: Field, K: Sink>(out: &mut K, output: Output<F>) -> Status
+    requires { IsWritable F.modulus output }
+    ensures { HasDelivered K.Sink (end_of output) (output_text F.number output) out.old out.new result }
+{
+    deliver(out, &output)
 }
 
 // Writes the whole text of an output, and flushes it.

@@ -13,4 +13,6 @@ mod plans;
 #[cfg(test)]
 mod reports;
 #[cfg(test)]
+mod studies;
+#[cfg(test)]
 mod tests;

@@ -8,8 +8,8 @@ use Rattle.run_ends.proofs.Runs.{run-delivered, run-unread}
 use Rattle.run_ends.proofs.Unread.{reads_so}
 use Rattle.report_cli.proofs.running.work_over.Goals as goal
 
-pub deliver-requires : goal.deliver-requires
-deliver-requires g c =
+pub deliver_whole-requires : goal.deliver_whole-requires
+deliver_whole-requires g c =
     let whole = c.in-Ok.ensures.right in
     writable g.F.Field.number g.F.Field.modulus c.args.command whole.input c.in-Ok.output c.requires whole.holds
 
@@ -24,7 +24,7 @@ returns-in-Ok g c =
     (λ input right. record { output = output; right = right; ends = refl; text_is = refl }) c.in-Ok.ensures.right in
     run-delivered g.S.Source g.K.Sink most (IsFault p (format_of c.args.command)) (IsOutputText number p c.args.command)
     c.args.source.now c.read.new.source c.args.out.now output (end_of output) (has-text output) (output_text number output)
-    c.deliver.new.out c.deliver.result whole c.in-Ok.ensures.source c.deliver.ensures
+    c.deliver_whole.new.out c.deliver_whole.result whole c.in-Ok.ensures.source c.deliver_whole.ensures
 
 pub returns-in-Err : goal.returns-in-Err
 returns-in-Err g c =

@@ -1,0 +1,9 @@
+use Rattle.std.proofs.Common.{rules}
+use Rattle.text_writer.proofs.Putting.{text_written}
+use Rattle.study_outputs.proofs.writing.write_solving.Goals as goal
+
+pub returns : goal.returns
+returns g c =
+    let same = c.put_solving.ensures.same_sink in
+    let written = text_written c.new-writer.ensures.nothing c.put_solving.ensures c.finish.ensures in
+    search rules

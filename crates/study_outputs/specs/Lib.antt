@@ -1,0 +1,3 @@
+pub mod StudyInputs
+pub mod StudyOutputs
+pub mod Problems
