@@ -1,21 +1,22 @@
-//! A picture with names and entries, put into a writer.
+//! A picture with names beside columns and rows, put into a writer.
 
 ghost use Rattle.std.specs.Prelude.{◌≤◌, length};
 ghost use Rattle.text_writer.specs.Texts.{Puts};
-ghost use Rattle.matrix_picture.specs.Texts.{detailed_size, detailed_text, legend_line, legend_text, placed_text, shapes};
+ghost use Rattle.matrix_picture.specs.Texts.{detailed_size, detailed_text, legend_line, legend_text, placed_text};
 
-use crate::entries::{put_mark, put_rows};
+use crate::entries::{put_dot, put_rows, row_head};
 use crate::frames::{put_frames, put_place};
 use crate::layout::{Frame, Layout, Row};
 use crate::names::{put_column_names, put_row_names};
 use crate::picture::{put_closing, put_opening, put_style};
+use crate::sizes::put_sizes_below;
 use cert_text::Ccf;
 use mixed_model::{Layered, Mixed};
 use port_io::Sink;
 use residue_field::Field;
 use text_writer::TextWriter;
 
-/// Puts the picture with names and entries of a form that has at most 64 columns and 64 rows.
+/// Puts the picture with names beside columns and rows of a form that has at most 64 columns and 64 rows.
 pub fn put_detailed<F: Field, K: Sink>(
     out: &mut TextWriter<'_, K>,
     model: &Mixed<F>,
@@ -33,7 +34,7 @@ pub fn put_detailed<F: Field, K: Sink>(
     put_placed(out, model, layered, ccf, columns, rows, frames);
 }
 
-// Puts the picture with names and entries of a form with these columns, rows and frames.
+// Puts the picture with names of a form with these columns, rows and frames.
 fn put_placed<F: Field, K: Sink>(
     out: &mut TextWriter<'_, K>,
     model: &Mixed<F>,
@@ -51,13 +52,13 @@ fn put_placed<F: Field, K: Sink>(
     put_opening(out);
     put_detailed_size(out, columns.len() as u64, rows.len() as u64);
     put_style(out, b"stroke-width:.06");
-    put_shapes(out);
     put_frames(out, 1, frames);
-    put_rows(out, ccf, columns, rows);
+    put_rows(out, model, layered, ccf, columns, rows);
     out.piece(b"<g font-size=\".75\">\n");
     put_column_names(out, model, layered, columns);
     put_row_names(out, model, layered, columns.len() as u64, rows);
     put_legend(out, rows.len() as u64);
+    put_sizes_below(out, rows.len() as u64 + 3, ccf);
     out.piece(b"</g>\n");
     put_closing(out);
 }
@@ -69,23 +70,13 @@ fn put_detailed_size<K: Sink>(out: &mut TextWriter<'_, K>, columns: u64, rows: u
     ensures { Puts K.Sink out.old out.new (detailed_size columns rows) }
 {
     out.piece(b" font-size=\"1\" width=");
-    out.number(b'"', 20 * (columns + 18));
+    out.number(b'"', 20 * (columns + 20));
     out.piece(b"\" height=");
     out.number(b'"', 20 * (rows + 18));
-    out.piece(b"\" viewBox=\"-4 -14");
-    out.number(b' ', columns + 18);
+    out.piece(b"\" viewBox=\"-6 -14");
+    out.number(b' ', columns + 20);
     out.number(b' ', rows + 18);
     out.piece(b"\">\n");
-}
-
-// Puts the shapes of entries.
-fn put_shapes<K: Sink>(out: &mut TextWriter<'_, K>)
-    ensures { Puts K.Sink out.old out.new shapes }
-{
-    out.piece(
-        b"<defs><rect id=\"c\" x=\".2\" y=\".2\" width=\".6\" height=\".6\" fill=\"#1f4e79\"/>",
-    );
-    out.piece(b"<circle id=\"s\" cx=\".5\" cy=\".5\" r=\".34\" fill=\"#d2601a\"/></defs>\n");
 }
 
 // Puts the two lines of the legend, below the rows.
@@ -106,8 +97,9 @@ fn put_legend<K: Sink>(out: &mut TextWriter<'_, K>, rows: u64)
 fn put_legend_line<K: Sink>(out: &mut TextWriter<'_, K>, row: Row, top: u64, word: &[u8])
     ensures { Puts K.Sink out.old out.new (legend_line row top word.now) }
 {
-    put_mark(out, row, 0, top);
-    out.piece(b"<text");
+    out.piece(row_head(row));
+    put_dot(out, 0, top);
+    out.piece(b"\"/>\n<text");
     put_place(out, 1, top);
     out.piece(b" dx=\".4em\" dy=\"1em\">");
     out.piece(word);

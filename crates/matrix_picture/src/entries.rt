@@ -1,48 +1,73 @@
-//! The entries of a form, put into a writer as marks.
+//! The entries of a form, put into a writer as dots.
 
 ghost use Rattle.std.specs.Prelude.{◌≡◌, ◌==◌, ◌<◌, [], if◌then◌else◌, length, slice_index_or};
 ghost use Rattle.std.specs.List.{list_any};
 ghost use Rattle.cert_text.specs.Contents.{numbered_rows};
 ghost use Rattle.text_writer.specs.Texts.{Puts};
-ghost use Rattle.matrix_picture.specs.Texts.{entry_text, has_printed_entry, mark_text, drawn_row_text, rows_text, shape_of};
+ghost use Rattle.matrix_picture.specs.Names.{name_of_row};
+ghost use Rattle.matrix_picture.specs.Texts.{dot_text, dots_text, drawn_row_text, entry_text, has_printed_entry, row_head};
+ghost use Rattle.matrix_picture.specs.Texts.{rows_text};
 
-use crate::frames::put_place;
 use crate::layout::Row;
+use crate::names::put_name_of_row;
 use cert_text::{Ccf, Items};
+use mixed_model::{Layered, Mixed};
 use port_io::Sink;
 use residue_field::Field;
 use text_writer::TextWriter;
 
-/// Puts the entries of all rows at all columns.
+/// Puts the entries of all rows at all columns, each row with the name of its equation.
 pub fn put_rows<F: Field, K: Sink>(
     out: &mut TextWriter<'_, K>,
+    model: &Mixed<F>,
+    layered: &Layered<F>,
     ccf: &Ccf<F>,
     columns: &[usize],
     rows: &[Row],
 )
-    ensures { Puts K.Sink out.old out.new (rows_text ccf.now columns.now 0 rows.now) }
+    ensures { Puts K.Sink out.old out.new (rows_text model.now layered.now ccf.now columns.now 0 rows.now) }
 {
     for (top, row) in rows.iter().enumerate() {
-        put_row(out, ccf, *row, top as u64, columns);
+        put_row(out, model, layered, ccf, columns, top as u64, *row);
     }
 }
 
-// Puts the entries of a row.
+// Puts a row with the name of its equation.
 fn put_row<F: Field, K: Sink>(
+    out: &mut TextWriter<'_, K>,
+    model: &Mixed<F>,
+    layered: &Layered<F>,
+    ccf: &Ccf<F>,
+    columns: &[usize],
+    top: u64,
+    row: Row,
+)
+    ensures { Puts K.Sink out.old out.new
+        (drawn_row_text ccf.now columns.now top row (name_of_row model.now layered.now row)) }
+{
+    out.piece(row_head(row));
+    put_dots(out, ccf, row, top, columns);
+    out.piece(b"\"><title>");
+    put_name_of_row(out, model, layered, row);
+    out.piece(b"</title></path>\n");
+}
+
+// Puts the entries of a row.
+fn put_dots<F: Field, K: Sink>(
     out: &mut TextWriter<'_, K>,
     ccf: &Ccf<F>,
     row: Row,
     top: u64,
     columns: &[usize],
 )
-    ensures { Puts K.Sink out.old out.new (drawn_row_text ccf.now row top 0 columns.now) }
+    ensures { Puts K.Sink out.old out.new (dots_text ccf.now row top 0 columns.now) }
 {
     for (left, column) in columns.iter().enumerate() {
         put_entry(out, ccf, row, top, left as u64, *column);
     }
 }
 
-// Puts the mark of an entry, and nothing where there is none.
+// Puts the dot of an entry, and nothing where there is none.
 fn put_entry<F: Field, K: Sink>(
     out: &mut TextWriter<'_, K>,
     ccf: &Ccf<F>,
@@ -54,26 +79,27 @@ fn put_entry<F: Field, K: Sink>(
     ensures { Puts K.Sink out.old out.new (entry_text ccf.now row top left column) }
 {
     if has_entry(ccf, row, column) {
-        put_mark(out, row, left, top);
+        put_dot(out, left, top);
     }
 }
 
-/// Puts the mark of an entry of a row.
-pub fn put_mark<K: Sink>(out: &mut TextWriter<'_, K>, row: Row, left: u64, top: u64)
-    ensures { Puts K.Sink out.old out.new (mark_text row left top) }
+/// Puts a dot in the middle of a cell.
+pub fn put_dot<K: Sink>(out: &mut TextWriter<'_, K>, left: u64, top: u64)
+    ensures { Puts K.Sink out.old out.new (dot_text left top) }
 {
-    out.piece(shape_of(row));
-    put_place(out, left, top);
-    out.piece(b"/>\n");
+    out.number(b'M', left);
+    out.piece(b".5");
+    out.number(b' ', top);
+    out.piece(b".5h0");
 }
 
-// The shape of the entries of a row.
-fn shape_of(row: Row) -> &'static [u8]
-    ensures { result.now ≡ shape_of row }
+/// How the entries of a row begin.
+pub fn row_head(row: Row) -> &'static [u8]
+    ensures { result.now ≡ row_head row }
 {
     match row {
-        Row::Constants(_) => b"<use href=\"#c\"",
-        Row::Symbols(_) => b"<use href=\"#s\"",
+        Row::Constants(_) => b"<path class=\"c\" d=\"",
+        Row::Symbols(_) => b"<path class=\"s\" d=\"",
     }
 }
 

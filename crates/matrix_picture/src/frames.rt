@@ -2,7 +2,8 @@
 
 ghost use Rattle.std.specs.Prelude.{◌≡◌, ◌<◌, [], if◌then◌else◌, length};
 ghost use Rattle.text_writer.specs.Texts.{Puts};
-ghost use Rattle.matrix_picture.specs.Texts.{box_text, frame_text, frames_text, is_legible, label_text, part_name, place_attributes};
+ghost use Rattle.matrix_picture.specs.Texts.{box_head, box_text, frame_text, frames_text, is_legible, label_text, outline_of};
+ghost use Rattle.matrix_picture.specs.Texts.{first_name, frame_columns, frame_rows, last_name, part_name, place_attributes, title_text};
 
 use crate::layout::Frame;
 use port_io::Sink;
@@ -22,7 +23,7 @@ fn put_frame<K: Sink>(out: &mut TextWriter<'_, K>, least: u64, count: u64, place
     requires { place < count }
     ensures { Puts K.Sink out.old out.new (frame_text least count place frame) }
 {
-    put_box(out, frame);
+    put_box(out, count, place, frame);
     put_legible_label(out, least, count, place, frame);
 }
 
@@ -46,21 +47,72 @@ fn put_legible_label<K: Sink>(
 fn is_legible(least: u64, frame: Frame) -> bool
     ensures { result ≡ is_legible least frame }
 {
-    least <= frame.right.saturating_sub(frame.left) as u64
-        || least <= frame.bottom.saturating_sub(frame.top) as u64
+    least <= frame_columns(frame) || least <= frame_rows(frame)
 }
 
-// Puts the frame of a part.
-fn put_box<K: Sink>(out: &mut TextWriter<'_, K>, frame: Frame)
-    ensures { Puts K.Sink out.old out.new (box_text frame) }
+// How many columns a part has.
+fn frame_columns(frame: Frame) -> u64
+    ensures { result ≡ frame_columns frame }
 {
-    out.piece(b"<path d=\"");
+    frame.right.saturating_sub(frame.left) as u64
+}
+
+// How many rows a part has.
+fn frame_rows(frame: Frame) -> u64
+    ensures { result ≡ frame_rows frame }
+{
+    frame.bottom.saturating_sub(frame.top) as u64
+}
+
+// Puts the frame of a part, and what a viewer tells of it.
+fn put_box<K: Sink>(out: &mut TextWriter<'_, K>, count: u64, place: u64, frame: Frame)
+    requires { place < count }
+    ensures { Puts K.Sink out.old out.new (box_text count place frame) }
+{
+    out.piece(box_head(count, place));
+    put_outline_of(out, frame);
+    out.piece(b"z\">");
+    put_title(out, count, place, frame);
+    out.piece(b"</path>\n");
+}
+
+// How the frame of a part begins.
+fn box_head(count: u64, place: u64) -> &'static [u8]
+    requires { place < count }
+    ensures { result.now ≡ box_head count place }
+{
+    if place == 0 {
+        b"<path class=\"o\" d=\""
+    } else if place + 1 == count {
+        b"<path class=\"m\" d=\""
+    } else {
+        b"<path d=\""
+    }
+}
+
+// Puts the line around a part.
+fn put_outline_of<K: Sink>(out: &mut TextWriter<'_, K>, frame: Frame)
+    ensures { Puts K.Sink out.old out.new (outline_of frame) }
+{
     out.number(b'M', frame.left as u64);
     out.number(b' ', frame.top as u64);
     out.number(b'H', frame.right as u64);
     out.number(b'V', frame.bottom as u64);
     out.number(b'H', frame.left as u64);
-    out.piece(b"z\"/>\n");
+}
+
+// Puts the name and the size of a part.
+fn put_title<K: Sink>(out: &mut TextWriter<'_, K>, count: u64, place: u64, frame: Frame)
+    requires { place < count }
+    ensures { Puts K.Sink out.old out.new (title_text count place frame) }
+{
+    out.piece(b"<title");
+    put_part_name(out, count, place, frame);
+    out.piece(b", rows");
+    out.number(b' ', frame_rows(frame));
+    out.piece(b", columns");
+    out.number(b' ', frame_columns(frame));
+    out.piece(b"</title>");
 }
 
 // Puts the name of a part, left of its frame and at its foot.
@@ -71,21 +123,43 @@ fn put_label<K: Sink>(out: &mut TextWriter<'_, K>, count: u64, place: u64, frame
     out.piece(b"<text class=\"p\"");
     put_place(out, frame.left as u64, frame.bottom as u64);
     out.piece(b" dx=\"-.3em\" dy=\"-.2em\"");
-    put_part_name(out, count, place);
+    put_part_name(out, count, place, frame);
     out.piece(b"</text>\n");
 }
 
 // Puts what a part is called.
-fn put_part_name<K: Sink>(out: &mut TextWriter<'_, K>, count: u64, place: u64)
+fn put_part_name<K: Sink>(out: &mut TextWriter<'_, K>, count: u64, place: u64, frame: Frame)
     requires { place < count }
-    ensures { Puts K.Sink out.old out.new (part_name count place) }
+    ensures { Puts K.Sink out.old out.new (part_name count place frame) }
 {
     if place == 0 {
-        out.piece(b">first");
+        out.piece(first_name(frame));
     } else if place + 1 == count {
-        out.piece(b">last");
+        out.piece(last_name(frame));
     } else {
         out.number(b'>', place);
+    }
+}
+
+// What the first part is called.
+fn first_name(frame: Frame) -> &'static [u8]
+    ensures { result.now ≡ first_name frame }
+{
+    if 1 <= frame_columns(frame) {
+        b">first: open"
+    } else {
+        b">first"
+    }
+}
+
+// What the last part is called.
+fn last_name(frame: Frame) -> &'static [u8]
+    ensures { result.now ≡ last_name frame }
+{
+    if 1 <= frame_rows(frame) {
+        b">last: too many"
+    } else {
+        b">last"
     }
 }
 

@@ -8,6 +8,7 @@ mod layout;
 mod names;
 mod outline;
 mod picture;
+mod sizes;
 
 pub use layout::{Frame, Layout, Row};
 pub use picture::put_picture;

@@ -4,7 +4,8 @@
 ghost use Rattle.std.specs.Prelude.{◌≡◌, ◌++◌, codes, slice_get};
 ghost use Rattle.text_writer.specs.Texts.{Puts};
 ghost use Rattle.matrix_picture.specs.Names.{equation_name, equation_behind, name_of_column, name_of_row, origin_name};
-ghost use Rattle.matrix_picture.specs.Texts.{column_name_text, column_names_text, row_name_text, row_names_text};
+ghost use Rattle.matrix_picture.specs.Texts.{column_cell_text, column_cells_text, column_name_text, column_names_text};
+ghost use Rattle.matrix_picture.specs.Texts.{row_name_text, row_names_text};
 ghost use Rattle.mixed_model.specs.Names.{name_at};
 
 use crate::frames::put_place;
@@ -38,12 +39,60 @@ fn put_column_name<F: Field, K: Sink>(
 )
     ensures { Puts K.Sink out.old out.new (column_name_text left (name_of_column model.now layered.now column)) }
 {
-    let origin = origin_of(layered, column);
     out.piece(b"<text transform=\"translate");
     out.number(b'(', left);
     out.piece(b" 0)rotate(-90)\" dx=\".4em\" dy=\".95em\">");
-    put_origin_name(out, model, origin);
+    put_name_of_column(out, model, layered, column);
     out.piece(b"</text>\n");
+}
+
+/// Puts a cell for each column above its place, `letter` units high, with its name.
+pub fn put_column_cells<F: Field, K: Sink>(
+    out: &mut TextWriter<'_, K>,
+    model: &Mixed<F>,
+    layered: &Layered<F>,
+    letter: u64,
+    columns: &[usize],
+)
+    ensures { Puts K.Sink out.old out.new (column_cells_text model.now layered.now letter 0 columns.now) }
+{
+    for (left, column) in columns.iter().enumerate() {
+        put_column_cell(out, model, layered, letter, left as u64, *column);
+    }
+}
+
+// Puts the cell of a column, with its name.
+fn put_column_cell<F: Field, K: Sink>(
+    out: &mut TextWriter<'_, K>,
+    model: &Mixed<F>,
+    layered: &Layered<F>,
+    letter: u64,
+    left: u64,
+    column: usize,
+)
+    ensures { Puts K.Sink out.old out.new
+        (column_cell_text letter left (name_of_column model.now layered.now column)) }
+{
+    out.piece(b"<path class=\"n\" d=\"");
+    out.number(b'M', left);
+    out.piece(b" 0v");
+    out.number(b'-', letter);
+    out.piece(b"h1V0z\"><title>");
+    put_name_of_column(out, model, layered, column);
+    out.piece(b"</title></path>\n");
+}
+
+// Puts the name of a column.
+fn put_name_of_column<F: Field, K: Sink>(
+    out: &mut TextWriter<'_, K>,
+    model: &Mixed<F>,
+    layered: &Layered<F>,
+    column: usize,
+)
+    ensures { Puts K.Sink out.old out.new (name_of_column model.now layered.now column) }
+{
+    let origin = origin_of(layered, column);
+    put_origin_name(out, model, origin);
 }
 
 /// Puts the names of the equations of rows, each right of all columns, of which there are `right`.
@@ -72,12 +121,24 @@ fn put_row_name<F: Field, K: Sink>(
 )
     ensures { Puts K.Sink out.old out.new (row_name_text right top (name_of_row model.now layered.now row)) }
 {
-    let equation = equation_of(layered, row);
     out.piece(b"<text");
     put_place(out, right, top);
     out.piece(b" dx=\".4em\" dy=\"1em\">");
-    put_equation_name(out, model, equation);
+    put_name_of_row(out, model, layered, row);
     out.piece(b"</text>\n");
+}
+
+/// Puts the name of the equation from which a row comes.
+pub fn put_name_of_row<F: Field, K: Sink>(
+    out: &mut TextWriter<'_, K>,
+    model: &Mixed<F>,
+    layered: &Layered<F>,
+    row: Row,
+)
+    ensures { Puts K.Sink out.old out.new (name_of_row model.now layered.now row) }
+{
+    let equation = equation_of(layered, row);
+    put_equation_name(out, model, equation);
 }
 
 // The origin of a column.

@@ -14,8 +14,8 @@ use residue_field::Field;
 use text_writer::TextWriter;
 
 /// Puts the whole text of the SVG picture of a form of a model with this layered matrix, placed by a layout: the frames
-/// of its parts, and where there are at most 64 columns and 64 rows the entries that are not 0 and all names. It takes
-/// no memory. (Murota, chapter 4.)
+/// of its parts, the entries that are not 0, all names, and the sizes. Names stand beside columns and rows where there
+/// are at most 64 of each, and else a viewer tells them. It takes no memory. (Murota, chapter 4.)
 pub fn put_picture<F: Field, K: Sink>(
     out: &mut TextWriter<'_, K>,
     model: &Mixed<F>,
@@ -28,7 +28,7 @@ pub fn put_picture<F: Field, K: Sink>(
     if layout.columns().len() <= 64 && layout.rows().len() <= 64 {
         put_detailed(out, model, layered, ccf, layout);
     } else {
-        put_outline(out, layout);
+        put_outline(out, model, layered, ccf, layout);
     }
 }
 
@@ -41,13 +41,17 @@ pub(crate) fn put_opening<K: Sink>(out: &mut TextWriter<'_, K>)
     );
 }
 
-/// Puts the styles of frames, with this width of their lines, and of the names of parts.
+/// Puts the styles, with this width of the lines of frames.
 pub(crate) fn put_style<K: Sink>(out: &mut TextWriter<'_, K>, line: &[u8])
     ensures { Puts K.Sink out.old out.new (style line.now) }
 {
     out.piece(b"<style>path{fill:#eef2f6;stroke:#667;");
     out.piece(line);
-    out.piece(b"}.p{text-anchor:end;fill:#667;font-size:.8em}</style>\n");
+    out.piece(
+        b"}.o{fill:#fbeeb8}.m{fill:#f9d3d3}.c,.s{vector-effect:none;stroke-width:.6;stroke-linecap:square}",
+    );
+    out.piece(b".c{stroke:#1f4e79}.s{stroke:#d2601a;stroke-width:.68;stroke-linecap:round}");
+    out.piece(b".n{stroke:none}.p{text-anchor:end;fill:#667;font-size:.8em}</style>\n");
 }
 
 /// Puts how each picture ends.

@@ -1,4 +1,5 @@
-//! Pictures that were written by hand from the definition, those of docs/pictures/, and runs that draw nothing.
+//! Pictures that were written by hand from the definition, those of docs/pictures/ and of some sizes, and runs that draw
+//! nothing.
 
 use crate::inputs::{CONSTANT, EMPTY, LARGE, MIXED, NO_END, WRONG_RANK};
 use crate::pictures::PICTURES;
@@ -8,21 +9,22 @@ use std::test::Fail;
 
 /// The picture of nothing: the two tails, which have neither columns nor rows, and the legend.
 const EMPTY_PICTURE: &str =
-    "<svg xmlns=\"http://www.w3.org/2000/svg\" font-family=\"sans-serif\" style=\"background:#fff\" font-size=\"1\" width=\"360\" height=\"360\" viewBox=\"-4 -14 18 18\">\n<style>path{fill:#eef2f6;stroke:#667;stroke-width:.06}.p{text-anchor:end;fill:#667;font-size:.8em}</style>\n<defs><rect id=\"c\" x=\".2\" y=\".2\" width=\".6\" height=\".6\" fill=\"#1f4e79\"/><circle id=\"s\" cx=\".5\" cy=\".5\" r=\".34\" fill=\"#d2601a\"/></defs>\n<path d=\"M0 0H0V0H0z\"/>\n<path d=\"M0 0H0V0H0z\"/>\n<g font-size=\".75\">\n<use href=\"#c\" x=\"0\" y=\"1\"/>\n<text x=\"1\" y=\"1\" dx=\".4em\" dy=\"1em\">a constant, in a row of P</text>\n<use href=\"#s\" x=\"0\" y=\"2\"/>\n<text x=\"1\" y=\"2\" dx=\".4em\" dy=\"1em\">a symbol, in a row of T</text>\n</g>\n</svg>\n";
+    "<svg xmlns=\"http://www.w3.org/2000/svg\" font-family=\"sans-serif\" style=\"background:#fff\" font-size=\"1\" width=\"400\" height=\"360\" viewBox=\"-6 -14 20 18\">\n<style>path{fill:#eef2f6;stroke:#667;stroke-width:.06}.o{fill:#fbeeb8}.m{fill:#f9d3d3}.c,.s{vector-effect:none;stroke-width:.6;stroke-linecap:square}.c{stroke:#1f4e79}.s{stroke:#d2601a;stroke-width:.68;stroke-linecap:round}.n{stroke:none}.p{text-anchor:end;fill:#667;font-size:.8em}</style>\n<path class=\"o\" d=\"M0 0H0V0H0z\"><title>first, rows 0, columns 0</title></path>\n<path class=\"m\" d=\"M0 0H0V0H0z\"><title>last, rows 0, columns 0</title></path>\n<g font-size=\".75\">\n<path class=\"c\" d=\"M0.5 1.5h0\"/>\n<text x=\"1\" y=\"1\" dx=\".4em\" dy=\"1em\">a constant, in a row of P</text>\n<path class=\"s\" d=\"M0.5 2.5h0\"/>\n<text x=\"1\" y=\"2\" dx=\".4em\" dy=\"1em\">a symbol, in a row of T</text>\n<text x=\"0\" y=\"3\" dx=\"-4em\" dy=\"1em\">first 0x0, blocks 0, last 0x0, entries 0</text>\n</g>\n</svg>\n";
 
-/// What the picture of one constant has: the frame of block 1 with its number, the entry, and the two names.
+/// What the picture of one constant has: the frame of block 1 with its number and its size, the entry, the two names,
+/// and the sizes.
 const CONSTANT_PIECES: [&str; 4] = [
-    "\n<path d=\"M0 0H1V1H0z\"/>\n<text class=\"p\" x=\"0\" y=\"1\" dx=\"-.3em\" dy=\"-.2em\">1</text>\n<path d=\"M1 1H1V1H1z\"/>\n",
-    "\n<use href=\"#c\" x=\"0\" y=\"0\"/>\n",
-    "\n<text transform=\"translate(0 0)rotate(-90)\" dx=\".4em\" dy=\".95em\">x</text>\n",
-    "\n<text x=\"1\" y=\"0\" dx=\".4em\" dy=\"1em\">a</text>\n",
+    "\n<path d=\"M0 0H1V1H0z\"><title>1, rows 1, columns 1</title></path>\n<text class=\"p\" x=\"0\" y=\"1\" dx=\"-.3em\" dy=\"-.2em\">1</text>\n<path class=\"m\" d=\"M1 1H1V1H1z\"><title>last, rows 0, columns 0</title></path>\n",
+    "\n<path class=\"c\" d=\"M0.5 0.5h0\"><title>a</title></path>\n",
+    "\n<text transform=\"translate(0 0)rotate(-90)\" dx=\".4em\" dy=\".95em\">x</text>\n<text x=\"1\" y=\"0\" dx=\".4em\" dy=\"1em\">a</text>\n",
+    "\n<text x=\"0\" y=\"4\" dx=\"-4em\" dy=\"1em\">first 0x0, blocks 1, last 0x0, entries 1</text>\n",
 ];
 
 /// What the picture of two equations has, of which one is split: block 2, which stands right of and below block 1, its
 /// two kinds of entries, and the names of its auxiliary column and of its row of symbols.
 const MIXED_PIECES: [&str; 4] = [
-    "\n<path d=\"M1 1H3V3H1z\"/>\n<text class=\"p\" x=\"1\" y=\"3\" dx=\"-.3em\" dy=\"-.2em\">2</text>\n",
-    "\n<use href=\"#c\" x=\"0\" y=\"0\"/>\n<use href=\"#c\" x=\"2\" y=\"0\"/>\n<use href=\"#c\" x=\"1\" y=\"1\"/>\n<use href=\"#c\" x=\"2\" y=\"1\"/>\n<use href=\"#s\" x=\"1\" y=\"2\"/>\n<use href=\"#s\" x=\"2\" y=\"2\"/>\n",
+    "\n<path d=\"M1 1H3V3H1z\"><title>2, rows 2, columns 2</title></path>\n<text class=\"p\" x=\"1\" y=\"3\" dx=\"-.3em\" dy=\"-.2em\">2</text>\n",
+    "\n<path class=\"c\" d=\"M0.5 0.5h0M2.5 0.5h0\"><title>a</title></path>\n<path class=\"c\" d=\"M1.5 1.5h0M2.5 1.5h0\"><title>b</title></path>\n<path class=\"s\" d=\"M1.5 2.5h0M2.5 2.5h0\"><title>b</title></path>\n",
     "\n<text transform=\"translate(2 0)rotate(-90)\" dx=\".4em\" dy=\".95em\">*b</text>\n",
     "\n<text x=\"3\" y=\"2\" dx=\".4em\" dy=\"1em\">b</text>\n",
 ];
@@ -50,7 +52,7 @@ fn pieces_stand_in_their_pictures(rt: HostRuntime) -> Result<(), Fail> {
 }
 
 #[test]
-fn pictures_of_the_page(rt: HostRuntime) -> Result<(), Fail> {
+fn pictures_of_the_page_and_of_some_sizes(rt: HostRuntime) -> Result<(), Fail> {
     for (certificate, picture) in PICTURES {
         expect_picture(&rt, rt.alloc(), certificate, picture)?;
     }
