@@ -1,6 +1,8 @@
 pub mod ArcLaws
 pub mod Choosing
 pub mod Circuits
+pub mod FirstSets
+pub mod EquationPlaces
 pub mod Growing
 pub mod Joins
 pub mod OverLaws

@@ -369,7 +369,7 @@ module _ (p : ℕ) (prime : IsPrime p) (big : 2 < p) (model : MixedModel) (l : L
             differ (empty k kl) (((G.listed k kl).circuit e el).1 (subst (λ x. IsInCircuit p N G.kept x e) (sym is) inside))
 
     pub gone-conflicts : AreConflictLists p N sets
-    gone-conflicts = record { some = some; none = none }
+    gone-conflicts = record { below = λ k x kl h. (G.listed k kl).below x h; some = some; none = none }
 
 -- the equations of rows are those of the model
 pub origins-below : (model : MixedModel) (l : Layers) → AreLayersOf model l → AreLayers l → All (λ e. e < length model.equations) l.q_origins

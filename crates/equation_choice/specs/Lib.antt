@@ -1,5 +1,6 @@
 pub mod Lists
 pub mod Pairs
+pub mod Places
 pub mod Choosers
 pub mod Choices
 pub mod Prices

@@ -10,6 +10,7 @@ ghost use Rattle.equation_choice.specs.Choices.{HasKeptAlong, IsAlong};
 
 use crate::chooser::Chooser;
 use crate::list::no_marks;
+use crate::places::EquationPlaces;
 use mixed_layering::layer;
 use mixed_model::{Layered, Mixed};
 use out_of_memory::NoMemory;
@@ -48,9 +49,10 @@ fn kept_over<F: Field, T: Tableau<F>>(
     ensures kept { IfOk result (λ marks. HasKeptAlong F.modulus layered.now n order.now marks.items) }
 {
     let mut chooser = Chooser::<F, T>::open(alloc, layered)?;
+    let places = EquationPlaces::open(alloc, layered, n)?;
     let mut kept = no_marks(alloc, n)?;
     for equation in order {
-        if chooser.join(layered, *equation) {
+        if chooser.join(layered, *equation, places.of(layered, *equation)) {
             kept[*equation] = true;
         }
     }

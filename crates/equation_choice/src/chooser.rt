@@ -69,10 +69,12 @@ impl<F: Field, T: Tableau<F>> Chooser<F, T> {
         })
     }
 
-    /// Lets an equation join where it may, and tells whether it did: by one search, and without a pivot where it may not.
-    pub fn join(&mut self, layered: &Layered<F>, equation: usize) -> bool
+    /// Lets an equation with these rows join where it may, and tells whether it did: by one search, and without a pivot
+    /// where it may not.
+    pub fn join(&mut self, layered: &Layered<F>, equation: usize, rows: EquationRows) -> bool
         requires ready { IsReadyChooser F.modulus layered.now (T.state self.old.pair.tableau) self.old.pair.mates
             self.old.search self.old.starts.items self.old.free.items }
+        requires rows { AreRowsIn layered.now equation rows.q rows.t rows.auxiliary }
         ensures ready { IsReadyChooser F.modulus layered.now (T.state self.new.pair.tableau) self.new.pair.mates
             self.new.search self.new.starts.items self.new.free.items }
         ensures joined { IsTrue result → HasJoined F.modulus layered.now (T.state self.old.pair.tableau)
@@ -80,7 +82,6 @@ impl<F: Field, T: Tableau<F>> Chooser<F, T> {
         ensures refused { IsFalse result → HasBeenRefused F.modulus layered.now (T.state self.old.pair.tableau)
             (T.state self.new.pair.tableau) self.old.pair.mates self.new.pair.mates equation }
     {
-        let rows = EquationRows::of(layered, equation);
         if self.attempt(layered, equation, rows) {
             return true;
         }
@@ -94,11 +95,13 @@ impl<F: Field, T: Tableau<F>> Chooser<F, T> {
         &mut self,
         layered: &Layered<F>,
         equation: usize,
+        rows: EquationRows,
         symbols: &[bool],
         told: &mut [bool],
     ) -> bool
         requires ready { IsReadyChooser F.modulus layered.now (T.state self.old.pair.tableau) self.old.pair.mates
             self.old.search self.old.starts.items self.old.free.items }
+        requires rows { AreRowsIn layered.now equation rows.q rows.t rows.auxiliary }
         requires equation { equation < length told.old }
         requires q_origins { All (λ equation. equation < length told.old) layered.now.q_origins }
         requires t_origins { All (λ equation. equation < length told.old) layered.now.t_origins }
@@ -113,7 +116,6 @@ impl<F: Field, T: Tableau<F>> Chooser<F, T> {
         ensures told { IsFalse result → TellsCircuit F.modulus layered.now (T.state self.old.pair.tableau)
             self.old.pair.mates symbols.now told.new equation }
     {
-        let rows = EquationRows::of(layered, equation);
         if self.attempt(layered, equation, rows) {
             return true;
         }

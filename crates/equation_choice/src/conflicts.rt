@@ -7,13 +7,15 @@ ghost use Rattle.exchange_graph.specs.Marks.{members_of};
 ghost use Rattle.mixed_matrices.specs.Layerings.{has_symbol};
 ghost use Rattle.mixed_matrices.specs.Removals.{IsSurplus};
 ghost use Rattle.mixed_model.specs.Models.{mixed_matrix_of};
-ghost use Rattle.equation_choice.specs.ConflictLists.{AreConflictLists, HasNoneWith, IsConflictList, IsFirstWith};
+ghost use Rattle.equation_choice.specs.ConflictLists.{AreConflictLists, AreListsBelow, HasNoneWith, IsConflictList, IsFirstWith};
 ghost use Rattle.equation_choice.specs.ConflictLists.{TellsConflicts, set_at};
-ghost use Rattle.equation_choice.specs.Choosers.{HasBeenRefused, HasJoined, IsReadyChooser};
+ghost use Rattle.equation_choice.specs.Choosers.{AreRowsIn, HasBeenRefused, HasJoined, IsReadyChooser};
 ghost use Rattle.equation_choice.specs.Told.{TellsCircuit};
 
 use crate::chooser::Chooser;
-use crate::list::{holds, marked_numbers, no_marks};
+use crate::first_sets::first_sets;
+use crate::list::{marked_numbers, no_marks};
+use crate::places::{EquationPlaces, EquationRows};
 use mixed_layering::layer;
 use mixed_model::{Layered, Mixed};
 use out_of_memory::NoMemory;
@@ -27,29 +29,41 @@ use std::marker::Model;
 #[derive(Drop)]
 pub struct Conflicts {
     sets: Vec<Vec<usize>>,
+    // for each equation the first set that holds it
+    first: Vec<Option<usize>>,
 }
 
 impl Model for Conflicts {
     ghost use Rattle.std.specs.Prelude.{List, ℕ, map};
+    ghost use Rattle.equation_choice.specs.ConflictLists.{TellsFirst};
 
     ghost Value = { List (List ℕ) };
 
     ghost view = { λ c. map (λ set. set.items) c.sets.items };
+
+    ghost invariant = { λ c. TellsFirst (map (λ set. set.items) c.sets.items) c.first.items };
 }
 
 impl Conflicts {
+    // Sets of equations below n.
+    fn of(alloc: Global, sets: Vec<Vec<usize>>, n: usize) -> Result<Conflicts, NoMemory>
+        requires { AreListsBelow n (map (λ set. set.items) sets.items) }
+        ensures { IfOk result (λ conflicts. conflicts ≡ map (λ set. set.items) sets.items) }
+    {
+        let first = first_sets(alloc, sets.as_slice(), n)?;
+        Ok(Conflicts { sets, first })
+    }
+
     /// The first of the sets that holds the equation, rising.
     pub fn set_of(&self, equation: usize) -> Option<&[usize]>
         ensures none { IfNone result (HasNoneWith self.now equation) }
         ensures some { IfSome result (λ set. (k : ℕ) × IsFirstWith self.now equation k
             × (set.now ≡ set_at self.now k)) }
     {
-        for set in &self.sets {
-            if holds(set, equation) {
-                return Some(set.as_slice());
-            }
+        match self.first.get(equation) {
+            Some(Some(k)) => Some(self.sets[*k].as_slice()),
+            _ => None,
         }
-        None
     }
 }
 
@@ -63,8 +77,9 @@ pub fn conflict_sets<F: Field>(alloc: Global, model: &Mixed<F>) -> Result<Confli
     // each row has its origin
     layered.are_layers();
     let symbols = symbols_of(alloc, model)?;
-    let sets = conflicts_over::<F, SparseTableau<F>>(alloc, &layered, model.equations(), &symbols)?;
-    Ok(Conflicts { sets })
+    let equations = model.equations();
+    let sets = conflicts_over::<F, SparseTableau<F>>(alloc, &layered, equations, &symbols)?;
+    Conflicts::of(alloc, sets, equations)
 }
 
 /// The conflict set of an equation, rising, or `None` exactly where the equation is not surplus.
@@ -124,10 +139,12 @@ fn conflicts_over<F: Field, T: Tableau<F>>(
         (map (λ set. set.items) sets.items)) }
 {
     let mut chooser = Chooser::<F, T>::open(alloc, layered)?;
+    let places = EquationPlaces::open(alloc, layered, n)?;
     let mut told = no_marks(alloc, n)?;
     let mut sets = Vec::new(alloc);
     for equation in 0..n {
-        if !join_marking(&mut chooser, layered, equation, symbols, &mut told) {
+        let rows = places.of(layered, equation);
+        if !join_marking(&mut chooser, layered, equation, rows, symbols, &mut told) {
             sets.push(marked_numbers(alloc, &told, n)?)?;
         }
     }
@@ -139,11 +156,13 @@ fn join_marking<F: Field, T: Tableau<F>>(
     chooser: &mut Chooser<F, T>,
     layered: &Layered<F>,
     equation: usize,
+    rows: EquationRows,
     symbols: &[bool],
     told: &mut Vec<bool>,
 ) -> bool
     requires ready { IsReadyChooser F.modulus layered.now (T.state chooser.old.pair.tableau) chooser.old.pair.mates
         chooser.old.search chooser.old.starts.items chooser.old.free.items }
+    requires rows { AreRowsIn layered.now equation rows.q rows.t rows.auxiliary }
     requires equation { equation < length told.old.items }
     requires q_origins { All (λ equation. equation < length told.old.items) layered.now.q_origins }
     requires t_origins { All (λ equation. equation < length told.old.items) layered.now.t_origins }
@@ -158,5 +177,5 @@ fn join_marking<F: Field, T: Tableau<F>>(
     ensures told { IsFalse result → TellsCircuit F.modulus layered.now (T.state chooser.old.pair.tableau)
         chooser.old.pair.mates symbols.now told.new.items equation }
 {
-    chooser.join_telling(layered, equation, symbols, told)
+    chooser.join_telling(layered, equation, rows, symbols, told)
 }

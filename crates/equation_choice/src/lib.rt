@@ -6,6 +6,7 @@ mod along;
 mod back;
 mod chooser;
 mod conflicts;
+mod first_sets;
 mod list;
 mod pair;
 mod places;

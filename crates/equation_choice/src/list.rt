@@ -47,18 +47,6 @@ pub fn no_marks(alloc: Global, n: usize) -> Result<Vec<bool>, NoMemory>
     Ok(vec![in alloc; false; n]?)
 }
 
-/// Whether the list holds the number.
-pub fn holds(list: &[usize], number: usize) -> bool
-    ensures { result ≡ has list.now number }
-{
-    for item in list {
-        if *item == number {
-            return true;
-        }
-    }
-    false
-}
-
 /// Marks one number, and no other.
 pub fn mark_only(marks: &mut [bool], number: usize)
     requires { number < length marks.old }

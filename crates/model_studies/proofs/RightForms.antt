@@ -7,6 +7,7 @@ use Rattle.mixed_layering.specs.Layers.{AreLayersOf}
 use Rattle.cert_text.specs.Contents.{Contents}
 use Rattle.cert_text.specs.Right.{HasCanonicalListing, HasForm, HasIdeals, HasPairAndRank, HasShape, HasTransform}
 use Rattle.ccf_builder.specs.Promises.{OfEachModel}
+use Rattle.ccf_builder.proofs.EachModel.{right-of-model}
 use Rattle.block_solver.specs.Solving.{IsRightFormFor, IsSolvingOf}
 use Rattle.block_solver.specs.declared.answer.Answer.{Answer}
 use Rattle.block_solver.specs.declared.answer.Answer.TheVariants.{Open}
@@ -18,14 +19,7 @@ pub right-form-for : (p : ℕ) (model : MixedModel) (layers : Layers) (ccf : Con
     HasIdeals p (layered_matrix_of layers) ccf → HasCanonicalListing p (layered_matrix_of layers) ccf → IsRightFormFor p model layers ccf
 right-form-for p model layers ccf is are shape transform pair triangular ideals canonical = record {
   are = are;
-  right = record {
-    shape = shape model is are;
-    transform = transform;
-    pair_and_rank = pair model is are;
-    block_triangular_form = triangular;
-    ideals = ideals;
-    canonical_listing = canonical;
-  };
+  right = right-of-model p model layers ccf is are shape transform pair triangular ideals canonical;
 }
 
 -- the rank of a right form is the one that is too small

@@ -51,7 +51,7 @@ pub enum Studied<F: Field> {
 
 impl<F: Field> Studied<F> {
     /// What the study writes of the input that the source gives, of at most 8,388,608 bytes, or how the run ends without it.
-    pub fn read<S: Source>(
+    pub(crate) fn read<S: Source>(
         alloc: Global,
         study: Study,
         kind: Kind,
@@ -167,7 +167,7 @@ impl<F: Field> Studied<F> {
     }
 
     /// How a run ends once all is written and flushed.
-    pub fn status(&self) -> Status
+    pub(crate) fn status(&self) -> Status
         ensures { result ≡ end_of_studied self.now }
     {
         match self {

@@ -24,7 +24,7 @@ use text_writer::TextWriter;
 impl<F: Field> Studied<F> {
     /// Appends the whole text to the sink, in pieces of some KiB, and takes no memory. It does not flush. Where the sink
     /// fails, a first part of the text was appended.
-    pub fn write<K: Sink>(&self, out: &mut K) -> Result<(), WriteFault>
+    pub(crate) fn write<K: Sink>(&self, out: &mut K) -> Result<(), WriteFault>
         requires { IsStudiedIn self.now }
         ensures { IsWritten K.Sink out.old out.new (studied_text F.number self.now) result }
     {

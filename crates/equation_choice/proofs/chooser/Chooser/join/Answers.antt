@@ -13,6 +13,6 @@ returns-clause-refused g c fails =
     let tried = c.attempt.ensures.refused c.if-attempt.false in
     let last = ap g.T.Tableau.state c.give_up.ensures.tableau ∙ tried.state in
     subst (λ s. HasBeenRefused p l S s M c.give_up.new.self.pair.mates c.args.equation) (sym last)
-    (is-refused p g.met.F.Field.prime l tried.parts S M c.requires.ready.over c.args.equation c.of-rows.result.q c.of-rows.result.t
-    c.of-rows.result.auxiliary c.of-rows.ensures c.attempt.new.self.pair.mates tried.entered g.met.F.Field.odd (reached_of c.attempt.new.self.search)
+    (is-refused p g.met.F.Field.prime l tried.parts S M c.requires.ready.over c.args.equation c.args.rows.q c.args.rows.t
+    c.args.rows.auxiliary c.requires.rows c.attempt.new.self.pair.mates tried.entered g.met.F.Field.odd (reached_of c.attempt.new.self.search)
     tried.vain c.give_up.new.self.pair.mates c.give_up.ensures.given_up)

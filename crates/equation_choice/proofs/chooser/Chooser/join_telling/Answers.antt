@@ -16,8 +16,8 @@ returns-clause-refused g c fails =
     let tried = c.attempt.ensures.refused c.if-attempt.false in
     let last = ap g.T.Tableau.state c.give_up.ensures.tableau ∙ tried.state in
     subst (λ s. HasBeenRefused p l S s M c.give_up.new.self.pair.mates c.args.equation) (sym last)
-    (is-refused p g.met.F.Field.prime l tried.parts S M c.requires.ready.over c.args.equation c.of-rows.result.q c.of-rows.result.t
-    c.of-rows.result.auxiliary c.of-rows.ensures c.attempt.new.self.pair.mates tried.entered g.met.F.Field.odd (reached_of c.attempt.new.self.search)
+    (is-refused p g.met.F.Field.prime l tried.parts S M c.requires.ready.over c.args.equation c.args.rows.q c.args.rows.t
+    c.args.rows.auxiliary c.requires.rows c.attempt.new.self.pair.mates tried.entered g.met.F.Field.odd (reached_of c.attempt.new.self.search)
     tried.vain c.give_up.new.self.pair.mates c.give_up.ensures.given_up)
 
 pub returns-clause-told : goal.returns-clause-told
@@ -28,8 +28,8 @@ returns-clause-told g c fails =
     let M = c.args.self.now.pair.mates in
     let M' = c.attempt.new.self.pair.mates in
     let tried = c.attempt.ensures.refused c.if-attempt.false in
-    let rows = c.of-rows.result in
+    let rows = c.args.rows in
     let told = subst (λ s. (x : ℕ) → (members_of c.tell.new.told x ≡ true)
     ↔ IsToldByTry p l s M' c.args.symbols.now (reached_of c.attempt.new.self.search) rows.q rows.t c.args.equation x) tried.state c.tell.ensures.told in
-    tells-circuit p g.met.F.Field.prime l tried.parts S M c.requires.ready.over c.args.equation rows.q rows.t rows.auxiliary c.of-rows.ensures M'
+    tells-circuit p g.met.F.Field.prime l tried.parts S M c.requires.ready.over c.args.equation rows.q rows.t rows.auxiliary c.requires.rows M'
     tried.entered g.met.F.Field.odd (reached_of c.attempt.new.self.search) tried.vain c.args.symbols.now c.tell.new.told told

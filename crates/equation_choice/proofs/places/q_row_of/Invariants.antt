@@ -1,5 +1,0 @@
-use Rattle.std.proofs.Common.{◌≢◌, ◌<◌, ℕ, slice_index}
-use Rattle.equation_choice.proofs.places.q_row_of.Given as goal
-
-abbrev pub invariant-loop-row : goal.invariant-loop-row
-invariant-loop-row g l = (k : ℕ) → k < l.row → slice_index l.layered.q_origins k ≢ l.equation

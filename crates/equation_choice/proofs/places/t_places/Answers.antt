@@ -1,0 +1,17 @@
+use Rattle.std.proofs.Common.{arith}
+use Rattle.equation_choice.proofs.EquationPlaces.{Gives, below-none, below-put, gives-one, places-told}
+use Rattle.equation_choice.proofs.places.t_places.Goals as goal
+
+pub loop-row-init : goal.loop-row-init
+loop-row-init g c = below-none (Gives c.args.layered.now.t_origins) c.args.n c.in_ok-places.places.items
+    c.in_ok-places.ensures.count c.in_ok-places.ensures.none
+
+pub loop-row-preserved : goal.loop-row-preserved
+loop-row-preserved g c =
+    let list = c.args.layered.now.t_origins in
+    below-put (Gives list) c.args.n c.loop-row.row c.t_origin.result c.loop-row.places.items c.put.new.places.items
+    (λ y told. gives-one list c.loop-row.row c.t_origin.result y c.t_origin.ensures told) c.t_origin.ensures c.put.ensures c.loop-row.invariant
+
+pub returns : goal.returns
+returns g c = places-told c.args.n c.args.layered.now.t_origins c.loop-row.row c.loop-row.places.items
+    (omega (arith, c.loop-row-test.false, c.t_rows-row-end.ensures, c.are_layers.ensures.t_origins)) c.loop-row.invariant
