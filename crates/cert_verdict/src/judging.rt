@@ -10,14 +10,13 @@ ghost use Rattle.cert_verdict.specs.Judging.{IsWhyNotTaken};
 ghost use Rattle.cert_checker.specs.Answers.{IsRightFor};
 ghost use Rattle.input_kinds.specs.Kinds.{GivesModel};
 ghost use Rattle.mixed_model.specs.Models.{mixed_matrix_of};
-ghost use Rattle.cert_verdict.specs.Verdicts.{IsAccepted, IsAcceptedAs, IsWhyNotAccepted};
+ghost use Rattle.cert_verdict.specs.Verdicts.{IsAccepted, IsAcceptedAs, IsWhyNotAccepted, KeepsAllRules};
 
-use cert_checker::{CheckError, check};
-use cert_reader::{AnyCertificate, ReadCert, read};
+use cert_checker::check;
+use cert_reader::{AnyCertificate, read};
 use cert_text::Certificate;
 use input_kinds::read_model;
 use mixed_model::Mixed;
-use refusals::ReadModel;
 use residue_field::{Field, Res, Res31};
 use std::alloc::Global;
 
@@ -57,11 +56,7 @@ fn read_certificate(alloc: Global, text: Vec<u8>) -> Result<AnyCertificate, NotA
         (text.items ≡ certificate_text (certificate_in any))) }
     ensures unread { IfErr result (IsWhyNotAccepted text.items) }
 {
-    match read(alloc, &text) {
-        Ok(certificate) => Ok(certificate),
-        Err(ReadCert::Refused { line }) => Err(NotAccepted::Refused { line }),
-        Err(ReadCert::NoMemory) => Err(NotAccepted::NoMemory),
-    }
+    Ok(read(alloc, &text)?)
 }
 
 // The model that the echo of a certificate gives.
@@ -73,11 +68,7 @@ fn echoed_model<F: Field>(
     ensures gives { IfOk result (GivesModel certificate.now.modulus certificate.now.kind certificate.now.echo) }
     ensures broken { IfErr result (IsWhyNotTaken certificate.now) }
 {
-    match read_model(alloc, certificate.kind, certificate.echo.as_slice()) {
-        Ok(model) => Ok(model),
-        Err(ReadModel::Refused(_)) => Err(NotAccepted::Rejected { rule: 1 }),
-        Err(ReadModel::NoMemory) => Err(NotAccepted::NoMemory),
-    }
+    Ok(read_model(alloc, certificate.kind, certificate.echo.as_slice())?)
 }
 
 // Tries the rules 2 to 12 on a certificate whose echo gives this model.
@@ -92,11 +83,7 @@ fn check_form<F: Field>(
         IsRightFor certificate.now.modulus (mixed_matrix_of model.now) certificate.now.ccf) }
     ensures broken { IfErr result (IsWhyNotTaken certificate.now) }
 {
-    match check(alloc, model, &certificate.ccf) {
-        Ok(()) => Ok(()),
-        Err(CheckError::Reject { rule }) => Err(NotAccepted::Rejected { rule }),
-        Err(CheckError::NoMemory) => Err(NotAccepted::NoMemory),
-    }
+    Ok(check(alloc, model, &certificate.ccf)?)
 }
 
 // What the certificate that has a text is accepted as.
@@ -135,6 +122,19 @@ pub fn accept(alloc: Global, text: Vec<u8>) -> Result<AnyAccepted, NotAccepted>
     }
 }
 
+// Tries all rules on the certificate that has a text.
+fn judge_certificate<F: Field>(
+    alloc: Global,
+    certificate: Certificate<F>,
+) -> Result<(), NotAccepted>
+    requires { IsCertificate certificate }
+    ensures keeps { IfOk result (λ kept. KeepsAllRules certificate) }
+    ensures broken { IfErr result (IsWhyNotTaken certificate) }
+{
+    accept_certificate(alloc, certificate)?;
+    Ok(())
+}
+
 /// Accepts the text of a certificate, of at most 2,147,483,648 bytes, exactly where it is right for the input that it
 /// repeats, over the field that it tells, whoever wrote it. The text is let go before the form is checked. (Murota,
 /// chapters 2 and 4.)
@@ -143,8 +143,8 @@ pub fn judge(alloc: Global, text: Vec<u8>) -> Result<(), NotAccepted>
     ensures accepted { IfOk result (λ accepted. IsAccepted text.items) }
     ensures why { IfErr result (IsWhyNotAccepted text.items) }
 {
-    match accept(alloc, text) {
-        Ok(_) => Ok(()),
-        Err(why) => Err(why),
+    match read_certificate(alloc, text)? {
+        AnyCertificate::Small(certificate) => judge_certificate(alloc, certificate),
+        AnyCertificate::Large(certificate) => judge_certificate(alloc, certificate),
     }
 }

@@ -3,6 +3,7 @@
 
 mod judging;
 pub mod laws;
+mod reasons;
 mod status;
 
 pub use judging::{Accepted, AnyAccepted, NotAccepted, accept, judge};
