@@ -18,3 +18,4 @@ pub mod TakenLists
 pub mod PlacedParts
 pub mod ListedParts
 pub mod CanonicalLists
+pub mod EachModel

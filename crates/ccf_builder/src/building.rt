@@ -30,7 +30,8 @@ use std::alloc::Global;
 
 /// The canonical form of the layered matrix of a model: it is right for each model of which this is the layered matrix, its
 /// parts are at least as fine as those of every form, and `cert_checker::check` accepts it. Q is pivoted as a sparse matrix
-/// where it has few entries, else as a dense one. (Murota, chapters 2 and 4.)
+/// where it has few entries, else as a dense one. The premise is met by the clause of `mixed_layering::layer`, and by that of
+/// `Mixed::is_model` called on the model. (Murota, chapters 2 and 4.)
 pub fn build<F: Field>(alloc: Global, l: &Layered<F>) -> Result<Ccf<F>, NoMemory>
     requires { IsOfModel F.modulus l.now }
     ensures shape { IfOk result (λ c.

@@ -4,6 +4,7 @@ use Rattle.mixed_model.specs.Models.{IsModel, MixedModel, mixed_matrix_of}
 use Rattle.mixed_model.specs.Layers.{Layers, layered_matrix_of}
 use Rattle.mixed_layering.specs.Layers.{AreLayersOf, origins_of}
 use Rattle.ccf_builder.specs.Promises.{OfEachModel}
+use Rattle.ccf_builder.proofs.EachModel.{right-of-model}
 use Rattle.cert_text.specs.Certificates.{IsCertificate}
 use Rattle.cert_text.specs.Contents.{Certificate, Contents}
 use Rattle.cert_text.specs.Ranges.{IsCcf}
@@ -42,32 +43,10 @@ right_for p version kind text model layers echo ccf gives are same short form sh
   layered = layered_matrix_of layers;
   origins = origins_of layers are.split;
   layers = are.layered;
-  right = record {
-    shape = shape model (is-model p kind text model gives) are;
-    transform = transform;
-    pair_and_rank = pair model (is-model p kind text model gives) are;
-    block_triangular_form = triangular;
-    ideals = ideals;
-    canonical_listing = canonical;
-  };
+  right = right-of-model p model layers ccf (is-model p kind text model gives) are shape transform pair triangular ideals canonical;
 }
 
--- such a form is right for the model
-pub right-ccf : (p : ℕ) (model : MixedModel) (layers : Layers) (ccf : Contents) → IsModel p model → (are : AreLayersOf model layers) →
-    OfEachModel p layers (λ M O. HasShape M (layered_matrix_of layers) ccf) → HasTransform p (layered_matrix_of layers) ccf →
-    OfEachModel p layers (λ M O. HasPairAndRank p M (layered_matrix_of layers) O ccf) → HasForm p (layered_matrix_of layers) ccf →
-    HasIdeals p (layered_matrix_of layers) ccf → HasCanonicalListing p (layered_matrix_of layers) ccf →
-    IsRightCcf p (mixed_matrix_of model) (layered_matrix_of layers) (origins_of layers are.split) ccf
-right-ccf p model layers ccf is are shape transform pair triangular ideals canonical = record {
-  shape = shape model is are;
-  transform = transform;
-  pair_and_rank = pair model is are;
-  block_triangular_form = triangular;
-  ideals = ideals;
-  canonical_listing = canonical;
-}
-
--- and one that a report and a plan are told by
+-- a report and a plan are told by a right form
 pub right-form : (p : ℕ) (model : MixedModel) (layers : Layers) (ccf : Contents) → IsModel p model → (are : AreLayersOf model layers) →
     IsRightCcf p (mixed_matrix_of model) (layered_matrix_of layers) (origins_of layers are.split) ccf → IsRightFormOf p layers ccf
 right-form p model layers ccf is are right = record { model = model; is = is; are = are; right = right }

@@ -1,11 +1,13 @@
 -- Sets that are marked, one number after the other.
-use Rattle.std.proofs.Common.{◌≡◌, ℕ, ◌+◌, ◌<◌, ◌⊎◌, Bool, true, false, List, length, replicate, slice_set, inl, inr, refl, sym, subst, ◌∙◌, arith}
-use Rattle.std.proofs.lemmas.List.{get_or-set_same, get_or-set_other, length-set, length-replicate}
-use Rattle.residue_theory.proofs.SetLaws.{differ}
+use Rattle.std.proofs.Common.{◌≡◌, ℕ, ◌+◌, ◌-◌, ◌<◌, ◌≤◌, ◌⊎◌, ◌↔◌, ◌||◌, Bool, true, false, List, length, get_or, drop, replicate, slice_index, slice_set, take, inl, inr, refl, sym, subst, ◌∙◌, arith}
+use Rattle.std.proofs.lemmas.List.{ext_get_or, get_or_default, get_or_past, get_or-drop, get_or-replicate, get_or-take, get_or-set_same, get_or-set_other, length-set, length-replicate}
+use Rattle.residue_theory.proofs.SetLaws.{differ, lt_cases, not_true}
 use Rattle.residue_theory.proofs.SumLaws.{nat_cases}
 use Rattle.part_rules.specs.Listed.{marked}
 use Rattle.part_arcs.proofs.Gathered.{none-marked}
-use Rattle.solve_plan.specs.Marks.{AreMarksOf, Marks, OfSome, Unmarks}
+use Rattle.std.specs.List.{All}
+use Rattle.part_arcs.proofs.FormLaws.{has-some, some-has}
+use Rattle.solve_plan.specs.Marks.{AreMarksOf, AreMembersOf, IsItem, Marks, OfSome, Unmarks}
 
 -- nothing is marked yet
 pub mark-none : (P : ℕ → ℕ → Type 0) (old : List Bool) → Marks (OfSome 0 P) old old
@@ -142,3 +144,68 @@ mark-fresh n A none now clear are = record {
     λ new. (are.tells x).1 (inr new),
   );
 }
+
+-- of the first n marks none is set
+abbrev pub AreClear : List Bool → ℕ → Type 0
+AreClear marks n = (i : ℕ) → i < n → marked marks i ≡ false
+
+module _ (marks : List Bool) (n : ℕ) (any : Bool) where
+  -- one mark more
+  pub clear-next : ((any ≡ false) ↔ AreClear marks n) → (((any || get_or marks n false) ≡ false) ↔ AreClear marks (n + 1))
+  clear-next (to, from) = (one any to, λ clear. two any from (λ i low. clear i (omega (arith, low))) (clear n (omega arith)))
+    where
+      one : (b : Bool) → (b ≡ false → AreClear marks n) → (b || get_or marks n false) ≡ false → AreClear marks (n + 1)
+      one true known h i low = absurd (differ h refl)
+      one false known h i low = elim (nat_cases i n) [
+        | inl same ↦ subst (λ k. marked marks k ≡ false) (sym same) h
+        | inr other ↦ known refl i (omega (arith, low, other))
+      ]
+
+      two : (b : Bool) → (AreClear marks n → b ≡ false) → AreClear marks n → marked marks n ≡ false → (b || get_or marks n false) ≡ false
+      two true known clear last = known clear
+      two false known clear last = last
+
+  -- all marks
+  pub clear-all : length marks ≤ n → ((any ≡ false) ↔ AreClear marks n) → ((any ≡ false) ↔ ((i : ℕ) → marked marks i ≡ false))
+  clear-all end (to, from) = (
+    λ h i. elim (lt_cases i n) [
+      | inl low ↦ to h i low
+      | inr high ↦ get_or_past marks i false (omega (arith, high, end))
+    ],
+    λ clear. from (λ i low. clear i),
+  )
+
+-- in a run of marks none is set
+pub clear-run : (marks : List Bool) (from end : ℕ) → ((i : ℕ) → marked (take (end - from) (drop from marks)) i ≡ false) → (i : ℕ) → from ≤ i →
+    i < end → marked marks i ≡ false
+clear-run marks from end clear i low high =
+    let k : ℕ = i - from in
+    let back : from + k ≡ i = omega (arith, low) in
+    subst (λ j. marked marks j ≡ false) back
+    (sym (get_or-take (end - from) (drop from marks) k false (omega (arith, low, high)) ∙ get_or-drop from marks k false) ∙ clear k)
+
+-- marks of which none is set
+pub clear-same : (n : ℕ) (marks : List Bool) → length marks ≡ n → ((x : ℕ) → marked marks x ≡ true → ⊥) → marks ≡ replicate n false
+clear-same n marks count none = ext_get_or false marks (replicate n false) (count ∙ sym (length-replicate n false))
+    (λ i low. not_true (marked marks i) (none i) ∙ sym (get_or-replicate n i false false (omega (arith, low, count))))
+
+-- the members of a set of numbers below n are below n
+pub members-low : (n : ℕ) (A : ℕ → Type 0) (list : List ℕ) → AreMembersOf n A list → All (λ i. i < n) list
+members-low n A list are = λ k d low. ((are.exact (get_or list k d)).0 (some-has list k (get_or list k d) low (get_or_default list k 0 d low))).0
+
+module _ (n : ℕ) (marks : List Bool) (list : List ℕ) (count : length marks ≡ n) (are : AreMembersOf n (λ i. marked marks i ≡ true) list) where
+  -- what is listed is below
+  pub listed-low : All (λ i. i < length marks) list
+  listed-low k d low = omega (arith, members-low n (λ i. marked marks i ≡ true) list are k d low, count)
+
+  -- and taken back, no mark is left
+  pub listed-back : (now : List Bool) → Unmarks (IsItem list) marks now → now ≡ replicate n false
+  listed-back now back = clear-same n now (back.count ∙ count) (λ x set.
+      let kept = (back.tells x).0 set in
+      kept.1 (has-some list x ((are.exact x).1 (marked-low x kept.0, kept.0))))
+    where
+      marked-low : (x : ℕ) → marked marks x ≡ true → x < n
+      marked-low x is = elim (lt_cases x n) [
+        | inl low ↦ low
+        | inr high ↦ absurd (differ (get_or_past marks x false (omega (arith, high, count))) is)
+      ]

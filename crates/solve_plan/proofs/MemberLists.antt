@@ -1,5 +1,5 @@
 -- Rising lists of the members of a set.
-use Rattle.std.proofs.Common.{◌≡◌, ℕ, ◌+◌, ◌<◌, ◌⊎◌, true, false, eqb, List, [], ◌∷◌, ◌++◌, length, get_or, inl, inr, refl, sym, subst, arith}
+use Rattle.std.proofs.Common.{◌≡◌, ℕ, ◌+◌, ◌<◌, ◌≤◌, ◌⊎◌, true, false, eqb, List, [], ◌∷◌, ◌++◌, length, get_or, inl, inr, refl, sym, subst, arith}
 use Rattle.std.specs.List.Sorted.{IsStrictlyIncreasing}
 use Rattle.std.proofs.lemmas.List.{get_or_append_left, get_or_push, length_push}
 use Rattle.residue_theory.proofs.SetLaws.{differ, either_cases, either-first, either-second, eqb_true, eqb_from, lt_cases}
@@ -83,3 +83,17 @@ module _ (n : ℕ) (A : ℕ → Type 0) (list : List ℕ) (are : AreMembersOf n 
       ],
     );
   }
+
+-- none from n on below m is a member
+pub members-run : (n m : ℕ) (A : ℕ → Type 0) (list : List ℕ) → n ≤ m → AreMembersOf n A list → ((i : ℕ) → n ≤ i → i < m → A i → ⊥) →
+    AreMembersOf m A list
+members-run n m A list within are none = record {
+  rising = are.rising;
+  exact = λ i. (
+    λ h. let one = (are.exact i).0 h in (omega (arith, one.0, within), one.1),
+    λ one. elim (lt_cases i n) [
+      | inl low ↦ (are.exact i).1 (low, one.1)
+      | inr high ↦ absurd (none i high one.0 one.1)
+    ],
+  );
+}

@@ -1,6 +1,6 @@
 //! Marks of what stands in lists, and the list of what is marked.
 
-ghost use Rattle.std.specs.Prelude.{◌≡◌, ◌<◌, ◌≤◌, ℕ, IfOk, length, map, slice_index, true};
+ghost use Rattle.std.specs.Prelude.{◌≡◌, ◌<◌, ◌≤◌, ◌↔◌, ℕ, IfOk, OnOk, false, length, map, slice_index, true};
 ghost use Rattle.std.specs.List.{All};
 ghost use Rattle.part_arcs.specs.Marking.{first_numbers, row_of_lists};
 ghost use Rattle.part_rules.specs.Listed.{marked};
@@ -67,16 +67,50 @@ pub fn mark_lists(marks: &mut [bool], lists: &[Items<usize>], which: &[usize])
     }
 }
 
+// So many marks are looked at together.
+const RUN: usize = 64;
+
 /// The numbers below n that are marked, rising.
 pub fn listed(alloc: Global, marks: &[bool], n: usize) -> Result<Vec<usize>, NoMemory>
     requires { n ≤ length marks.now }
     ensures { IfOk result (λ list. AreMembersOf n (λ i. marked marks.now i ≡ true) list.items) }
 {
     let mut list = Vec::new(alloc);
-    for i in 0..n {
+    let mut from = 0;
+    while from < n {
+        let end = from + RUN.min(n - from);
+        put_run(&mut list, marks, from, end)?;
+        from = end;
+    }
+    Ok(list)
+}
+
+// Puts the numbers of a run that are marked last.
+fn put_run(list: &mut Vec<usize>, marks: &[bool], from: usize, end: usize) -> Result<(), NoMemory>
+    requires run { from ≤ end }
+    requires end { end ≤ length marks.now }
+    requires before { AreMembersOf from (λ i. marked marks.now i ≡ true) list.old.items }
+    ensures { OnOk result (AreMembersOf end (λ i. marked marks.now i ≡ true) list.new.items) }
+{
+    if !has_mark(&marks[from..end]) {
+        return Ok(());
+    }
+    for i in from..end {
         if marks[i] {
             list.push(i)?;
         }
     }
-    Ok(list)
+    Ok(())
+}
+
+// Whether some of the marks is set.
+fn has_mark(marks: &[bool]) -> bool
+    ensures { (result ≡ false) ↔ ((i : ℕ) → marked marks.now i ≡ false) }
+{
+    // all are looked at, since a loop that does not end early looks at many at once
+    let mut any = false;
+    for mark in marks {
+        any |= *mark;
+    }
+    any
 }

@@ -57,7 +57,9 @@ fn surplus<F: Field>(
 
 /// The report on a model, told by its layered matrix and a canonical form that is right for it: an unknown is
 /// undetermined where its column is in the first tail; an equation with symbols is surplus where its T row is in the last
-/// tail, and one without symbols where a row of the last tail is made with its Q row. (Murota, chapters 2 and 4.)
+/// tail, and one without symbols where a row of the last tail is made with its Q row. The premise is met by the clauses `shape`
+/// to `canonical_listing` of `ccf_builder::build`, with that of `mixed_layering::layer` and that of `Mixed::is_model`. (Murota,
+/// chapters 2 and 4.)
 pub fn report<F: Field>(
     alloc: Global,
     layered: &Layered<F>,

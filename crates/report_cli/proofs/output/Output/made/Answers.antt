@@ -1,7 +1,7 @@
 use Rattle.std.proofs.Common.{refl, ◌∙◌}
 use Rattle.mixed_layering.specs.Layers.{origins_of}
 use Rattle.mixed_model.specs.Layers.{layered_matrix_of}
-use Rattle.report_cli.proofs.Certified.{right-ccf}
+use Rattle.ccf_builder.proofs.EachModel.{right-of-model}
 use Rattle.report_cli.proofs.output.Output.made.Goals as goal
 
 pub returns : goal.returns
@@ -20,7 +20,7 @@ returns g c =
         layers = are.layered;
         split_is = c.split-split.ensures.count ∙ are.count;
         form = c.is_in_form.ensures;
-        right = right-ccf g.F.Field.modulus c.in_ok-model.model c.in_ok-layered.layered c.in_ok-ccf.ccf made.model are
+        right = right-of-model g.F.Field.modulus c.in_ok-model.model c.in_ok-layered.layered c.in_ok-ccf.ccf made.model are
             promise.shape promise.transform promise.pair_and_rank promise.block_triangular_form promise.ideals promise.canonical_listing;
       },
     )
