@@ -1,6 +1,6 @@
 #!/usr/bin/env bash
 # All checks of the pages and of the style. Each says what it found, and the last line counts those that failed.
-# Usage: tools/check.sh   (MIXED: the program whose outputs the pages show, or crates/mixed/out/mixed, built as bench/program.sh says)
+# Usage: tools/check.sh   (MIXED: the program that the last two run, or crates/mixed/out/mixed, built as bench/program.sh says)
 set -u
 cd "$(dirname "$0")/.." || exit 1
 checks=(
@@ -9,10 +9,13 @@ checks=(
     "shared_names.py"
     "clauses.py --check"
     "example_inputs.py --check"
+    "draw_pictures.py --check"
     "picture_inputs.py --check"
     "refusal_rows.py --check"
     "page_links.py"
+    "reading_list.py --check"
     "page_outputs.py"
+    "certificate_answers.py"
 )
 failed=0
 for check in "${checks[@]}"; do

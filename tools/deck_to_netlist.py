@@ -8,8 +8,9 @@ What becomes what:
   upper case, `gnd`                                lower case, 0
   names that a netlist does not allow              spelled in letters that it does, one to one: `_x` and two digits for each other byte
   `.include`, `.subckt`, `X`, `.global`            the file, and each instance written out, with its devices named `r.x1.r1`
-  D; Q; M; J, Z                                    small-signal devices: R; R, G, C; G, R, C; G, R, C
-  K, T, O, Y; U                                    coils and lines that act on one another: R or L with an H each; R and C
+  D; Q; M; J, Z; N                                 small-signal devices: R; R, G, C; G, R, C; G, R, C; as Q or M by its model
+  K, T, O, Y, P; U                                 coils and lines that act on one another: R or L with an H each; R and C
+  V with `portnum`                                 a source with a resistance, as a port is
   S, W                                             R
   E, G, F, H with POLY, VALUE or TABLE; B          a controlled source for each voltage or current that the expression names
   other directives and devices                     left out, with a note on standard error, which ends with a count
@@ -49,7 +50,7 @@ class Deck:
     """The lines of a deck, each with its number and in words of lower case, its subcircuits, models and global nodes."""
 
     def __init__(self, text, folder):
-        self.folder, self.notes, self.subcircuits, self.models, self.shared = folder, [], {}, set(), {"0"}
+        self.folder, self.notes, self.subcircuits, self.models, self.shared = folder, [], {}, {}, {"0"}
         self.top = self.parted(self.joined(text, is_deck=True))
 
     def note(self, number, why):
@@ -96,7 +97,7 @@ class Deck:
                 self.subcircuits[name] = subcircuit
             else:
                 if words[0] == ".model" and len(words) > 1:
-                    self.models.add(words[1])
+                    self.models[words[1]] = "".join(words[2:3])
                 if words[0] == ".global":
                     self.shared.update(words[1:])
                 (stack[-1][1][1] if stack else top).append((number, line))
@@ -180,13 +181,16 @@ class Scope:
         """Whether the device of this line is written."""
         kind, name = words[0][0], words[0]
         wanted = {"r": 2, "l": 2, "c": 2, "v": 2, "i": 2, "d": 2, "s": 2, "w": 2, "b": 2, "e": 2, "g": 2, "f": 2, "h": 2, "q": 3, "j": 3,
-                  "z": 3, "u": 3, "m": 4, "t": 4, "o": 4, "y": 4, "k": 2}
+                  "z": 3, "u": 3, "m": 4, "t": 4, "o": 4, "y": 4, "k": 2, "n": 4, "p": 4}
         if kind not in wanted or len(words) <= wanted[kind]:
             return False
         nodes = [self.node(it) for it in words[1 : wanted[kind] + 1]] if kind != "k" else []
         write = {"l": self.coil, "c": self.capacitor, "q": self.bipolar, "m": self.transistor, "j": self.junction, "z": self.junction,
-                 "t": self.transmission, "o": self.transmission, "y": self.transmission, "u": self.spread}
-        if kind in "rvi":
+                 "t": self.transmission, "o": self.transmission, "y": self.transmission, "u": self.spread, "n": self.compact,
+                 "p": self.bundle}
+        if kind == "v" and re.search(r"\bportnum\b", line):
+            self.port(name, nodes)
+        elif kind in "rvi":
             self.put(kind, name, *nodes)
         elif kind in "dsw":
             self.put("r", name, *nodes)
@@ -214,6 +218,11 @@ class Scope:
         self.put("v", f"{name}.turns", at, after)
         self.put(kind, name, after, last)
 
+    def port(self, name, nodes):
+        inner = self.between()
+        self.put("v", name, nodes[0], inner)
+        self.put("r", f"{name}.port", inner, nodes[1])
+
     def capacitor(self, name, nodes, words):
         self.put("i" if self.at_rest else "c", name, *nodes)
 
@@ -240,6 +249,13 @@ class Scope:
             self.charge(name, (g, b))
         self.charge(f"{name}.gate", (g, s), (g, d))
 
+    # A compact model that is read when the simulator runs: its model card tells what it is.
+    def compact(self, name, nodes, words):
+        models = self.netlist.deck.models
+        kind = next((models[it] for it in words[4:] if it in models), "")
+        write = self.bipolar if re.search(r"bjt|hic|npn|pnp|vbic", kind) else self.transistor
+        write(name, nodes[: 3 if write == self.bipolar else 4], words)
+
     def junction(self, name, nodes, words):
         d, g, s = nodes
         self.put("g", f"{name}.gain", d, s, g, s)
@@ -255,6 +271,13 @@ class Scope:
             return
         self.series("r", f"{name}.near", (a, b), [("h", self.sensor(f"{name}.far.turns"))])
         self.series("r", f"{name}.far", (c, d), [("h", self.sensor(f"{name}.near.turns"))])
+
+    # Lines side by side: each as one of its own.
+    def bundle(self, name, nodes, words):
+        ends = [self.node(it) for it in words[1:-1] if "=" not in it]
+        near, far = ends[: len(ends) // 2], ends[len(ends) // 2 :]
+        for k, (one, other) in enumerate(zip(near[:-1], far[:-1])):
+            self.transmission(f"{name}.line.{k}", (one, near[-1], other, far[-1]), words)
 
     def spread(self, name, nodes, words):
         a, b, ground = nodes

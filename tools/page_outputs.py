@@ -15,6 +15,7 @@ spaces, and then up to the next empty line.
                                  repository, or `above` for the input of the mark before
   <!-- piece: WORDS < FILE -->   the next block is some lines of it, one after another
   <!-- file: FILE -->            the next block is the whole file
+  <!-- part: FILE -->            the next block is some lines of it, one after another
 
 What a run writes is standard output, or standard error where it writes nothing there.
 """
@@ -26,7 +27,8 @@ import sys
 import tempfile
 
 TOP = pathlib.Path(__file__).resolve().parent.parent
-MARK = re.compile(r"<!-- (run|piece|file): ([^<]*?)(?:\s*< (\S+))? -->$")
+MARK = re.compile(r"<!-- (run|piece|file|part): ([^<]*?)(?:\s*< (\S+))? -->$")
+OF_FILES = ("file", "part")
 
 
 def blocks(lines):
@@ -61,7 +63,7 @@ def shown(page):
         behind = [it[2] for it in found[at + 1 : at + 1 + wanted] if it[0] == "block"]
         if len(behind) != wanted:
             raise SystemExit(f"{name_of_page}:{line}: a block is missing")
-        if kind == "file":
+        if kind in OF_FILES:
             below = (TOP / words).read_text(encoding="utf-8")
         elif wanted == 2:
             below = "".join(it + "\n" for it in behind[0])
@@ -95,7 +97,7 @@ def tried(cases):
 
 def stands(kind, lines, written):
     """Whether a block shows what was written."""
-    if kind != "piece":
+    if kind not in ("piece", "part"):
         return lines == written
     return any(written[at : at + len(lines)] == lines for at in range(len(written)))
 
@@ -108,12 +110,12 @@ def main(arguments):
             print(f"{place}: {kind} {' '.join(words)}: {len(lines)} lines")
         return 0
     program = os.environ.get("MIXED", TOP / "crates/mixed/out/mixed")
-    runs = [it for it in marked if it[1] != "file"]
+    runs = [it for it in marked if it[1] not in OF_FILES]
     if "--try" not in arguments and not os.path.exists(program):
         print(f"no program {program}: build it, set MIXED, or use --try")
         return 2
     answers = tried(runs) if "--try" in arguments else run(program, runs)
-    compared = [(it, it[3].splitlines()) for it in marked if it[1] == "file"] + list(zip(runs, answers))
+    compared = [(it, it[3].splitlines()) for it in marked if it[1] in OF_FILES] + list(zip(runs, answers))
     wrong = [(it, written) for it, written in compared if not stands(it[1], it[4], written)]
     for (place, kind, words, _, _), written in wrong:
         print(f"{place}: {kind} {' '.join(words)}: not what the page shows, but")

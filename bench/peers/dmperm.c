@@ -6,7 +6,7 @@
 
 static cs_di *triplets;
 
-static void put(long row, long column, const char *value) {
+static void put(long row, long column, long value) {
     (void)value;
     cs_di_entry(triplets, row, column, 1);
 }

@@ -8,14 +8,14 @@
 static long entries, room;
 static long (*places)[3];
 
-static void put(long row, long column, const char *value) {
+static void put(long row, long column, long value) {
     if (entries == room) {
         room = room ? 2 * room : 1024;
         places = realloc(places, room * sizeof *places);
     }
     places[entries][0] = row;
     places[entries][1] = column;
-    places[entries++][2] = (atol(value) % 65521 + 65521) % 65521;
+    places[entries++][2] = (value % 65521 + 65521) % 65521;
 }
 
 int main(void) {

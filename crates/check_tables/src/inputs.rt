@@ -1,7 +1,7 @@
 //! The files of examples/, each with its kind. Written by tools/example_inputs.py.
 
 /// The kind and the text of each.
-pub const INPUTS: [(&str, &str); 28] = [
+pub const INPUTS: [(&str, &str); 29] = [
     // ammonia_loop.toml
     (
         "flowsheet",
@@ -38,6 +38,11 @@ pub const INPUTS: [(&str, &str); 28] = [
     (
         "netlist",
         "* Common-emitter stage, as its small-signal model: the transistor is RPI, RO, CMU and the transconductance G1, and the\n* supply is ground.\n* It shows a sound stage with feedback: RE and CMU lead from the output back to the input, so that the voltages and currents of\n* all resistors and capacitors are determined together, in one block.\nV1 in 0 AC 1\nRS in source 600\nCIN source base 10u\nRB base 0 22k\nRPI base emitter 2.5k\nCMU base collector 2p\nG1 collector emitter base emitter 40m\nRO collector emitter 100k\nRC collector 0 4.7k\nRE emitter 0 100\nCOUT collector out 10u\nRL out 0 10k\n",
+    ),
+    // coupling_at_rest.cir
+    (
+        "netlist",
+        "* examples/coupling.sp at rest, as tools/deck_to_netlist.py --at-rest writes it: nothing says what the voltage of g is.\nv1 in 0\ni.c1 in g\ni.c2 g 0\nr1 in 0\n",
     ),
     // current_mirror.cir
     (

@@ -3,12 +3,30 @@
 ghost use Rattle.std.specs.Prelude.{◌≡◌, IfOk, false};
 ghost use Rattle.clap.specs.Words.{app_of, rule_of, shape_of, with_subcommand};
 ghost use Rattle.clap.specs.declared.builder.command.Command.TheViews.{out-Command as fields_of};
-ghost use Rattle.command_line.specs.CommandLine.{bare_line, command_line, field_argument, kind_argument, with_kind, with_kind_alone, with_size, with_studies, without_kind};
+ghost use Rattle.command_line.specs.CommandLine.{bare_line, command_line, field_argument, kind_argument};
+ghost use Rattle.command_line.specs.CommandLine.{with_kind, with_kind_alone, with_size, with_studies, without_kind};
 
 use clap::builder::ValueParser;
 use clap::{Arg, Command};
 use made_models::SIZE_LIMIT;
 use std::alloc::{AllocError, Global};
+
+// What help tells last.
+const AFTER_HELP: &str =
+    "The model is standard input, so a file is named behind <: mixed report netlist < circuit.cir\n\n\
+    Statuses:\n\
+    \x20 0        done\n\
+    \x20 1        done, and the rank is below the number of equations or of unknowns, a problem has no\n\
+    \x20          solution of its own, or a model needs no repair\n\
+    \x20 2        these words ask for nothing\n\
+    \x20 3        the input is refused: the place and the reason are noted\n\
+    \x20 4, 5, 6  the input fails, the output fails, memory runs out\n\
+    \x20 7        the certificate is not right\n\n\
+    Version 1.0.0. docs/README.md in its repository lists the pages.";
+
+// The same for one subcommand.
+const AFTER_HELP_OF_ONE: &str =
+    "The input is standard input, so a file is named behind <. `mixed help` has the statuses.";
 
 /// The command `mixed`, which wants a subcommand. Words that name no subcommand, or a subcommand without its argument or
 /// with more, and calls for help have no matches.
@@ -98,6 +116,7 @@ fn bare_line<'a>(alloc: Global) -> Command<'a>
         .about(
             "Tells which equations of a circuit or a plant determine which unknowns. Reads a model from standard input",
         )
+        .after_help(AFTER_HELP)
         .subcommand_required(true)
         .arg_required_else_help(true)
 }
@@ -177,6 +196,7 @@ fn with_kind<'a>(alloc: Global, name: &'a str, about: &'a str) -> Result<Command
 {
     Command::new(alloc, name)
         .about(about)
+        .after_help(AFTER_HELP_OF_ONE)
         .arg(kind(alloc))?
         .arg(field(alloc))
 }
@@ -190,7 +210,10 @@ fn with_kind_alone<'a>(
     ensures local { IfOk result (λ command. (fields_of command).has_globals ≡ false) }
     ensures shape { IfOk result (λ command. shape_of command ≡ with_kind_alone name.now) }
 {
-    Command::new(alloc, name).about(about).arg(kind(alloc))
+    Command::new(alloc, name)
+        .about(about)
+        .after_help(AFTER_HELP_OF_ONE)
+        .arg(kind(alloc))
 }
 
 // A subcommand that takes the size of a made model, and the field.

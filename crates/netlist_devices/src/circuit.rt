@@ -84,18 +84,13 @@ impl<F: Field> Circuit<F> {
         }
     }
 
-    /// Where it takes memory.
-    pub fn allocator(&self) -> Global {
-        *self.devices.allocator()
-    }
-
     /// Reads the line of this number by its words.
     pub(crate) fn read(&mut self, line: u32, words: Tokens<'_>) -> Result<(), Fault>
         requires { IsCircuit F.modulus self.old }
         ensures circuit { OnOk result (IsCircuit F.modulus self.new) }
         ensures read { ReadsLine F.modulus line self.old self.new (map (λ word. word.1) words.entry) result }
     {
-        let alloc = self.allocator();
+        let alloc = *self.devices.allocator();
         let words = first_words(alloc, words)?;
         match read_words(alloc, &words)? {
             Some(device) => self.add(line, device),

@@ -48,7 +48,7 @@ impl<F: Field> NetlistReader<F> {
     {
         let circuit = self.lines.finish()?;
         circuit.test()?;
-        Ok(build(circuit.allocator(), &circuit)?)
+        Ok(build(*circuit.devices.allocator(), &circuit)?)
     }
 }
 

@@ -15,7 +15,8 @@ use std::alloc::AllocError;
 pub enum Status {
     /// The input was read to its end, and the whole text was written and flushed.
     Done,
-    /// The same, and what was written tells that the rank is below the number of equations, or of unknowns.
+    /// The same, and what was written tells of less: a rank below the number of equations, or of unknowns, a problem
+    /// without one solution, a model that needs no repair.
     NotRegular,
     /// The words ask for no command.
     Usage,

@@ -144,7 +144,9 @@ fn conflict_sets(rt: HostRuntime) -> Result<(), Fail> {
             CIRCUIT_CONFLICT,
             b"V1 a 0\nV2 a 0\n",
             0,
-            b"conflicts 4\nconflict kvl.V1: kvl.V1 law.V1 kvl.V2 law.V2\nconflict law.V1: kvl.V1 law.V1 kvl.V2 law.V2\nconflict kvl.V2: kvl.V1 law.V1 kvl.V2 law.V2\nconflict law.V2: kvl.V1 law.V1 kvl.V2 law.V2\n",
+            b"conflicts 4\nconflict kvl.V1: kvl.V1 law.V1 kvl.V2 law.V2\n\
+                conflict law.V1: kvl.V1 law.V1 kvl.V2 law.V2\nconflict kvl.V2: kvl.V1 law.V1 kvl.V2 law.V2\n\
+                conflict law.V2: kvl.V1 law.V1 kvl.V2 law.V2\n",
         ),
         refused(CONFLICT, b"eq a x\n", b"mixed: line 1: bad shape\n"),
     ];
@@ -224,7 +226,10 @@ fn models_that_need_no_repair(rt: HostRuntime) -> Result<(), Fail> {
             REPAIR,
             b"model\neq a x=? y=?\neq b x=?\n",
             1,
-            b"repair 0\nlevel 1 rank 2\nshape 2 2 0 2 2\nrank 2\nbase\nmatch 1=2 2=1\nT 1: 1 2\nT 2: 1\nfirst |\nblock 1: 2 | t1 |\nblock 2: 1 | t2 | 1\nlast |\nend\nkept 2\nshape 2 2 0 2 2\nrank 2\nbase\nmatch 1=2 2=1\nT 1: 1 2\nT 2: 1\nfirst |\nblock 1: 2 | t1 |\nblock 2: 1 | t2 | 1\nlast |\nend\n",
+            b"repair 0\nlevel 1 rank 2\nshape 2 2 0 2 2\nrank 2\nbase\nmatch 1=2 2=1\nT 1: 1 2\nT 2: 1\n\
+                first |\nblock 1: 2 | t1 |\nblock 2: 1 | t2 | 1\nlast |\nend\nkept 2\nshape 2 2 0 2 2\nrank 2\n\
+                base\nmatch 1=2 2=1\nT 1: 1 2\nT 2: 1\nfirst |\nblock 1: 2 | t1 |\nblock 2: 1 | t2 | 1\nlast |\n\
+                end\n",
         ),
         told(
             REPAIR,
@@ -275,9 +280,11 @@ fn costs_that_are_refused(rt: HostRuntime) -> Result<(), Fail> {
 #[test]
 fn at_most_sixteen_costs_differ(rt: HostRuntime) -> Result<(), Fail> {
     let first =
-        b"cost a 1\ncost b 2\ncost c 3\ncost d 4\ncost e 5\ncost f 6\ncost g 7\ncost h 8\ncost i 9\ncost j 10\ncost k 11\ncost l 12\ncost m 13\ncost n 14\ncost o 15\ncost p 16\n";
+        b"cost a 1\ncost b 2\ncost c 3\ncost d 4\ncost e 5\ncost f 6\ncost g 7\ncost h 8\ncost i 9\n\
+            cost j 10\ncost k 11\ncost l 12\ncost m 13\ncost n 14\ncost o 15\ncost p 16\n";
     let model =
-        b"model\neq a\neq b\neq c\neq d\neq e\neq f\neq g\neq h\neq i\neq j\neq k\neq l\neq m\neq n\neq o\neq p\neq q\n";
+        b"model\neq a\neq b\neq c\neq d\neq e\neq f\neq g\neq h\neq i\neq j\neq k\neq l\neq m\neq n\neq o\n\
+            eq p\neq q\n";
     let mut sixteen = Vec::new(rt.alloc());
     sixteen.extend_from_slice(first)?;
     sixteen.extend_from_slice(model)?;
