@@ -6,7 +6,7 @@
 list() {
     awk -v family="$1" -v size="$2" '
         BEGIN {
-            few = substr(family, 8)
+            few = substr(family, 8) + 0
             if (family ~ /^surplus/) size -= few
             for (u = 1; u <= size; u++) print "unknown x" u
             for (e = 1; e <= size; e++) {
