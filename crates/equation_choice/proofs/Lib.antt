@@ -1,8 +1,9 @@
 pub mod ArcLaws
 pub mod Choosing
 pub mod Circuits
-pub mod FirstSets
+pub mod FreeEntries
 pub mod EquationPlaces
+pub mod FirstSets
 pub mod Growing
 pub mod Joins
 pub mod OverLaws

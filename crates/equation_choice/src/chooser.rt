@@ -212,6 +212,11 @@ impl<F: Field, T: Tableau<F>> Chooser<F, T> {
             self.old.pair.mates row (reached_of self.new.search) }
         ensures stayed { IsFalse result → self.new.pair ≡ self.old.pair }
     {
+        // most rows have an entry at a free column, and a search asks each column whether it is free
+        if let Some(x) = self.pair.free_entry(row) {
+            self.pair.grow_at(layered, row, x);
+            return true;
+        }
         match self.search(layered, row) {
             Some(last) => {
                 self.pair.grow(layered, &self.search, row, last);

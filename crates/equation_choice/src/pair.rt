@@ -201,6 +201,29 @@ impl<F: Field, T: Tableau<F>> Pair<F, T> {
         }
     }
 
+    /// The first column without a row in which the row has an entry.
+    pub fn free_entry(&self, row: usize) -> Option<usize>
+        requires row { row < places (layers_of (T.state self.now.tableau) self.now.mates) }
+        requires width { self.now.mates.pattern.width ≡ (T.state self.now.tableau).columns }
+        ensures below { IfSome result (λ x. x < (T.state self.now.tableau).columns) }
+        ensures entry { IfSome result (λ x. has_row_entry F.modulus
+            (layers_of (T.state self.now.tableau) self.now.mates)
+            (tableau_of_pair (T.state self.now.tableau) self.now.mates) row x ≡ true) }
+        ensures free { IfSome result (λ x. is_free (tableau_of_pair (T.state self.now.tableau) self.now.mates) x
+            ≡ true) }
+    {
+        // there are at most 8,192 columns, so that the sum fits
+        self.tableau.is_tableau();
+        let mut at = 0;
+        while let Some(x) = self.next_in(row, at) {
+            if self.row_of(x).is_none() {
+                return Some(x);
+            }
+            at = x + 1;
+        }
+        None
+    }
+
     /// Takes column x out of the matching.
     pub fn leave(&mut self, x: usize)
         requires { x < self.old.mates.pattern.width }
@@ -233,6 +256,35 @@ impl<F: Field, T: Tableau<F>> Pair<F, T> {
         } else {
             self.mates.link(row - rows, x);
         }
+    }
+
+    /// Moves column x to the row, which has an entry there, where neither has the other: along the walk back of no arcs.
+    pub fn grow_at(&mut self, layered: &Layered<F>, from: usize, x: usize)
+        requires over { IsPairOver F.modulus layered.now (T.state self.old.tableau) self.old.mates }
+        requires x { x < (T.state self.old.tableau).columns }
+        requires from { from < places (layers_of (T.state self.old.tableau) self.old.mates) }
+        requires bare { is_bare_row (layers_of (T.state self.old.tableau) self.old.mates)
+            (tableau_of_pair (T.state self.old.tableau) self.old.mates) from ≡ true }
+        requires entry { has_row_entry F.modulus (layers_of (T.state self.old.tableau) self.old.mates)
+            (tableau_of_pair (T.state self.old.tableau) self.old.mates) from x ≡ true }
+        requires free { is_free (tableau_of_pair (T.state self.old.tableau) self.old.mates) x ≡ true }
+        ensures over { IsPairOver F.modulus layered.now (T.state self.new.tableau) self.new.mates }
+        ensures layers { layers_of (T.state self.new.tableau) self.new.mates
+            ≡ layers_of (T.state self.old.tableau) self.old.mates }
+        ensures walk { IsShortest (leads_back F.modulus
+            (layers (entry layered.now.q) (T.state self.old.tableau) self.old.mates)
+            (tableau_of_pair (T.state self.old.tableau) self.old.mates)) (T.state self.old.tableau).columns
+            (has_row_entry F.modulus (layers (entry layered.now.q) (T.state self.old.tableau) self.old.mates)
+            (tableau_of_pair (T.state self.old.tableau) self.old.mates) from)
+            (is_free (tableau_of_pair (T.state self.old.tableau) self.old.mates)) (λ _. x) 0 }
+        ensures grown { HasGrownBack F.modulus
+            (layers (entry layered.now.q) (T.state self.old.tableau) self.old.mates)
+            (T.state self.old.tableau).s (T.state self.new.tableau).s
+            (tableau_of_pair (T.state self.old.tableau) self.old.mates)
+            (tableau_of_pair (T.state self.new.tableau) self.new.mates) from (λ _. x) 0 }
+    {
+        self.take(from, x);
+        self.tableau.is_tableau();
     }
 
     /// Moves the columns of the walk back that the search found from the row, each to the row that the one before it had,
