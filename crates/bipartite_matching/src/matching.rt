@@ -62,6 +62,14 @@ impl Match {
         })
     }
 
+    /// Tells a proof that it is a matching. It does nothing when it runs.
+    pub fn is_matching(&self)
+        ensures { IsMatching self.now }
+    {
+        // a proof knows what the type keeps once a field is read
+        let _ = &self.pairs;
+    }
+
     /// The pattern of which this is a matching.
     pub fn pattern(&self) -> &RoomyPattern
         ensures pattern { result.now.pattern ≡ self.now.pattern }

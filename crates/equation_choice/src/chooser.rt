@@ -319,8 +319,7 @@ impl<F: Field, T: Tableau<F>> Chooser<F, T> {
         ensures layers { AreLayers layered.now }
     {
         layered.are_layers();
-        // a proof knows what a matching keeps
-        let _ = self.pair.mates.pattern();
+        self.pair.mates.is_matching();
         if let (Some(_), Some(row), Some(x)) = (rows.q, rows.t, rows.auxiliary) {
             self.link(layered, row, x);
         }

@@ -23,8 +23,7 @@ fn split_entry(rt: &impl Abort, alloc: Global) -> Result<Mixed<Res>, Fail> {
 
 // The canonical form of a model.
 fn form_of(alloc: Global, model: &Mixed<Res>) -> Result<Ccf<Res>, Fail> {
-    // tells a proof that it is a model
-    let _equations = model.equations();
+    model.is_model();
     let layered = layer(alloc, model)?;
     Ok(build(alloc, &layered)?)
 }

@@ -151,8 +151,7 @@ impl<F: Field, T: Tableau<F>> Pair<F, T> {
     {
         if let Some(col) = at {
             self.tableau.is_tableau();
-            // the pairs are a matching
-            let _pattern = self.mates.pattern();
+            self.mates.is_matching();
             self.mates.remove_column(col);
             self.tableau.remove_column(col);
         }
@@ -216,8 +215,7 @@ impl<F: Field, T: Tableau<F>> Pair<F, T> {
         ensures room { KeepsRoom (T.room_of self.old.tableau) (T.room_of self.new.tableau) self.old.mates
             self.new.mates }
     {
-        // the pairs are a matching
-        let _pattern = self.mates.pattern();
+        self.mates.is_matching();
         self.mates.insert_column(col);
         self.tableau.insert_column(col);
     }

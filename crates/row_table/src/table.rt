@@ -92,6 +92,15 @@ impl<F: Field> RowTable<F> {
         })
     }
 
+    /// Tells a proof what a table keeps, and that it has at most 8,192 rows and columns. It does nothing when it runs.
+    pub fn is_table(&self)
+        ensures few { sparse_rows self.now.q ≤ column_limit }
+        ensures narrow { self.now.q.width ≤ column_limit }
+        ensures combined { IsCombined F.modulus self.now }
+    {
+        self.q.is_matrix();
+    }
+
     /// How many rows there are.
     pub fn rows(&self) -> usize
         ensures rows { result ≡ sparse_rows self.now.q }

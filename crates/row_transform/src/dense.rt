@@ -144,7 +144,7 @@ impl<F: Field> Tableau<F> for DenseTableau<F> {
         self.table.insert_row(at, items);
         list_row(&mut self.entries, &self.table, row);
         self.base.insert_row(row);
-        let _rows = self.table.rows();
+        self.table.is_table();
     }
 
     fn remove_row(&mut self, at: usize) -> Option<usize> {
@@ -162,7 +162,7 @@ impl<F: Field> Tableau<F> for DenseTableau<F> {
         self.table.insert_column(at);
         self.entries.insert_column(at, columns);
         self.base.insert_column(at);
-        let _rows = self.table.rows();
+        self.table.is_table();
     }
 
     fn remove_column(&mut self, at: usize) {
@@ -170,7 +170,7 @@ impl<F: Field> Tableau<F> for DenseTableau<F> {
         self.table.remove_column(at);
         self.entries.remove_column(at, columns);
         self.base.remove_column(at);
-        let _rows = self.table.rows();
+        self.table.is_table();
     }
 
     fn entry_of(&self, which: Which, row: usize, col: usize) -> F {
@@ -287,7 +287,7 @@ impl<F: Field> DenseTableau<F> {
         self.table.remove_row(at, row);
         self.entries.list_as(row, last, columns);
         self.base.swap_remove_row(row, last);
-        let _rows = self.table.rows();
+        self.table.is_table();
     }
 }
 
@@ -328,7 +328,7 @@ fn list_if_changed<F: Field>(
         bit_in entries.new.bits j u ≡ true }
 {
     // there are at most 8,192 rows, so that the sum below fits
-    let _rows = table.rows();
+    table.is_table();
     let columns = table.columns();
     if !table.entry(i, columns + at).is_zero() {
         entries.list_as(i, row, columns);

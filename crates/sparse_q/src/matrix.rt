@@ -132,6 +132,15 @@ impl<F: Field> SparseMat<F> {
         Ok(m)
     }
 
+    /// Tells a proof that there are at most 8,192 rows and columns. It does nothing when it runs.
+    pub fn is_matrix(&self)
+        ensures few { sparse_rows self.now ≤ column_limit }
+        ensures narrow { self.now.width ≤ column_limit }
+    {
+        // a proof knows what the type keeps once a field is read
+        let _ = &self.rows;
+    }
+
     /// How many rows there are.
     pub fn rows(&self) -> usize
         ensures rows { result ≡ sparse_rows self.now }

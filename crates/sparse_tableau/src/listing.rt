@@ -21,7 +21,7 @@ pub(crate) fn list_row<F: Field>(entries: &mut Entries, m: &SparseMat<F>, row: u
         bit_in entries.new.bits j i ≡ true }
 {
     // there are at most 8,192 columns, so that the sum below fits
-    let _columns = m.cols();
+    m.is_matrix();
     let mut from = 0;
     while let Some(col) = m.next(row, from) {
         entries.bits.set(col, row);
@@ -64,7 +64,7 @@ pub(crate) fn spread<F: Field>(entries: &mut Entries, p: &SparseMat<F>, row: usi
         (bit_in entries.new.bits) row col }
 {
     // there are at most 8,192 columns, so that the sum below fits
-    let _columns = p.cols();
+    p.is_matrix();
     let mut from = 0;
     while let Some(other) = p.next(row, from) {
         if other != col {

@@ -21,7 +21,7 @@ invariant_of-self g c =
     subst (λ (d : Dense). HasNoBase d.table.q.width (is_base d.base) (base_row d.base) c.args.row) (sym c.self.view_is)
     c.requires.bare in (
       row-out-dense p g.met.F.Field.prime d c.remove_row.new.self c.swap_remove_row.new.self c.args.at c.args.row c.self.invariant.0
-          c.rows-rows.ensures.combined kl c.remove_row.ensures.row c.swap_remove_row.ensures bare,
+          c.is_table.ensures.combined kl c.remove_row.ensures.row c.swap_remove_row.ensures bare,
       row-out-listed p d.table c.remove_row.new.self c.self.inside.entries.bits c.list_changed.new.entries.bits c.list_as.new.self.bits
           c.args.at c.args.row (c.rows.result - 1) c.columns-columns.result kl (omega (arith, c.rows.ensures.rows, kl)) c.columns-columns.ensures.columns
           c.remove_row.ensures.row c.self.invariant.1 c.list_changed.ensures.size c.list_changed.ensures.joined

@@ -16,7 +16,7 @@ invariant_of-self g c =
     } in
     let width : d.table.q.width ≡ c.args.self.now.table.q.width = ap (λ (d : Dense). d.table.q.width) c.self.view_is in (
       row-dense p g.met.F.Field.prime d c.insert_row.new.self c.insert_row-2.new.self c.args.at c.rows-row.result
-          (λ j. slice_index (map g.F.Field.number c.args.items.now) j) c.self.invariant.0 c.rows-rows.ensures.combined
+          (λ j. slice_index (map g.F.Field.number c.args.items.now) j) c.self.invariant.0 c.is_table.ensures.combined
           c.rows-row.ensures.rows c.insert_row.ensures.row c.insert_row-2.ensures,
       row-listed p (sparse_rows d.table.q) d.table.q.width _ _ c.rows-row.result (p_part p d.table)
           (p_part p c.insert_row.new.self) c.self.inside.entries.bits c.list_row.new.entries.bits c.rows-row.ensures.rows

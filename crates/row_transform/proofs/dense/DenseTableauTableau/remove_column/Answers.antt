@@ -32,7 +32,7 @@ invariant_of-self g c =
     let width : d.table.q.width ≡ c.args.self.now.table.q.width = ap (λ (d : Dense). d.table.q.width) c.self.view_is in
     let at : c.args.at < d.table.q.width = omega (arith, width, c.requires.at) in (
       cut-dense p g.met.F.Field.prime d c.remove_column.new.self c.remove_column-3.new.self c.args.at at c.self.invariant.0
-          c.rows-rows.ensures.combined c.remove_column.ensures.column c.remove_column-3.ensures,
+          c.is_table.ensures.combined c.remove_column.ensures.column c.remove_column-3.ensures,
       cut-listed p (sparse_rows d.table.q) d.table.q.width _ _ c.args.at c.columns-columns.result (p_part p d.table)
           (p_part p c.remove_column.new.self) c.self.inside.entries.bits c.remove_column-2.new.self.bits at
           c.remove_column.ensures.column.q_is.rows_same c.remove_column.ensures.column.q_is.width_are c.columns-columns.ensures.columns
