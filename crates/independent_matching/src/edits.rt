@@ -151,7 +151,8 @@ impl<F: Field, T: Tableau<F>> Pair<F, T> {
     {
         if let Some(col) = at {
             self.tableau.is_tableau();
-            self.mates.is_matching();
+            // the pairs are a matching
+            let _pattern = self.mates.pattern();
             self.mates.remove_column(col);
             self.tableau.remove_column(col);
         }
@@ -215,7 +216,8 @@ impl<F: Field, T: Tableau<F>> Pair<F, T> {
         ensures room { KeepsRoom (T.room_of self.old.tableau) (T.room_of self.new.tableau) self.old.mates
             self.new.mates }
     {
-        self.mates.is_matching();
+        // the pairs are a matching
+        let _pattern = self.mates.pattern();
         self.mates.insert_column(col);
         self.tableau.insert_column(col);
     }
