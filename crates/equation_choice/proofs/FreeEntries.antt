@@ -1,5 +1,8 @@
 -- A row that has an entry at a free column: the walk back of no arcs is a shortest one.
-use Rattle.std.proofs.Common.{◌≡◌, ℕ, ◌<◌, Bool, true, refl, unwrap_or, arith}
+use Rattle.std.proofs.Common.{◌≡◌, ℕ, ◌+◌, ◌<◌, Bool, true, false, inl, inr, refl, ap, ◌∙◌, unwrap_or, arith}
+use Rattle.residue_theory.proofs.SetLaws.{differ, lt_cases}
+use Rattle.residue_theory.proofs.SumLaws.{nat_cases}
+use Rattle.residue_theory.specs.Ranges.{HasNone, IsLeast}
 use Rattle.search_laws.specs.Searches.{IsShortest}
 use Rattle.mixed_matrices.specs.Arcs.{is_free}
 use Rattle.mixed_matrices.specs.Tableaus.{HasTableau}
@@ -9,8 +12,25 @@ use Rattle.independent_matching.specs.Engines.{layers}
 use Rattle.independent_matching.specs.Sides.{layers_of, tableau_of_pair}
 use Rattle.row_choice_laws.specs.ColumnSearches.{leads_back}
 use Rattle.row_choice_laws.specs.RowSearches.{has_row_entry, is_bare_row, places}
-use Rattle.equation_choice.specs.Pairs.{CanTakePlace, HasGrownBack, HasTakenPlace, place_held}
+use Rattle.equation_choice.specs.Pairs.{CanTakePlace, HasGrownBack, HasNoFree, HasTakenPlace, place_held}
 use Rattle.equation_choice.proofs.Growing.{IsGrowing, growing-can, growing-next, growing-start, grown-back, grown-tableau}
+
+-- ---- of the columns with an entry none before a place is free
+module _ (has free : ℕ → Bool) (n at : ℕ) (before : HasNoFree at has free) where
+  pub none-free-next : (x : ℕ) → IsLeast has at n x → free x ≡ false → HasNoFree (x + 1) has free
+  none-free-next x least taken y yl h f = elim (nat_cases y x) [
+    | inl q ↦ differ (ap free q ∙ taken) f
+    | inr ne ↦ elim (lt_cases y at) [
+      | inl l ↦ before y l h f
+      | inr g ↦ differ (least.none_before y g (omega (arith, yl, ne))) h
+    ]
+  ]
+
+  pub none-free-all : HasNone has at n → HasNoFree n has free
+  none-free-all rest y yl h f = elim (lt_cases y at) [
+    | inl l ↦ before y l h f
+    | inr g ↦ differ (rest y g yl) h
+  ]
 
 walk-of-none : (arc : ℕ → ℕ → Bool) (n : ℕ) (starts ends : ℕ → Bool) (x : ℕ) → x < n → starts x ≡ true → ends x ≡ true →
     IsShortest arc n starts ends (λ _. x) 0

@@ -30,6 +30,10 @@ abbrev pub apart_columns : TableauState → Matching → ℕ
 apart_columns S M =
     cond (eqb S.columns M.pattern.width && not (some_below S.columns (λ x. S.base x && is_matched M x))) S.columns 0
 
+-- no column below n with an entry is free
+abbrev pub HasNoFree : ℕ → (ℕ → Bool) → (ℕ → Bool) → Type 0
+HasNoFree n has free = (x : ℕ) → x < n → has x ≡ true → free x ≡ true → ⊥
+
 -- column x may take the row: a Q row where it has an entry, or a T row that touches it and that no column has
 pub record CanTakePlace (p : ℕ) (L : LayeredMatrix) (F : Tableau) (row x : ℕ) : Type 0 where
   pub of_q : row < L.q_rows → (F.P row x % p ≢ 0) × (F.base x ≡ false)

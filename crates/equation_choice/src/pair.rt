@@ -16,7 +16,7 @@ ghost use Rattle.independent_matching.specs.Engines.{layers};
 ghost use Rattle.independent_matching.specs.Sides.{is_matched, layers_of, mate_of, tableau_of_pair};
 ghost use Rattle.row_choice_laws.specs.ColumnSearches.{leads_back};
 ghost use Rattle.row_choice_laws.specs.RowSearches.{has_row_entry, is_bare_row, places};
-ghost use Rattle.equation_choice.specs.Pairs.{CanTakePlace, HasGrownBack, HasTakenPlace, IsPairOver, place_held};
+ghost use Rattle.equation_choice.specs.Pairs.{CanTakePlace, HasGrownBack, HasNoFree, HasTakenPlace, IsPairOver, place_held};
 
 use crate::list::first_from;
 use bipartite_matching::Match;
@@ -201,7 +201,7 @@ impl<F: Field, T: Tableau<F>> Pair<F, T> {
         }
     }
 
-    /// The first column without a row in which the row has an entry.
+    /// A column without a row in which the row has an entry, if there is one.
     pub fn free_entry(&self, row: usize) -> Option<usize>
         requires row { row < places (layers_of (T.state self.now.tableau) self.now.mates) }
         requires width { self.now.mates.pattern.width ≡ (T.state self.now.tableau).columns }
@@ -211,6 +211,10 @@ impl<F: Field, T: Tableau<F>> Pair<F, T> {
             (tableau_of_pair (T.state self.now.tableau) self.now.mates) row x ≡ true) }
         ensures free { IfSome result (λ x. is_free (tableau_of_pair (T.state self.now.tableau) self.now.mates) x
             ≡ true) }
+        ensures none { IfNone result (HasNoFree (T.state self.now.tableau).columns (has_row_entry F.modulus
+            (layers_of (T.state self.now.tableau) self.now.mates)
+            (tableau_of_pair (T.state self.now.tableau) self.now.mates) row)
+            (is_free (tableau_of_pair (T.state self.now.tableau) self.now.mates))) }
     {
         // there are at most 8,192 columns, so that the sum fits
         self.tableau.is_tableau();
