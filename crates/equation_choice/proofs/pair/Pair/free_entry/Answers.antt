@@ -28,4 +28,5 @@ pub returns-clause-none : goal.returns-clause-none
 returns-clause-none g c =
     let S = g.T.Tableau.state c.args.self.now.tableau in
     let F = tableau_of_pair S c.args.self.now.mates in
-    none-free-all (has_row_entry g.F.Field.modulus (layers_of S c.args.self.now.mates) F c.args.row) (is_free F) S.columns c.loop-x.at c.loop-x.invariant c.in_default.ensures.none
+    none-free-all (has_row_entry g.F.Field.modulus (layers_of S c.args.self.now.mates) F c.args.row) (is_free F) S.columns
+    c.loop-x.at c.loop-x.invariant c.in_default.ensures.none
