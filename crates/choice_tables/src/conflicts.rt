@@ -1,6 +1,8 @@
 //! Conflict sets.
 
-use crate::models::{lone_equation, split_pair, three_of_one};
+ghost use Rattle.std.specs.Prelude.{◌<◌, length};
+
+use crate::models::{LONE_EQUATION, SPLIT_PAIR, THREE_OF_ONE, model_of, tell_numbers};
 use equation_choice::conflict_set;
 use mixed_model::Mixed;
 use residue_field::Res;
@@ -8,59 +10,42 @@ use std::alloc::Global;
 use std::process::Abort;
 use std::test::Fail;
 
-fn set_of(
-    rt: &impl Abort,
+// The conflict set of an equation.
+fn tell_set(
     alloc: Global,
     model: &Mixed<Res>,
     equation: usize,
-) -> Result<Option<Vec<usize>>, Fail> {
-    assert!(rt; equation < model.equations());
-    Ok(conflict_set(alloc, model, equation)?)
-}
-
-// The first equation clashes with the second one, which is left out last, and each other one with the first.
-#[test]
-fn each_of_three_clashes_with_one(rt: HostRuntime) -> Result<(), Fail> {
-    let model = three_of_one(&rt, rt.alloc())?;
-    assert_eq!(rt;
-        set_of(&rt, rt.alloc(), &model, 0)?
-            .expect(&rt, "a")
-            .as_slice(),
-        [0, 1].as_slice(),
-    );
-    assert_eq!(rt;
-        set_of(&rt, rt.alloc(), &model, 1)?
-            .expect(&rt, "b")
-            .as_slice(),
-        [0, 1].as_slice(),
-    );
-    assert_eq!(rt;
-        set_of(&rt, rt.alloc(), &model, 2)?
-            .expect(&rt, "c")
-            .as_slice(),
-        [0, 2].as_slice(),
-    );
+    told: &mut String,
+) -> Result<(), Fail>
+    requires { equation < length model.now.equations }
+{
+    match conflict_set(alloc, model, equation)? {
+        Some(set) => tell_numbers(alloc, &set, told)?,
+        None => told.push_str(" none")?,
+    }
+    told.push_str(";")?;
     Ok(())
 }
 
-// An equation with nothing clashes with itself alone.
-#[test]
-fn an_empty_equation_is_its_conflict_set(rt: HostRuntime) -> Result<(), Fail> {
-    let model = lone_equation(rt.alloc())?;
-    assert_eq!(rt;
-        set_of(&rt, rt.alloc(), &model, 0)?
-            .expect(&rt, "a")
-            .as_slice(),
-        [0].as_slice(),
-    );
-    Ok(())
+// The conflict set of each equation of a list.
+fn told(rt: &impl Abort, alloc: Global, text: &str) -> Result<String, Fail> {
+    let model = model_of(rt, alloc, text)?;
+    let mut told = String::new(alloc);
+    for equation in 0..model.equations() {
+        tell_set(alloc, &model, equation, &mut told)?;
+    }
+    Ok(told)
 }
 
-// Independent equations have none.
 #[test]
-fn independent_equations_have_no_conflict_set(rt: HostRuntime) -> Result<(), Fail> {
-    let model = split_pair(&rt, rt.alloc())?;
-    assert!(rt; set_of(&rt, rt.alloc(), &model, 0)?.is_none());
-    assert!(rt; set_of(&rt, rt.alloc(), &model, 1)?.is_none());
+fn surplus_equations_have_conflict_sets(rt: HostRuntime) -> Result<(), Fail> {
+    for (text, wanted) in [
+        // the first equation clashes with the second one, which is left out last, and each other one with the first
+        (THREE_OF_ONE, " 0 1; 0 1; 0 2;"),
+        (LONE_EQUATION, " 0;"),
+        (SPLIT_PAIR, " none; none;"),
+    ] {
+        assert_eq!(rt; told(&rt, rt.alloc(), text)?.as_str(), wanted);
+    }
     Ok(())
 }

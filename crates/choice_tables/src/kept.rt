@@ -1,91 +1,68 @@
 //! Equations that are kept along an order, or by falling cost.
 
-use crate::models::{lone_equation, split_pair, three_of_one};
+use crate::models::{LONE_EQUATION, SPLIT_PAIR, THREE_OF_ONE, model_of, tell_numbers};
 use equation_choice::{kept, kept_by_cost};
-use mixed_model::Mixed;
-use residue_field::Res;
 use std::alloc::Global;
 use std::process::Abort;
 use std::test::Fail;
 
-fn kept_of(
-    rt: &impl Abort,
-    alloc: Global,
-    model: &Mixed<Res>,
-    costs: &[u64],
-) -> Result<Vec<usize>, Fail> {
+// The equations of a list that are kept with these costs.
+fn told_by_cost(rt: &impl Abort, alloc: Global, text: &str, costs: &[u64]) -> Result<String, Fail> {
+    let model = model_of(rt, alloc, text)?;
     assert!(rt; costs.len() == model.equations());
-    Ok(kept_by_cost(alloc, model, costs)?)
+    let mut told = String::new(alloc);
+    tell_numbers(alloc, &kept_by_cost(alloc, &model, costs)?, &mut told)?;
+    Ok(told)
 }
 
-fn marks_of(
+// Of each equation of a list, whether it is kept along an order.
+fn marked_along(
     rt: &impl Abort,
     alloc: Global,
-    model: &Mixed<Res>,
+    text: &str,
     order: &[usize],
 ) -> Result<Vec<bool>, Fail> {
+    let model = model_of(rt, alloc, text)?;
     let count = model.equations();
     assert!(rt; order.iter().all(|equation| *equation < count));
-    Ok(kept(alloc, model, order)?)
+    Ok(kept(alloc, &model, order)?)
 }
 
-// Of equations that clash the first one along the order is kept.
-#[test]
-fn the_first_equation_along_the_order_is_kept(rt: HostRuntime) -> Result<(), Fail> {
-    let model = three_of_one(&rt, rt.alloc())?;
-    assert_eq!(rt;
-        marks_of(&rt, rt.alloc(), &model, &[2, 0, 1])?.as_slice(),
-        [false, false, true].as_slice(),
-    );
-    assert_eq!(rt;
-        marks_of(&rt, rt.alloc(), &model, &[1, 2, 0])?.as_slice(),
-        [false, true, false].as_slice(),
-    );
-    Ok(())
-}
+// Of equations that clash the first one along the order is kept, independent ones are all kept, and one with nothing is
+// not.
+const ORDERS: [(&str, &[usize], &[bool]); 4] = [
+    (THREE_OF_ONE, &[2, 0, 1], &[false, false, true]),
+    (THREE_OF_ONE, &[1, 2, 0], &[false, true, false]),
+    (SPLIT_PAIR, &[1, 0], &[true, true]),
+    (LONE_EQUATION, &[0], &[false]),
+];
 
-// Independent equations are all kept, whatever the order, and one with nothing is not.
 #[test]
-fn equations_that_add_to_the_rank_are_kept(rt: HostRuntime) -> Result<(), Fail> {
-    let model = split_pair(&rt, rt.alloc())?;
-    assert_eq!(rt;
-        marks_of(&rt, rt.alloc(), &model, &[1, 0])?.as_slice(),
-        [true, true].as_slice(),
-    );
-    let lone = lone_equation(rt.alloc())?;
-    assert_eq!(rt;
-        marks_of(&rt, rt.alloc(), &lone, &[0])?.as_slice(),
-        [false].as_slice(),
-    );
+fn the_first_equations_along_an_order_are_kept(rt: HostRuntime) -> Result<(), Fail> {
+    for (text, order, wanted) in ORDERS {
+        assert_eq!(rt;
+            marked_along(&rt, rt.alloc(), text, order)?.as_slice(),
+            wanted
+        );
+    }
     Ok(())
 }
 
 // Of equations that clash the dearest one is kept, and the first of those that cost the same.
-#[test]
-fn the_dearest_equation_is_kept(rt: HostRuntime) -> Result<(), Fail> {
-    let model = three_of_one(&rt, rt.alloc())?;
-    assert_eq!(rt;
-        kept_of(&rt, rt.alloc(), &model, &[3, 2, 1])?.as_slice(),
-        [0].as_slice(),
-    );
-    assert_eq!(rt;
-        kept_of(&rt, rt.alloc(), &model, &[1, 2, 3])?.as_slice(),
-        [2].as_slice(),
-    );
-    assert_eq!(rt;
-        kept_of(&rt, rt.alloc(), &model, &[1, 1, 1])?.as_slice(),
-        [0].as_slice(),
-    );
-    Ok(())
-}
+const COSTS: [(&str, &[u64], &str); 4] = [
+    (THREE_OF_ONE, &[3, 2, 1], " 0"),
+    (THREE_OF_ONE, &[1, 2, 3], " 2"),
+    (THREE_OF_ONE, &[1, 1, 1], " 0"),
+    (SPLIT_PAIR, &[1, 5], " 0 1"),
+];
 
-// Independent equations are all kept, one of them split.
 #[test]
-fn independent_equations_are_kept(rt: HostRuntime) -> Result<(), Fail> {
-    let model = split_pair(&rt, rt.alloc())?;
-    assert_eq!(rt;
-        kept_of(&rt, rt.alloc(), &model, &[1, 5])?.as_slice(),
-        [0, 1].as_slice(),
-    );
+fn the_dearest_equations_are_kept(rt: HostRuntime) -> Result<(), Fail> {
+    for (text, costs, wanted) in COSTS {
+        assert_eq!(rt;
+            told_by_cost(&rt, rt.alloc(), text, costs)?.as_str(),
+            wanted
+        );
+    }
     Ok(())
 }

@@ -2,16 +2,12 @@
 
 use ccf_builder::Parts;
 use edit_desk::Held;
-use mixed_model::{Mixed, is_label};
-use model_edits::set_item;
+use matrix_reader::read;
 use residue_field::Res;
 use sparse_tableau::SparseTableau;
 use std::alloc::Global;
 use std::process::Abort;
 use std::test::Fail;
-
-// The unknowns that have a symbol in equation a, and in equation b.
-type Equations = [&'static [&'static str]; 2];
 
 // The columns of the first tail, the columns and the lower blocks of each block, and the columns of the last tail.
 type Told = (
@@ -20,38 +16,20 @@ type Told = (
     &'static [usize],
 );
 
-const CASES: [(Equations, usize, Told); 3] = [
+// Equation lists, their ranks and their parts.
+const CASES: [(&str, usize, Told); 3] = [
     (
-        [&["x", "y"], &["x"]],
+        "eq a x=? y=?\neq b x=?\n",
         2,
         (&[], &[(&[1], &[]), (&[0], &[0])], &[]),
     ),
-    ([&["x", "y"], &["x", "y"]], 2, (&[], &[(&[0, 1], &[])], &[])),
-    ([&["x", "y"], &[]], 1, (&[0, 1], &[], &[])),
+    (
+        "eq a x=? y=?\neq b x=? y=?\n",
+        2,
+        (&[], &[(&[0, 1], &[])], &[]),
+    ),
+    ("eq a x=? y=?\neq b\n", 1, (&[0, 1], &[], &[])),
 ];
-
-fn put_symbols(
-    rt: &impl Abort,
-    model: &mut Mixed<Res>,
-    equation: &str,
-    unknowns: &[&str],
-) -> Result<(), Fail> {
-    assert!(rt; is_label(equation));
-    let i = model.add_equation(equation)?;
-    for unknown in unknowns {
-        assert!(rt; is_label(unknown) && i < model.equations());
-        set_item(model, i, unknown, None, true)?;
-    }
-    Ok(())
-}
-
-fn model_of(rt: &impl Abort, alloc: Global, equations: Equations) -> Result<Mixed<Res>, Fail> {
-    let [a, b] = equations;
-    let mut model = Mixed::new(alloc)?;
-    put_symbols(rt, &mut model, "a", a)?;
-    put_symbols(rt, &mut model, "b", b)?;
-    Ok(model)
-}
 
 fn assert_parts(rt: &impl Abort, parts: &Parts, told: Told) {
     let (first, blocks, last) = told;
@@ -67,10 +45,10 @@ fn assert_parts(rt: &impl Abort, parts: &Parts, told: Told) {
 fn held_of(
     rt: &impl Abort,
     alloc: Global,
-    equations: Equations,
+    text: &str,
 ) -> Result<Held<Res, SparseTableau<Res>>, Fail> {
-    let model = model_of(rt, alloc, equations)?;
-    Ok(Held::open(alloc, model)?)
+    assert!(rt; text.len() < 999);
+    Ok(Held::open(alloc, read(alloc, text.as_bytes())?)?)
 }
 
 fn assert_told(
@@ -85,11 +63,15 @@ fn assert_told(
     Ok(())
 }
 
+// That a list has this rank and these parts.
+fn tells(rt: &impl Abort, alloc: Global, text: &str, rank: usize, told: Told) -> Result<(), Fail> {
+    assert_told(rt, &held_of(rt, alloc, text)?, rank, told)
+}
+
 #[test]
 fn parts_are_told(rt: HostRuntime) -> Result<(), Fail> {
-    for (equations, rank, told) in CASES {
-        let held = held_of(&rt, rt.alloc(), equations)?;
-        assert_told(&rt, &held, rank, told)?;
+    for (text, rank, told) in CASES {
+        tells(&rt, rt.alloc(), text, rank, told)?;
     }
     Ok(())
 }

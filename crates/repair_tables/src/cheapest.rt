@@ -6,7 +6,7 @@ ghost use Rattle.std.specs.List.{list_all};
 ghost use Rattle.cert_text.specs.Ranges.{AreRising};
 ghost use Rattle.repair_checker.specs.Costs.{AreCosts};
 
-use crate::made::cancelling_pair;
+use crate::made::{cancelling_pair, listed};
 use cheapest_repairs::cheapest_repair;
 use mixed_model::Mixed;
 use netlist_reader::read;
@@ -106,23 +106,9 @@ fn of_two_equal_equations_the_dearer_one_is_kept(rt: HostRuntime) -> Result<(), 
     )
 }
 
-// Equation 0 has a symbol at both unknowns, equation 1 at unknown 0.
-fn symbol_triangle(rt: &impl Abort, alloc: Global) -> Result<Mixed<Res>, Fail> {
-    let mut model = Mixed::new(alloc)?;
-    model.add_equation("a")?;
-    model.add_equation("b")?;
-    model.add_unknown("x")?;
-    model.add_unknown("y")?;
-    for (i, j) in [(0, 0), (0, 1), (1, 0)] {
-        assert!(rt; i < model.equations() && j < model.unknowns());
-        model.put_symbol(i, j)?;
-    }
-    Ok(model)
-}
-
 #[test]
 fn independent_equations_are_all_kept(rt: HostRuntime) -> Result<(), Fail> {
-    let model = symbol_triangle(&rt, rt.alloc())?;
+    let model = listed(&rt, rt.alloc(), "eq a x=? y=?\neq b x=?\n")?;
     tells(
         &rt,
         rt.alloc(),
@@ -134,7 +120,7 @@ fn independent_equations_are_all_kept(rt: HostRuntime) -> Result<(), Fail> {
 
 #[test]
 fn an_empty_model_has_nothing_to_repair(rt: HostRuntime) -> Result<(), Fail> {
-    let model = Mixed::new(rt.alloc())?;
+    let model = listed(&rt, rt.alloc(), "")?;
     tells(&rt, rt.alloc(), &model, &[], "repair 0 kept 0:")
 }
 

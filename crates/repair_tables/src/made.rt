@@ -7,7 +7,7 @@ use cert_text::{Ccf, Items};
 use mixed_layering::layer;
 use mixed_model::Mixed;
 use repair_checker::{Level, Repair};
-use residue_field::{Field, Res};
+use residue_field::Res;
 use restricted_models::restrict;
 use std::alloc::Global;
 use std::process::Abort;
@@ -27,28 +27,13 @@ pub struct Case {
 
 /// The equations a and b, each the sum of x and y.
 pub(crate) fn cancelling_pair(rt: &impl Abort, alloc: Global) -> Result<Mixed<Res>, Fail> {
-    let mut model = Mixed::new(alloc)?;
-    add_names(&mut model)?;
-    for equation in 0..2 {
-        put_ones(rt, &mut model, equation)?;
-    }
-    Ok(model)
+    listed(rt, alloc, "eq a x=1 y=1\neq b x=1 y=1\n")
 }
 
-fn add_names(model: &mut Mixed<Res>) -> Result<(), Fail> {
-    model.add_unknown("x")?;
-    model.add_unknown("y")?;
-    model.add_equation("a")?;
-    model.add_equation("b")?;
-    Ok(())
-}
-
-fn put_ones(rt: &impl Abort, model: &mut Mixed<Res>, equation: usize) -> Result<(), Fail> {
-    for unknown in 0..2 {
-        assert!(rt; equation < model.equations() && unknown < model.unknowns());
-        model.put_constant(equation, unknown, Res::of(1))?;
-    }
-    Ok(())
+/// The model of an equation list.
+pub(crate) fn listed(rt: &impl Abort, alloc: Global, text: &str) -> Result<Mixed<Res>, Fail> {
+    assert!(rt; text.len() < 999);
+    Ok(matrix_reader::read(alloc, text.as_bytes())?)
 }
 
 // A canonical form of the model with one equation alone.

@@ -9,6 +9,7 @@ ghost use Rattle.block_solver.specs.Solving.{IsRightFormFor};
 use block_solver::{Answer, solve};
 use ccf_builder::build;
 use cert_text::Ccf;
+use matrix_reader::read;
 use mixed_layering::layer;
 use mixed_model::{Layered, Mixed};
 use out_of_memory::NoMemory;
@@ -40,16 +41,6 @@ fn symbols(model: &Mixed<Res>) -> usize
         count += symbols_of(model, i);
     }
     count
-}
-
-// A model of two equations and two unknowns, with no entry.
-fn bare(alloc: Global) -> Result<Mixed<Res>, Fail> {
-    let mut model = Mixed::new(alloc)?;
-    model.add_equation("a")?;
-    model.add_equation("b")?;
-    model.add_unknown("x")?;
-    model.add_unknown("y")?;
-    Ok(model)
 }
 
 // What solving a model with these numbers gives, by a form that is right for it.
@@ -114,14 +105,10 @@ fn tells(
     Ok(())
 }
 
-// Equation 0 has a symbol at both unknowns, equation 1 at unknown 0.
-fn symbol_triangle(rt: &impl Abort, alloc: Global) -> Result<Mixed<Res>, Fail> {
-    let mut model = bare(alloc)?;
-    for (i, j) in [(0, 0), (0, 1), (1, 0)] {
-        assert!(rt; i < model.equations() && j < model.unknowns());
-        model.put_symbol(i, j)?;
-    }
-    Ok(model)
+// The model of an equation list.
+fn listed(rt: &impl Abort, alloc: Global, text: &str) -> Result<Mixed<Res>, Fail> {
+    assert!(rt; text.len() < 999);
+    Ok(read(alloc, text.as_bytes())?)
 }
 
 // A block that is regular, and one of which the last is singular.
@@ -135,19 +122,8 @@ fn triangle_is_told(rt: &impl Abort, alloc: Global, model: &Mixed<Res>) -> Resul
 
 #[test]
 fn a_triangle_of_symbols_is_told(rt: HostRuntime) -> Result<(), Fail> {
-    triangle_is_told(&rt, rt.alloc(), &symbol_triangle(&rt, rt.alloc())?)
-}
-
-// Equation 0 has the constant 1 at both unknowns, equation 1 has it at unknown 0 and a symbol at unknown 1.
-fn constant_over_mixed(rt: &impl Abort, alloc: Global) -> Result<Mixed<Res>, Fail> {
-    let mut model = bare(alloc)?;
-    for (i, j) in [(0, 0), (0, 1), (1, 0)] {
-        assert!(rt; i < model.equations() && j < model.unknowns());
-        model.put_constant(i, j, Res::of(1))?;
-    }
-    assert!(rt; 1 < model.equations() && 1 < model.unknowns());
-    model.put_symbol(1, 1)?;
-    Ok(model)
+    let alloc = rt.alloc();
+    triangle_is_told(&rt, alloc, &listed(&rt, alloc, "eq a x=? y=?\neq b x=?\n")?)
 }
 
 // With an auxiliary column.
@@ -159,18 +135,23 @@ fn mixed_is_told(rt: &impl Abort, alloc: Global, model: &Mixed<Res>) -> Result<(
 
 #[test]
 fn a_split_equation_is_told(rt: HostRuntime) -> Result<(), Fail> {
-    mixed_is_told(&rt, rt.alloc(), &constant_over_mixed(&rt, rt.alloc())?)
-}
-
-// A model with more unknowns than equations.
-fn unknown_alone(alloc: Global) -> Result<Mixed<Res>, Fail> {
-    let mut model = Mixed::new(alloc)?;
-    model.add_unknown("x")?;
-    Ok(model)
+    let alloc = rt.alloc();
+    mixed_is_told(
+        &rt,
+        alloc,
+        &listed(&rt, alloc, "eq a x=1 y=1\neq b x=1 y=?\n")?,
+    )
 }
 
 #[test]
 fn an_unknown_too_many_is_told(rt: HostRuntime) -> Result<(), Fail> {
     let alloc = rt.alloc();
-    tells(&rt, alloc, &unknown_alone(alloc)?, &[], &[], "open")
+    tells(
+        &rt,
+        alloc,
+        &listed(&rt, alloc, "unknown x\n")?,
+        &[],
+        &[],
+        "open",
+    )
 }
