@@ -46,16 +46,11 @@ fn insert_row(found: &mut Match, at: usize, of: &Pattern, i: usize) -> Result<bo
 
 // Takes a row out, where it is in no pair.
 fn remove_row(found: &mut Match, at: usize) -> bool {
-    if at >= found.pattern().rows() {
+    if at >= found.pattern().rows() || found.mate_of_row(at).is_some() {
         return false;
     }
-    match found.mate_of_row(at) {
-        None => {
-            found.remove_row(at);
-            true
-        }
-        Some(_) => false,
-    }
+    found.remove_row(at);
+    true
 }
 
 // Puts an empty column in, where there is one to come.

@@ -323,35 +323,42 @@ fn assert_bared<R: Abort>(rt: &R, alloc: Global, bared: &Bared) -> Result<(), Fa
     assert_solved_over::<SparseTableau<Res>>(rt, alloc, bared.layered, bared.size, bared.text)
 }
 
+// Of two Q rows and a T row at columns 2 and 3, and another at column 3 where that is asked for.
+fn bared_layers(alloc: Global, two: bool) -> Result<Layered<Res>, Fail> {
+    let rows: &[&[u64]] = &[&[1, 2, 0, 0], &[2, 4, 1, 0]];
+    let mut t = Pattern::empty(alloc, 4);
+    t.push_row(&[2, 3])?;
+    if two {
+        t.push_row(&[3])?;
+    }
+    layered(alloc, constants(alloc, 4, rows)?, t)
+}
+
+fn assert_bared_layers(
+    rt: &impl Abort,
+    alloc: Global,
+    two: bool,
+    text: &str,
+    pivots: usize,
+) -> Result<(), Fail> {
+    let layered = bared_layers(alloc, two)?;
+    let bared = Bared {
+        layered: &layered,
+        place: (1, 1),
+        size: 3,
+        text,
+        pivots,
+    };
+    assert_bared(rt, alloc, &bared)
+}
+
 // Column 1 is twice column 0, so that of these two one is free and both are the least minimiser, and 3 has a T row
 // alone. With one T row, 2 leaves it to 3 for the Q row that is left. With two it keeps its own, and is an end by that
 // Q row.
 #[test]
 fn opens_on_a_tableau_that_was_pivoted_and_bared(rt: HostRuntime) -> Result<(), Fail> {
-    let rows: &[&[u64]] = &[&[1, 2, 0, 0], &[2, 4, 1, 0]];
-    let mut t = Pattern::empty(rt.alloc(), 4);
-    t.push_row(&[2, 3])?;
-    let one = layered(rt.alloc(), constants(rt.alloc(), 4, rows)?, t)?;
-    let bared = Bared {
-        layered: &one,
-        place: (1, 1),
-        size: 3,
-        text: "q-.-qt",
-        pivots: 2,
-    };
-    assert_bared(&rt, rt.alloc(), &bared)?;
-    let mut t = Pattern::empty(rt.alloc(), 4);
-    t.push_row(&[2, 3])?;
-    t.push_row(&[3])?;
-    let two = layered(rt.alloc(), constants(rt.alloc(), 4, rows)?, t)?;
-    let bared = Bared {
-        layered: &two,
-        place: (1, 1),
-        size: 3,
-        text: "q-.-t!t",
-        pivots: 1,
-    };
-    assert_bared(&rt, rt.alloc(), &bared)
+    assert_bared_layers(&rt, rt.alloc(), false, "q-.-qt", 2)?;
+    assert_bared_layers(&rt, rt.alloc(), true, "q-.-t!t", 1)
 }
 
 // The looks of a run, and those up to the end of a second one.
