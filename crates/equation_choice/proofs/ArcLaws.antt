@@ -18,7 +18,7 @@ use Rattle.row_choice_laws.specs.RowSearches.{has_row_entry}
 use Rattle.row_choice_laws.proofs.OwnTableaus.{less-test, more-test, pass, pick}
 use Rattle.equation_choice.specs.Pairs.{apart_columns, place_held}
 
-same_some : (a b : ℕ) → Some a ≡ Some b → a ≡ b
+pub same_some : (a b : ℕ) → Some a ≡ Some b → a ≡ b
 same_some a b e = cc
 
 some_is_no_none : (a : ℕ) → Some a ≡ None → ⊥

@@ -29,7 +29,7 @@ use Rattle.row_choice_laws.proofs.RowPlaces.{column-q, column-t, q-column, row-c
 use Rattle.equation_choice.specs.Choosers.{AreRowsIn, HasEntered, IsReachedBack, KeepsAmong, first_place}
 use Rattle.equation_choice.specs.Pairs.{IsPairOver, place_held}
 use Rattle.equation_choice.specs.Told.{IsToldByReached, IsToldByRow, IsToldByTry, TellsCircuit}
-use Rattle.equation_choice.proofs.ArcLaws.{held-base, held-mate, some-held}
+use Rattle.equation_choice.proofs.ArcLaws.{held-base, held-mate, same_some, some-held}
 use Rattle.equation_choice.proofs.Joins.{bare-first, come-in, first-row, gives-some, lay, refused-told}
 
 -- ---- the rows that are reached
@@ -241,13 +241,10 @@ module _ (p : ℕ) (prime : IsPrime p) (l : Layers) (are : AreLayers l) (S : Tab
       there x h = elim h [
         | inl q ↦ inl q
         | inr at ↦ elim at [
-          | inl (row, first, tells) ↦ inr (inl (subst (λ r. IsToldByRow p l S symbols r x) (same-place row s (sym first ∙ here.1)) tells))
+          | inl (row, first, tells) ↦ inr (inl (subst (λ r. IsToldByRow p l S symbols r x) (same_some row s (sym first ∙ here.1)) tells))
           | inr reached ↦ inr (inr reached)
         ]
       ]
-        where
-          same-place : (a b : ℕ) → Some a ≡ Some b → a ≡ b
-          same-place a b e = cc
 
       back : (x : ℕ) → (x ≡ e) ⊎ (IsToldByRow p l S symbols s x ⊎ IsToldByReached p l S M' symbols X S.columns x) →
           IsToldByTry p l S M' symbols X q t e x

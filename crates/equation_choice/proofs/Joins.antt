@@ -43,6 +43,7 @@ use Rattle.row_choice_laws.proofs.Told.{circuit-told}
 use Rattle.equation_choice.specs.Choosers.{AreRowsIn, HasEntered, HasGivenUp, HasGrownFrom, IsReachedBack, KeepsAmong, first_place}
 use Rattle.equation_choice.specs.Choosers.{HasJoined, HasBeenRefused}
 use Rattle.equation_choice.specs.Pairs.{HasGrownBack, IsPairOver}
+use Rattle.equation_choice.proofs.ArcLaws.{same_some}
 
 same_origin : (a b : Origin) → Some a ≡ Some b → a ≡ b
 same_origin a b e = cc
@@ -357,9 +358,6 @@ module _ (p : ℕ) (l : Layers) (are : AreLayers l) (model : MixedModel) (of : A
             refused-told = circuit-told p prime big N A D L O lay S.s S.u G come-in.inside.0 K e el (gives-some N e) new come-in.inside.1
                 (rows-independent p prime big N A D L O lay S.s S.u F over.tableau K keeps.on (λ x _ _. gives-some N x) keeps.used)
                 (rows_from L G first-row.0 X) reach
-
-same_some : (a b : ℕ) → Some a ≡ Some b → a ≡ b
-same_some a b e = cc
 
 module _ (p : ℕ) (prime : IsPrime p) (l : Layers) (are : AreLayers l) (S : TableauState) (M : Matching) (over : IsPairOver p l S M)
     (e : ℕ) (q t z : Option ℕ) (rows : AreRowsIn l e q t z) (M' : Matching) (entered : HasEntered S M M' q t z) where

@@ -30,9 +30,7 @@ use Rattle.row_choice_laws.proofs.OwnTableaus.{less-test, pick}
 use Rattle.row_choice_laws.proofs.RowPlaces.{bare-or_column, column-not_bare, column-q, column-t, q-column, t-column}
 use Rattle.equation_choice.specs.Choosers.{AreRowsIn, first_place}
 use Rattle.equation_choice.specs.Lists.{AreMarkedBelow}
-
-same_some : (a b : ℕ) → Some a ≡ Some b → a ≡ b
-same_some a b e = cc
+use Rattle.equation_choice.proofs.ArcLaws.{same_some}
 
 some_is_no_none : (a : ℕ) → None ≡ Some a → ⊥
 some_is_no_none a e = cc
