@@ -1,5 +1,6 @@
 -- A tableau and a matching over a layered matrix, and what is searched in them.
-use Rattle.std.proofs.Common.{◌≡◌, ℕ, ◌*◌, ◌%◌, ◌<◌, Bool, true, false, List, Option, Some, None, is_some, not, IfSome, IfNone, inl, inr, refl, ap, sym, subst, ◌∙◌, arith}
+use Rattle.std.proofs.Common.{◌≡◌, ℕ, ◌*◌, ◌%◌, ◌<◌, Bool, true, false, List, Option, Some, None, is_some, not, IfSome, IfNone}
+use Rattle.std.proofs.Common.{inl, inr, refl, ap, sym, subst, ◌∙◌, arith}
 use Rattle.residue_theory.proofs.ResidueLaws.{agree-mul, agree-sum}
 use Rattle.residue_theory.proofs.SetLaws.{differ}
 use Rattle.residue_theory.proofs.SumLaws.{nat_cases}

@@ -1,6 +1,8 @@
 -- Sets that are marked, one number after the other.
-use Rattle.std.proofs.Common.{◌≡◌, ℕ, ◌+◌, ◌-◌, ◌<◌, ◌≤◌, ◌⊎◌, ◌↔◌, ◌||◌, Bool, true, false, List, length, get_or, drop, replicate, slice_index, slice_set, take, inl, inr, refl, sym, subst, ◌∙◌, arith}
-use Rattle.std.proofs.lemmas.List.{ext_get_or, get_or_default, get_or_past, get_or-drop, get_or-replicate, get_or-take, get_or-set_same, get_or-set_other, length-set, length-replicate}
+use Rattle.std.proofs.Common.{◌≡◌, ℕ, ◌+◌, ◌-◌, ◌<◌, ◌≤◌, ◌⊎◌, ◌↔◌, ◌||◌, Bool, true, false, List, inl, inr, refl, sym, subst, ◌∙◌, arith}
+use Rattle.std.proofs.Common.{length, get_or, drop, replicate, slice_index, slice_set, take}
+use Rattle.std.proofs.lemmas.List.{ext_get_or, get_or_default, get_or_past, get_or-drop, get_or-replicate, get_or-take}
+use Rattle.std.proofs.lemmas.List.{get_or-set_same, get_or-set_other, length-set, length-replicate}
 use Rattle.residue_theory.proofs.SetLaws.{differ, lt_cases, not_true}
 use Rattle.residue_theory.proofs.SumLaws.{nat_cases}
 use Rattle.part_rules.specs.Listed.{marked}
