@@ -12,7 +12,6 @@ use crate::tables::part_table;
 use cert_text::{CcfBlock, CcfPart, Items};
 use out_of_memory::NoMemory;
 use residue_field::Field;
-use sparse_tableau::SparseTableau;
 use square_systems::solve_square;
 use std::alloc::Global;
 
@@ -56,7 +55,7 @@ fn solve_part<F: Field>(
 {
     let table = part_table(alloc, p, t, part)?;
     let sides = part_sides(alloc, p, t, p_right, t_right, part, x)?;
-    let Some(numbers) = solve_square::<F, SparseTableau<F>>(alloc, &table, &sides)? else {
+    let Some(numbers) = solve_square(alloc, &table, &sides)? else {
         return Ok(false);
     };
     put_numbers(x, part.columns.as_slice(), &numbers);

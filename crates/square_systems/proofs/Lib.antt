@@ -1,1 +1,1 @@
-pub mod SquareLaws
+pub mod JoinedLaws

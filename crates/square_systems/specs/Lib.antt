@@ -1,1 +1,1 @@
-pub mod Pivots
+pub mod Joined

@@ -1,4 +1,4 @@
-//! Square systems of linear equations over a field, solved by the pivots of a tableau.
+//! Square systems of linear equations over a field, solved by elimination.
 #![tactic(auto)]
 
 mod solving;

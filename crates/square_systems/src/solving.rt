@@ -1,82 +1,80 @@
-//! A square system: each row of a tableau takes a base column, and S tells what the right side gives there.
+//! A square system: its rows join an echelon one after another, each beside its right side, and the echelon is solved from
+//! the last row to the first.
 
-ghost use Rattle.std.specs.Prelude.{◌≡◌, ℕ, ◌*◌, ◌%◌, ◌<◌, true, false, length, map, slice_index, IfOk, IfNone, IfSome};
+ghost use Rattle.std.specs.Prelude.{◌≡◌, ◌<◌, [], true, false, length, map, replicate, slice_index, IfOk, IfNone, IfSome};
+ghost use Rattle.limits.specs.Limits.{column_limit};
 ghost use Rattle.residue_theory.specs.Sets.{everything};
-ghost use Rattle.residue_theory.specs.Sums.{sum_below};
 ghost use Rattle.linear_algebra.specs.Columns.{IsIndependent};
 ghost use Rattle.dense_q.specs.Tables.{entry, height};
 ghost use Rattle.block_laws.specs.Systems.{IsSystemSolution};
-ghost use Rattle.square_systems.specs.Pivots.{HasBaseRows, HasSameMatrix, HasZeroRow};
+ghost use Rattle.square_systems.specs.Joined.{AreJoined, HasDependentRow, IsRowOf};
 
 use out_of_memory::NoMemory;
 use residue_field::Field;
-use row_entries::EntryMat;
-use row_transform::{Tableau, Which};
+use row_echelon::{Echelon, add_entries, clear, zeros};
+use row_entries::{Entry, EntryMat};
 use std::alloc::Global;
 
-// Makes the first column in which P has an entry the base column of each row. False where a row has no entry.
-fn pivot_rows<F: Field, T: Tableau<F>>(tableau: &mut T) -> bool
-    requires { (y : ℕ) → (T.state tableau.old).base y ≡ false }
-    ensures matrix { HasSameMatrix (T.state tableau.old) (T.state tableau.new) }
-    ensures full { result ≡ true → HasBaseRows (T.state tableau.new) (T.state tableau.new).rows }
-    ensures zero { result ≡ false → HasZeroRow F.modulus (T.state tableau.new) }
-{
-    for row in 0..tableau.rows() {
-        tableau.is_tableau();
-        let Some(entry) = tableau.next_in_row(Which::P, row, 0) else {
-            return false;
-        };
-        // its number is a residue
-        entry.1.in_field();
-        tableau.pivot(row, entry.0);
+// Counts the entries of a row at each column.
+fn count_row<F: Field>(counts: &mut [usize], entries: &[Entry<F>]) {
+    for entry in entries {
+        if let Some(count) = counts.get_mut(entry.column as usize) {
+            *count = count.saturating_add(1);
+        }
     }
-    true
 }
 
-// What a row of S makes of the right side.
-fn combined<F: Field, T: Tableau<F>>(tableau: &T, row: usize, right: &[F]) -> F
-    requires row { row < (T.state tableau.now).rows }
-    requires right { length right.now ≡ (T.state tableau.now).rows }
-    ensures { F.number result % F.modulus ≡ sum_below (T.state tableau.now).rows
-        (λ k. (T.state tableau.now).s row k * slice_index (map F.number right.now) k) % F.modulus }
+// How many rows have an entry at each column.
+fn column_counts<F: Field>(alloc: Global, table: &EntryMat<F>) -> Result<Vec<usize>, NoMemory>
+    ensures { IfOk result (λ counts. length counts.items ≡ table.now.width) }
 {
-    // there are at most 8,192 rows, so that the sum below fits
-    tableau.is_tableau();
-    let mut sum = F::zero();
-    let mut from = 0;
-    while let Some(entry) = tableau.next_in_row(Which::S, row, from) {
-        sum = sum.plus_multiple(entry.1, right[entry.0]);
-        from = entry.0 + 1;
+    let mut counts = Vec::from_elem(alloc, 0, table.cols())?;
+    for i in 0..table.rows() {
+        count_row(&mut counts, table.row(i));
     }
-    sum
+    Ok(counts)
 }
 
-// The solution, where each row has a base column.
-fn solution<F: Field, T: Tableau<F>>(
-    alloc: Global,
-    tableau: &T,
+// Makes a row of numbers that of a table.
+fn fill_row<F: Field>(row: &mut [F], table: &EntryMat<F>, i: usize)
+    requires row { i < height table.now }
+    requires width { length row.old ≡ table.now.width }
+    ensures { IsRowOf F.modulus table.now i (map F.number row.new) }
+{
+    clear(row);
+    add_entries(row, table.row(i), F::one());
+}
+
+// Joins all rows of a table with their right sides, each by way of `row`. False where one of them is a combination of those
+// before it.
+fn join_rows<F: Field>(
+    echelon: &mut Echelon<F>,
+    row: &mut [F],
+    table: &EntryMat<F>,
     right: &[F],
-) -> Result<Vec<F>, NoMemory>
-    requires square { (T.state tableau.now).columns ≡ (T.state tableau.now).rows }
-    requires full { HasBaseRows (T.state tableau.now) (T.state tableau.now).rows }
-    requires right { length right.now ≡ (T.state tableau.now).rows }
-    ensures count { IfOk result (λ x. length x.items ≡ (T.state tableau.now).rows) }
-    ensures solved { IfOk result (λ x. IsSystemSolution F.modulus (T.state tableau.now).q (T.state tableau.now).rows
-        (T.state tableau.now).columns (slice_index (map F.number x.items)) (slice_index (map F.number right.now))) }
+) -> Result<bool, NoMemory>
+    requires empty { echelon.old.rows ≡ [] }
+    requires width { echelon.old.width ≡ table.now.width }
+    requires row { length row.old ≡ table.now.width }
+    requires right { length right.now ≡ height table.now }
+    ensures joined { IfOk result (λ full. full ≡ true → AreJoined F.modulus table.now.width (entry table.now)
+        (slice_index (map F.number right.now)) echelon.new (height table.now)) }
+    ensures dependent { IfOk result (λ full. full ≡ false →
+        HasDependentRow F.modulus (height table.now) table.now.width (entry table.now)) }
 {
-    tableau.is_tableau();
-    let mut x = Vec::with_capacity(alloc, tableau.columns())?;
-    for column in 0..tableau.columns() {
-        let row = tableau.row_of(column).unwrap();
-        x.push(combined(tableau, row, right))?;
+    for i in 0..table.rows() {
+        fill_row(row, table, i);
+        if !echelon.join(row, right[i])? {
+            return Ok(false);
+        }
     }
-    Ok(x)
+    Ok(true)
 }
 
 /// The solution x of a system of linear equations with as many rows as columns, n of each, at most 8,192: `table * x` is
 /// the right side, which has a number for each row, and x has one for each column. None exactly where the columns are
 /// dependent, so that the rank is below n. (Murota 2000, chapter 2.)
-pub fn solve_square<F: Field, T: Tableau<F>>(
+pub fn solve_square<F: Field>(
     alloc: Global,
     table: &EntryMat<F>,
     right: &[F],
@@ -92,11 +90,14 @@ pub fn solve_square<F: Field, T: Tableau<F>>(
     ensures singular { IfOk result (λ found. IfNone found
         (IsIndependent F.modulus (entry table.now) (height table.now) (height table.now) everything → ⊥)) }
 {
-    let mut tableau = T::open(alloc, table)?;
-    let full = pivot_rows::<F, T>(&mut tableau);
-    tableau.is_tableau();
-    if !full {
+    // there are at most 8,192 columns
+    table.is_matrix();
+    let counts = column_counts(alloc, table)?;
+    let mut echelon = Echelon::open(alloc, counts);
+    let mut row = zeros(alloc, table.cols())?;
+    if !join_rows(&mut echelon, &mut row, table, right)? {
         return Ok(None);
     }
-    Ok(Some(solution(alloc, &tableau, right)?))
+    echelon.is_echelon();
+    Ok(Some(echelon.solution()?))
 }

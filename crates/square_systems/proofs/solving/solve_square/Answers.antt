@@ -1,30 +1,32 @@
-use Rattle.std.proofs.Common.{map, slice_index}
+use Rattle.std.proofs.Common.{◌≡◌, subst, map, slice_index}
 use Rattle.dense_q.specs.Tables.{entry, height}
-use Rattle.square_systems.proofs.SquareLaws.{opened-dependent, opened-independent, opened-solved}
+use Rattle.row_echelon.specs.Echelons.{EchelonState}
+use Rattle.square_systems.specs.Joined.{AreJoined, HasDependentRow}
+use Rattle.square_systems.proofs.JoinedLaws.{dependent-columns, joined-independent, joined-solved}
 use Rattle.square_systems.proofs.solving.solve_square.Goals as goal
 
-pub returns-then-not-full-clause-singular : goal.returns-then-not-full-clause-singular
-returns-then-not-full-clause-singular g c =
-    let state = g.T.Tableau.state in
+pub returns-then-not-branch-clause-singular : goal.returns-then-not-branch-clause-singular
+returns-then-not-branch-clause-singular g c =
     let table = c.args.table.now in
-    opened-dependent g.F.Field.modulus (height table) table.width g.met.F.Field.prime (entry table) (state c.in_ok-tableau.tableau)
-    (state c.pivot_rows-full.new.tableau) c.requires.square c.in_ok-tableau.ensures.opened c.pivot_rows-full.ensures.matrix
-    c.is_tableau.ensures.tableau (c.pivot_rows-full.ensures.zero c.if-not-full.true)
+    dependent-columns g.F.Field.modulus g.met.F.Field.prime (height table) (entry table)
+    (subst (λ n. HasDependentRow g.F.Field.modulus (height table) n (entry table)) c.requires.square
+    (c.in_ok-join_rows.ensures.dependent c.if-not-branch.true))
 
 pub returns-clause-regular : goal.returns-clause-regular
 returns-clause-regular g c =
-    let state = g.T.Tableau.state in
+    let p = g.F.Field.modulus in
     let table = c.args.table.now in
-    opened-independent g.F.Field.modulus (height table) table.width g.met.F.Field.prime (entry table) (state c.in_ok-tableau.tableau)
-    (state c.pivot_rows-full.new.tableau) c.requires.square c.in_ok-tableau.ensures.opened c.pivot_rows-full.ensures.matrix
-    c.is_tableau.ensures.tableau (c.pivot_rows-full.ensures.full c.if-not-full.false)
+    let b = slice_index (map g.F.Field.number c.args.right.now) in
+    let e : EchelonState = c.join_rows.new.echelon in
+    joined-independent p g.met.F.Field.prime (height table) (entry table) b e c.is_echelon.ensures
+    (subst (λ n. AreJoined p n (entry table) b e (height table)) c.requires.square (c.in_ok-join_rows.ensures.joined c.if-not-branch.false))
 
 pub returns-clause-solved : goal.returns-clause-solved
 returns-clause-solved g c =
-    let state = g.T.Tableau.state in
-    let number = g.F.Field.number in
+    let p = g.F.Field.modulus in
     let table = c.args.table.now in
-    opened-solved g.F.Field.modulus (height table) table.width g.met.F.Field.prime (entry table) (state c.in_ok-tableau.tableau)
-    (state c.pivot_rows-full.new.tableau) c.requires.square c.in_ok-tableau.ensures.opened c.pivot_rows-full.ensures.matrix
-    c.is_tableau.ensures.tableau (slice_index (map number c.in_ok-solution.field-0.items)) (slice_index (map number c.args.right.now))
-    c.in_ok-solution.ensures.solved
+    let b = slice_index (map g.F.Field.number c.args.right.now) in
+    let e : EchelonState = c.join_rows.new.echelon in
+    joined-solved p (height table) (entry table) b e
+    (subst (λ n. AreJoined p n (entry table) b e (height table)) c.requires.square (c.in_ok-join_rows.ensures.joined c.if-not-branch.false))
+    (map g.F.Field.number c.in_ok-solution.field-0.items) c.in_ok-solution.ensures

@@ -1,0 +1,5 @@
+pub mod EntrySums
+pub mod StoredRows
+pub mod EchelonLaws
+pub mod DividedRows
+pub mod LeadLaws
