@@ -12,12 +12,12 @@ use Rattle.residue_theory.proofs.SumLaws.{nat_cases, sum_on-add, sum_on-ext}
 use Rattle.std.proofs.Math.Nat.{mod-mod, zero-mod}
 use Rattle.limits.specs.Limits.{column_limit}
 use Rattle.row_entries.specs.Rows.{EndsBefore, Item, number_at}
-use Rattle.row_echelon.specs.Echelons.{EchelonState, HasJoined, IsAddedTo, IsCombined, IsDivided, IsEchelon, IsReduced, IsSolved}
+use Rattle.row_echelon.specs.Echelons.{EchelonState, JoinsEchelon, IsAddedTo, IsRowCombined, IsDivided, IsEchelon, IsRowReduced, SolvesRows}
 use Rattle.row_echelon.specs.Echelons.{PivotItems, pivot_number, pivot_row}
 use Rattle.row_echelon.proofs.EntrySums.{eqb_not}
 
 -- ---- a row is reduced by one row after another
-pub not-reduced : (p : ℕ) (e : EchelonState) (row : List ℕ) (right : ℕ) → IsReduced p e 0 row right row right
+pub not-reduced : (p : ℕ) (e : EchelonState) (row : List ℕ) (right : ℕ) → IsRowReduced p e 0 row right row right
 not-reduced p e row right = record {
   by = λ _. 0;
   count = refl;
@@ -43,10 +43,10 @@ more-sum by m f x =
     ∙ ap (λ b. sum_below m (λ t. by t * x t) + cond b f (by m) * x m) (eqb_from m m refl)
 
 module _ (p : ℕ) (e : EchelonState) (is : IsEchelon p e) (m : ℕ) (ml : m < length e.rows) (row : List ℕ) (right : ℕ) (now : List ℕ) (left : ℕ)
-    (so : IsReduced p e m row right now left) (wide : length row ≡ e.width) where
+    (so : IsRowReduced p e m row right now left) (wide : length row ≡ e.width) where
   pub reduced-step : (f : ℕ) (next : List ℕ) (last : ℕ) → (slice_index now (pivot_row e m).lead + f) % p ≡ 0 →
       IsAddedTo p f (pivot_row e m).items now next → last ≡ (left + f * (pivot_row e m).right) % p →
-      IsReduced p e (m + 1) row right next last
+      IsRowReduced p e (m + 1) row right next last
   reduced-step f next last cancels added made = record {
     by = more_by so.by m f;
     count = added.count ∙ so.count;
@@ -85,11 +85,11 @@ module _ (p : ℕ) (e : EchelonState) (is : IsEchelon p e) (m : ℕ) (ml : m < l
 
 -- ---- a row joins
 module _ (p : ℕ) (e : EchelonState) (is : IsEchelon p e) (row : List ℕ) (right : ℕ) (now : List ℕ) (left : ℕ)
-    (so : IsReduced p e (length e.rows) row right now left) where
+    (so : IsRowReduced p e (length e.rows) row right now left) where
   module _ (lead : ℕ) (below : lead < e.width) (last : PivotItems) (n : ℕ) (wide : n ≡ e.width)
       (made : IsDivided p n now lead left last.lead last.right last.items) (new : EchelonState)
       (rows : new.rows ≡ e.rows ++ last ∷ []) (width : new.width ≡ e.width) where
-    pub has-joined : HasJoined p e new row right
+    pub has-joined : JoinsEchelon p e new row right
     has-joined = record {
       last = last;
       rows = rows;
@@ -134,12 +134,12 @@ module _ (p : ℕ) (e : EchelonState) (is : IsEchelon p e) (row : List ℕ) (rig
     }
 
   -- or nothing is left of it
-  pub combined : ((j : ℕ) → j < e.width → slice_index now j ≡ 0) → IsCombined p e row
+  pub combined : ((j : ℕ) → j < e.width → slice_index now j ≡ 0) → IsRowCombined p e row
   combined none = record { by = so.by; numbers = λ j jl. sym (so.numbers j jl) ∙ ap (λ y. y % p) (none j jl) ∙ zero-mod p }
 
 -- ---- the numbers that solve
 module _ (p : ℕ) (e : EchelonState) (is : IsEchelon p e) where
-  module _ (t : ℕ) (tl : t < length e.rows) (x : List ℕ) (v : ℕ) (so : IsSolved p e (t + 1) x)
+  module _ (t : ℕ) (tl : t < length e.rows) (x : List ℕ) (v : ℕ) (so : SolvesRows p e (t + 1) x)
       (made : (v + sum_below e.width (λ j. slice_index x j * pivot_number e t j)) % p ≡ (pivot_row e t).right % p) where
     c : ℕ
     c = (pivot_row e t).lead
@@ -174,7 +174,7 @@ module _ (p : ℕ) (e : EchelonState) (is : IsEchelon p e) where
               ∙ ap (λ b. slice_index x j * a j + cond b (v * a j) 0) (sym (eqb_not c j ne))
         ]
 
-    solved-step : IsSolved p e t (set x c v)
+    solved-step : SolvesRows p e t (set x c v)
     solved-step = record {
       count = length-set x c v ∙ so.count;
       rows = λ s ts sl. elim (nat_cases s t) [
@@ -204,5 +204,5 @@ module _ (p : ℕ) (e : EchelonState) (is : IsEchelon p e) where
         apart : (s : ℕ) → s < t → (pivot_row e s).lead ≡ (pivot_row e t).lead → ⊥
         apart s st q = absurd (omega (arith, is.one t tl, ap (pivot_number e t) q, is.zero s t st tl))
 
-    pub solved-put : IsSolved p e t (set x (pivot_row e t).lead v)
-    solved-put = subst (λ n. IsSolved p e t (set x n v)) c-is solved-step
+    pub solved-put : SolvesRows p e t (set x (pivot_row e t).lead v)
+    solved-put = subst (λ n. SolvesRows p e t (set x n v)) c-is solved-step

@@ -54,7 +54,7 @@ pub record IsDivided (p n : ℕ) (row : List ℕ) (lead right made_lead made_rig
 
 -- now is the row with multiples of the first m rows added, and its right side with those of theirs; it is 0 at their
 -- leads
-pub record IsReduced (p : ℕ) (e : EchelonState) (m : ℕ) (row : List ℕ) (right : ℕ) (now : List ℕ) (left : ℕ)
+pub record IsRowReduced (p : ℕ) (e : EchelonState) (m : ℕ) (row : List ℕ) (right : ℕ) (now : List ℕ) (left : ℕ)
     : Type 0 where
   pub by : ℕ → ℕ
   pub count : length now ≡ length row
@@ -65,7 +65,7 @@ pub record IsReduced (p : ℕ) (e : EchelonState) (m : ℕ) (row : List ℕ) (ri
 
 -- ---- what a call tells
 -- a row with its right side joined: with multiples of the rows before it is a multiple, not by 0, of the new last row
-pub record HasJoined (p : ℕ) (old new : EchelonState) (row : List ℕ) (right : ℕ) : Type 0 where
+pub record JoinsEchelon (p : ℕ) (old new : EchelonState) (row : List ℕ) (right : ℕ) : Type 0 where
   pub last : PivotItems
   pub rows : new.rows ≡ old.rows ++ last ∷ []
   pub width : new.width ≡ old.width
@@ -79,14 +79,14 @@ pub record HasJoined (p : ℕ) (old new : EchelonState) (row : List ℕ) (right 
       ≡ (scale * last.right) % p
 
 -- with multiples of the rows a row is 0
-pub record IsCombined (p : ℕ) (e : EchelonState) (row : List ℕ) : Type 0 where
+pub record IsRowCombined (p : ℕ) (e : EchelonState) (row : List ℕ) : Type 0 where
   pub by : ℕ → ℕ
   pub numbers : (j : ℕ) → j < e.width →
       (slice_index row j + sum_below (length e.rows) (λ t. by t * pivot_number e t j)) % p ≡ 0
 
 -- x has a number for each column, with which the rows from m on give their right sides; it is 0 at the leads of those
 -- before
-pub record IsSolved (p : ℕ) (e : EchelonState) (m : ℕ) (x : List ℕ) : Type 0 where
+pub record SolvesRows (p : ℕ) (e : EchelonState) (m : ℕ) (x : List ℕ) : Type 0 where
   pub count : length x ≡ e.width
   pub rows : (t : ℕ) → m ≤ t → t < length e.rows →
       sum_below e.width (λ j. slice_index x j * pivot_number e t j) % p ≡ (pivot_row e t).right % p

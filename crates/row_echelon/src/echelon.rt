@@ -2,7 +2,7 @@
 
 ghost use Rattle.std.specs.Prelude.{◌≡◌, ◌≢◌, ℕ, ◌<◌, ◌≤◌, [], true, false, IfNone, IfOk, IfSome, OnErr, length, map, slice_index};
 ghost use Rattle.limits.specs.Limits.{column_limit};
-ghost use Rattle.row_echelon.specs.Echelons.{EchelonState, HasJoined, IsCombined, IsEchelon, IsReduced, IsSolved};
+ghost use Rattle.row_echelon.specs.Echelons.{EchelonState, JoinsEchelon, IsRowCombined, IsEchelon, IsRowReduced, SolvesRows};
 
 use crate::pivot_row::{PivotRow, divided};
 use crate::row::{add_entries, entries_sum, number_at, put_at, zeros};
@@ -65,7 +65,7 @@ impl<F: Field> Echelon<F> {
     // Adds multiples of the rows to a row, so that it is 0 at all their leads, and gives its right side then.
     fn reduced(&self, row: &mut [F], right: F) -> F
         requires { length row.old ≡ self.now.width }
-        ensures { IsReduced F.modulus self.now (length self.now.rows) (map F.number row.old) (F.number right)
+        ensures { IsRowReduced F.modulus self.now (length self.now.rows) (map F.number row.old) (F.number right)
             (map F.number row.new) (F.number result) }
     {
         let mut right = right;
@@ -111,10 +111,10 @@ impl<F: Field> Echelon<F> {
         requires { length row.old ≡ self.old.width }
         ensures err { OnErr result (self.new ≡ self.old) }
         ensures joined { IfOk result (λ joined. joined ≡ true →
-            HasJoined F.modulus self.old self.new (map F.number row.old) (F.number right)) }
+            JoinsEchelon F.modulus self.old self.new (map F.number row.old) (F.number right)) }
         ensures same { IfOk result (λ joined. joined ≡ false → self.new ≡ self.old) }
         ensures combined { IfOk result (λ joined. joined ≡ false →
-            IsCombined F.modulus self.old (map F.number row.old)) }
+            IsRowCombined F.modulus self.old (map F.number row.old)) }
     {
         let right = self.reduced(row, right);
         let Some(lead) = self.lead(row) else {
@@ -127,7 +127,7 @@ impl<F: Field> Echelon<F> {
 
     /// Numbers for the columns with which each row gives its right side; 0 at the columns that are no row's lead.
     pub fn solution(&self) -> Result<Vec<F>, NoMemory>
-        ensures { IfOk result (λ x. IsSolved F.modulus self.now 0 (map F.number x.items)) }
+        ensures { IfOk result (λ x. SolvesRows F.modulus self.now 0 (map F.number x.items)) }
     {
         let mut x = zeros(self.alloc, self.weights.len())?;
         self.solve(&mut x);
@@ -138,7 +138,7 @@ impl<F: Field> Echelon<F> {
     fn solve(&self, x: &mut [F])
         requires width { length x.old ≡ self.now.width }
         requires zero { (j : ℕ) → slice_index (map F.number x.old) j ≡ 0 }
-        ensures { IsSolved F.modulus self.now 0 (map F.number x.new) }
+        ensures { SolvesRows F.modulus self.now 0 (map F.number x.new) }
     {
         for t in (0..self.rows.len()).rev() {
             let pivot = &self.rows[t];

@@ -17,7 +17,7 @@ use Rattle.linear_algebra.specs.Columns.{IsIndependent}
 use Rattle.linear_algebra_laws.proofs.Elimination.{NonZeroSolution, nonzero_solution}
 use Rattle.block_laws.specs.Systems.{IsSystemSolution}
 use Rattle.block_laws.proofs.BlockRanks.{no_larger}
-use Rattle.row_echelon.specs.Echelons.{EchelonState, HasJoined, IsCombined, IsEchelon, IsSolved, PivotItems, pivot_number, pivot_row}
+use Rattle.row_echelon.specs.Echelons.{EchelonState, JoinsEchelon, IsRowCombined, IsEchelon, SolvesRows, PivotItems, pivot_number, pivot_row}
 use Rattle.row_entries.specs.Rows.{number_at}
 use Rattle.square_systems.specs.Joined.{AreJoined, HasDependentRow, row_times}
 
@@ -74,7 +74,7 @@ module _ (p : ℕ) (prime : IsPrime p) (n : ℕ) (a : ℕ → ℕ → ℕ) (b : 
       (λ t tl _. agree-mul p (by t) (row_times n x (pivot_number e t)) (right t) (each t tl))
 
   -- a row that is a combination of those before it
-  pub combined-vanishes : (row : List ℕ) → IsCombined p e row → ((j : ℕ) → j < n → slice_index row j % p ≡ a m j % p) →
+  pub combined-vanishes : (row : List ℕ) → IsRowCombined p e row → ((j : ℕ) → j < n → slice_index row j % p ≡ a m j % p) →
       (x : ℕ → ℕ) → ((k : ℕ) → k < m → row_times n x (a k) % p ≡ 0) → row_times n x (a m) % p ≡ 0
   combined-vanishes row none same x zeros =
       sym (row-agree p n x (slice_index row) (a m) same)
@@ -93,7 +93,7 @@ module _ (p : ℕ) (prime : IsPrime p) (n : ℕ) (a : ℕ → ℕ → ℕ) (b : 
           (subst (λ k. (slice_index row j + sum_below k (λ t. none.by t * pivot_number e t j)) % p ≡ 0) so.count
           (none.numbers j (subst (λ w. j < w) (sym so.width) jl))))
 
-  module _ (new : EchelonState) (row : List ℕ) (right : ℕ) (made : HasJoined p e new row right)
+  module _ (new : EchelonState) (row : List ℕ) (right : ℕ) (made : JoinsEchelon p e new row right)
       (same : (j : ℕ) → j < n → slice_index row j % p ≡ a m j % p) (side : right ≡ b m) where
     old-row : (t : ℕ) → t < m → pivot_row new t ≡ pivot_row e t
     old-row t tl = ap (λ xs. slice_index_or xs t (record { lead = 0; right = 0; items = [] })) made.rows
@@ -279,7 +279,7 @@ filled-number p x f y z none one same = ap (λ s. s % p) (ap (λ s. s + f * y) n
     plain u = omega arith
 
 -- ---- the numbers that solve the rows of the echelon solve those that have joined
-pub joined-solved : (p n : ℕ) (a : ℕ → ℕ → ℕ) (b : ℕ → ℕ) (e : EchelonState) → AreJoined p n a b e n → (x : List ℕ) → IsSolved p e 0 x →
+pub joined-solved : (p n : ℕ) (a : ℕ → ℕ → ℕ) (b : ℕ → ℕ) (e : EchelonState) → AreJoined p n a b e n → (x : List ℕ) → SolvesRows p e 0 x →
     IsSystemSolution p a n n (slice_index x) b
 joined-solved p n a b e so x solved i il = so.held 1 (slice_index x) each i il ∙ ap (λ s. s % p) (plain (b i))
   where

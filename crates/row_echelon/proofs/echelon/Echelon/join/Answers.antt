@@ -1,6 +1,6 @@
 use Rattle.std.proofs.Common.{◌≡◌, ap, sym, subst, ◌∙◌, arith, length, map, [], ◌∷◌, ◌++◌}
 use Rattle.std.proofs.lemmas.List.{length-map, map-append}
-use Rattle.row_echelon.specs.Echelons.{EchelonState, HasJoined, IsEchelon, IsReduced, PivotItems}
+use Rattle.row_echelon.specs.Echelons.{EchelonState, JoinsEchelon, IsEchelon, IsRowReduced, PivotItems}
 use Rattle.row_echelon.proofs.EchelonLaws.{echelon-joined, has-joined}
 use Rattle.row_echelon.proofs.StoredRows.{seen, state_of}
 use Rattle.row_echelon.proofs.echelon.Echelon.join.Goals as goal

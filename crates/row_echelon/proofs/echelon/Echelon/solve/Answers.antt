@@ -4,7 +4,7 @@ use Rattle.std.proofs.lemmas.List.{length-map}
 use Rattle.std.specs.List.{All}
 use Rattle.residue_theory.specs.Sums.{sum_below}
 use Rattle.row_entries.specs.Rows.{EndsBefore, items, number_at}
-use Rattle.row_echelon.specs.Echelons.{EchelonState, IsEchelon, IsSolved, PivotItems, pivot_row}
+use Rattle.row_echelon.specs.Echelons.{EchelonState, IsEchelon, SolvesRows, PivotItems, pivot_row}
 use Rattle.row_echelon.proofs.EchelonLaws.{solved-put}
 use Rattle.row_echelon.proofs.StoredRows.{entries-within, seen, stored-count, stored-row}
 use Rattle.row_echelon.proofs.echelon.Echelon.solve.Goals as goal
@@ -65,7 +65,7 @@ loop-t-preserved g c =
     (subst (λ n. sum % p ≡ sum_below n (λ j. slice_index x j * number_at (items number r.entries.items) j) % p) wide
     (subst (λ es. sum % p ≡ sum_below (length c.loop-t.x) (λ j. slice_index x j * number_at (items number es) j) % p) c.deref.ensures.value
     c.entries_sum.ensures)) in
-    subst (IsSolved p e k) (ap (λ (s : PivotItems). set x s.lead v) row ∙ sym c.put_at.ensures)
-    (solved-put p e is k kl x v (subst (λ m. IsSolved p e m x) next c.loop-t.invariant)
+    subst (SolvesRows p e k) (ap (λ (s : PivotItems). set x s.lead v) row ∙ sym c.put_at.ensures)
+    (solved-put p e is k kl x v (subst (λ m. SolvesRows p e m x) next c.loop-t.invariant)
     (agree-add p v v (sum_below e.width (λ j. slice_index x j * number_at (pivot_row e k).items j)) sum refl (sym summed)
     ∙ c.sub-value.ensures.difference ∙ ap (λ (s : PivotItems). s.right % p) (sym row)))
